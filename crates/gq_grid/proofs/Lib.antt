@@ -1,0 +1,4 @@
+pub mod Agreeing
+pub mod Meeting
+pub mod Ranges
+pub mod Same

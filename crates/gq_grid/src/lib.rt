@@ -1,0 +1,226 @@
+//! A grid of servers, sets of its servers, and the choice of a quorum: a full row with a full column.
+#![tactic(auto)]
+
+ghost use Rattle.std.specs.Prelude.{◌≡◌, ◌↔◌, ℕ, true, false, ◌+◌, ◌*◌, ◌<◌, ◌≤◌, IfOk, IsErrOf, IfSome, IsNone, Some, None, MatchOption, option_map};
+ghost use Rattle.gq_grid.specs.Grid.{Grid as Shape, Servers, no_servers, all_servers, with_server, without_server, server_at, is_full_row, is_full_column, row_servers, column_servers, either, is_side, least_row, least_column, has_row, has_column, covers, choose, choice_servers};
+ghost use Rattle.gq_grid.specs.Sets.{servers, place_of};
+
+pub mod laws;
+
+use std::marker::Model;
+use thiserror::Error;
+
+/// A set of server numbers below 64.
+#[derive(Clone, Copy, Debug, PartialEq, Eq)]
+pub struct ServerSet {
+    bits: u64,
+}
+
+/// Servers in 1 to 8 rows and 1 to 8 columns. The server of row `r` and column `c` has number `r * cols + c`.
+#[derive(Clone, Copy, Debug, PartialEq, Eq)]
+pub struct Grid {
+    rows: usize,
+    cols: usize,
+}
+
+impl Model for Grid {
+    ghost use Rattle.std.specs.Prelude.{◌≤◌};
+    ghost use Rattle.gq_grid.specs.Grid.{Grid as Shape};
+
+    ghost Value = { Shape };
+
+    ghost view = { λ g. record { rows = g.rows; cols = g.cols } };
+
+    ghost inverse = { λ s. record { rows = s.rows; cols = s.cols } };
+
+    ghost invariant = { λ g. (1 ≤ g.rows) × (g.rows ≤ 8) × (1 ≤ g.cols) × (g.cols ≤ 8) };
+}
+
+/// A quorum: a row and a column (numbered from 0), and all servers of either.
+#[derive(Clone, Copy, Debug, PartialEq, Eq)]
+pub struct Choice {
+    pub row: usize,
+    pub col: usize,
+    pub servers: ServerSet,
+}
+
+impl ServerSet {
+    /// The set of no server.
+    pub fn empty() -> ServerSet
+        ensures { servers result ≡ no_servers }
+    {
+        ServerSet { bits: 0 }
+    }
+
+    /// Puts the server into the set. The other servers of the set stay.
+    pub fn insert(&mut self, server: usize)
+        requires { server < 64 }
+        ensures { servers self.new ≡ with_server server (servers self.old) }
+    {
+        self.bits |= 1 << server;
+    }
+
+    /// Whether the server is in the set.
+    #[tactic(auto, unfolding(crate::specs::Sets::servers))]
+    pub fn has(&self, server: usize) -> bool
+        requires { server < 64 }
+        ensures { result ≡ servers self.now server }
+    {
+        (self.bits >> server) & 1 == 1
+    }
+
+    /// Takes the server out of the set. The others stay.
+    pub fn remove(&mut self, server: usize)
+        requires { server < 64 }
+        ensures { servers self.new ≡ without_server server (servers self.old) }
+    {
+        let bits = self.bits;
+        self.bits = bits & !(1 << server);
+    }
+
+    /// The set of all servers of the grid.
+    pub fn all(grid: &Grid) -> ServerSet
+        ensures { servers result ≡ all_servers grid.now }
+    {
+        let mut set = ServerSet::empty();
+        for server in 0..grid.servers() {
+            set.insert(server);
+        }
+        set
+    }
+
+    /// Whether the set holds all servers of some row and all servers of some column. Any two sets that do share a
+    /// server ([`laws::quorums_meet`](crate::laws::quorums_meet)).
+    pub fn covers(&self, grid: &Grid) -> bool
+        ensures { result ≡ covers grid.now (servers self.now) }
+    {
+        grid.least_row(*self).is_some() && grid.least_column(*self).is_some()
+    }
+}
+
+/// Why a grid is refused. The rows are tested first.
+#[derive(Clone, Copy, Debug, PartialEq, Eq, Error)]
+pub enum GridFault {
+    /// The number of rows is not 1 to 8.
+    #[error("rows")]
+    Rows,
+    /// The number of columns is not 1 to 8.
+    #[error("cols")]
+    Cols,
+}
+
+impl Grid {
+    /// A grid of so many rows and columns, 1 to 8 each; a fault names the side that is out of range.
+    pub fn new(rows: usize, cols: usize) -> Result<Grid, GridFault>
+        ensures ok { IfOk result (λ g. (g.rows ≡ rows) × (g.cols ≡ cols)) }
+        ensures rows { IsErrOf result GridFault.Rows ↔ (is_side rows ≡ false) }
+        ensures cols { IsErrOf result GridFault.Cols ↔ ((is_side rows ≡ true) × (is_side cols ≡ false)) }
+    {
+        if rows == 0 || rows > 8 {
+            return Err(GridFault::Rows);
+        }
+        if cols == 0 || cols > 8 {
+            return Err(GridFault::Cols);
+        }
+        Ok(Grid { rows, cols })
+    }
+
+    /// The number of servers, 1 to 64.
+    pub fn servers(&self) -> usize
+        ensures value { result ≡ self.now.rows * self.now.cols }
+        ensures positive { 1 ≤ result }
+        ensures bound { result ≤ 64 }
+    {
+        self.rows * self.cols
+    }
+
+    // Whether the set has all servers of the row.
+    fn has_full_row(&self, set: ServerSet, row: usize) -> bool
+        requires { row < self.now.rows }
+        ensures { result ≡ is_full_row self.now (servers set) row }
+    {
+        for col in 0..self.cols {
+            if !set.has(row * self.cols + col) {
+                return false;
+            }
+        }
+        true
+    }
+
+    // Whether the set has all servers of the column.
+    fn has_full_column(&self, set: ServerSet, col: usize) -> bool
+        requires { col < self.now.cols }
+        ensures { result ≡ is_full_column self.now (servers set) col }
+    {
+        for row in 0..self.rows {
+            if !set.has(row * self.cols + col) {
+                return false;
+            }
+        }
+        true
+    }
+
+    // The least row that lies wholly in the set.
+    fn least_row(&self, set: ServerSet) -> Option<usize>
+        ensures least { result ≡ least_row self.now (servers set) }
+        ensures within { IfSome result (λ row. row < self.now.rows) }
+    {
+        for row in 0..self.rows {
+            if self.has_full_row(set, row) {
+                return Some(row);
+            }
+        }
+        None
+    }
+
+    // The least column that lies wholly in the set.
+    fn least_column(&self, set: ServerSet) -> Option<usize>
+        ensures least { result ≡ least_column self.now (servers set) }
+        ensures within { IfSome result (λ col. col < self.now.cols) }
+    {
+        for col in 0..self.cols {
+            if self.has_full_column(set, col) {
+                return Some(col);
+            }
+        }
+        None
+    }
+
+    // The servers of the row.
+    fn row_set(&self, row: usize) -> ServerSet
+        requires { row < self.now.rows }
+        ensures { servers result ≡ row_servers self.now row }
+    {
+        let mut set = ServerSet::empty();
+        for col in 0..self.cols {
+            set.insert(row * self.cols + col);
+        }
+        set
+    }
+
+    // Adds the servers of the column.
+    fn add_column(&self, set: &mut ServerSet, col: usize)
+        requires { col < self.now.cols }
+        ensures { servers set.new ≡ either (servers set.old) (column_servers self.now col) }
+    {
+        for row in 0..self.rows {
+            set.insert(row * self.cols + col);
+        }
+    }
+
+    /// The quorum to ask where the servers of `up` are up: the least row and the least column that are wholly up, and
+    /// their servers. None where no row, or no column, is wholly up.
+    pub fn choose(&self, up: ServerSet) -> Option<Choice>
+        ensures choice { option_map place_of result ≡ choose self.now (servers up) }
+        ensures servers { IfSome result (λ c. servers c.servers ≡ choice_servers self.now (place_of c)) }
+    {
+        let row = self.least_row(up)?;
+        let col = self.least_column(up)?;
+        let mut servers = self.row_set(row);
+        self.add_column(&mut servers, col);
+        Some(Choice { row, col, servers })
+    }
+}
+
+#[cfg(test)]
+mod tests;

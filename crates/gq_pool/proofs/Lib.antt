@@ -1,0 +1,5 @@
+pub mod Lending
+pub mod Words
+pub mod Heap
+pub mod Crosses
+pub mod Contents

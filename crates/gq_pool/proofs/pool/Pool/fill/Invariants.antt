@@ -1,0 +1,14 @@
+use Rattle.std.proofs.Common.{◌≡◌, ◌+◌, ◌-◌, ◌*◌, ◌≤◌, length, drop}
+use Rattle.gq_pool.specs.Blocks.{content_of}
+use Rattle.gq_pool.proofs.pool.Pool.fill.Given as goal
+
+-- the blocks hold the content from block `i` on
+abbrev pub invariant-loop-i : goal.invariant-loop-i
+invariant-loop-i l =
+    (l.i ≤ l.need)
+    × (length l.blocks + l.i ≡ l.need)
+    × (length l.self-inside.free + length l.blocks ≡ length l.initial.self-inside.free)
+    × (content_of (l.len - l.i * 64) l.blocks ≡ drop (l.i * 64) l.bytes)
+
+abbrev pub decreases-loop-i : goal.decreases-loop-i
+decreases-loop-i l = l.i

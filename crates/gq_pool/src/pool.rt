@@ -1,0 +1,159 @@
+//! A pool of blocks, and a chain of them that holds a content.
+ghost use Rattle.std.specs.Prelude.{◌≡◌, ℕ, ◌+◌, ◌*◌, ◌^◌, ◌<◌, ◌≤◌, ◌↔◌, List, length, IfOk, IfErr, OnOk, OnErr, IsErr};
+ghost use Rattle.gq_pool.specs.Blocks.{blocks_for, content_of};
+
+use crate::node::Node;
+use crate::stack::Stack;
+use std::alloc::{AllocError, Global};
+use std::marker::Model;
+use std::ptr;
+use thiserror::Error;
+
+/// Too few blocks are free for a content: `free` says how many are. The pool is as it was.
+#[derive(Debug, Drop, Error)]
+#[error("{free} blocks are free")]
+pub struct Short {
+    pub free: usize,
+}
+
+/// Free blocks of 64 bytes, which contracts see as their number.
+///
+/// The blocks are taken from memory once, by `new`, and go back to it by `close`; between the two they move to chains
+/// and back with no request for memory. A pool isn't let go by itself: it is closed.
+pub struct Pool {
+    alloc: Global,
+    free: Stack,
+}
+
+impl Model for Pool {
+    ghost Value = { ℕ };
+
+    ghost view = { λ p. length p.free };
+}
+
+/// A content in blocks of its own, which contracts see as the content's bytes.
+///
+/// No other chain and no pool has these blocks. A chain isn't let go by itself: it is drained into a pool.
+pub struct Chain {
+    blocks: Stack,
+    len: usize,
+}
+
+impl Model for Chain {
+    ghost Value = { List ℕ };
+
+    ghost view = { λ c. content_of c.len c.blocks };
+
+    ghost invariant = { λ c. (length c.blocks ≡ blocks_for c.len) × (length (content_of c.len c.blocks) ≡ c.len) };
+}
+
+impl Chain {
+    /// The number of bytes of the content.
+    pub fn len(&self) -> usize
+        ensures { result ≡ length self.now }
+    {
+        self.len
+    }
+
+    /// The number of blocks that the content takes: one for each 64 bytes, and one for the rest where there is a rest.
+    pub fn blocks(&self) -> usize
+        ensures { result ≡ blocks_for (length self.now) }
+    {
+        self.blocks.count()
+    }
+
+    /// Writes the content into `out`, which has as many bytes: just the bytes that the chain was filled with.
+    pub fn read(&self, out: &mut [u8])
+        requires { length out.old ≡ length self.now }
+        ensures { out.new ≡ self.now }
+    {
+        self.blocks.read(out);
+    }
+}
+
+impl Pool {
+    /// A pool of `n` free blocks, each taken from memory now, by one request.
+    ///
+    /// `AllocError` is want of memory: the blocks that were taken until then were given back.
+    pub fn new(alloc: Global, n: usize) -> Result<Pool, AllocError>
+        ensures { IfOk result (λ pool. pool ≡ n) }
+    {
+        let mut free = Stack::new();
+        for _ in 0..n {
+            match Box::new(
+                alloc,
+                Node {
+                    next: ptr::null_mut(),
+                    bytes: [0; 64],
+                },
+            ) {
+                Ok(node) => free.push(node),
+                Err(_) => {
+                    let pool = Pool { alloc, free };
+                    pool.close();
+                    return Err(AllocError);
+                }
+            }
+        }
+        Ok(Pool { alloc, free })
+    }
+
+    /// The number of free blocks.
+    pub fn free(&self) -> usize
+        ensures { result ≡ self.now }
+    {
+        self.free.count()
+    }
+
+    /// A chain of these bytes, in blocks that were free: `free` falls by one for each 64 bytes, and by one for the rest
+    /// where there is a rest. It takes no memory.
+    ///
+    /// `Short` comes exactly where fewer blocks are free than the bytes take; the pool is then as it was.
+    pub fn fill(&mut self, bytes: &[u8]) -> Result<Chain, Short>
+        ensures short { IsErr result ↔ (self.old < blocks_for (length bytes.now)) }
+        ensures filled { IfOk result (λ chain. chain ≡ bytes.now) }
+        ensures taken { OnOk result (self.new + blocks_for (length bytes.now) ≡ self.old) }
+        ensures told { IfErr result (λ short. short.free ≡ self.old) }
+        ensures unchanged { OnErr result (self.new ≡ self.old) }
+    {
+        let len = bytes.len();
+        let need = len.div_ceil(64);
+        let free = self.free.count();
+        if free < need {
+            return Err(Short { free });
+        }
+        let mut blocks = Stack::new();
+        let mut i = need;
+        while i > 0 {
+            i -= 1;
+            let start = i * 64;
+            let end = len.min(start + 64);
+            let mut node = self.free.pop(self.alloc);
+            node.bytes[..end - start].copy_from_slice(&bytes[start..end]);
+            blocks.push(node);
+        }
+        Ok(Chain { blocks, len })
+    }
+
+    /// Takes the chain's blocks back: `free` rises by them. It takes no memory.
+    pub fn drain(&mut self, chain: Chain)
+        requires { self.old + blocks_for (length chain) < 2 ^ 64 }
+        ensures { self.new ≡ self.old + blocks_for (length chain) }
+    {
+        let Chain { mut blocks, len: _ } = chain;
+        while blocks.count() > 0 {
+            let node = blocks.pop(self.alloc);
+            self.free.push(node);
+        }
+        blocks.close();
+    }
+
+    /// Gives all free blocks back to memory.
+    pub fn close(self) {
+        let Pool { alloc, mut free } = self;
+        while free.count() > 0 {
+            drop(free.pop(alloc));
+        }
+        free.close();
+    }
+}

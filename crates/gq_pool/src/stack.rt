@@ -1,0 +1,99 @@
+//! A list of nodes with the pointer to its first.
+ghost use Rattle.std.specs.Prelude.{◌≡◌, ℕ, ◌+◌, ◌*◌, ◌^◌, ◌<◌, ◌≤◌, List, [], ◌∷◌, length, map};
+ghost use Rattle.gq_pool.specs.Linked.{first_place};
+ghost use Rattle.gq_pool.specs.Blocks.{content_of};
+
+use crate::node::{Link, Node};
+use crate::nodes::Nodes;
+use std::alloc::Global;
+use std::marker::Model;
+use std::ptr;
+
+/// A list of blocks, the last that was pushed first; contracts see the bytes of each. It is emptied and then closed.
+pub struct Stack {
+    head: Link,
+    nodes: Nodes,
+    count: usize,
+}
+
+impl Model for Stack {
+    ghost Value = { List (List ℕ) };
+
+    ghost view = { λ s. map (λ n. n.1) s.nodes.nodes };
+
+    ghost invariant = { λ s. (s.head.ptr ≡ first_place s.nodes.nodes) × (s.count ≡ length s.nodes.nodes) };
+}
+
+impl Stack {
+    // No blocks.
+    pub(crate) fn new() -> Stack
+        ensures { result ≡ [] }
+    {
+        Stack {
+            head: Link {
+                ptr: ptr::null_mut(),
+            },
+            nodes: Nodes::new(),
+            count: 0,
+        }
+    }
+
+    // The number of blocks.
+    pub(crate) fn count(&self) -> usize
+        ensures { result ≡ length self.now }
+    {
+        self.count
+    }
+
+    // Puts the block before the others.
+    pub(crate) fn push(&mut self, mut node: Box<Node>)
+        requires { length self.old + 1 < 2 ^ 64 }
+        ensures { self.new ≡ node.value.bytes ∷ self.old }
+    {
+        node.next = self.head.ptr;
+        self.head = self.nodes.push(node);
+        self.count += 1;
+    }
+
+    // Takes the first block.
+    pub(crate) fn pop(&mut self, alloc: Global) -> Box<Node>
+        requires { 0 < length self.old }
+        ensures { self.old ≡ result.value.bytes ∷ self.new }
+    {
+        let node = self.nodes.pop(self.head, alloc);
+        self.head = Link { ptr: node.next };
+        self.count -= 1;
+        node
+    }
+
+    // Writes the bytes of the blocks, one after another, until `out` is full.
+    pub(crate) fn read(&self, out: &mut [u8])
+        requires { length out.old ≤ 64 * length self.now }
+        ensures { out.new ≡ content_of (length out.old) self.now }
+    {
+        let len = out.len();
+        let mut at = self.head;
+        let mut i = 0;
+        let mut start = 0;
+        while start < len {
+            let node = self.nodes.read(at, i);
+            let end = len.min(start + 64);
+            out[start..end].copy_from_slice(&node.bytes[..end - start]);
+            at = Link { ptr: node.next };
+            start = end;
+            i += 1;
+        }
+    }
+
+    // Lets the empty list go.
+    pub(crate) fn close(self)
+        requires { self ≡ [] }
+    {
+        let Stack {
+            head: _,
+            nodes,
+            count: _,
+        } = self;
+        nodes.close();
+    }
+}

@@ -1,0 +1,9 @@
+pub mod Extending
+pub mod KnownBytesLemmas
+pub mod LinesLemmas
+pub mod Numbers
+pub mod PlanFaults
+pub mod PlanReading
+pub mod Rests
+pub mod WordsLemmas
+pub mod Answering

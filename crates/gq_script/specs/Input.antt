@@ -1,0 +1,86 @@
+-- Which event a line of the input is.
+use Rattle.std.specs.Prelude.{ℕ, List, [], ◌∷◌, if◌then◌else◌, codes, Option, Some, None}
+use Rattle.std.specs.List.{position_from}
+use Rattle.std.specs.Str.{bytes_eq}
+use Rattle.gq_desk.specs.Names.{is_name}
+use Rattle.gq_desk.specs.Plans.{is_of}
+use Rattle.gq_desk.specs.CheckedPlan.{CheckedPlan}
+use Rattle.gq_world.specs.declared.events.Event.{Event}
+use Rattle.gq_world.specs.declared.events.Event.TheVariants.{Tenant, Server, Stray}
+use Rattle.gq_world.specs.declared.events.Line.{Line}
+use Rattle.gq_world.specs.declared.events.Line.TheVariants.{Bad, Quorum, NewVolume, Volumes, Deliver, Lose}
+use Rattle.gq_world.specs.declared.events.ServerLine.{ServerLine}
+use Rattle.gq_world.specs.declared.events.ServerLine.TheVariants.{Bad as ServerBad, Down, Up}
+use Rattle.gq_script.specs.Words.{Word, words_of, number_of}
+
+-- the second value, where the first is there
+infixl 10 ◌>>=◌
+abbrev pub ◌>>=◌ : {A B : Type 0} → Option A → (A → Option B) → Option B
+(Some x) >>= next = next x
+None >>= next = None
+
+-- the words are this many numbers, and no more
+unfoldable pub one_number_of : List Word → Option ℕ
+one_number_of (a ∷ []) = number_of a
+one_number_of _ = None
+
+unfoldable pub two_numbers_of : List Word → Option (ℕ × ℕ)
+two_numbers_of (a ∷ b ∷ []) = do
+  x ← number_of a
+  y ← number_of b
+  Some (x, y)
+two_numbers_of _ = None
+
+-- a line of these values, bad where they aren't there
+abbrev pub line_from : {A : Type 0} → Option A → (A → Line) → Line
+line_from (Some x) line = line x
+line_from None line = Bad
+
+-- a line that ends here
+abbrev pub line_alone : List Word → Line → Line
+line_alone [] line = line
+line_alone (a ∷ words) line = Bad
+
+-- the line of a tenant that has these words after the name
+unfoldable pub line_of : List Word → Line
+line_of [] = Bad
+line_of (verb ∷ words) =
+    if bytes_eq verb (codes "quorum") then line_alone words Quorum
+    else if bytes_eq verb (codes "open") then line_from (two_numbers_of words) (λ (files, blocks). NewVolume files blocks)
+    else if bytes_eq verb (codes "volumes") then line_alone words Volumes
+    else if bytes_eq verb (codes "deliver") then line_from (one_number_of words) (λ n. Deliver n)
+    else if bytes_eq verb (codes "lose") then line_from (one_number_of words) (λ n. Lose n)
+    else Bad
+
+-- which way a server goes
+abbrev pub change_of : Option ℕ → Word → ServerLine
+change_of None way = ServerBad
+change_of (Some n) way =
+    if bytes_eq way (codes "down") then Down n
+    else if bytes_eq way (codes "up") then Up n
+    else ServerBad
+
+-- the server line that has these words after `server`
+unfoldable pub server_line_of : List Word → ServerLine
+server_line_of (a ∷ way ∷ []) = change_of (number_of a) way
+server_line_of _ = ServerBad
+
+-- the place of the tenant of which the word is the name
+abbrev pub place_of : CheckedPlan → Word → Option ℕ
+place_of plan word = if is_name word then position_from (is_of word) 0 plan.rows else None
+
+-- a tenant's line, or a stray one
+abbrev pub tenant_event : Option ℕ → List Word → Event
+tenant_event (Some tenant) words = Tenant tenant (line_of words)
+tenant_event None words = Stray
+
+-- the event of a line's words; the first word says whose it is
+unfoldable pub event_of_words : CheckedPlan → List Word → Event
+event_of_words plan [] = Stray
+event_of_words plan (first ∷ words) =
+    if bytes_eq first (codes "server") then Server (server_line_of words)
+    else tenant_event (place_of plan first) words
+
+-- the event of a line
+abbrev pub event_of : CheckedPlan → List ℕ → Event
+event_of plan line = event_of_words plan (words_of line)

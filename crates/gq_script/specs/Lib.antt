@@ -1,0 +1,10 @@
+pub mod Words
+pub mod Lines
+pub mod Input
+pub mod PlanText
+pub mod Output
+pub mod Pieces
+pub mod Watched
+pub mod Out
+pub mod Steps
+pub mod Laws

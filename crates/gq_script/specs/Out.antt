@@ -1,0 +1,45 @@
+-- What is written for an input.
+use Rattle.std.specs.Prelude.{◌≡◌, ◌≤◌, ℕ, List, [], ◌∷◌, ◌++◌, map, length, Ok, Err, IsOk}
+use Rattle.std.specs.List.{flat_map}
+use Rattle.gq_desk.specs.CheckedPlan.{CheckedPlan}
+use Rattle.gq_world.specs.declared.events.Event.{Event}
+use Rattle.gq_world.specs.Events.{answer_to}
+use Rattle.gq_script.specs.declared.script.TheConstants.{MOST_INPUT}
+use Rattle.gq_script.specs.declared.script.RunFault.{RunFault}
+use Rattle.gq_script.specs.declared.script.RunFault.TheVariants.{Plan}
+use Rattle.gq_script.specs.Lines.{lines_of}
+use Rattle.gq_script.specs.Input.{event_of}
+use Rattle.gq_script.specs.PlanText.{Reading, plan_of}
+use Rattle.gq_script.specs.Output.{answer_line}
+
+-- the lines that answer the events, those before them being so
+abbrev pub answer_lines : CheckedPlan → List Event → List Event → List (List ℕ)
+answer_lines plan before [] = []
+answer_lines plan before (event ∷ events) = answer_line plan event (answer_to plan before event) ∷ answer_lines plan (before ++ event ∷ []) events
+
+-- one line for each line after `go`
+abbrev pub output_lines : CheckedPlan → List (List ℕ) → List (List ℕ)
+output_lines plan lines = answer_lines plan [] (map (event_of plan) lines)
+
+-- lines one after another
+abbrev pub joined : List (List ℕ) → List ℕ
+joined lines = flat_map (λ line. line) lines
+
+-- the output of what was read of an input
+abbrev pub output_of : Reading (CheckedPlan × List (List ℕ)) → List ℕ
+output_of (Ok read) = joined (output_lines read.0 read.1)
+output_of (Err fault) = []
+
+-- the whole output of an input whose plan is accepted
+abbrev pub out : List ℕ → List ℕ
+out input = output_of (plan_of (lines_of input))
+
+-- the input is small enough, and its plan is accepted
+pub record IsAccepted (input : List ℕ) : Type 0 where
+  pub small : length input ≤ MOST_INPUT
+  pub plan : IsOk (plan_of (lines_of input))
+
+-- a fault of the plan is the one that the lines of the input tell
+abbrev pub IsPlanFaultOf : List ℕ → RunFault → Type 0
+IsPlanFaultOf input (Plan line fault) = (length input ≤ MOST_INPUT) × (plan_of (lines_of input) ≡ Err (line, fault))
+IsPlanFaultOf input _ = Unit {0}

@@ -1,0 +1,19 @@
+-- Words that the code puts together.
+use Rattle.std.specs.Prelude.{◌≡◌, ℕ, List, [], ◌∷◌, ◌++◌, decimal, map}
+use Rattle.gq_grid.specs.Grid.{rising}
+use Rattle.gq_grid.specs.Sets.{servers}
+use Rattle.gq_script.specs.declared.pieces.Piece.{Piece}
+use Rattle.gq_script.specs.declared.pieces.Piece.TheVariants.{Text, Number, Servers, Volumes}
+use Rattle.gq_script.specs.Words.{Word}
+use Rattle.gq_script.specs.Output.{volume_word}
+
+-- the words that a piece stands for
+abbrev pub words_in : Piece → List Word
+words_in (Text word) = word.now ∷ []
+words_in (Number n) = decimal n ∷ []
+words_in (Servers grid set) = map decimal (rising grid.now (servers set))
+words_in (Volumes volumes) = map volume_word volumes.now
+
+-- a text that goes on from another
+abbrev pub Extends : List ℕ → List ℕ → Type 0
+Extends old new = (more : List ℕ) × (new ≡ old ++ more)

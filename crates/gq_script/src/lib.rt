@@ -1,0 +1,21 @@
+//! From the bytes of a script to the bytes of its answers.
+#![tactic(auto)]
+
+mod input;
+pub mod laws;
+mod lines;
+mod output;
+mod pieces;
+mod plan_text;
+mod script;
+mod watched;
+mod words;
+
+pub use input::read_line;
+pub use output::write_answer;
+pub use plan_text::{PlanText, TextFault, read_plan};
+pub use script::{MOST_INPUT, RunFault, run};
+pub use watched::Watched;
+
+#[cfg(test)]
+mod tests;

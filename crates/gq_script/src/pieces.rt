@@ -1,0 +1,131 @@
+//! Words straight into a buffer.
+
+ghost use Rattle.std.specs.Prelude.{◌≡◌, ℕ, ◌∷◌, ◌++◌, map, decimal, OnOk, OnErr};
+ghost use Rattle.std.specs.List.{flat_map};
+ghost use Rattle.gq_grid.specs.Grid.{rising};
+ghost use Rattle.gq_grid.specs.Sets.{servers};
+ghost use Rattle.gq_script.specs.Output.{spaced, line_text, volume_word};
+ghost use Rattle.gq_script.specs.Pieces.{words_in, Extends};
+
+use gq_desk::VolumeRow;
+use gq_grid::{Grid, ServerSet};
+use itoa::Buffer;
+use std::alloc::AllocError;
+
+// Words of an answer.
+#[derive(Clone, Copy)]
+pub enum Piece<'a> {
+    Text(&'a [u8]),
+    Number(u64),
+    Servers(&'a Grid, ServerSet),
+    Volumes(&'a [VolumeRow]),
+}
+
+// Appends the digits of a number.
+fn put_number(out: &mut Vec<u8>, n: u64) -> Result<(), AllocError>
+    ensures ok { OnOk result (out.new.items ≡ out.old.items ++ decimal n) }
+    ensures err { OnErr result (out.new.items ≡ out.old.items) }
+{
+    let mut buffer = Buffer::new();
+    out.extend_from_slice(buffer.format(n).as_bytes())
+}
+
+// Appends a word after a space.
+fn put_text(out: &mut Vec<u8>, word: &[u8]) -> Result<(), AllocError>
+    ensures ok { OnOk result (out.new.items ≡ out.old.items ++ 32 ∷ word.now) }
+    ensures err { OnErr result (Extends out.old.items out.new.items) }
+{
+    out.push(b' ')?;
+    out.extend_from_slice(word)
+}
+
+// Appends a number after a space.
+fn put_spaced_number(out: &mut Vec<u8>, n: u64) -> Result<(), AllocError>
+    ensures ok { OnOk result (out.new.items ≡ out.old.items ++ 32 ∷ decimal n) }
+    ensures err { OnErr result (Extends out.old.items out.new.items) }
+{
+    out.push(b' ')?;
+    put_number(out, n)
+}
+
+// Appends the servers of a set, rising.
+fn put_servers(out: &mut Vec<u8>, grid: &Grid, set: ServerSet) -> Result<(), AllocError>
+    ensures ok { OnOk result (out.new.items ≡ out.old.items ++ spaced (map decimal (rising grid.now (servers set)))) }
+    ensures err { OnErr result (Extends out.old.items out.new.items) }
+{
+    for server in 0..grid.servers() {
+        if set.has(server) {
+            put_spaced_number(out, server as u64)?;
+        }
+    }
+    Ok(())
+}
+
+// Appends a volume.
+fn put_volume(out: &mut Vec<u8>, volume: &VolumeRow) -> Result<(), AllocError>
+    ensures ok { OnOk result (out.new.items ≡ out.old.items ++ 32 ∷ volume_word volume.now) }
+    ensures err { OnErr result (Extends out.old.items out.new.items) }
+{
+    put_spaced_number(out, u64::from(volume.files))?;
+    out.push(b'x')?;
+    put_number(out, u64::from(volume.blocks))
+}
+
+// Appends volumes.
+fn put_volumes(out: &mut Vec<u8>, volumes: &[VolumeRow]) -> Result<(), AllocError>
+    ensures ok { OnOk result (out.new.items ≡ out.old.items ++ spaced (map volume_word volumes.now)) }
+    ensures err { OnErr result (Extends out.old.items out.new.items) }
+{
+    for volume in volumes {
+        put_volume(out, volume)?;
+    }
+    Ok(())
+}
+
+// Appends the words of a piece.
+fn put_piece(out: &mut Vec<u8>, piece: Piece) -> Result<(), AllocError>
+    ensures ok { OnOk result (out.new.items ≡ out.old.items ++ spaced (words_in piece.entry)) }
+    ensures err { OnErr result (Extends out.old.items out.new.items) }
+{
+    match piece {
+        Piece::Text(word) => put_text(out, word),
+        Piece::Number(n) => put_spaced_number(out, n),
+        Piece::Servers(grid, set) => put_servers(out, grid, set),
+        Piece::Volumes(volumes) => put_volumes(out, volumes),
+    }
+}
+
+// Appends the words of pieces.
+fn put_pieces(out: &mut Vec<u8>, pieces: &[Piece]) -> Result<(), AllocError>
+    ensures ok { OnOk result (out.new.items ≡ out.old.items ++ spaced (flat_map words_in pieces.now)) }
+    ensures err { OnErr result (Extends out.old.items out.new.items) }
+{
+    for piece in pieces {
+        put_piece(out, *piece)?;
+    }
+    Ok(())
+}
+
+// Appends a line of words.
+fn put_whole(out: &mut Vec<u8>, first: &[u8], words: &[Piece]) -> Result<(), AllocError>
+    ensures ok { OnOk result (out.new.items ≡ out.old.items ++ line_text first.now (flat_map words_in words.now)) }
+    ensures err { OnErr result (Extends out.old.items out.new.items) }
+{
+    out.extend_from_slice(first)?;
+    put_pieces(out, words)?;
+    out.push(b'\n')?;
+    Ok(())
+}
+
+// Appends a line of words, or nothing.
+pub fn put_line(out: &mut Vec<u8>, first: &[u8], words: &[Piece]) -> Result<(), AllocError>
+    ensures ok { OnOk result (out.new.items ≡ out.old.items ++ line_text first.now (flat_map words_in words.now)) }
+    ensures err { OnErr result (out.new.items ≡ out.old.items) }
+{
+    let start = out.len();
+    let done = put_whole(out, first, words);
+    if done.is_err() {
+        out.truncate(start);
+    }
+    done
+}

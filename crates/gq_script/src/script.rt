@@ -1,0 +1,238 @@
+//! A whole script, from a reader to a writer.
+
+ghost use Rattle.std.specs.Prelude.{◌≡◌, ◌≢◌, ◌↔◌, ◌+◌, ◌<◌, ◌≤◌, ◌++◌, [], ◌∷◌, List, true, false, length, vec_len, IfOk, IfErr, IfSome, OnOk, OnErr, IsOk, IsErrOf};
+ghost use Rattle.std.specs.Io.KnownBytes.{Appends, IsAtEnd};
+
+use crate::input::read_line;
+use crate::lines::first_line;
+use crate::output::write_answer;
+use crate::plan_text::{PlanText, TextFault, read_plan};
+use crate::watched::Watched;
+use gq_desk::Plan;
+use gq_world::World;
+use std::alloc::{AllocError, Global};
+use std::io::{Read, Write};
+use thiserror::Error;
+
+/// Why a run ended early. After each fault but `Write` nothing was written.
+#[derive(Clone, Copy, Debug, PartialEq, Eq, Error)]
+pub enum RunFault {
+    /// The reader failed.
+    #[error("read fault")]
+    Read,
+    /// The input has more than [`MOST_INPUT`] bytes.
+    #[error("input over 16777216 bytes")]
+    TooBig,
+    /// The plan is at fault in this line, numbered from 1.
+    #[error("line {0}: {1}")]
+    Plan(u64, TextFault),
+    /// Memory is wanting.
+    #[error("out of memory")]
+    Memory,
+    /// The writer failed, or took none of some bytes. A prefix of the output was written.
+    #[error("write fault")]
+    Write,
+}
+
+/// The most bytes that an input may have.
+pub const MOST_INPUT: usize = 16_777_216;
+
+ghost use Rattle.gq_world.specs.Events.{answer_to};
+ghost use Rattle.gq_world.specs.Tables.{Stands};
+ghost use Rattle.gq_world.specs.declared.events.Event.{Event};
+ghost use Rattle.gq_script.specs.Input.{event_of};
+ghost use Rattle.gq_script.specs.Lines.{lines_of};
+ghost use Rattle.gq_script.specs.Output.{answer_line};
+ghost use Rattle.gq_script.specs.PlanText.{plan_of};
+ghost use Rattle.gq_script.specs.Out.{joined, output_lines, out, IsAccepted, IsPlanFaultOf};
+ghost use Rattle.gq_script.specs.Steps.{IsReadingFault, IsFaultOfLines};
+ghost use Rattle.gq_script.specs.Watched.{inner_of, has_failed, AppendsPrefix, Moves};
+
+// The bytes of one read.
+const CHUNK: usize = 65_536;
+
+// The most turns of the loop that reads: each but the last gives at least one byte.
+const MOST_TURNS: usize = 16_777_218;
+
+// One read, appended to `all`. Answers whether there may be more.
+fn read_step<R: Read>(
+    reader: &mut Watched<R>,
+    chunk: &mut [u8],
+    all: &mut Vec<u8>,
+) -> Result<bool, RunFault>
+    requires room { 0 < length chunk.old }
+    requires fine { has_failed reader.old ≡ false }
+    requires bound { vec_len all.old ≤ MOST_INPUT }
+    ensures moves { OnOk result (Moves (R.remaining (inner_of reader.old))
+        (R.remaining (inner_of reader.new)) all.old.items all.new.items) }
+    ensures end { IfOk result (λ more. more ≡ false → IsAtEnd (R.remaining (inner_of reader.new))) }
+    ensures grows { IfOk result (λ more. more ≡ true → vec_len all.old < vec_len all.new) }
+    ensures bound { OnOk result (vec_len all.new ≤ MOST_INPUT) }
+    ensures room { length chunk.new ≡ length chunk.old }
+    ensures fine { OnOk result (has_failed reader.new ≡ false) }
+    ensures read { IsErrOf result RunFault.Read → has_failed reader.new ≡ true }
+    ensures others { IfErr result (λ e. e ≢ RunFault.Read → has_failed reader.new ≡ false) }
+    ensures big { IsErrOf result RunFault.TooBig → IfSome (R.remaining (inner_of reader.old))
+        (λ xs. MOST_INPUT < vec_len all.old + length xs) }
+    ensures only { IfErr result IsReadingFault }
+{
+    let Ok(n) = reader.read(chunk) else {
+        return Err(RunFault::Read);
+    };
+    if n > MOST_INPUT - all.len() {
+        return Err(RunFault::TooBig);
+    }
+    if all.extend_from_slice(&chunk[..n]).is_err() {
+        return Err(RunFault::Memory);
+    }
+    Ok(n > 0)
+}
+
+// Zeros to read into. The size is a parameter, so that no proof computes a list of that length.
+fn blank(alloc: Global, size: usize) -> Result<Vec<u8>, RunFault>
+    requires { 0 < size }
+    ensures some { IfOk result (λ v. 0 < vec_len v) }
+    ensures err { IfErr result (λ e. e ≡ RunFault.Memory) }
+{
+    match vec![in alloc; 0u8; size] {
+        Ok(zeros) => Ok(zeros),
+        Err(_) => Err(RunFault::Memory),
+    }
+}
+
+// Reads all there is.
+fn read_whole<R: Read>(alloc: Global, reader: &mut Watched<R>) -> Result<Vec<u8>, RunFault>
+    requires { has_failed reader.old ≡ false }
+    ensures all { IfOk result (λ v. IfSome (R.remaining (inner_of reader.old)) (λ xs. v.items ≡ xs)) }
+    ensures bound { IfOk result (λ v. vec_len v ≤ MOST_INPUT) }
+    ensures fine { OnOk result (has_failed reader.new ≡ false) }
+    ensures read { IsErrOf result RunFault.Read → has_failed reader.new ≡ true }
+    ensures others { IfErr result (λ e. e ≢ RunFault.Read → has_failed reader.new ≡ false) }
+    ensures big { IsErrOf result RunFault.TooBig → IfSome (R.remaining (inner_of reader.old))
+        (λ xs. MOST_INPUT < length xs) }
+    ensures only { IfErr result IsReadingFault }
+{
+    let mut chunk = blank(alloc, CHUNK)?;
+    let mut all = Vec::new(alloc);
+    for _turn in 0..MOST_TURNS {
+        match read_step(reader, chunk.as_mut_slice(), &mut all) {
+            Ok(true) => {}
+            Ok(false) => return Ok(all),
+            Err(fault) => return Err(fault),
+        }
+    }
+    unreachable!()
+}
+
+// Answers one line, and appends the answer.
+fn answer_line(
+    alloc: Global,
+    world: &mut World,
+    line: &[u8],
+    text: &mut Vec<u8>,
+) -> Result<(), AllocError>
+    ensures plan { world.new.plan ≡ world.old.plan }
+    ensures stands { OnOk result ((events : List Event) → Stands world.old events →
+        Stands world.new (events ++ event_of world.old.plan line.now ∷ [])) }
+    ensures written { OnOk result ((events : List Event) → Stands world.old events →
+        text.new.items ≡ text.old.items ++ answer_line world.old.plan (event_of world.old.plan line.now)
+        (answer_to world.old.plan events (event_of world.old.plan line.now))) }
+{
+    let event = read_line(alloc, line, world.plan())?;
+    match world.step(&event) {
+        Ok(answer) => write_answer(world.plan(), &event, &answer, text),
+        Err(_) => Err(AllocError),
+    }
+}
+
+// The answers to the lines of a text after the plan.
+fn answers(alloc: Global, plan: Plan, lines: &[u8]) -> Result<Vec<u8>, AllocError>
+    ensures { IfOk result (λ text. text.items ≡ joined (output_lines plan (lines_of lines.now))) }
+{
+    let mut text = Vec::new(alloc);
+    let mut world = World::new(alloc, plan)?;
+    let mut rest = lines;
+    while !rest.is_empty() {
+        let (line, after) = first_line(rest);
+        answer_line(alloc, &mut world, line, &mut text)?;
+        rest = after;
+    }
+    Ok(text)
+}
+
+// The output of an input.
+fn output(alloc: Global, input: &[u8]) -> Result<Vec<u8>, RunFault>
+    ensures plan { OnOk result (IsOk (plan_of (lines_of input.now))) }
+    ensures text { IfOk result (λ text. text.items ≡ out input.now) }
+    ensures fault { IfErr result (IsFaultOfLines (lines_of input.now)) }
+{
+    match read_plan(alloc, input) {
+        Ok((plan, place)) => match answers(alloc, plan, &input[place..]) {
+            Ok(text) => Ok(text),
+            Err(_) => Err(RunFault::Memory),
+        },
+        Err(PlanText::Fault { line, fault }) => Err(RunFault::Plan(line, fault)),
+        Err(PlanText::Memory) => Err(RunFault::Memory),
+    }
+}
+
+// Writes the text by a loop over `write`.
+fn write_whole<W: Write>(writer: &mut Watched<W>, text: &[u8]) -> Result<(), RunFault>
+    requires { has_failed writer.old ≡ false }
+    ensures ok { OnOk result (Appends (W.contents (inner_of writer.old))
+        (W.contents (inner_of writer.new)) text.now) }
+    ensures fine { OnOk result (has_failed writer.new ≡ false) }
+    ensures fault { IfErr result (λ e. e ≡ RunFault.Write) }
+    ensures failed { OnErr result (has_failed writer.new ≡ true) }
+    ensures prefix { OnErr result (AppendsPrefix (W.contents (inner_of writer.old))
+        (W.contents (inner_of writer.new)) text.now) }
+{
+    let mut done = 0;
+    while done < text.len() {
+        match writer.write(&text[done..]) {
+            Ok(n) => {
+                if n == 0 {
+                    return Err(RunFault::Write);
+                }
+                done += n;
+            }
+            Err(_) => return Err(RunFault::Write),
+        }
+    }
+    Ok(())
+}
+
+/// Reads the whole input, of at most [`MOST_INPUT`] bytes, and writes one line for each of its lines after `go`. Nothing
+/// is written before all is answered: after `Read`, `TooBig`, `Plan` and `Memory` the writer is as it was. The reader is
+/// read at most 16,777,218 times, not again after a failure or once it has given too much; what is read of it is gone.
+pub fn run<R: Read, W: Write>(
+    alloc: Global,
+    reader: &mut Watched<R>,
+    writer: &mut Watched<W>,
+) -> Result<(), RunFault>
+    requires reader { has_failed reader.old ≡ false }
+    requires writer { has_failed writer.old ≡ false }
+
+    // Ok: the input is accepted, and its output was appended.
+    ensures accepted { OnOk result (IfSome (R.remaining (inner_of reader.old)) IsAccepted) }
+    ensures ok { OnOk result (IfSome (R.remaining (inner_of reader.old)) (λ input.
+        Appends (W.contents (inner_of writer.old)) (W.contents (inner_of writer.new)) (out input))) }
+
+    // When each fault comes.
+    ensures read { IsErrOf result RunFault.Read ↔ (has_failed reader.new ≡ true) }
+    ensures big { IsErrOf result RunFault.TooBig → IfSome (R.remaining (inner_of reader.old))
+        (λ input. MOST_INPUT < length input) }
+    ensures plan { IfErr result (λ e. IfSome (R.remaining (inner_of reader.old))
+        (λ input. IsPlanFaultOf input e)) }
+    ensures write { IsErrOf result RunFault.Write ↔ (has_failed writer.new ≡ true) }
+    ensures late { IsErrOf result RunFault.Write → IfSome (R.remaining (inner_of reader.old)) IsAccepted }
+
+    // What was written at a fault.
+    ensures nothing { IfErr result (λ e. e ≢ RunFault.Write → writer.new ≡ writer.old) }
+    ensures prefix { IsErrOf result RunFault.Write → IfSome (R.remaining (inner_of reader.old)) (λ input.
+        AppendsPrefix (W.contents (inner_of writer.old)) (W.contents (inner_of writer.new)) (out input)) }
+{
+    let input = read_whole(alloc, reader)?;
+    let text = output(alloc, input.as_slice())?;
+    write_whole(writer, text.as_slice())
+}

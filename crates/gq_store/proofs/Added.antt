@@ -1,0 +1,95 @@
+-- A store with one volume more.
+use Rattle.std.proofs.Common.{◌≡◌, ℕ, ◌+◌, ◌*◌, ◌<◌, ◌≤◌, List, [], ◌∷◌, ◌++◌, length, map, set, replicate, sym, ap, ◌∙◌, arith, inl, inr}
+use Rattle.std.specs.Prelude.{All}
+use Rattle.std.proofs.lemmas.Bool.{cases_eq, cases_lt}
+use Rattle.std.proofs.lemmas.List.{map-set, map-append, length-map, length-replicate, get_or-set_same, get_or-set_other, get_or_append_left, get_or_push, get_or-replicate, get_or_past}
+use Rattle.std.proofs.lemmas.List.Sums.{sum_by-set, sum_by_push}
+use Rattle.std.proofs.lemmas.List.Folds.{sum_by-replicate}
+use Rattle.std.proofs.lemmas.List.Elements.{All-set, All-push, All-replicate}
+use Rattle.gq_tag.specs.declared.FileId.{FileId}
+use Rattle.gq_tag.specs.declared.StoredCopy.{StoredCopy}
+use Rattle.gq_tag.specs.Tag.{first_copy}
+use Rattle.gq_desk.specs.declared.volumes.VolumeRow.{VolumeRow}
+use Rattle.gq_desk.specs.Volumes.{Account, account_at, with_volume, reserved, blocks_of, free_of}
+use Rattle.gq_store.specs.Copies.{StoreCopies, TenantCopies, VolumeCopies, no_tenant, no_volume, tenant_in, volume_in, copy_in, account_of, row_of, taken, volume_taken, tenant_taken, new_volume}
+use Rattle.gq_store.specs.Balance.{Balanced, IsWithinFiles}
+use Rattle.gq_store.proofs.There.{IsThere, account_at-accounts_of}
+
+-- the tenant with a new volume
+abbrev pub grown : TenantCopies → ℕ → ℕ → TenantCopies
+grown x files blocks = record { share = x.share; volumes = x.volumes ++ new_volume files blocks ∷ [] }
+
+-- the tenants with a new volume of one of them
+abbrev pub tenants_grown : List TenantCopies → ℕ → ℕ → ℕ → List TenantCopies
+tenants_grown tenants t files blocks = set tenants t (grown (tenant_in tenants t) files blocks)
+
+abbrev pub size : ℕ → ℕ → VolumeRow
+size files blocks = record { files = files; blocks = blocks }
+
+-- ---- the sizes
+
+account_of-grown : (x : TenantCopies) (files blocks : ℕ) → account_of (grown x files blocks) ≡ with_volume (size files blocks) (account_of x)
+account_of-grown x files blocks =
+    λ i. record { share = x.share; volumes = volumes i }
+  where
+    volumes : map row_of (x.volumes ++ new_volume files blocks ∷ []) ≡ map row_of x.volumes ++ size files blocks ∷ []
+    volumes = map-append row_of x.volumes (new_volume files blocks ∷ []) ∙ ap (λ n. map row_of x.volumes ++ size n blocks ∷ []) (length-replicate files first_copy)
+
+pub accounts-tenants_grown : (tenants : List TenantCopies) (t files blocks : ℕ) → map account_of (tenants_grown tenants t files blocks) ≡ set (map account_of tenants) t (with_volume (size files blocks) (account_at (map account_of tenants) t))
+accounts-tenants_grown tenants t files blocks =
+    let x = tenant_in tenants t in
+    map-set account_of tenants t (grown x files blocks)
+    ∙ ap (set (map account_of tenants) t) (account_of-grown x files blocks ∙ ap (with_volume (size files blocks)) (sym (account_at-accounts_of tenants t)))
+
+-- ---- the copies
+
+abbrev copy_of : List TenantCopies → FileId → StoredCopy
+copy_of tenants id = copy_in (volume_in (tenant_in tenants id.tenant) id.volume) id.file
+
+new_copy : (files blocks place : ℕ) → copy_in (new_volume files blocks) place ≡ first_copy
+new_copy files blocks place =
+    elim (cases_lt place files) [
+      | inl within ↦ get_or-replicate files place first_copy first_copy within
+      | inr past ↦ get_or_past (replicate files first_copy) place first_copy (omega (arith, length-replicate files first_copy))
+    ]
+
+pub copy_of-new : (tenants : List TenantCopies) (t files blocks : ℕ) (place : ℕ) → t < length tenants
+    → copy_of (tenants_grown tenants t files blocks) (record { tenant = t; volume = length (account_at (map account_of tenants) t).volumes; file = place }) ≡ first_copy
+copy_of-new tenants t files blocks place lt =
+    let x = tenant_in tenants t in let n = length (account_at (map account_of tenants) t).volumes in
+    let many : length x.volumes ≡ n = sym (ap (λ (a : Account). length a.volumes) (account_at-accounts_of tenants t) ∙ length-map x.volumes row_of) in
+    ap (λ (y : TenantCopies). copy_in (volume_in y n) place) (get_or-set_same tenants t (grown x files blocks) no_tenant lt)
+    ∙ (ap (λ (y : VolumeCopies). copy_in y place) (get_or_push x.volumes (new_volume files blocks) no_volume n many) ∙ new_copy files blocks place)
+
+pub copy_of-old : (store : StoreCopies) (t files blocks : ℕ) (id : FileId) (n : ℕ) → IsThere store id n → copy_of (tenants_grown store.tenants t files blocks) id ≡ copy_of store.tenants id
+copy_of-old store t files blocks id n is =
+    let x = tenant_in store.tenants t in let new = grown x files blocks in
+    elim (cases_eq id.tenant t) [
+      | inl e ↦
+          let there : id.volume < length x.volumes = rw e at is.volume in
+          let within : t < length store.tenants = rw e at is.tenant in
+          rw e (ap (λ (y : TenantCopies). copy_in (volume_in y id.volume) id.file) (get_or-set_same store.tenants t new no_tenant within)
+          ∙ ap (λ (y : VolumeCopies). copy_in y id.file) (get_or_append_left x.volumes (new_volume files blocks ∷ []) no_volume id.volume there))
+      | inr e ↦ ap (λ (y : TenantCopies). copy_in (volume_in y id.volume) id.file) (get_or-set_other store.tenants t id.tenant new no_tenant e)
+    ]
+
+-- ---- the blocks
+
+new_taken : (files blocks : ℕ) → volume_taken (new_volume files blocks) ≡ 0
+new_taken files blocks = omega (arith, sum_by-replicate taken files first_copy)
+
+pub balanced_grown : (blocks free : ℕ) (tenants : List TenantCopies) (t files size : ℕ) → Balanced blocks free tenants → t < length tenants → files * size ≤ free_of (account_of (tenant_in tenants t))
+    → Balanced blocks free (tenants_grown tenants t files size)
+balanced_grown blocks free tenants t files size is lt fits =
+    let x = tenant_in tenants t in let new = new_volume files size in let x' = grown x files size in
+    let old_files : IsWithinFiles x = is.files t no_tenant lt in
+    let new_files : IsWithinFiles x' = All-push (λ (y : VolumeCopies). All (λ copy. taken copy ≤ y.blocks) y.copies) x.volumes new old_files (All-replicate (λ copy. taken copy ≤ size) files first_copy (omega arith)) in
+    let within : reserved (account_of x).volumes ≤ x.share = is.reservations t no_tenant lt in
+    let more : reserved (account_of x').volumes ≡ reserved (account_of x).volumes + files * size =
+    ap (λ (a : Account). reserved a.volumes) (account_of-grown x files size) ∙ sum_by_push blocks_of (map row_of x.volumes) (record { files = files; blocks = size }) in
+    record {
+      balance = omega (arith, sum_by-set tenant_taken tenants t x' no_tenant lt, sum_by_push volume_taken x.volumes new, new_taken files size, is.balance);
+      files = All-set IsWithinFiles tenants t x' new_files is.files;
+      reservations = All-set (λ y. reserved (account_of y).volumes ≤ y.share) tenants t x' (omega arith) is.reservations;
+      shares = omega (arith, sum_by-set (λ (y : TenantCopies). y.share) tenants t x' no_tenant lt, is.shares);
+    }

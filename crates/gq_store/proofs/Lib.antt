@@ -1,0 +1,5 @@
+pub mod Sums
+pub mod There
+pub mod Changed
+pub mod Blocks
+pub mod Added

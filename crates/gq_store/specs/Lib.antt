@@ -1,0 +1,4 @@
+pub mod Content
+pub mod Copies
+pub mod Balance
+pub mod Serving

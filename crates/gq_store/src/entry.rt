@@ -1,0 +1,114 @@
+//! A file's copy, its content in a chain of blocks.
+ghost use Rattle.std.specs.Prelude.{◌≡◌, ℕ, ◌+◌, ◌^◌, ◌<◌, ◌≤◌, length, Option};
+ghost use Rattle.gq_pool.specs.Blocks.{blocks_for};
+ghost use Rattle.gq_store.specs.Content.{content};
+
+use gq_pool::{Chain, Pool};
+use gq_tag::Tag;
+use std::marker::Model;
+use std::mem;
+
+/// A file's copy. An empty content has no chain.
+pub(crate) struct Entry {
+    tag: Tag,
+    chain: Option<Chain>,
+}
+
+impl Model for Entry {
+    ghost use Rattle.gq_tag.specs.declared.StoredCopy.{StoredCopy};
+    ghost use Rattle.gq_store.specs.Content.{content};
+
+    ghost Value = { StoredCopy };
+
+    ghost view = { λ e. record { tag = e.tag; bytes = content e.chain } };
+}
+
+impl Entry {
+    ghost use Rattle.gq_tag.specs.Tag.{first_copy};
+    ghost use Rattle.gq_store.specs.Copies.{taken};
+
+    // The first copy.
+    pub(crate) fn first() -> Entry
+        ensures { result ≡ first_copy }
+    {
+        Entry {
+            tag: Tag::first(),
+            chain: None,
+        }
+    }
+
+    pub(crate) fn tag(&self) -> Tag
+        ensures { result ≡ self.now.tag }
+    {
+        self.tag
+    }
+
+    pub(crate) fn len(&self) -> usize
+        ensures { result ≡ length self.now.bytes }
+    {
+        match &self.chain {
+            None => 0,
+            Some(chain) => chain.len(),
+        }
+    }
+
+    pub(crate) fn read(&self, out: &mut [u8])
+        requires { length out.old ≡ length self.now.bytes }
+        ensures { out.new ≡ self.now.bytes }
+    {
+        match &self.chain {
+            None => {}
+            Some(chain) => chain.read(out),
+        }
+    }
+
+    // Gives the blocks of the old content back and takes those of the new one.
+    pub(crate) fn put(&mut self, pool: &mut Pool, tag: Tag, bytes: &[u8])
+        requires fits { pool.old + taken self.old < 2 ^ 64 }
+        requires room { blocks_for (length bytes.now) ≤ pool.old + taken self.old }
+        ensures copy { self.new ≡ record { tag = tag; bytes = bytes.now } }
+        ensures free { pool.new + taken self.new ≡ pool.old + taken self.old }
+    {
+        let old = self.chain.take();
+        let new = refill(pool, old, bytes);
+        let none = mem::replace(&mut self.chain, new);
+        drain(pool, none);
+        self.tag = tag;
+    }
+
+    // Gives the blocks back.
+    pub(crate) fn spend(self, pool: &mut Pool)
+        requires { pool.old + taken self < 2 ^ 64 }
+        ensures { pool.new ≡ pool.old + taken self }
+    {
+        let Entry { tag: _, chain } = self;
+        drain(pool, chain);
+    }
+}
+
+fn drain(pool: &mut Pool, chain: Option<Chain>)
+    requires { pool.old + blocks_for (length (content chain)) < 2 ^ 64 }
+    ensures { pool.new ≡ pool.old + blocks_for (length (content chain)) }
+{
+    match chain {
+        None => {}
+        Some(chain) => pool.drain(chain),
+    }
+}
+
+// Drains the old chain and fills one anew.
+fn refill(pool: &mut Pool, old: Option<Chain>, bytes: &[u8]) -> Option<Chain>
+    requires fits { pool.old + blocks_for (length (content old)) < 2 ^ 64 }
+    requires room { blocks_for (length bytes.now) ≤ pool.old + blocks_for (length (content old)) }
+    ensures content { content result ≡ bytes.now }
+    ensures free { pool.new + blocks_for (length bytes.now) ≡ pool.old + blocks_for (length (content old)) }
+{
+    drain(pool, old);
+    if bytes.is_empty() {
+        return None;
+    }
+    match pool.fill(bytes) {
+        Ok(chain) => Some(chain),
+        Err(_) => unreachable!(),
+    }
+}

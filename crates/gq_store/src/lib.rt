@@ -1,0 +1,11 @@
+//! One server's store: the copies of all tenants' files, in one pool of blocks.
+#![tactic(auto)]
+
+mod entry;
+mod store;
+mod volumes;
+
+pub use store::{Put, ServeRefused, ServerStore};
+
+#[cfg(test)]
+mod tests;

@@ -1,0 +1,297 @@
+//! The store of one server, and the messages that it answers.
+ghost use Rattle.std.specs.Prelude.{◌≡◌, ◌≢◌, ◌↔◌, ℕ, ◌+◌, ◌*◌, ◌^◌, ◌<◌, ◌≤◌, [], ◌++◌, length, map, vec_len, vec_capacity, None, Some, true, IfOk, IfErr, IfSome, OnOk, OnErr, IsErrOf, IsSome, IsTrue, slice_set};
+ghost use Rattle.std.specs.List.{sum_by};
+ghost use Rattle.gq_tag.specs.declared.FileId.{FileId};
+ghost use Rattle.gq_tag.specs.Tag.{is_less, newer, first_copy, to_server};
+ghost use Rattle.gq_desk.specs.Volumes.{account_at, with_volume, free_of};
+ghost use Rattle.gq_store.specs.Copies.{TenantCopies, copy_at, accounts_of, file_limit, tenant_taken, blocks_taken, blocks_free, empty_store, new_tenant, tenants_with};
+
+use crate::entry::Entry;
+use crate::volumes::Tenant;
+use bytes::Bytes;
+use gq_desk::{Plan, TenantRow};
+use gq_pool::Pool;
+use gq_tag::{Body, FileId, Message, StoredCopy, Tag};
+use std::alloc::{AllocError, Global};
+use std::marker::Model;
+use thiserror::Error;
+
+/// What a `put` did.
+#[derive(Clone, Copy, Debug, PartialEq, Eq)]
+pub enum Put {
+    /// The tag was greater than that of the file's copy, which the one put replaced.
+    Kept,
+    /// The tag was not greater; the file's copy is as it was.
+    Older,
+}
+
+/// Why a message isn't served. The causes are tested in this order.
+#[derive(Clone, Copy, Debug, PartialEq, Eq, Error)]
+pub enum ServeRefused {
+    /// The file is not there.
+    #[error("no such file")]
+    File,
+    /// The content is longer than 64 bytes for each block of the file.
+    #[error("content over the file's limit")]
+    Long,
+    /// Memory is wanting, for the content of a copy that an ask is to be given.
+    #[error("out of memory")]
+    Memory,
+}
+
+/// The copies of all tenants' files on one server, which contracts see as such ([`StoreCopies`]).
+///
+/// All blocks are taken from memory at the start. Each tenant's files stay within its share of them, and the shares
+/// within the blocks, so that a `put` finds the blocks that it needs whatever the other tenants do. A store that is let
+/// go, also inside something larger, gives all its memory back, as by `close`.
+pub struct ServerStore {
+    alloc: Global,
+    blocks: u32,
+    pool: Pool,
+    tenants: Vec<Tenant>,
+}
+
+impl Model for ServerStore {
+    ghost use Rattle.gq_store.specs.Copies.{StoreCopies};
+    ghost use Rattle.gq_store.specs.Balance.{Balanced};
+
+    ghost Value = { StoreCopies };
+
+    ghost view = { λ s. record { blocks = s.blocks; tenants = s.tenants.items } };
+
+    ghost invariant = { λ s. Balanced s.blocks s.pool s.tenants.items };
+}
+
+impl Drop for ServerStore {
+    fn drop(self) {
+        let ServerStore {
+            alloc: _,
+            blocks: _,
+            pool,
+            tenants,
+        } = self;
+        give_back(pool, tenants);
+    }
+}
+
+// Gives all blocks back to memory.
+fn give_back(mut pool: Pool, mut tenants: Vec<Tenant>)
+    requires { pool + sum_by tenant_taken tenants.items < 2 ^ 64 }
+{
+    while let Some(tenant) = tenants.pop() {
+        tenant.spend(&mut pool);
+    }
+    tenants.destroy_empty();
+    pool.close();
+}
+
+// Adds a tenant without volumes for each row.
+fn add_tenants(alloc: Global, tenants: &mut Vec<Tenant>, rows: &[TenantRow])
+    requires { vec_len tenants.old + length rows.now ≤ vec_capacity tenants.old }
+    ensures { tenants.new.items ≡ tenants.old.items ++ map new_tenant rows.now }
+{
+    for row in rows {
+        tenants.push_reserved(Tenant::new(alloc, row.share));
+    }
+}
+
+// An answer to the message, in the same round.
+fn reply(message: &Message, body: Body) -> Message
+    ensures { result ≡ record { tenant = message.now.tenant; session = message.now.session; op = message.now.op; round = message.now.round; server = message.now.server; file = message.now.file; body = body } }
+{
+    Message {
+        tenant: message.tenant,
+        session: message.session,
+        op: message.op,
+        round: message.round,
+        server: message.server,
+        file: message.file,
+        body,
+    }
+}
+
+impl ServerStore {
+    ghost use Rattle.gq_store.specs.Serving.{serve_fault, reply_of, held_after};
+
+    /// The store of a server of the plan: no volume is there, and all blocks are free. It takes one request for memory
+    /// for each block, and a few more.
+    ///
+    /// `AllocError` is want of memory: all that was taken until then was given back.
+    pub fn new(alloc: Global, plan: &Plan) -> Result<ServerStore, AllocError>
+        ensures { IfOk result (λ store. store ≡ empty_store plan.now) }
+    {
+        let blocks = plan.blocks();
+        let mut tenants = Vec::with_capacity(alloc, plan.tenants())?;
+        match Pool::new(alloc, blocks as usize) {
+            Ok(pool) => {
+                add_tenants(alloc, &mut tenants, plan.rows());
+                Ok(ServerStore {
+                    alloc,
+                    blocks,
+                    pool,
+                    tenants,
+                })
+            }
+            Err(error) => {
+                tenants.destroy_empty();
+                Err(error)
+            }
+        }
+    }
+
+    /// Adds the tenant's next volume, of so many files of at most so many blocks each: each file has its first copy,
+    /// tag (0,0) and empty. The volume's blocks have to fit in what is free of the tenant's share. It takes as many
+    /// requests for memory for many files as for one, and no block.
+    ///
+    /// `AllocError` is want of memory: the store is then as it was.
+    pub fn add_files(&mut self, tenant: u8, files: u32, blocks: u32) -> Result<(), AllocError>
+        requires tenant { tenant < length (accounts_of self.old) }
+        requires share { files * blocks ≤ free_of (account_at (accounts_of self.old) tenant) }
+        ensures added { OnOk result (accounts_of self.new ≡ slice_set (accounts_of self.old) tenant (with_volume (record { files = files; blocks = blocks }) (account_at (accounts_of self.old) tenant))) }
+        ensures first { OnOk result ((place : ℕ) → copy_at self.new (record { tenant = tenant; volume = length (account_at (accounts_of self.old) tenant).volumes; file = place }) ≡ first_copy) }
+        ensures others { OnOk result ((file : FileId) → IsSome (file_limit self.old file) → copy_at self.new file ≡ copy_at self.old file) }
+        ensures blocks { self.new.blocks ≡ self.old.blocks }
+        ensures same { OnErr result (self.new ≡ self.old) }
+    {
+        let alloc = self.alloc;
+        self.tenants[tenant as usize].add(alloc, files, blocks)?;
+        Ok(())
+    }
+
+    // The file's copy.
+    fn entry(&self, file: FileId) -> &Entry
+        requires { IsSome (file_limit self.now file) }
+        ensures { result.now ≡ copy_at self.now file }
+    {
+        self.tenants[file.tenant as usize].entry(file.volume, file.file)
+    }
+
+    // How many bytes the file may hold, where it is there.
+    fn limit(&self, file: FileId) -> Option<u64>
+        ensures { result ≡ file_limit self.now file }
+    {
+        self.tenants
+            .get(file.tenant as usize)?
+            .limit(file.volume, file.file)
+    }
+
+    /// The number of bytes of the file's copy.
+    pub fn len(&self, file: FileId) -> usize
+        requires { IsSome (file_limit self.now file) }
+        ensures { result ≡ length (copy_at self.now file).bytes }
+    {
+        self.entry(file).len()
+    }
+
+    /// The tag of the file's copy.
+    pub fn tag(&self, file: FileId) -> Tag
+        requires { IsSome (file_limit self.now file) }
+        ensures { result ≡ (copy_at self.now file).tag }
+    {
+        self.entry(file).tag()
+    }
+
+    /// Writes the content of the file's copy into `out`, which has as many bytes.
+    pub fn get(&self, file: FileId, out: &mut [u8])
+        requires there { IsSome (file_limit self.now file) }
+        requires long { length out.old ≡ length (copy_at self.now file).bytes }
+        ensures { out.new ≡ (copy_at self.now file).bytes }
+    {
+        self.entry(file).read(out);
+    }
+
+    /// The number of blocks that no copy of any tenant takes.
+    pub fn free(&self) -> usize
+        ensures free { result ≡ blocks_free self.now }
+        ensures within { blocks_taken self.now ≤ self.now.blocks }
+    {
+        let _blocks = self.blocks;
+        self.pool.free()
+    }
+
+    /// Puts a copy of the file where its tag is greater than that of the file's copy; a store that comes late, or
+    /// twice, changes nothing. It takes no memory and always finds the blocks.
+    pub fn put(&mut self, file: FileId, tag: Tag, bytes: &[u8]) -> Put
+        requires limit { IfSome (file_limit self.old file) (λ limit. length bytes.now ≤ limit) }
+        requires there { IsSome (file_limit self.old file) }
+        ensures kept { (result ≡ Put.Kept) ↔ IsTrue (is_less (copy_at self.old file).tag tag) }
+        ensures copy { copy_at self.new file ≡ newer (copy_at self.old file) (record { tag = tag; bytes = bytes.now }) }
+        ensures others { (other : FileId) → other ≢ file → copy_at self.new other ≡ copy_at self.old other }
+        ensures accounts { accounts_of self.new ≡ accounts_of self.old }
+        ensures blocks { self.new.blocks ≡ self.old.blocks }
+        ensures older { result ≡ Put.Older → self.new ≡ self.old }
+    {
+        if self.tag(file) < tag {
+            self.replace(file, tag, bytes);
+            Put::Kept
+        } else {
+            Put::Older
+        }
+    }
+
+    // Puts the copy in the place of the file's.
+    fn replace(&mut self, file: FileId, tag: Tag, bytes: &[u8])
+        requires limit { IfSome (file_limit self.old file) (λ limit. length bytes.now ≤ limit) }
+        requires there { IsSome (file_limit self.old file) }
+        ensures { self.new ≡ record { blocks = self.old.blocks; tenants = tenants_with self.old.tenants file (record { tag = tag; bytes = bytes.now }) } }
+    {
+        let _blocks = self.blocks;
+        self.tenants[file.tenant as usize].put(&mut self.pool, file.volume, file.file, tag, bytes);
+    }
+
+    // The file's copy, its content in memory of its own.
+    fn copy(&self, file: FileId) -> Result<StoredCopy, AllocError>
+        requires { IsSome (file_limit self.now file) }
+        ensures { IfOk result (λ copy. copy ≡ copy_at self.now file) }
+    {
+        let entry = self.entry(file);
+        let mut content = vec![in self.alloc; 0; entry.len()]?;
+        entry.read(content.as_mut_slice());
+        Ok(StoredCopy {
+            tag: entry.tag(),
+            bytes: Bytes::from_vec(content)?,
+        })
+    }
+
+    /// Answers a message to the server, an ask or a store, in the same round: an ask by the file's copy, a store by
+    /// stored, after a `put` of its copy. Memory is taken for the copy alone that an ask is given.
+    ///
+    /// The causes of a refusal are tested in the order of [`ServeRefused`], and a refusal changes nothing.
+    pub fn serve(&mut self, message: &Message) -> Result<Message, ServeRefused>
+        requires { IsTrue (to_server message.now.body) }
+        ensures served { OnOk result (serve_fault self.old message.now ≡ None) }
+        ensures refused { IfErr result (λ fault. fault ≢ ServeRefused.Memory → serve_fault self.old message.now ≡ Some fault) }
+        ensures memory { IsErrOf result ServeRefused.Memory → serve_fault self.old message.now ≡ None }
+        ensures memory_for_asks { IsErrOf result ServeRefused.Memory → message.now.body ≡ Body.Ask }
+        ensures reply { IfOk result (λ reply. reply ≡ reply_of (copy_at self.old message.now.file) message.now) }
+        ensures held { OnOk result (copy_at self.new message.now.file ≡ held_after (copy_at self.old message.now.file) message.now.body) }
+        ensures others { (other : FileId) → other ≢ message.now.file → copy_at self.new other ≡ copy_at self.old other }
+        ensures accounts { accounts_of self.new ≡ accounts_of self.old }
+        ensures blocks { self.new.blocks ≡ self.old.blocks }
+        ensures same { OnErr result (self.new ≡ self.old) }
+    {
+        let file = message.file;
+        let Some(limit) = self.limit(file) else {
+            return Err(ServeRefused::File);
+        };
+        let body = match &message.body {
+            Body::Store(copy) => {
+                if copy.bytes.len() as u64 > limit {
+                    return Err(ServeRefused::Long);
+                }
+                self.put(file, copy.tag, copy.bytes.as_slice());
+                Body::Stored
+            }
+            _ => match self.copy(file) {
+                Ok(copy) => Body::Copy(copy),
+                Err(_) => return Err(ServeRefused::Memory),
+            },
+        };
+        Ok(reply(message, body))
+    }
+
+    /// Gives all memory back, as letting the store go does.
+    pub fn close(self) {
+        drop(self);
+    }
+}

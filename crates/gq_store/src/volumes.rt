@@ -1,0 +1,168 @@
+//! Volumes of files, and the tenants that have them.
+ghost use Rattle.std.specs.Prelude.{◌≡◌, ℕ, ◌+◌, ◌^◌, ◌<◌, ◌≤◌, [], ◌∷◌, ◌++◌, length, replicate, vec_len, vec_capacity, IfOk, OnOk, OnErr, slice_get};
+ghost use Rattle.std.specs.Option.{option_and_then};
+ghost use Rattle.gq_desk.specs.Volumes.{limit_in};
+ghost use Rattle.gq_pool.specs.Blocks.{blocks_for};
+ghost use Rattle.gq_tag.specs.Tag.{first_copy};
+ghost use Rattle.gq_store.specs.Copies.{row_of, account_of, copy_in, volume_in, taken, volume_taken, tenant_taken, new_volume, volume_with, tenant_with};
+
+use crate::entry::Entry;
+use gq_pool::Pool;
+use gq_tag::Tag;
+use std::alloc::{AllocError, Global};
+use std::marker::Model;
+
+/// The files of a volume in order, each of at most so many blocks.
+pub(crate) struct Volume {
+    blocks: u32,
+    files: Vec<Entry>,
+}
+
+impl Model for Volume {
+    ghost use Rattle.gq_store.specs.Copies.{VolumeCopies};
+
+    ghost Value = { VolumeCopies };
+
+    ghost view = { λ v. record { blocks = v.blocks; copies = v.files.items } };
+}
+
+/// The volumes of a tenant in order, and its share of the blocks.
+pub(crate) struct Tenant {
+    share: u32,
+    volumes: Vec<Volume>,
+}
+
+impl Model for Tenant {
+    ghost use Rattle.gq_store.specs.Copies.{TenantCopies};
+
+    ghost Value = { TenantCopies };
+
+    ghost view = { λ t. record { share = t.share; volumes = t.volumes.items } };
+}
+
+impl Volume {
+    // A volume whose files have their first copies.
+    fn new(alloc: Global, files: u32, blocks: u32) -> Result<Volume, AllocError>
+        ensures { IfOk result (λ volume. volume ≡ new_volume files blocks) }
+    {
+        let mut entries = Vec::with_capacity(alloc, files as usize)?;
+        for _ in 0..files {
+            entries.push_reserved(Entry::first());
+        }
+        Ok(Volume {
+            blocks,
+            files: entries,
+        })
+    }
+
+    // The bytes that the file may hold, where it is there.
+    fn limit(&self, file: u32) -> Option<u64>
+        ensures { result ≡ limit_in file (row_of self.now) }
+    {
+        if (file as usize) < self.files.len() {
+            Some(64 * u64::from(self.blocks))
+        } else {
+            None
+        }
+    }
+
+    // The file's copy.
+    fn entry(&self, file: u32) -> &Entry
+        requires { file < length self.now.copies }
+        ensures { result.now ≡ copy_in self.now file }
+    {
+        &self.files[file as usize]
+    }
+
+    // Puts another copy in the file's place.
+    fn put(&mut self, pool: &mut Pool, file: u32, tag: Tag, bytes: &[u8])
+        requires there { file < length self.old.copies }
+        requires fits { pool.old + taken (copy_in self.old file) < 2 ^ 64 }
+        requires room { blocks_for (length bytes.now) ≤ pool.old + taken (copy_in self.old file) }
+        ensures copy { self.new ≡ volume_with self.old file (record { tag = tag; bytes = bytes.now }) }
+        ensures free { pool.new + blocks_for (length bytes.now) ≡ pool.old + taken (copy_in self.old file) }
+    {
+        self.files[file as usize].put(pool, tag, bytes);
+    }
+
+    // Gives the blocks of all files back.
+    fn spend(self, pool: &mut Pool)
+        requires { pool.old + volume_taken self < 2 ^ 64 }
+        ensures { pool.new ≡ pool.old + volume_taken self }
+    {
+        let Volume {
+            blocks: _,
+            mut files,
+        } = self;
+        while let Some(entry) = files.pop() {
+            entry.spend(pool);
+        }
+        files.destroy_empty();
+    }
+}
+
+impl Tenant {
+    // No volume is there.
+    pub(crate) fn new(alloc: Global, share: u32) -> Tenant
+        ensures { result ≡ record { share = share; volumes = [] } }
+    {
+        Tenant {
+            share,
+            volumes: Vec::new(alloc),
+        }
+    }
+
+    // Adds a volume whose files have their first copies.
+    pub(crate) fn add(&mut self, alloc: Global, files: u32, blocks: u32) -> Result<(), AllocError>
+        ensures added { OnOk result (self.new ≡ record { share = self.old.share; volumes = self.old.volumes ++ new_volume files blocks ∷ [] }) }
+        ensures same { OnErr result (self.new ≡ self.old) }
+    {
+        self.volumes.reserve(1)?;
+        let volume = Volume::new(alloc, files, blocks)?;
+        self.volumes.push_reserved(volume);
+        Ok(())
+    }
+
+    // The bytes that the file may hold, where it is there.
+    pub(crate) fn limit(&self, volume: u32, file: u32) -> Option<u64>
+        ensures { result ≡ option_and_then (limit_in file) (slice_get (account_of self.now).volumes volume) }
+    {
+        self.volumes.get(volume as usize)?.limit(file)
+    }
+
+    // The file's copy.
+    pub(crate) fn entry(&self, volume: u32, file: u32) -> &Entry
+        requires volume { volume < length self.now.volumes }
+        requires file { file < length (volume_in self.now volume).copies }
+        ensures { result.now ≡ copy_in (volume_in self.now volume) file }
+    {
+        self.volumes[volume as usize].entry(file)
+    }
+
+    // Puts another copy in the file's place.
+    pub(crate) fn put(&mut self, pool: &mut Pool, volume: u32, file: u32, tag: Tag, bytes: &[u8])
+        requires volume { volume < length self.old.volumes }
+        requires file { file < length (volume_in self.old volume).copies }
+        requires fits { pool.old + taken (copy_in (volume_in self.old volume) file) < 2 ^ 64 }
+        requires room { blocks_for (length bytes.now) ≤ pool.old + taken (copy_in (volume_in self.old volume) file) }
+        ensures copy { self.new ≡ tenant_with self.old volume file (record { tag = tag; bytes = bytes.now }) }
+        ensures free { pool.new + blocks_for (length bytes.now) ≡ pool.old + taken (copy_in (volume_in self.old volume) file) }
+    {
+        self.volumes[volume as usize].put(pool, file, tag, bytes);
+    }
+
+    // Gives the blocks of all volumes back.
+    pub(crate) fn spend(self, pool: &mut Pool)
+        requires { pool.old + tenant_taken self < 2 ^ 64 }
+        ensures { pool.new ≡ pool.old + tenant_taken self }
+    {
+        let Tenant {
+            share: _,
+            mut volumes,
+        } = self;
+        while let Some(volume) = volumes.pop() {
+            volume.spend(pool);
+        }
+        volumes.destroy_empty();
+    }
+}

@@ -1,0 +1,168 @@
+//! Tags, files' copies, and the messages between sessions and servers.
+#![tactic(auto)]
+
+ghost use Rattle.std.specs.Prelude.{◌≡◌, ◌↔◌, ℕ, ◌+◌, ◌<◌, ◌≤◌, IsTrue};
+ghost use Rattle.gq_tag.specs.Tag.{is_less, first_tag, to_server};
+
+use bytes::Bytes;
+use std::alloc::AllocError;
+use std::cmp::Ordering;
+
+/// When a content was written: a number, and the session that wrote it. Tags are ordered by
+/// number, and those of one number by session, so that two sessions never write under one tag.
+/// (The tags of several writers are those of Attiya, Bar-Noy and Dolev, Sharing memory robustly
+/// in message-passing systems, JACM 42(1), 1995.)
+#[derive(Clone, Copy, Debug, PartialEq, Eq)]
+pub struct Tag {
+    pub number: u64,
+    pub session: u8,
+}
+
+impl Ord for Tag {
+    ghost use Rattle.gq_tag.specs.Tag.{tag_cmp};
+    ghost use Rattle.gq_tag.specs.Laws.{tag_cmp_total, tag_cmp_eq};
+    ghost use Rattle.std.specs.Prelude.{refl};
+
+    ghost cmp = { tag_cmp };
+
+    ghost total = { tag_cmp_total };
+
+    ghost matches_partial_cmp = { λ _ _. refl };
+
+    ghost matches_eq = { tag_cmp_eq };
+
+    /// Compares by number, then by session.
+    fn cmp(&self, other: &Tag) -> Ordering
+        ensures less { (result ≡ Ordering.Less) ↔ IsTrue (is_less self.now other.now) }
+        ensures equal { (result ≡ Ordering.Equal) ↔ (self.now ≡ other.now) }
+        ensures greater { (result ≡ Ordering.Greater) ↔ IsTrue (is_less other.now self.now) }
+    {
+        self.number
+            .cmp(&other.number)
+            .then(self.session.cmp(&other.session))
+    }
+}
+
+impl PartialOrd for Tag {
+    ghost use Rattle.gq_tag.specs.Tag.{tag_cmp};
+    ghost use Rattle.gq_tag.specs.Laws.{tag_partial_cmp_laws};
+    ghost use Rattle.std.specs.Ordering.{as_partial_cmp};
+
+    ghost partial_cmp = { as_partial_cmp tag_cmp };
+
+    ghost laws = { tag_partial_cmp_laws };
+
+    fn partial_cmp(&self, other: &Tag) -> Option<Ordering> {
+        Some(self.cmp(other))
+    }
+}
+
+impl Tag {
+    /// The tag of a file's first copy, number 0 of no session.
+    pub fn first() -> Tag
+        ensures { result ≡ first_tag }
+    {
+        Tag {
+            number: 0,
+            session: 0,
+        }
+    }
+
+    /// The session's tag one above the number.
+    pub fn after(number: u64, session: u8) -> Tag
+        requires { number < u64.MAX }
+        ensures value { result ≡ record { number = number + 1; session = session } }
+        ensures above { (tag : Tag) → tag.number ≤ number → IsTrue (is_less tag result) }
+    {
+        Tag {
+            number: number + 1,
+            session,
+        }
+    }
+}
+
+/// A file: its tenant's place in the plan, the number of the tenant's volume, and the file's
+/// number in the volume, all from 0.
+#[derive(Clone, Copy, Debug, PartialEq, Eq)]
+pub struct FileId {
+    pub tenant: u8,
+    pub volume: u32,
+    pub file: u32,
+}
+
+/// A file's whole content, with the tag under which it was written. A clone shares the content.
+#[derive(Debug, PartialEq, Eq, Drop)]
+pub struct StoredCopy {
+    pub tag: Tag,
+    pub bytes: Bytes,
+}
+
+impl Clone for StoredCopy {
+    ghost is_clone = { λ a b. b ≡ a };
+
+    fn clone(&self) -> Result<StoredCopy, AllocError> {
+        Ok(StoredCopy {
+            tag: self.tag,
+            bytes: self.bytes.clone()?,
+        })
+    }
+}
+
+/// What a message says. An ask and a store go to a server; the server answers an ask by a copy
+/// and a store by stored, which go to the session.
+#[derive(Debug, PartialEq, Eq, Drop)]
+pub enum Body {
+    /// Asks for the file's copy.
+    Ask,
+    /// The server's copy of the file.
+    Copy(StoredCopy),
+    /// Stores the copy, where its tag is greater than that of the server's.
+    Store(StoredCopy),
+    /// A store came to the server.
+    Stored,
+}
+
+impl Clone for Body {
+    ghost is_clone = { λ a b. b ≡ a };
+
+    fn clone(&self) -> Result<Body, AllocError> {
+        match self {
+            Body::Ask => Ok(Body::Ask),
+            Body::Copy(copy) => Ok(Body::Copy(copy.clone()?)),
+            Body::Store(copy) => Ok(Body::Store(copy.clone()?)),
+            Body::Stored => Ok(Body::Stored),
+        }
+    }
+}
+
+/// A message between a session and a server, of one round of one operation of the session.
+/// Sessions, operations and rounds are numbered from 1, tenants and servers from 0.
+#[derive(Debug, PartialEq, Eq, Drop)]
+pub struct Message {
+    pub tenant: u8,
+    pub session: u8,
+    pub op: u32,
+    pub round: u32,
+    pub server: u8,
+    pub file: FileId,
+    pub body: Body,
+}
+
+impl Message {
+    /// Whether the message goes to a server, as asks and stores do, and not to a session.
+    pub fn to_server(&self) -> bool
+        ensures { result ≡ to_server self.now.body }
+    {
+        matches!(&self.body, Body::Ask | Body::Store(_))
+    }
+}
+
+/// Whether the tag of `a` is greater than that of `b`.
+pub fn newer(a: &StoredCopy, b: &StoredCopy) -> bool
+    ensures { result ≡ is_less b.now.tag a.now.tag }
+{
+    b.tag < a.tag
+}
+
+#[cfg(test)]
+mod tests;

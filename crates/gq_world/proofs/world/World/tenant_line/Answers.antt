@@ -1,0 +1,43 @@
+-- A step is taken, and the line acts.
+use Rattle.std.proofs.Common.{◌≡◌, ◌∙◌, ℕ, ◌<◌, Bool, true, false, length, ap, sym, subst, refl}
+use Rattle.std.specs.Prelude.{nat_le, not}
+use Rattle.std.specs.Result.{IfOk, OnOk}
+use Rattle.std.proofs.lemmas.Result.{IfOk-weaker, on_ok_weaker}
+use Rattle.gq_world.specs.declared.events.Answer.{Answer}
+use Rattle.gq_world.specs.declared.events.Line.{Line}
+use Rattle.gq_world.specs.declared.events.Line.TheVariants.{Bad, Quorum, NewVolume}
+use Rattle.gq_world.specs.declared.events.Event.TheVariants.{Tenant}
+use Rattle.gq_desk.specs.CheckedPlan.{row_at}
+use Rattle.gq_world.specs.Tables.{Tables, taken_at}
+use Rattle.gq_world.specs.Machine.{Acts, Advances, Tells, TellsLine}
+use Rattle.gq_world.specs.Shown.{shown}
+use Rattle.gq_world.proofs.Lines.{taken, taken_advances, taken_tells}
+use Rattle.gq_world.proofs.world.World.tenant_line.Goals as goal
+
+was_left : (left spent : Bool) → left ≡ not spent → left ≡ true → spent ≡ false
+was_left left true word there = sym there ∙ word
+was_left left false word there = refl
+
+pub returns-clause-answer : goal.returns-clause-answer
+returns-clause-answer c =
+    let w : Tables = c.args.self.now in
+    let t : ℕ = c.args.tenant in
+    let line : Line = c.args.line.now in
+    let left = was_left _ (nat_le (row_at w.plan t).steps (taken_at w t)) c.take_step.ensures.left c.if-not-take_step.false in
+    let now_is : c.take_step.new.self ≡ taken w t = c.take_step.ensures.taken c.if-not-take_step.false in
+    let P : Answer → Type 0 = λ answer. TellsLine (taken w t) t line (shown w.plan.grid answer) in
+    let Q : Answer → Type 0 = λ answer. Tells w (Tenant t line) (shown w.plan.grid answer) in
+    IfOk-weaker c.act.result P Q
+    (λ answer tells. taken_tells w t line (shown w.plan.grid answer) c.take_step.ensures.within left tells)
+    (rw now_is at c.act.ensures.answer)
+
+pub returns-clause-advances : goal.returns-clause-advances
+returns-clause-advances c =
+    let w : Tables = c.args.self.now in
+    let t : ℕ = c.args.tenant in
+    let line : Line = c.args.line.now in
+    let left = was_left _ (nat_le (row_at w.plan t).steps (taken_at w t)) c.take_step.ensures.left c.if-not-take_step.false in
+    let now_is : c.take_step.new.self ≡ taken w t = c.take_step.ensures.taken c.if-not-take_step.false in
+    on_ok_weaker {P = Acts (taken w t) t line c.act.new.self} {Q = Advances w (Tenant t line) c.act.new.self} c.act.result
+    (taken_advances w c.act.new.self t line c.take_step.ensures.within left)
+    (rw now_is at c.act.ensures.acts)

@@ -1,0 +1,65 @@
+-- One step, over what is known: how it goes on for each tenant, without the events before.
+use Rattle.std.specs.Prelude.{◌≡◌, ◌≢◌, ℕ, ◌+◌, ◌<◌, Option, Some, None, nat_le, length, if◌then◌else◌}
+use Rattle.gq_grid.specs.Grid.{Grid, Servers}
+use Rattle.gq_desk.specs.CheckedPlan.{row_at}
+use Rattle.gq_desk.specs.declared.plans.TenantRow.{TenantRow}
+use Rattle.gq_world.specs.declared.events.Event.{Event}
+use Rattle.gq_world.specs.declared.events.Event.TheVariants.{Tenant, Server, Stray}
+use Rattle.gq_world.specs.declared.events.Line.{Line}
+use Rattle.gq_world.specs.Told.{Told, StrayBad}
+use Rattle.gq_world.specs.Lone.{Turn, Own, Serving, State, Known, changed, entry_of, told, line_told, is_refusal, server_told, up_by}
+use Rattle.gq_world.specs.Events.{turn_of}
+use Rattle.gq_world.specs.Tables.{Tables, Agrees, up_in}
+
+-- the steps that are taken after a turn
+abbrev pub counted : TenantRow → ℕ → Turn → ℕ
+counted row lines (Own line) = if nat_le row.steps lines then lines else lines + 1
+counted row lines (Serving line) = lines
+
+-- the answers to the questions after a turn to which this was told
+abbrev pub state_after : Turn → Told → State → State
+state_after turn told state = if is_refusal told then state else changed (entry_of turn told) state
+
+-- what is known after a turn
+abbrev pub next : Grid → TenantRow → Known → Turn → Known
+next grid row known turn = record { lines = counted row known.lines turn; state = state_after turn (told grid row known turn) known.state }
+
+-- what is known after an event that the tenant may see
+abbrev pub next_seen : Grid → TenantRow → Known → Option Turn → Known
+next_seen grid row known None = known
+next_seen grid row known (Some turn) = next grid row known turn
+
+-- the servers that are up after an event
+abbrev pub servers_after : Grid → Servers → Event → Servers
+servers_after grid up (Server line) = if is_refusal (server_told grid up line) then up else up_by (Serving line) up
+servers_after grid up (Tenant tenant line) = up
+servers_after grid up Stray = up
+
+-- the event leads from the old tables to the new: whatever the tables had for a tenant, they have after what the tenant sees of it
+pub record Advances (old : Tables) (event : Event) (new : Tables) : Type 0 where
+  pub plan : new.plan ≡ old.plan
+  pub tenants : (t : ℕ) → t < length old.plan.rows → (known : Known) → Agrees old t known → Agrees new t (next_seen old.plan.grid (row_at old.plan t) known (turn_of t event))
+  pub servers : up_in new.plan.grid new.up ≡ servers_after old.plan.grid (up_in old.plan.grid old.up) event
+
+-- the answer is what is told to the event, whatever the tables have for its tenant
+abbrev pub Tells : Tables → Event → Told → Type 0
+Tells w (Tenant t line) answer = (known : Known) → Agrees w t known → answer ≡ told w.plan.grid (row_at w.plan t) known (Own line)
+Tells w (Server line) answer = answer ≡ server_told w.plan.grid (up_in w.plan.grid w.up) line
+Tells w Stray answer = answer ≡ StrayBad
+
+-- ---- a tenant's line whose step is taken
+
+-- what is known after it
+abbrev pub acted : Grid → TenantRow → Known → Line → Known
+acted grid row known line = record { lines = known.lines; state = state_after (Own line) (line_told grid row known.state line) known.state }
+
+-- it leads from the old tables to the new: the tenant's part goes on, and the others' are unchanged
+pub record Acts (old : Tables) (t : ℕ) (line : Line) (new : Tables) : Type 0 where
+  pub plan : new.plan ≡ old.plan
+  pub own : (known : Known) → Agrees old t known → Agrees new t (acted old.plan.grid (row_at old.plan t) known line)
+  pub others : (u : ℕ) → u ≢ t → (known : Known) → Agrees old u known → Agrees new u known
+  pub servers : up_in new.plan.grid new.up ≡ up_in old.plan.grid old.up
+
+-- the answer is what is told to it
+abbrev pub TellsLine : Tables → ℕ → Line → Told → Type 0
+TellsLine w t line answer = (known : Known) → Agrees w t known → answer ≡ line_told w.plan.grid (row_at w.plan t) known.state line
