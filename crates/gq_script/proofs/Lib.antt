@@ -7,3 +7,6 @@ pub mod PlanReading
 pub mod Rests
 pub mod WordsLemmas
 pub mod Answering
+pub mod PlanNames
+pub mod Sights
+pub mod Alone

@@ -8,3 +8,4 @@ pub mod Watched
 pub mod Out
 pub mod Steps
 pub mod Laws
+pub mod Alone

@@ -13,3 +13,15 @@ pub fn numbers_read_back()
 pub fn numbers_have_one_form()
     ensures { NumbersHaveOneForm }
 {}
+
+ghost use Rattle.gq_script.specs.Alone.{AnswersEachLine, TellsAsAlone, TellsTheSame};
+
+/// What other tenants do changes nothing of what a tenant is told. A tenant's lines of the output are those of its run by
+/// itself over its own lines and the server lines. So in two accepted inputs whose plans agree on the grid and the
+/// tenant's row, and which agree on these lines in order, they are the same byte for byte; blocks, other rows, the
+/// tenant's place and all other lines are free.
+pub fn alone()
+    ensures lines { AnswersEachLine }
+    ensures alone { TellsAsAlone }
+    ensures same { TellsTheSame }
+{}

@@ -6,7 +6,7 @@ use Rattle.gq_tag.specs.declared.StoredCopy.{StoredCopy}
 use Rattle.gq_tag.specs.Tag.{first_copy}
 use Rattle.gq_pool.specs.Blocks.{blocks_for}
 use Rattle.gq_desk.specs.CheckedPlan.{CheckedPlan}
-use Rattle.gq_desk.specs.Volumes.{Account, limit_of}
+use Rattle.gq_desk.specs.Volumes.{Account, account_at, limit_of}
 use Rattle.gq_desk.specs.declared.plans.TenantRow.{TenantRow}
 use Rattle.gq_desk.specs.declared.volumes.VolumeRow.{VolumeRow}
 
@@ -59,6 +59,13 @@ account_of tenant = record { share = tenant.share; volumes = map row_of tenant.v
 -- the accounts of the tenants, as a desk has them
 abbrev pub accounts_of : StoreCopies → List Account
 accounts_of store = map account_of store.tenants
+
+abbrev pub tenant_account : StoreCopies → ℕ → Account
+tenant_account store tenant = account_at (accounts_of store) tenant
+
+-- the file at that place of the next volume of the tenant
+abbrev pub next_file : StoreCopies → ℕ → ℕ → FileId
+next_file store tenant place = record { tenant = tenant; volume = length (tenant_account store tenant).volumes; file = place }
 
 -- how many bytes the file may hold, where it is there
 abbrev pub file_limit : StoreCopies → FileId → Option ℕ

@@ -16,8 +16,7 @@ answer_body held _ = Copy held
 
 -- the answer to a message, in the same round
 abbrev pub reply_of : StoredCopy → Message → Message
-reply_of held m =
-    record { tenant = m.tenant; session = m.session; op = m.op; round = m.round; server = m.server; file = m.file; body = answer_body held m.body }
+reply_of held m = record m { body = answer_body held m.body }
 
 -- the copy that is held after a message of that body came
 abbrev pub held_after : StoredCopy → Body → StoredCopy

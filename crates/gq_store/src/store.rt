@@ -3,8 +3,8 @@ ghost use Rattle.std.specs.Prelude.{◌≡◌, ◌≢◌, ◌↔◌, ℕ, ◌+�
 ghost use Rattle.std.specs.List.{sum_by};
 ghost use Rattle.gq_tag.specs.declared.FileId.{FileId};
 ghost use Rattle.gq_tag.specs.Tag.{is_less, newer, first_copy, to_server};
-ghost use Rattle.gq_desk.specs.Volumes.{account_at, with_volume, free_of};
-ghost use Rattle.gq_store.specs.Copies.{TenantCopies, copy_at, accounts_of, file_limit, tenant_taken, blocks_taken, blocks_free, empty_store, new_tenant, tenants_with};
+ghost use Rattle.gq_desk.specs.Volumes.{with_volume, free_of};
+ghost use Rattle.gq_store.specs.Copies.{TenantCopies, copy_at, accounts_of, tenant_account, next_file, file_limit, tenant_taken, blocks_taken, blocks_free, empty_store, new_tenant, tenants_with};
 
 use crate::entry::Entry;
 use crate::volumes::Tenant;
@@ -39,7 +39,8 @@ pub enum ServeRefused {
     Memory,
 }
 
-/// The copies of all tenants' files on one server, which contracts see as such ([`StoreCopies`]).
+/// The copies of all tenants' files on one server. Contracts see the copies by tenant, volume and file, and the number
+/// of blocks in all (`StoreCopies`).
 ///
 /// All blocks are taken from memory at the start. Each tenant's files stay within its share of them, and the shares
 /// within the blocks, so that a `put` finds the blocks that it needs whatever the other tenants do. A store that is let
@@ -97,7 +98,7 @@ fn add_tenants(alloc: Global, tenants: &mut Vec<Tenant>, rows: &[TenantRow])
 
 // An answer to the message, in the same round.
 fn reply(message: &Message, body: Body) -> Message
-    ensures { result ≡ record { tenant = message.now.tenant; session = message.now.session; op = message.now.op; round = message.now.round; server = message.now.server; file = message.now.file; body = body } }
+    ensures { result ≡ record message.now { body = body } }
 {
     Message {
         tenant: message.tenant,
@@ -113,8 +114,8 @@ fn reply(message: &Message, body: Body) -> Message
 impl ServerStore {
     ghost use Rattle.gq_store.specs.Serving.{serve_fault, reply_of, held_after};
 
-    /// The store of a server of the plan: no volume is there, and all blocks are free. It takes one request for memory
-    /// for each block, and a few more.
+    /// The store of a server of the plan: no volume is there, and all blocks are free. It makes one request for memory
+    /// for each block, and one for the table of the tenants.
     ///
     /// `AllocError` is want of memory: all that was taken until then was given back.
     pub fn new(alloc: Global, plan: &Plan) -> Result<ServerStore, AllocError>
@@ -140,16 +141,19 @@ impl ServerStore {
     }
 
     /// Adds the tenant's next volume, of so many files of at most so many blocks each: each file has its first copy,
-    /// tag (0,0) and empty. The volume's blocks have to fit in what is free of the tenant's share. It takes as many
-    /// requests for memory for many files as for one, and no block.
+    /// tag (0,0) and empty. The volume's blocks have to fit in what its volumes leave of the tenant's share. It makes as
+    /// many requests for memory for many files as for one, and takes no block.
     ///
     /// `AllocError` is want of memory: the store is then as it was.
     pub fn add_files(&mut self, tenant: u8, files: u32, blocks: u32) -> Result<(), AllocError>
         requires tenant { tenant < length (accounts_of self.old) }
-        requires share { files * blocks ≤ free_of (account_at (accounts_of self.old) tenant) }
-        ensures added { OnOk result (accounts_of self.new ≡ slice_set (accounts_of self.old) tenant (with_volume (record { files = files; blocks = blocks }) (account_at (accounts_of self.old) tenant))) }
-        ensures first { OnOk result ((place : ℕ) → copy_at self.new (record { tenant = tenant; volume = length (account_at (accounts_of self.old) tenant).volumes; file = place }) ≡ first_copy) }
-        ensures others { OnOk result ((file : FileId) → IsSome (file_limit self.old file) → copy_at self.new file ≡ copy_at self.old file) }
+        requires share { files * blocks ≤ free_of (tenant_account self.old tenant) }
+        ensures added { OnOk result (accounts_of self.new ≡ slice_set (accounts_of self.old) tenant
+            (with_volume (record { files = files; blocks = blocks }) (tenant_account self.old tenant))) }
+        ensures first { OnOk result ((place : ℕ) → place < files
+            → copy_at self.new (next_file self.old tenant place) ≡ first_copy) }
+        ensures others { OnOk result ((file : FileId) → IsSome (file_limit self.old file)
+            → copy_at self.new file ≡ copy_at self.old file) }
         ensures blocks { self.new.blocks ≡ self.old.blocks }
         ensures same { OnErr result (self.new ≡ self.old) }
     {
@@ -209,13 +213,16 @@ impl ServerStore {
         self.pool.free()
     }
 
-    /// Puts a copy of the file where its tag is greater than that of the file's copy; a store that comes late, or
-    /// twice, changes nothing. It takes no memory and always finds the blocks.
+    /// Puts a copy of the file where its tag is greater than that of the file's copy, so that the file's copy is the
+    /// greatest that was put; one that comes late, or twice, changes nothing. (So do the servers of Attiya, Bar-Noy and
+    /// Dolev, Sharing memory robustly in message-passing systems, JACM 42(1), 1995.) The content has at most 64 bytes
+    /// for each block of the file. It takes no memory and always finds the blocks.
     pub fn put(&mut self, file: FileId, tag: Tag, bytes: &[u8]) -> Put
         requires limit { IfSome (file_limit self.old file) (λ limit. length bytes.now ≤ limit) }
         requires there { IsSome (file_limit self.old file) }
         ensures kept { (result ≡ Put.Kept) ↔ IsTrue (is_less (copy_at self.old file).tag tag) }
-        ensures copy { copy_at self.new file ≡ newer (copy_at self.old file) (record { tag = tag; bytes = bytes.now }) }
+        ensures copy { copy_at self.new file
+            ≡ newer (copy_at self.old file) (record { tag = tag; bytes = bytes.now }) }
         ensures others { (other : FileId) → other ≢ file → copy_at self.new other ≡ copy_at self.old other }
         ensures accounts { accounts_of self.new ≡ accounts_of self.old }
         ensures blocks { self.new.blocks ≡ self.old.blocks }
@@ -233,7 +240,9 @@ impl ServerStore {
     fn replace(&mut self, file: FileId, tag: Tag, bytes: &[u8])
         requires limit { IfSome (file_limit self.old file) (λ limit. length bytes.now ≤ limit) }
         requires there { IsSome (file_limit self.old file) }
-        ensures { self.new ≡ record { blocks = self.old.blocks; tenants = tenants_with self.old.tenants file (record { tag = tag; bytes = bytes.now }) } }
+        ensures { self.new ≡ record self.old {
+          tenants = tenants_with self.old.tenants file (record { tag = tag; bytes = bytes.now });
+        } }
     {
         let _blocks = self.blocks;
         self.tenants[file.tenant as usize].put(&mut self.pool, file.volume, file.file, tag, bytes);
@@ -260,11 +269,13 @@ impl ServerStore {
     pub fn serve(&mut self, message: &Message) -> Result<Message, ServeRefused>
         requires { IsTrue (to_server message.now.body) }
         ensures served { OnOk result (serve_fault self.old message.now ≡ None) }
-        ensures refused { IfErr result (λ fault. fault ≢ ServeRefused.Memory → serve_fault self.old message.now ≡ Some fault) }
+        ensures refused { IfErr result (λ fault. fault ≢ ServeRefused.Memory
+            → serve_fault self.old message.now ≡ Some fault) }
         ensures memory { IsErrOf result ServeRefused.Memory → serve_fault self.old message.now ≡ None }
         ensures memory_for_asks { IsErrOf result ServeRefused.Memory → message.now.body ≡ Body.Ask }
         ensures reply { IfOk result (λ reply. reply ≡ reply_of (copy_at self.old message.now.file) message.now) }
-        ensures held { OnOk result (copy_at self.new message.now.file ≡ held_after (copy_at self.old message.now.file) message.now.body) }
+        ensures held { OnOk result (copy_at self.new message.now.file
+            ≡ held_after (copy_at self.old message.now.file) message.now.body) }
         ensures others { (other : FileId) → other ≢ message.now.file → copy_at self.new other ≡ copy_at self.old other }
         ensures accounts { accounts_of self.new ≡ accounts_of self.old }
         ensures blocks { self.new.blocks ≡ self.old.blocks }

@@ -79,9 +79,11 @@ fn store_body(alloc: Global, tag: Tag, bytes: &[u8]) -> Result<Body, AllocError>
     }))
 }
 
-#[test]
-fn keeps_the_greatest_copy(rt: HostRuntime) {
-    let mut store = store_of_two_files(&rt, rt.alloc());
+// The store after four puts, of which three are kept.
+fn store_after_puts(rt: &impl Abort, alloc: Global) -> ServerStore
+    ensures { accounts_of result ≡ record { share = 4; volumes = record { files = 2; blocks = 2 } ∷ [] } ∷ [] }
+{
+    let mut store = store_of_two_files(rt, alloc);
     assert_eq!(rt; store.free(), 4);
     assert_eq!(rt; store.tag(FIRST), Tag::first());
     assert_eq!(rt; store.put(FIRST, tag(1, 1), &[7; 128]), Put::Kept);
@@ -92,6 +94,12 @@ fn keeps_the_greatest_copy(rt: HostRuntime) {
     assert_eq!(rt; store.free(), 0);
     assert_eq!(rt; store.put(FIRST, tag(1, 2), &[]), Put::Kept);
     assert_eq!(rt; store.free(), 2);
+    store
+}
+
+#[test]
+fn keeps_the_greatest_copy(rt: HostRuntime) {
+    let store = store_after_puts(&rt, rt.alloc());
     assert_eq!(rt; store.len(SECOND), 65);
     store.close();
 }
@@ -109,8 +117,7 @@ fn gives_the_content(rt: HostRuntime) {
 
 #[test]
 fn serves(rt: HostRuntime) -> Result<(), Fail> {
-    let mut store = store_of_two_files(&rt, rt.alloc());
-    store.put(FIRST, tag(1, 2), &[]);
+    let mut store = store_after_puts(&rt, rt.alloc());
     let other_volume = FileId {
         tenant: 0,
         volume: 1,

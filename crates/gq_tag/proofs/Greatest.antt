@@ -26,6 +26,10 @@ find-and_found p q (x ∷ xs) b h k =
       | inr e ↦ rw e (find-and_found p q xs b (rw e at h) k)
     ]
 
+-- no copy exceeds the greatest
+pub latest-unexceeded : (copies : List StoredCopy) (b : StoredCopy) → latest copies ≡ Some b → is_unexceeded copies b ≡ true
+latest-unexceeded copies b h = find_holds (is_unexceeded copies) copies b h
+
 -- ---- one copy more
 
 and-false : (a : Bool) → (a && false) ≡ false

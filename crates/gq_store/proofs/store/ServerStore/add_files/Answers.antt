@@ -27,7 +27,7 @@ returns-clause-added c =
     ∙ ap (λ (s : StoreCopies). set (accounts_of s) t (with_volume (size c.args.files c.args.blocks) (account_at (accounts_of s) t))) c.self.view_is)
 
 pub returns-clause-first : goal.returns-clause-first
-returns-clause-first c place =
+returns-clause-first c place _ =
     let tenants : List TenantCopies = c.self.inside.tenants.items in let t = c.args.tenant in
     let lt : t < length tenants = omega (arith, c.requires.tenant, length-map tenants account_of, ap (λ (s : StoreCopies). length (accounts_of s)) c.self.view_is) in
     let at : c.index_mut.result.now ≡ tenant_in tenants t = c.index_mut.ensures.value ∙ get_or_default tenants t _ _ lt in

@@ -1,0 +1,4 @@
+pub mod Meeting
+pub mod Lists
+pub mod Hearing
+pub mod Saying

@@ -1,0 +1,26 @@
+-- The laws of the four words on quorums.
+use Rattle.std.proofs.Common.{◌≡◌, Option, Some, None, true, refl}
+use Rattle.std.specs.Prelude.{option_map}
+use Rattle.gq_grid.specs.Grid.{Grid, Servers, Choice, covers, choose, choice_servers}
+use Rattle.gq_grid.proofs.Meeting.{covers_meet, choose_covers}
+use Rattle.gq_phase.specs.Laws.{RoundsMeet, CollectQuorumsEnd, StoreQuorumsEnd}
+
+pub rounds_meet : RoundsMeet
+rounds_meet grid collected stored first second = covers_meet grid collected stored first second
+
+-- the servers of a choice cover
+chosen_covers : (grid : Grid) (up quorum : Servers) → option_map (choice_servers grid) (choose grid up) ≡ Some quorum → covers grid quorum ≡ true
+chosen_covers grid up quorum h = go (choose grid up) refl
+  where
+    go : (choice : Option Choice) → choose grid up ≡ choice → covers grid quorum ≡ true
+    go None e = absurd (let none : None ≡ Some quorum = rw e at h in cc)
+    go (Some choice) e =
+        let some : Some (choice_servers grid choice) ≡ Some quorum = rw e at h in
+        let same : choice_servers grid choice ≡ quorum = cc in
+        rw (← same) (choose_covers grid up choice e)
+
+pub collect_quorums_end : CollectQuorumsEnd
+collect_quorums_end grid up quorum h = chosen_covers grid up quorum h
+
+pub store_quorums_end : StoreQuorumsEnd
+store_quorums_end grid up quorum h = chosen_covers grid up quorum h

@@ -1,0 +1,433 @@
+-- What an operation says to a message, and which value stands for it afterwards.
+use Rattle.std.proofs.Common.{◌≡◌, ℕ, ◌+◌, ◌*◌, ◌%◌, Bool, true, false, ◌&&◌, List, [], ◌∷◌, ◌++◌, length, map, refl, sym, ap, ◌∙◌, Option, Some, None, arith, eqb}
+use Rattle.std.specs.Prelude.{◌==◌, not, unwrap_or, IfOk, OnOk, Result, Ok, Err, nat_lt, ◌-◌, ◌/◌}
+use Rattle.std.proofs.lemmas.Bool.{and_from, and_parts, true≢false, eqb-true, eq-eqb, ne_eqb}
+use Rattle.std.proofs.lemmas.List.{length_push, map-append}
+use Rattle.gq_grid.specs.Grid.{Grid, Servers, with_server, rising}
+use Rattle.gq_grid.specs.Sets.{servers}
+use Rattle.gq_grid.specs.declared.ServerSet.{ServerSet}
+use Rattle.gq_tag.specs.declared.Tag.{Tag}
+use Rattle.gq_tag.specs.declared.StoredCopy.{StoredCopy}
+use Rattle.gq_tag.specs.declared.FileId.{FileId}
+use Rattle.gq_tag.specs.declared.Body.TheVariants.{Ask, Store}
+use Rattle.gq_tag.specs.declared.Message.{Message}
+use Rattle.gq_tag.specs.Tag.{latest, first_copy, Letter, letter_of, message_of, file_of}
+use Rattle.gq_phase.specs.declared.sending.RoundMessage.{RoundMessage}
+use Rattle.gq_phase.specs.Quorums.{collect_quorum, store_quorum}
+use Rattle.std.specs.List.{last_or}
+use Rattle.gq_phase.specs.declared.Row.{Row}
+use Rattle.gq_phase.specs.declared.Heard.{Heard}
+use Rattle.gq_phase.specs.declared.Heard.TheVariants.{Noted, Next, Done}
+use Rattle.gq_phase.specs.declared.Who.{Who}
+use Rattle.gq_phase.specs.declared.operation.Operation.{Operation as Code}
+use Rattle.gq_phase.specs.declared.operation.Task.{Task as CodeTask}
+use Rattle.gq_phase.specs.declared.operation.Task.TheVariants.{Write, Read, List as ListFiles}
+use Rattle.gq_phase.specs.Course.{Course, round_of}
+use Rattle.gq_phase.specs.Best.{best_with}
+use Rattle.gq_phase.specs.Phase.{Task, Reply, Operation, HeardNoted, HeardNext, HeardDone, heard_servers, heard_copies, reply_of, stored_copy, round_file, round_body, round_messages, messages_to, round_quorum, is_collect, is_current, ends_round, hear, with_reply, with_decided, decided_copy, begin_store, begin_collect, file_done, row_of, moved, begun, floor_after}
+use Rattle.gq_phase.specs.Standing.{addressed, sent_to, task_of, StandsFor, HearsAs, Begins, BeginsStore, decided_as, floor_with, outcome_as, IsFresh, apart, ResendsAs, rows_of, rows_with, is_list, next_file, BeginsCollect, first_ask, is_current_as, quorum_as, ends_as, message_as, store_message, next_ask}
+use Rattle.gq_phase.proofs.Hearing.{heard_servers-hear, latest-hear}
+
+-- ---- rounds
+
+pub odd_is : (n : ℕ) → is_collect (2 * n + 1) ≡ true
+odd_is n = eq-eqb ((2 * n + 1) % 2) 1 (omega arith)
+
+pub even_is : (n : ℕ) → is_collect (2 * n) ≡ false
+even_is n = ne_eqb ((2 * n) % 2) 1 (λ e. omega (arith, e))
+
+round_odd : (course : Course) (r : ℕ) → round_of course ≡ r → course.collecting ≡ true → is_collect r ≡ true
+round_odd course r e h = let f : 2 * course.collected + 1 ≡ r = rw h at e in rw (← f) (odd_is course.collected)
+
+round_even : (course : Course) (r : ℕ) → round_of course ≡ r → course.collecting ≡ false → is_collect r ≡ false
+round_even course r e h = let f : 2 * course.collected ≡ r = rw h at e in rw (← f) (even_is course.collected)
+
+-- the round of the value ends where that of the operation does
+ends_is : (code : Code) (grid : Grid) (round : ℕ) (heard : List Reply) (set : Servers) → code.grid ≡ grid → round_of code.course ≡ round → set ≡ heard_servers heard →
+    ends_round grid round heard ≡ ends_as code set
+ends_is code grid round heard set g r h = go code.course.collecting refl
+  where
+    go : (b : Bool) → code.course.collecting ≡ b → ends_round grid round heard ≡ ends_as code set
+    go true e = let odd : is_collect round ≡ true = round_odd code.course round r e in rw (e, odd, g, h) refl
+    go false e = let even : is_collect round ≡ false = round_even code.course round r e in rw (e, even, g, h) refl
+
+-- ---- lists of copies
+
+last_or-push : (o : Option StoredCopy) (copies : List StoredCopy) (c : StoredCopy) → last_or o (copies ++ c ∷ []) ≡ Some c
+last_or-push o [] c = refl
+last_or-push o (x ∷ xs) c = last_or-push (Some x) xs c
+
+stored-push : (copies : List StoredCopy) (c : StoredCopy) → stored_copy (copies ++ c ∷ []) ≡ c
+stored-push copies c = ap (λ last. unwrap_or last first_copy) (last_or-push None copies c)
+
+-- ---- messages
+
+map-both : {A B : Type 0} (f : A → B) (g : ℕ → A) (h : ℕ → B) → ((x : ℕ) → f (g x) ≡ h x) → (xs : List ℕ) → map f (map g xs) ≡ map h xs
+map-both f g h e [] = refl
+map-both f g h e (x ∷ xs) = λ i. e x i ∷ map-both f g h e xs i
+
+pub messages_to-sent : (grid : Grid) (tenant : ℕ) (o : Operation) (m : RoundMessage) (set : Servers) →
+    m.who.tenant ≡ tenant → m.who.session ≡ o.session → m.who.op ≡ o.op → m.round ≡ o.round → m.file ≡ file_of tenant (round_file o.task o.round) → round_body o.round o.collected ≡ m.body →
+    map (message_of tenant) (messages_to grid o set) ≡ map (addressed m) (rising grid set)
+messages_to-sent grid tenant o m set t s n r f b =
+    map-both (message_of tenant) (λ server. record { session = o.session; op = o.op; round = o.round; server = server; file = round_file o.task o.round; body = round_body o.round o.collected })
+    (addressed m)
+    (λ x. λ i. record { tenant = sym t i; session = sym s i; op = sym n i; round = sym r i; server = x; file = sym f i; body = b i }) (rising grid set)
+
+pub round_messages-sent : (grid : Grid) (up : Servers) (tenant : ℕ) (o : Operation) (m : RoundMessage) (quorum : Option Servers) →
+    round_quorum grid up o.round ≡ quorum →
+    m.who.tenant ≡ tenant → m.who.session ≡ o.session → m.who.op ≡ o.op → m.round ≡ o.round → m.file ≡ file_of tenant (round_file o.task o.round) → round_body o.round o.collected ≡ m.body →
+    map (message_of tenant) (round_messages grid up o) ≡ sent_to grid quorum m
+round_messages-sent grid up tenant o m None q t s n r f b = rw q refl
+round_messages-sent grid up tenant o m (Some set) q t s n r f b = rw q (messages_to-sent grid tenant o m set t s n r f b)
+
+-- ---- what is said
+
+current : (o : Operation) (m : Letter) → m.op ≡ o.op → m.round ≡ o.round → is_current o m ≡ true
+current o m e f = and_from (eqb m.op o.op) (eqb m.round o.round) (eq-eqb m.op o.op e) (eq-eqb m.round o.round f)
+
+hear_noted : (grid : Grid) (up : Servers) (o : Operation) (m : Letter) → is_current o m ≡ true → ends_round grid o.round (with_reply o m).heard ≡ false → hear grid up o m ≡ HeardNoted
+hear_noted grid up o m cur goes_on = rw (cur, goes_on) refl
+
+hear_collected : (grid : Grid) (up : Servers) (o : Operation) (m : Letter) → is_current o m ≡ true → ends_round grid o.round (with_reply o m).heard ≡ true → is_collect o.round ≡ true →
+    hear grid up o m ≡ begin_store grid up (with_decided (with_reply o m))
+hear_collected grid up o m cur ended odd = rw (cur, ended, odd) refl
+
+hear_stored : (grid : Grid) (up : Servers) (o : Operation) (m : Letter) → is_current o m ≡ true → ends_round grid o.round (with_reply o m).heard ≡ true → is_collect o.round ≡ false →
+    hear grid up o m ≡ file_done grid up (with_reply o m)
+hear_stored grid up o m cur ended even = rw (cur, ended, even) refl
+
+-- ---- the task
+
+decided_is : (t : CodeTask) (file : FileId) (files : ℕ) (o : Operation) (session floor : ℕ) (best : Option StoredCopy) → task_of t file files ≡ o.task → session ≡ o.session → floor ≡ o.floor → best ≡ latest (heard_copies o.heard) →
+    decided_as t session floor (unwrap_or best first_copy) ≡ decided_copy o
+decided_is (Write bytes) file files o session floor best t s f b = rw (← t, s, f, b) refl
+decided_is Read file files o session floor best t s f b = rw (← t, b) refl
+decided_is ListFiles file files o session floor best t s f b = rw (← t, b) refl
+
+floor_is : (t : CodeTask) (file : FileId) (files : ℕ) (task : Task) (tag : Tag) (floor : ℕ) → task_of t file files ≡ task → floor_with t tag floor ≡ floor_after task (Some tag) floor
+floor_is (Write bytes) file files task tag floor e = rw (← e) refl
+floor_is Read file files task tag floor e = rw (← e) refl
+floor_is ListFiles file files task tag floor e = rw (← e) refl
+
+-- a file's store round is of the file of its collect round
+same_place : (n r q : ℕ) → r ≡ 2 * n + 1 → q ≡ 2 * (n + 1) → (r - 1) / 2 ≡ (q - 1) / 2
+same_place n r q e f = omega arith
+
+same_file : (t : CodeTask) (file : FileId) (files : ℕ) (task : Task) (n r q : ℕ) → task_of t file files ≡ task → r ≡ 2 * n + 1 → q ≡ 2 * (n + 1) → round_file task r ≡ round_file task q
+same_file (Write bytes) file files task n r q t e f = rw (← t) refl
+same_file Read file files task n r q t e f = rw (← t) refl
+same_file ListFiles file files task n r q t e f = rw (← t) (λ i. record { volume = file.volume; place = same_place n r q e f i })
+
+own_file : (t : CodeTask) (file : FileId) (files : ℕ) (task : Task) (tenant : ℕ) → task_of t file files ≡ task → file.tenant ≡ tenant → (is_list t ≡ true → file.file ≡ 0) → file ≡ file_of tenant (round_file task 1)
+own_file (Write bytes) file files task tenant e own at_start = rw (← e) (λ i. record { tenant = own i; volume = file.volume; file = file.file })
+own_file Read file files task tenant e own at_start = rw (← e) (λ i. record { tenant = own i; volume = file.volume; file = file.file })
+own_file ListFiles file files task tenant e own at_start = rw (← e) (λ i. record { tenant = own i; volume = file.volume; file = at_start refl i })
+
+finished : (grid : Grid) (up : Servers) (t : CodeTask) (file : FileId) (files : ℕ) (o : Operation) (who : Who) (copy : StoredCopy) (rows : List Row) → task_of t file files ≡ o.task → who.session ≡ o.session → who.op ≡ o.op →
+    copy ≡ stored_copy o.collected → rows ≡ rows_of t o.collected → (is_list t ≡ true → nat_lt (length o.collected) files ≡ false) →
+    file_done grid up o ≡ HeardDone (outcome_as t who copy rows)
+finished grid up (Write bytes) file files o who copy rows t s n c r over = rw (← t, s, n, c) refl
+finished grid up Read file files o who copy rows t s n c r over = rw (← t, s, n, c) refl
+finished grid up ListFiles file files o who copy rows t s n c r over = rw (← t, over refl, s, n, r) refl
+
+continued : (grid : Grid) (up : Servers) (t : CodeTask) (file : FileId) (files : ℕ) (o : Operation) → task_of t file files ≡ o.task → is_list t ≡ true → nat_lt (length o.collected) files ≡ true → file_done grid up o ≡ begin_collect grid up o
+continued grid up (Write bytes) file files o t lists more = absurd (true≢false (sym lists))
+continued grid up Read file files o t lists more = absurd (true≢false (sym lists))
+continued grid up ListFiles file files o t lists more = rw (← t, more) refl
+
+rows_push : (t : CodeTask) (rows : List Row) (copies : List StoredCopy) (copy : StoredCopy) → rows ≡ rows_of t copies → rows_with t (row_of copy) rows ≡ rows_of t (copies ++ copy ∷ [])
+rows_push (Write bytes) rows copies copy e = e
+rows_push Read rows copies copy e = e
+rows_push ListFiles rows copies copy e = rw e (sym (map-append row_of copies (copy ∷ [])))
+
+listed_file : (t : CodeTask) (file : FileId) (files : ℕ) (task : Task) (tenant n : ℕ) → task_of t file files ≡ task → is_list t ≡ true → file.tenant ≡ tenant →
+    ◌≡◌ {A = FileId} (record { tenant = file.tenant; volume = file.volume; file = n }) (file_of tenant (round_file task (2 * n + 1)))
+listed_file (Write bytes) file files task tenant n t lists own = absurd (true≢false (sym lists))
+listed_file Read file files task tenant n t lists own = absurd (true≢false (sym lists))
+listed_file ListFiles file files task tenant n t lists own =
+    let place : n ≡ (2 * n + 1 - 1) / 2 = omega arith in
+    rw (← t) (λ i. record { tenant = own i; volume = file.volume; file = place i })
+
+listed_task : (t : CodeTask) (file : FileId) (files n : ℕ) → is_list t ≡ true → task_of t (record { tenant = file.tenant; volume = file.volume; file = n }) files ≡ task_of t file files
+listed_task (Write bytes) file files n lists = absurd (true≢false (sym lists))
+listed_task Read file files n lists = absurd (true≢false (sym lists))
+listed_task ListFiles file files n lists = refl
+
+listed_floor : (t : CodeTask) (file : FileId) (files : ℕ) (task : Task) (floor : ℕ) → task_of t file files ≡ task → floor ≡ floor_after task None floor
+listed_floor (Write bytes) file files task floor e = rw (← e) refl
+listed_floor Read file files task floor e = rw (← e) refl
+listed_floor ListFiles file files task floor e = rw (← e) refl
+
+-- ---- the value afterwards
+
+-- a message of the operation's round, whose server and copy were added to what was heard
+module _ (grid : Grid) (tenant : ℕ) (old : Code) (o : Operation) (up : Servers) (m : Message) (set : ServerSet) (best : Option StoredCopy)
+    (s : StandsFor grid tenant old o) (op : m.op ≡ old.who.op) (round : m.round ≡ round_of old.course)
+    (adds : servers set ≡ with_server m.server (servers old.heard)) (betters : best ≡ best_with old.best m.body) where
+  is_now : is_current o (letter_of m) ≡ true
+  is_now = current o (letter_of m) (op ∙ s.op) (round ∙ s.round)
+
+  heard_now : servers set ≡ heard_servers (with_reply o (letter_of m)).heard
+  heard_now = adds ∙ ap (with_server m.server) s.heard ∙ sym (heard_servers-hear o.heard (reply_of (letter_of m)))
+
+  best_now : best ≡ latest (heard_copies (with_reply o (letter_of m)).heard)
+  best_now = betters ∙ ap (λ b. best_with b m.body) s.best ∙ sym (latest-hear o.heard m.server m.body)
+
+  ends_now : (b : Bool) → ends_as old (servers set) ≡ b → ends_round grid o.round (with_reply o (letter_of m)).heard ≡ b
+  ends_now b e = ends_is old grid o.round (with_reply o (letter_of m)).heard (servers set) s.its_grid s.round heard_now ∙ e
+
+  noted_stands : StandsFor grid tenant (record old { heard = set; best = best }) (with_reply o (letter_of m))
+  noted_stands = record {
+    going = s.going;
+    its_grid = s.its_grid;
+    its_tenant = s.its_tenant;
+    session = s.session;
+    op = s.op;
+    task = s.task;
+    file = s.file;
+    round = s.round;
+    collected = s.collected;
+    heard = heard_now;
+    best = best_now;
+    stored = s.stored;
+    rows = s.rows;
+    floor = s.floor;
+  }
+
+  said_noted : ends_as old (servers set) ≡ false → hear grid up o (letter_of m) ≡ HeardNoted
+  said_noted e = hear_noted grid up o (letter_of m) is_now (ends_now false e)
+
+  -- the copy with which the collect round ends
+  module _ (new : Code) (copy : StoredCopy) (over : ends_as old (servers set) ≡ true) (collecting : old.course.collecting ≡ true)
+      (decided : copy ≡ decided_as old.task old.who.session old.floor (unwrap_or best first_copy)) (b : BeginsStore old new copy) where
+    is_decided : copy ≡ decided_copy (with_reply o (letter_of m))
+    is_decided = decided ∙ decided_is old.task old.file old.course.files (with_reply o (letter_of m)) old.who.session old.floor best s.task s.session s.floor best_now
+
+    is_odd : is_collect o.round ≡ true
+    is_odd = round_odd old.course o.round s.round collecting
+
+    round_is : o.round ≡ 2 * old.course.collected + 1
+    round_is = sym s.round ∙ rw collecting refl
+
+    count : 2 * length (o.collected ++ decided_copy (with_reply o (letter_of m)) ∷ []) ≡ 2 * (old.course.collected + 1)
+    count = ap (λ n. 2 * n) (length_push o.collected (decided_copy (with_reply o (letter_of m))) ∙ ap (λ n. n + 1) (sym s.collected))
+
+    stored : stored_copy (o.collected ++ decided_copy (with_reply o (letter_of m)) ∷ []) ≡ copy
+    stored = stored-push o.collected (decided_copy (with_reply o (letter_of m))) ∙ sym is_decided
+
+    -- the operation in its store round
+    next : ℕ → Operation
+    next n = record { session = o.session; op = o.op; task = o.task; round = n; heard = []; collected = o.collected ++ decided_copy (with_reply o (letter_of m)) ∷ []; floor = o.floor }
+
+    said_next : hear grid up o (letter_of m) ≡ HeardNext (2 * (old.course.collected + 1)) (Some copy.tag) (round_messages grid up (next (2 * (old.course.collected + 1))))
+    unfolding next
+    said_next =
+        hear_collected grid up o (letter_of m) is_now (ends_now true over) is_odd ∙
+        rw (count, stored) refl
+
+    sent : map (message_of tenant) (round_messages grid up (next (2 * (old.course.collected + 1)))) ≡ sent_to old.grid (store_quorum old.grid up) (store_message old copy)
+    unfolding next
+    sent =
+        let even : is_collect (2 * (old.course.collected + 1)) ≡ false = even_is (old.course.collected + 1) in
+        let quorum : round_quorum grid up (2 * (old.course.collected + 1)) ≡ store_quorum old.grid up = rw (even, s.its_grid) refl in
+        let body : round_body (2 * (old.course.collected + 1)) (o.collected ++ decided_copy (with_reply o (letter_of m)) ∷ []) ≡ Store copy = rw (even, stored) refl in
+        let file : old.file ≡ file_of tenant (round_file o.task (2 * (old.course.collected + 1))) = s.file ∙ ap (file_of tenant) (same_file old.task old.file old.course.files o.task old.course.collected o.round (2 * (old.course.collected + 1)) s.task round_is refl) in
+        round_messages-sent grid up tenant (next (2 * (old.course.collected + 1))) (store_message old copy) (store_quorum old.grid up) quorum s.its_tenant s.session s.op refl file body ∙ rw s.its_grid refl
+
+    next_stands : StandsFor grid tenant new (moved o (letter_of m) (2 * (old.course.collected + 1)) (Some copy.tag))
+    next_stands = record {
+      going = b.going ∙ s.going;
+      its_grid = b.grid ∙ s.its_grid;
+      its_tenant = ap (λ w. w.tenant) b.who ∙ s.its_tenant;
+      session = ap (λ w. w.session) b.who ∙ s.session;
+      op = ap (λ w. w.op) b.who ∙ s.op;
+      task = rw (b.task, b.file, b.course) s.task;
+      file = b.file ∙ s.file ∙ ap (file_of tenant) (same_file old.task old.file old.course.files o.task old.course.collected o.round (2 * (old.course.collected + 1)) s.task round_is refl);
+      round = rw b.course refl;
+      collected = rw (b.course, is_odd) (ap (λ n. n + 1) s.collected ∙ sym (length_push o.collected (decided_copy (with_reply o (letter_of m)))));
+      heard = b.heard;
+      best = b.best;
+      stored = b.stored ∙ rw is_odd (sym stored);
+      rows = b.rows ∙ rw (b.task, is_odd, ← is_decided) (rows_push old.task old.rows o.collected copy s.rows);
+      floor = b.floor ∙ rw (← s.floor) (floor_is old.task old.file old.course.files o.task copy.tag old.floor s.task);
+    }
+
+  -- the store round ends
+  module _ (over : ends_as old (servers set) ≡ true) (storing : old.course.collecting ≡ false) where
+    is_even : is_collect o.round ≡ false
+    is_even = round_even old.course o.round s.round storing
+
+    said_done : (is_list old.task ≡ true → nat_lt old.course.collected old.course.files ≡ false) → hear grid up o (letter_of m) ≡ HeardDone (outcome_as old.task old.who old.stored old.rows)
+    said_done last =
+        hear_stored grid up o (letter_of m) is_now (ends_now true over) is_even ∙
+        finished grid up old.task old.file old.course.files (with_reply o (letter_of m)) old.who old.stored old.rows s.task s.session s.op s.stored s.rows (λ lists. rw (← s.collected) (last lists))
+
+    -- a listing goes on
+    module _ (new : Code) (lists : is_list old.task ≡ true) (more : nat_lt old.course.collected old.course.files ≡ true) (b : BeginsCollect old new) where
+      after : ℕ → Operation
+      after n = record { session = o.session; op = o.op; task = o.task; round = n; heard = []; collected = o.collected; floor = o.floor }
+
+      said_on : hear grid up o (letter_of m) ≡ HeardNext (2 * old.course.collected + 1) None (round_messages grid up (after (2 * old.course.collected + 1)))
+      unfolding after
+      said_on =
+          hear_stored grid up o (letter_of m) is_now (ends_now true over) is_even ∙
+          continued grid up old.task old.file old.course.files (with_reply o (letter_of m)) s.task lists (rw (← s.collected) more) ∙
+          rw (← s.collected) refl
+
+      file_on : next_file old ≡ file_of tenant (round_file o.task (2 * old.course.collected + 1))
+      file_on = listed_file old.task old.file old.course.files o.task tenant old.course.collected s.task lists (ap (λ f. f.tenant) s.file)
+
+      sent_on : map (message_of tenant) (round_messages grid up (after (2 * old.course.collected + 1))) ≡ sent_to old.grid (collect_quorum old.grid up) (next_ask old)
+      unfolding after
+      sent_on =
+          let odd : is_collect (2 * old.course.collected + 1) ≡ true = odd_is old.course.collected in
+          let quorum : round_quorum grid up (2 * old.course.collected + 1) ≡ collect_quorum old.grid up = rw (odd, s.its_grid) refl in
+          let body : round_body (2 * old.course.collected + 1) o.collected ≡ Ask = rw odd refl in
+          round_messages-sent grid up tenant (after (2 * old.course.collected + 1)) (next_ask old) (collect_quorum old.grid up) quorum s.its_tenant s.session s.op refl file_on body ∙ rw s.its_grid refl
+
+      on_stands : StandsFor grid tenant new (moved o (letter_of m) (2 * old.course.collected + 1) None)
+      on_stands = record {
+        going = b.going ∙ s.going;
+        its_grid = b.grid ∙ s.its_grid;
+        its_tenant = ap (λ w. w.tenant) b.who ∙ s.its_tenant;
+        session = ap (λ w. w.session) b.who ∙ s.session;
+        op = ap (λ w. w.op) b.who ∙ s.op;
+        task = rw (b.task, b.file, b.course) (listed_task old.task old.file old.course.files old.course.collected lists ∙ s.task);
+        file = b.file ∙ file_on;
+        round = rw b.course refl;
+        collected = rw (b.course, is_even) s.collected;
+        heard = b.heard;
+        best = b.best;
+        stored = b.stored ∙ rw is_even s.stored;
+        rows = b.rows ∙ rw (b.task, is_even) s.rows;
+        floor = b.floor ∙ s.floor ∙ listed_floor old.task old.file old.course.files o.task o.floor s.task;
+      }
+
+-- ---- what the calls of hear owe
+
+-- a current message is of the value's operation and round
+pub current_parts : (code : Code) (m : Message) → is_current_as code m ≡ true → (m.op ≡ code.who.op) × (m.round ≡ round_of code.course)
+current_parts code m h =
+    let of_round = (and_parts (not code.done) ((m.op == code.who.op) && (m.round == round_of code.course)) h).1 in
+    let both = and_parts (m.op == code.who.op) (m.round == round_of code.course) of_round in
+    (eqb-true m.op code.who.op both.0, eqb-true m.round (round_of code.course) both.1)
+
+pub and-last : (a b : Bool) → (a && b) ≡ false → a ≡ true → b ≡ false
+and-last true b e f = e
+and-last false b e f = absurd (true≢false (sym f))
+
+pub noted_hears : (old : Code) (up : Servers) (m : Message) (set : ServerSet) (best : Option StoredCopy) → m.op ≡ old.who.op → m.round ≡ round_of old.course →
+    servers set ≡ with_server m.server (servers old.heard) → best ≡ best_with old.best m.body → ends_as old (servers set) ≡ false →
+    HearsAs old (record old { heard = set; best = best }) up m Noted
+noted_hears old up m set best op round adds betters open_ = λ grid tenant o s.
+    let said = said_noted grid tenant old o up m set best s op round adds betters open_ in
+    rw said (refl, noted_stands grid tenant old o up m set best s op round adds betters)
+
+pub collected_hears : (old new : Code) (up : Servers) (m : Message) (set : ServerSet) (best : Option StoredCopy) (copy : StoredCopy) (heard : Heard) → m.op ≡ old.who.op → m.round ≡ round_of old.course →
+    servers set ≡ with_server m.server (servers old.heard) → best ≡ best_with old.best m.body → ends_as old (servers set) ≡ true → old.course.collecting ≡ true →
+    copy ≡ decided_as old.task old.who.session old.floor (unwrap_or best first_copy) → BeginsStore old new copy →
+    heard ≡ Next (2 * (old.course.collected + 1)) (Some copy.tag) (sent_to old.grid (store_quorum old.grid up) (store_message old copy)) →
+    HearsAs old new up m heard
+collected_hears old new up m set best copy heard op round adds betters over collecting decided b is = λ grid tenant o s.
+    let said = said_next grid tenant old o up m set best s op round adds betters new copy over collecting decided b in
+    let news = sent grid tenant old o up m set best s op round adds betters new copy over collecting decided b in
+    rw said (is ∙ ap (Next (2 * (old.course.collected + 1)) (Some copy.tag)) (sym news), next_stands grid tenant old o up m set best s op round adds betters new copy over collecting decided b)
+
+pub done_hears : (old new : Code) (up : Servers) (m : Message) (set : ServerSet) (best : Option StoredCopy) (heard : Heard) → m.op ≡ old.who.op → m.round ≡ round_of old.course →
+    servers set ≡ with_server m.server (servers old.heard) → best ≡ best_with old.best m.body → ends_as old (servers set) ≡ true → old.course.collecting ≡ false →
+    heard ≡ Done (outcome_as old.task old.who old.stored old.rows) → new.done ≡ true → new.floor ≡ old.floor →
+    (is_list old.task ≡ true → nat_lt old.course.collected old.course.files ≡ false) → HearsAs old new up m heard
+done_hears old new up m set best heard op round adds betters over storing is done floor last = λ grid tenant o s.
+    let said = said_done grid tenant old o up m set best s op round adds betters over storing last in
+    rw said (is, (done, floor ∙ s.floor))
+
+-- ---- what the other calls owe
+
+-- the result of the step that begins a store round
+pub collected_result : {E : Type 0} (old new : Code) (up : Servers) (m : Message) (set : ServerSet) (best : Option StoredCopy) (copy : StoredCopy) (r : Result Heard E) → m.op ≡ old.who.op → m.round ≡ round_of old.course →
+    servers set ≡ with_server m.server (servers old.heard) → best ≡ best_with old.best m.body → ends_as old (servers set) ≡ true → old.course.collecting ≡ true →
+    copy ≡ decided_as old.task old.who.session old.floor (unwrap_or best first_copy) → OnOk r (BeginsStore old new copy) →
+    IfOk r (λ heard. heard ≡ Next (2 * (old.course.collected + 1)) (Some copy.tag) (sent_to old.grid (store_quorum old.grid up) (store_message old copy))) →
+    IfOk r (HearsAs old new up m)
+collected_result old new up m set best copy (Ok heard) op round adds betters over collecting decided b is = collected_hears old new up m set best copy heard op round adds betters over collecting decided b is
+collected_result old new up m set best copy (Err e) op round adds betters over collecting decided b is = tt
+
+pub done_result : {E : Type 0} (old new : Code) (up : Servers) (m : Message) (set : ServerSet) (best : Option StoredCopy) (r : Result Heard E) → m.op ≡ old.who.op → m.round ≡ round_of old.course →
+    servers set ≡ with_server m.server (servers old.heard) → best ≡ best_with old.best m.body → ends_as old (servers set) ≡ true → old.course.collecting ≡ false →
+    IfOk r (λ heard. heard ≡ Done (outcome_as old.task old.who old.stored old.rows)) → OnOk r (new.done ≡ true) → new.floor ≡ old.floor →
+    (is_list old.task ≡ true → nat_lt old.course.collected old.course.files ≡ false) → IfOk r (HearsAs old new up m)
+done_result old new up m set best (Ok heard) op round adds betters over storing is done floor last = done_hears old new up m set best heard op round adds betters over storing is done floor last
+done_result old new up m set best (Err e) op round adds betters over storing is done floor last = tt
+
+pub on_hears : (old new : Code) (up : Servers) (m : Message) (set : ServerSet) (best : Option StoredCopy) (heard : Heard) → m.op ≡ old.who.op → m.round ≡ round_of old.course →
+    servers set ≡ with_server m.server (servers old.heard) → best ≡ best_with old.best m.body → ends_as old (servers set) ≡ true → old.course.collecting ≡ false →
+    is_list old.task ≡ true → nat_lt old.course.collected old.course.files ≡ true → BeginsCollect old new →
+    heard ≡ Next (2 * old.course.collected + 1) None (sent_to old.grid (collect_quorum old.grid up) (next_ask old)) →
+    HearsAs old new up m heard
+on_hears old new up m set best heard op round adds betters over storing lists more b is = λ grid tenant o s.
+    let said = said_on grid tenant old o up m set best s op round adds betters over storing new lists more b in
+    let news = sent_on grid tenant old o up m set best s op round adds betters over storing new lists more b in
+    rw said (is ∙ ap (Next (2 * old.course.collected + 1) None) (sym news), on_stands grid tenant old o up m set best s op round adds betters over storing new lists more b)
+
+pub on_result : {E : Type 0} (old new : Code) (up : Servers) (m : Message) (set : ServerSet) (best : Option StoredCopy) (r : Result Heard E) → m.op ≡ old.who.op → m.round ≡ round_of old.course →
+    servers set ≡ with_server m.server (servers old.heard) → best ≡ best_with old.best m.body → ends_as old (servers set) ≡ true → old.course.collecting ≡ false →
+    is_list old.task ≡ true → nat_lt old.course.collected old.course.files ≡ true → OnOk r (BeginsCollect old new) →
+    IfOk r (λ heard. heard ≡ Next (2 * old.course.collected + 1) None (sent_to old.grid (collect_quorum old.grid up) (next_ask old))) →
+    IfOk r (HearsAs old new up m)
+on_result old new up m set best (Ok heard) op round adds betters over storing lists more b is = on_hears old new up m set best heard op round adds betters over storing lists more b is
+on_result old new up m set best (Err e) op round adds betters over storing lists more b is = tt
+
+no_rows : (t : CodeTask) → [] ≡ rows_of t []
+no_rows (Write bytes) = refl
+no_rows Read = refl
+no_rows ListFiles = refl
+
+-- a fresh value stands for an operation that begins
+pub fresh_begins : (grid : Grid) (up : Servers) (who : Who) (t : CodeTask) (task : Task) (files : ℕ) (file : FileId) (floor : ℕ) (code : Code) (quorum : Servers) (messages : List Message) →
+    task_of t file files ≡ task → file.tenant ≡ who.tenant → (is_list t ≡ true → file.file ≡ 0) → IsFresh code grid who t files file floor → collect_quorum grid up ≡ Some quorum →
+    messages ≡ sent_to grid (Some quorum) (first_ask who file) → Begins grid who task floor up code messages
+fresh_begins grid up who t task files file floor code quorum messages is_task own at_start f chosen sent =
+    let file_is : file ≡ file_of who.tenant (round_file task 1) = own_file t file files task who.tenant is_task own at_start in (
+      record {
+        going = f.going;
+        its_grid = f.its_grid;
+        its_tenant = ap (λ w. w.tenant) f.its_who;
+        session = ap (λ w. w.session) f.its_who;
+        op = ap (λ w. w.op) f.its_who;
+        task = rw (f.its_task, f.its_file, f.course) is_task;
+        file = f.its_file ∙ file_is;
+        round = rw f.course refl;
+        collected = rw f.course refl;
+        heard = f.heard;
+        best = f.best;
+        stored = f.stored;
+        rows = f.rows ∙ no_rows code.task;
+        floor = f.its_floor;
+      },
+      sent ∙ sym (round_messages-sent grid up who.tenant (begun who.session who.op task floor) (first_ask who file) (Some quorum) chosen refl refl refl refl file_is refl),
+    )
+
+-- the quorum and the body of the value's round are the operation's
+quorum_is : (grid : Grid) (tenant : ℕ) (code : Code) (o : Operation) (up : Servers) → StandsFor grid tenant code o → round_quorum grid up o.round ≡ quorum_as code up
+quorum_is grid tenant code o up s = go code.course.collecting refl
+  where
+    go : (b : Bool) → code.course.collecting ≡ b → round_quorum grid up o.round ≡ quorum_as code up
+    go true e = let odd : is_collect o.round ≡ true = round_odd code.course o.round s.round e in rw (e, odd, s.its_grid) refl
+    go false e = let even : is_collect o.round ≡ false = round_even code.course o.round s.round e in rw (e, even, s.its_grid) refl
+
+body_is : (grid : Grid) (tenant : ℕ) (code : Code) (o : Operation) → StandsFor grid tenant code o → round_body o.round o.collected ≡ (message_as code).body
+body_is grid tenant code o s = go code.course.collecting refl
+  where
+    go : (b : Bool) → code.course.collecting ≡ b → round_body o.round o.collected ≡ (message_as code).body
+    go true e = let odd : is_collect o.round ≡ true = round_odd code.course o.round s.round e in rw (e, odd) refl
+    go false e = let even : is_collect o.round ≡ false = round_even code.course o.round s.round e in rw (e, even) (ap Store (sym s.stored))
+
+-- the round's message goes out once more
+pub resends : (code : Code) (up : Servers) (quorum : ServerSet) (messages : List Message) → quorum_as code up ≡ Some (servers quorum) →
+    messages ≡ map (addressed (message_as code)) (rising code.grid (apart (servers quorum) (servers code.heard))) → ResendsAs code up messages
+resends code up quorum messages chosen sent = λ grid tenant o s. (
+  servers quorum,
+  quorum_is grid tenant code o up s ∙ chosen,
+  sent ∙ rw (s.its_grid, s.heard) (sym (messages_to-sent grid tenant o (message_as code) (apart (servers quorum) (heard_servers o.heard)) s.its_tenant s.session s.op s.round s.file (body_is grid tenant code o s))),
+)

@@ -1,0 +1,27 @@
+-- The greatest of the copies heard, as replies come in.
+use Rattle.std.specs.Prelude.{ℕ, ◌<◌, Bool, true, Option, Some, None}
+use Rattle.gq_tag.specs.declared.StoredCopy.{StoredCopy}
+use Rattle.gq_tag.specs.declared.Body.{Body}
+use Rattle.gq_tag.specs.declared.Body.TheVariants.{Copy}
+use Rattle.gq_tag.specs.Tag.{is_less, newer}
+
+-- the greatest copy, if there is one, where one more reply says this
+abbrev pub best_with : Option StoredCopy → Body → Option StoredCopy
+best_with None (Copy copy) = Some copy
+best_with (Some best) (Copy copy) = Some (newer best copy)
+best_with best _ = best
+
+-- the number of the copy that a reply tells
+abbrev pub number_of : Body → ℕ
+number_of (Copy copy) = copy.tag.number
+number_of _ = 0
+
+-- a greater number is left
+abbrev pub IsBelow : Option StoredCopy → Type 0
+IsBelow None = Unit {0}
+IsBelow (Some copy) = copy.tag.number < 18446744073709551615
+
+-- whether the copy's tag is greater than that of the greatest, if there is one
+abbrev pub exceeds : Option StoredCopy → StoredCopy → Bool
+exceeds None copy = true
+exceeds (Some best) copy = is_less best.tag copy.tag

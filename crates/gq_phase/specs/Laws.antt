@@ -1,0 +1,20 @@
+-- What the four words on quorums have to be like.
+use Rattle.std.specs.Prelude.{◌≡◌, ℕ, ◌*◌, ◌<◌, true, Some}
+use Rattle.gq_grid.specs.Grid.{Grid, Servers}
+use Rattle.gq_phase.specs.Quorums.{collect_quorum, store_quorum, ends_collect, ends_store}
+
+-- a set that ends a collect round and a set that ends a store round share a server of the grid
+abbrev pub RoundsMeet : Type 0
+RoundsMeet =
+    (grid : Grid) (collected stored : Servers) → ends_collect grid collected ≡ true → ends_store grid stored ≡ true →
+    (server : ℕ) × (server < grid.rows * grid.cols) × (collected server ≡ true) × (stored server ≡ true)
+
+-- the servers that a collect round asks end it once they are heard
+abbrev pub CollectQuorumsEnd : Type 0
+CollectQuorumsEnd =
+    (grid : Grid) (up quorum : Servers) → collect_quorum grid up ≡ Some quorum → ends_collect grid quorum ≡ true
+
+-- the servers that a store round sends to end it once they are heard
+abbrev pub StoreQuorumsEnd : Type 0
+StoreQuorumsEnd =
+    (grid : Grid) (up quorum : Servers) → store_quorum grid up ≡ Some quorum → ends_store grid quorum ≡ true

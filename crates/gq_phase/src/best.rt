@@ -1,0 +1,73 @@
+//! The greatest copy heard in a round.
+
+ghost use Rattle.std.specs.Prelude.{◌≡◌, ◌<◌, None, OnOk, OnErr};
+ghost use Rattle.std.specs.Option.{option_copied};
+ghost use Rattle.gq_phase.specs.Best.{best_with, exceeds, number_of, IsBelow};
+
+use gq_tag::{Body, StoredCopy, newer};
+use std::alloc::AllocError;
+use std::marker::Model;
+
+/// The earliest copy of greatest tag, if one was heard. A greater number than its tag's is left.
+#[derive(Drop)]
+pub struct Best {
+    copy: Option<StoredCopy>,
+}
+
+impl Model for Best {
+    ghost use Rattle.std.specs.Prelude.{Option};
+    ghost use Rattle.gq_tag.specs.declared.StoredCopy.{StoredCopy};
+    ghost use Rattle.gq_phase.specs.Best.{IsBelow};
+
+    ghost Value = { Option StoredCopy };
+
+    ghost view = { λ b. b.copy };
+
+    ghost invariant = { λ b. IsBelow b.copy };
+}
+
+impl Best {
+    /// No copy was heard.
+    pub fn none() -> Best
+        ensures { result ≡ None }
+    {
+        Best { copy: None }
+    }
+
+    /// The greatest copy with what one more reply says.
+    pub fn with<'a>(&'a self, body: &'a Body) -> Option<&'a StoredCopy>
+        requires { number_of body.now < u64.MAX }
+        ensures value { option_copied result ≡ best_with self.now body.now }
+        ensures bound { IsBelow (option_copied result) }
+    {
+        match (body, &self.copy) {
+            (Body::Copy(copy), Some(best)) => Some(if newer(copy, best) { copy } else { best }),
+            (Body::Copy(copy), None) => Some(copy),
+            (_, best) => best.as_ref(),
+        }
+    }
+
+    /// Notes what one more reply says. A copy that is not kept is not cloned.
+    pub fn note(&mut self, body: &Body) -> Result<(), AllocError>
+        requires { number_of body.now < u64.MAX }
+        ensures ok { OnOk result (self.new ≡ best_with self.old body.now) }
+        ensures err { OnErr result (self.new ≡ self.old) }
+    {
+        if let Body::Copy(copy) = body {
+            if self.is_exceeded_by(copy) {
+                self.copy = Some(copy.clone()?);
+            }
+        }
+        Ok(())
+    }
+
+    // Whether no copy was heard or the copy's tag is greater.
+    fn is_exceeded_by(&self, copy: &StoredCopy) -> bool
+        ensures { result ≡ exceeds self.now copy.now }
+    {
+        match &self.copy {
+            Some(best) => newer(copy, best),
+            None => true,
+        }
+    }
+}

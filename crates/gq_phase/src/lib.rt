@@ -1,0 +1,130 @@
+//! One session's operation: the rounds of a write, a read or a listing, what it says to each reply, and what it
+//! sends. Reads and writes are the two phases of Attiya, Bar-Noy and Dolev (Sharing memory robustly in
+//! message-passing systems, JACM 42(1), 1995), in the textbook form with several writers: a collect round asks a
+//! quorum for its copies, a store round stores the copy that was decided at a quorum. A listing does both for each
+//! file of its volume in turn.
+#![tactic(auto)]
+
+mod best;
+mod course;
+pub mod laws;
+mod operation;
+mod quorums;
+mod sending;
+
+use gq_tag::{Message, StoredCopy, Tag};
+pub use operation::Operation;
+use std::marker::Model;
+use thiserror::Error;
+
+/// Whose operation it is: the tenant's place in the plan (from 0), the number of the tenant's session (from 1), and
+/// the number of the session's operation (from 1).
+#[derive(Clone, Copy, Debug, PartialEq, Eq)]
+pub struct Who {
+    pub tenant: u8,
+    pub session: u8,
+    pub op: u32,
+}
+
+/// Messages in the order in which they are sent.
+#[derive(Debug, Drop)]
+pub struct Messages {
+    pub items: Vec<Message>,
+}
+
+impl Model for Messages {
+    ghost use Rattle.std.specs.Prelude.{List};
+    ghost use Rattle.gq_tag.specs.declared.Message.{Message};
+
+    ghost Value = { List Message };
+
+    ghost view = { λ m. m.items.items };
+}
+
+/// What a listing gives of a file: the length of its content in bytes, and the tag of its copy.
+#[derive(Clone, Copy, Debug, PartialEq, Eq)]
+pub struct Row {
+    pub length: u64,
+    pub tag: Tag,
+}
+
+/// The files of a volume, from file 0 on.
+#[derive(Debug, Drop)]
+pub struct Rows {
+    pub items: Vec<Row>,
+}
+
+impl Model for Rows {
+    ghost use Rattle.std.specs.Prelude.{List};
+    ghost use Rattle.gq_phase.specs.declared.Row.{Row};
+
+    ghost Value = { List Row };
+
+    ghost view = { λ r. r.items.items };
+}
+
+/// How an operation ended.
+#[derive(Debug, Drop)]
+pub enum Outcome {
+    /// A write is done under the tag.
+    Wrote {
+        session: u8,
+        op: u32,
+        tag: Tag,
+    },
+    /// A read gives the copy.
+    Gave {
+        session: u8,
+        op: u32,
+        copy: StoredCopy,
+    },
+    /// A listing gives its volume's files.
+    Listed {
+        session: u8,
+        op: u32,
+        rows: Rows,
+    },
+}
+
+/// What an operation says to a message of its session.
+#[derive(Debug, Drop)]
+pub enum Heard {
+    /// The message is of another operation or round, or the operation is done.
+    Stale,
+    /// The reply was noted, and the round goes on.
+    Noted,
+    /// The round ended, and this one begins: of this tag where it stores, with these messages, none where no quorum
+    /// is up.
+    Next {
+        round: u32,
+        tag: Option<Tag>,
+        messages: Messages,
+    },
+    /// The last round ended.
+    Done(Outcome),
+}
+
+/// Why an operation did not begin. Whether a quorum is up is tested first.
+#[derive(Clone, Copy, Debug, PartialEq, Eq, Error)]
+pub enum BeginRefused {
+    /// No quorum is up.
+    #[error("no quorum is up")]
+    NoQuorum,
+    /// A growth of memory was refused.
+    #[error("out of memory")]
+    Memory,
+}
+
+/// Why a round's message was not sent once more. Whether a quorum is up is tested first.
+#[derive(Clone, Copy, Debug, PartialEq, Eq, Error)]
+pub enum ResendRefused {
+    /// No quorum is up.
+    #[error("no quorum is up")]
+    NoQuorum,
+    /// A growth of memory was refused.
+    #[error("out of memory")]
+    Memory,
+}
+
+#[cfg(test)]
+mod tests;

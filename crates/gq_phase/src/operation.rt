@@ -1,0 +1,492 @@
+//! An operation in its round.
+
+ghost use Rattle.std.specs.Prelude.{◌≡◌, ◌↔◌, ◌+◌, ◌*◌, ◌<◌, ◌≤◌, true, false, None, ◌&&◌, nat_lt, IfOk, IfErr, OnOk, OnErr, IsErrOf, unwrap_or, map, option_map};
+ghost use Rattle.gq_grid.specs.Grid.{rising};
+ghost use Rattle.gq_grid.specs.Sets.{servers};
+ghost use Rattle.gq_tag.specs.Tag.{first_copy, file_place};
+ghost use Rattle.gq_phase.specs.Best.{number_of, best_with};
+ghost use Rattle.gq_phase.specs.Quorums.{collect_quorum, store_quorum};
+ghost use Rattle.gq_phase.specs.Phase.{Writing, Reading, Listing};
+ghost use Rattle.gq_phase.specs.Standing.{addressed, apart, first_ask, rows_with};
+
+use crate::best::Best;
+use crate::course::Course;
+use crate::quorums::{collect_quorum, ends_collect, ends_store, store_quorum};
+use crate::sending::RoundMessage;
+use crate::{BeginRefused, Heard, Messages, Outcome, ResendRefused, Row, Rows, Who};
+use bytes::Bytes;
+use gq_grid::{Grid, ServerSet};
+use gq_tag::{Body, FileId, Message, StoredCopy, Tag};
+use std::alloc::{AllocError, Global};
+use std::mem;
+
+// What the session was asked to do.
+#[derive(Drop)]
+enum Task {
+    Write(Bytes),
+    Read,
+    List,
+}
+
+/// The operation of a session: which round it is in, and what it has to know of what was heard. Its size does not
+/// grow with what it hears, but for one row for each file that a listing has collected.
+#[derive(Drop)]
+pub struct Operation {
+    alloc: Global,
+    grid: Grid,
+    who: Who,
+    task: Task,
+    // the file of the round
+    file: FileId,
+    course: Course,
+    // the servers heard in the round, and the greatest copy heard
+    heard: ServerSet,
+    best: Best,
+    // the last copy collected, and of a listing the row of each copy collected
+    stored: StoredCopy,
+    rows: Rows,
+    floor: u64,
+    done: bool,
+}
+
+// Of a listing, adds the row.
+fn keep_row(task: &Task, rows: &mut Rows, row: Row) -> Result<(), AllocError>
+    ensures ok { OnOk result (rows.new ≡ rows_with task.now row rows.old) }
+    ensures err { OnErr result (rows.new ≡ rows.old) }
+{
+    if let Task::List = task {
+        rows.items.push(row)?;
+    }
+    Ok(())
+}
+
+impl Operation {
+    ghost use Rattle.gq_phase.specs.Standing.{floor_of, IsGoing, IsDone, Begins, HearsAs, RaisesFloor, EndsAs, ResendsAs, RefusesAs, IsFresh, is_current_as, quorum_as, ends_as, message_as, decided_as, floor_with, outcome_as, is_list, next_file, sent_to, store_message, next_ask, BeginsStore, BeginsCollect};
+
+    /// Begins a write of the content: round 1, which asks a quorum of the servers of `up` for their copies. `floor` is
+    /// the session's own last number. Answers the operation and the asks in rising server number.
+    pub fn write(
+        alloc: Global,
+        grid: &Grid,
+        who: Who,
+        floor: u64,
+        file: FileId,
+        bytes: &Bytes,
+        up: ServerSet,
+    ) -> Result<(Operation, Vec<Message>), BeginRefused>
+        requires own { file.tenant ≡ who.tenant }
+        ensures ok { IfOk result (λ began. Begins grid.now who (Writing (file_place file) bytes.now) floor
+            (servers up) began.0 began.1.items) }
+        ensures going { IfOk result (λ began. IsGoing began.0) }
+        ensures floor { IfOk result (λ began. floor_of began.0 ≡ floor) }
+        ensures none { IsErrOf result BeginRefused.NoQuorum ↔ (collect_quorum grid.now (servers up) ≡ None) }
+    {
+        let Some(quorum) = collect_quorum(grid, up) else {
+            return Err(BeginRefused::NoQuorum);
+        };
+        let Ok(content) = bytes.clone() else {
+            return Err(BeginRefused::Memory);
+        };
+        match Operation::begin(
+            alloc,
+            grid,
+            who,
+            Task::Write(content),
+            1,
+            file,
+            floor,
+            quorum,
+        ) {
+            Ok(began) => Ok(began),
+            Err(_) => Err(BeginRefused::Memory),
+        }
+    }
+
+    /// Begins a read: round 1, which asks a quorum of the servers of `up` for their copies. `floor` is the session's
+    /// own last number, which a read keeps. Answers the operation and the asks in rising server number.
+    pub fn read(
+        alloc: Global,
+        grid: &Grid,
+        who: Who,
+        floor: u64,
+        file: FileId,
+        up: ServerSet,
+    ) -> Result<(Operation, Vec<Message>), BeginRefused>
+        requires own { file.tenant ≡ who.tenant }
+        ensures ok { IfOk result (λ began. Begins grid.now who (Reading (file_place file)) floor
+            (servers up) began.0 began.1.items) }
+        ensures going { IfOk result (λ began. IsGoing began.0) }
+        ensures floor { IfOk result (λ began. floor_of began.0 ≡ floor) }
+        ensures none { IsErrOf result BeginRefused.NoQuorum ↔ (collect_quorum grid.now (servers up) ≡ None) }
+    {
+        let Some(quorum) = collect_quorum(grid, up) else {
+            return Err(BeginRefused::NoQuorum);
+        };
+        match Operation::begin(alloc, grid, who, Task::Read, 1, file, floor, quorum) {
+            Ok(began) => Ok(began),
+            Err(_) => Err(BeginRefused::Memory),
+        }
+    }
+
+    /// Begins a listing of a volume of so many files: round 1, which asks a quorum of the servers of `up` for their
+    /// copies of file 0. `floor` is the session's own last number, which a listing keeps. Answers the operation and
+    /// the asks in rising server number.
+    pub fn list(
+        alloc: Global,
+        grid: &Grid,
+        who: Who,
+        floor: u64,
+        volume: u32,
+        files: u32,
+        up: ServerSet,
+    ) -> Result<(Operation, Vec<Message>), BeginRefused>
+        requires some { 0 < files }
+        requires bound { files ≤ 64 }
+        ensures ok { IfOk result (λ began. Begins grid.now who (Listing volume files) floor
+            (servers up) began.0 began.1.items) }
+        ensures going { IfOk result (λ began. IsGoing began.0) }
+        ensures floor { IfOk result (λ began. floor_of began.0 ≡ floor) }
+        ensures none { IsErrOf result BeginRefused.NoQuorum ↔ (collect_quorum grid.now (servers up) ≡ None) }
+    {
+        let Some(quorum) = collect_quorum(grid, up) else {
+            return Err(BeginRefused::NoQuorum);
+        };
+        let file = FileId {
+            tenant: who.tenant,
+            volume,
+            file: 0,
+        };
+        match Operation::begin(alloc, grid, who, Task::List, files, file, floor, quorum) {
+            Ok(began) => Ok(began),
+            Err(_) => Err(BeginRefused::Memory),
+        }
+    }
+
+    // The operation in its first round, and its asks.
+    fn begin(
+        alloc: Global,
+        grid: &Grid,
+        who: Who,
+        task: Task,
+        files: u32,
+        file: FileId,
+        floor: u64,
+        quorum: ServerSet,
+    ) -> Result<(Operation, Vec<Message>), AllocError>
+        requires some { 0 < files }
+        requires bound { files ≤ 64 }
+        ensures fresh { IfOk result (λ began. IsFresh began.0 grid.now who task files file floor) }
+        ensures asks { IfOk result (λ began. began.1.items
+            ≡ sent_to grid.now (Some (servers quorum)) (first_ask who file)) }
+    {
+        let ask = RoundMessage {
+            who,
+            round: 1,
+            file,
+            body: Body::Ask,
+        };
+        let messages = ask.to_quorum(alloc, grid, Some(quorum))?;
+        let operation = Operation {
+            alloc,
+            grid: *grid,
+            who,
+            task,
+            file,
+            course: Course::new(files),
+            heard: ServerSet::empty(),
+            best: Best::none(),
+            stored: StoredCopy {
+                tag: Tag::first(),
+                bytes: Bytes::new(),
+            },
+            rows: Rows {
+                items: Vec::new(alloc),
+            },
+            floor,
+            done: false,
+        };
+        Ok((operation, messages))
+    }
+
+    /// What the operation says to a message of its session, where the servers of `up` are up. A reply of its round is
+    /// noted, once; where the servers heard end the round, the next round begins or the operation is done. The store
+    /// round of a write has a tag of its session with a number above all numbers heard and above the session's own
+    /// last one, which it then is. After `AllocError` nothing has changed; after `Done` every message is stale.
+    pub fn hear(&mut self, message: &Message, up: ServerSet) -> Result<Heard, AllocError>
+        requires server { message.now.server < 64 }
+        requires number { number_of message.now.body < u64.MAX }
+        requires floor { floor_of self.old < u64.MAX }
+        ensures hears { IfOk result (λ heard. HearsAs self.old self.new (servers up) message.now heard) }
+        ensures floor { IfOk result (λ heard. RaisesFloor self.old self.new heard) }
+        ensures ends { IfOk result (λ heard. EndsAs self.old self.new heard) }
+        ensures done { IsDone self.old → IfOk result (λ heard. heard ≡ Heard.Stale) }
+        ensures stays { IsDone self.old → self.new ≡ self.old }
+        ensures err { OnErr result (self.new ≡ self.old) }
+    {
+        if !self.is_current(message) {
+            return Ok(Heard::Stale);
+        }
+        let mut heard = self.heard;
+        heard.insert(message.server as usize);
+        if !self.ends(heard) {
+            self.note(message, heard)?;
+            return Ok(Heard::Noted);
+        }
+        if self.course.collects() {
+            let copy = self.decided(&message.body)?;
+            self.begin_store(copy, up)
+        } else if self.goes_on() {
+            self.begin_collect(up)
+        } else {
+            self.finish()
+        }
+    }
+
+    /// Sends the round's message once more, to the servers of a quorum chosen anew that were not heard in the round,
+    /// in rising number. The operation stays as it is.
+    pub fn resend(&mut self, up: ServerSet) -> Result<Vec<Message>, ResendRefused>
+        requires going { IsGoing self.old }
+        ensures ok { IfOk result (λ messages. ResendsAs self.old (servers up) messages.items) }
+        ensures err { IfErr result (λ e. RefusesAs self.old (servers up) e) }
+        ensures same { self.new ≡ self.old }
+    {
+        let Some(quorum) = self.quorum(up) else {
+            return Err(ResendRefused::NoQuorum);
+        };
+        match self.messages_to(quorum) {
+            Ok(messages) => Ok(messages),
+            Err(_) => Err(ResendRefused::Memory),
+        }
+    }
+
+    /// The session's own last number: that of the last tag that it made, 0 before the first.
+    pub fn floor(&self) -> u64
+        ensures { result ≡ floor_of self.now }
+    {
+        self.floor
+    }
+
+    /// Ends the operation without an answer. Answers the session's own last number, which the session's next operation
+    /// begins with, so that no tag is given twice.
+    pub fn abandon(self) -> u64
+        ensures { result ≡ floor_of self }
+    {
+        self.floor()
+    }
+
+    // The servers that the round asks or sends to.
+    fn quorum(&self, up: ServerSet) -> Option<ServerSet>
+        ensures { option_map servers result ≡ quorum_as self.now (servers up) }
+    {
+        if self.course.collects() {
+            collect_quorum(&self.grid, up)
+        } else {
+            store_quorum(&self.grid, up)
+        }
+    }
+
+    // Whether the message is of the operation's round, and the operation is not done.
+    fn is_current(&self, message: &Message) -> bool
+        ensures { result ≡ is_current_as self.now message.now }
+    {
+        !self.done && message.op == self.who.op && message.round == self.course.round()
+    }
+
+    // Notes the reply: these servers are heard now.
+    fn note(&mut self, message: &Message, heard: ServerSet) -> Result<(), AllocError>
+        requires { number_of message.now.body < u64.MAX }
+        ensures ok { OnOk result (self.new
+            ≡ record self.old { heard = heard; best = best_with self.old.best message.now.body }) }
+        ensures err { OnErr result (self.new ≡ self.old) }
+    {
+        self.best.note(&message.body)?;
+        self.heard = heard;
+        Ok(())
+    }
+
+    // Whether the round ends where these servers were heard.
+    fn ends(&self, heard: ServerSet) -> bool
+        ensures { result ≡ ends_as self.now (servers heard) }
+    {
+        if self.course.collects() {
+            ends_collect(&self.grid, heard)
+        } else {
+            ends_store(&self.grid, heard)
+        }
+    }
+
+    // The round's message.
+    fn message(&self) -> Result<RoundMessage, AllocError>
+        ensures { IfOk result (λ message. message ≡ message_as self.now) }
+    {
+        Ok(RoundMessage {
+            who: self.who,
+            round: self.course.round(),
+            file: self.file,
+            body: if self.course.collects() {
+                Body::Ask
+            } else {
+                Body::Store(self.stored.clone()?)
+            },
+        })
+    }
+
+    // The round's message to each server of the set that was not heard in the round.
+    fn messages_to(&self, set: ServerSet) -> Result<Vec<Message>, AllocError>
+        ensures { IfOk result (λ messages. messages.items ≡ map (addressed (message_as self.now))
+            (rising self.now.grid (apart (servers set) (servers self.now.heard)))) }
+    {
+        self.message()?
+            .to_each(self.alloc, &self.grid, set, self.heard)
+    }
+
+    // The copy with which the collect round ends at this reply.
+    fn decided(&self, body: &Body) -> Result<StoredCopy, AllocError>
+        requires number { number_of body.now < u64.MAX }
+        requires floor { self.now.floor < u64.MAX }
+        ensures { IfOk result (λ decided. decided ≡ decided_as self.now.task self.now.who.session
+            self.now.floor (unwrap_or (best_with self.now.best body.now) first_copy)) }
+    {
+        let best = self.best.with(body);
+        match &self.task {
+            Task::Write(content) => {
+                let greatest = best.map_or(0, |copy| copy.tag.number);
+                Ok(StoredCopy {
+                    tag: Tag::after(greatest.max(self.floor), self.who.session),
+                    bytes: content.clone()?,
+                })
+            }
+            Task::Read | Task::List => match best {
+                Some(copy) => copy.clone(),
+                None => Ok(StoredCopy {
+                    tag: Tag::first(),
+                    bytes: Bytes::new(),
+                }),
+            },
+        }
+    }
+
+    // The store round of the copy begins.
+    fn begin_store(&mut self, copy: StoredCopy, up: ServerSet) -> Result<Heard, AllocError>
+        requires { self.old.course.collecting ≡ true }
+        ensures ok { IfOk result (λ heard. heard ≡ Heard.Next (2 * (self.old.course.collected + 1)) (Some copy.tag)
+            (sent_to self.old.grid (store_quorum self.old.grid (servers up)) (store_message self.old copy))) }
+        ensures new { OnOk result (BeginsStore self.old self.new copy) }
+        ensures err { OnErr result (self.new ≡ self.old) }
+    {
+        let round = self.course.next_store();
+        let message = RoundMessage {
+            who: self.who,
+            round,
+            file: self.file,
+            body: Body::Store(copy.clone()?),
+        };
+        let quorum = store_quorum(&self.grid, up);
+        let items = message.to_quorum(self.alloc, &self.grid, quorum)?;
+        let tag = copy.tag;
+        let floor = self.next_floor(tag);
+        let row = Row {
+            length: copy.bytes.len() as u64,
+            tag,
+        };
+        keep_row(&self.task, &mut self.rows, row)?;
+        self.course.store();
+        self.heard = ServerSet::empty();
+        self.best = Best::none();
+        self.stored = copy;
+        self.floor = floor;
+        Ok(Heard::Next {
+            round,
+            tag: Some(tag),
+            messages: Messages { items },
+        })
+    }
+
+    // The session's own last number once a round stores the tag.
+    fn next_floor(&self, tag: Tag) -> u64
+        ensures { result ≡ floor_with self.now.task tag self.now.floor }
+    {
+        match &self.task {
+            Task::Write(_) => tag.number,
+            Task::Read | Task::List => self.floor,
+        }
+    }
+
+    // Whether the operation is a listing with files left to collect.
+    fn goes_on(&self) -> bool
+        ensures { result ≡ (is_list self.now.task && nat_lt self.now.course.collected self.now.course.files) }
+    {
+        match &self.task {
+            Task::List => self.course.more(),
+            _ => false,
+        }
+    }
+
+    // The collect round of a listing's next file begins.
+    fn begin_collect(&mut self, up: ServerSet) -> Result<Heard, AllocError>
+        requires more { self.old.course.collected < self.old.course.files }
+        ensures ok { IfOk result (λ heard. heard ≡ Heard.Next (2 * self.old.course.collected + 1) None
+            (sent_to self.old.grid (collect_quorum self.old.grid (servers up)) (next_ask self.old))) }
+        ensures new { OnOk result (BeginsCollect self.old self.new) }
+        ensures err { OnErr result (self.new ≡ self.old) }
+    {
+        let place = self.course.collected();
+        let round = 2 * place + 1;
+        let file = FileId {
+            tenant: self.file.tenant,
+            volume: self.file.volume,
+            file: place,
+        };
+        let ask = RoundMessage {
+            who: self.who,
+            round,
+            file,
+            body: Body::Ask,
+        };
+        let quorum = collect_quorum(&self.grid, up);
+        let items = ask.to_quorum(self.alloc, &self.grid, quorum)?;
+        self.course.collect();
+        self.file = file;
+        self.heard = ServerSet::empty();
+        self.best = Best::none();
+        Ok(Heard::Next {
+            round,
+            tag: None,
+            messages: Messages { items },
+        })
+    }
+
+    // The operation is done with the copy stored.
+    fn finish(&mut self) -> Result<Heard, AllocError>
+        ensures ok { IfOk result (λ heard. heard
+            ≡ Heard.Done (outcome_as self.old.task self.old.who self.old.stored self.old.rows)) }
+        ensures floor { self.new.floor ≡ self.old.floor }
+        ensures done { OnOk result (self.new.done ≡ true) }
+        ensures err { OnErr result (self.new ≡ self.old) }
+    {
+        let outcome = match &self.task {
+            Task::Write(_) => Outcome::Wrote {
+                session: self.who.session,
+                op: self.who.op,
+                tag: self.stored.tag,
+            },
+            Task::Read => Outcome::Gave {
+                session: self.who.session,
+                op: self.who.op,
+                copy: self.stored.clone()?,
+            },
+            Task::List => Outcome::Listed {
+                session: self.who.session,
+                op: self.who.op,
+                rows: mem::replace(
+                    &mut self.rows,
+                    Rows {
+                        items: Vec::new(self.alloc),
+                    },
+                ),
+            },
+        };
+        self.done = true;
+        Ok(Heard::Done(outcome))
+    }
+}

@@ -1,0 +1,35 @@
+//! Whom a round asks, and when the servers heard end it. Nothing else in this crate chooses or covers.
+
+ghost use Rattle.std.specs.Prelude.{◌≡◌, option_map};
+ghost use Rattle.gq_grid.specs.Sets.{servers};
+ghost use Rattle.gq_phase.specs.Quorums.{collect_quorum, store_quorum, ends_collect, ends_store};
+
+use gq_grid::{Grid, ServerSet};
+
+/// The servers that a collect round asks, where the servers of `up` are up; none where no quorum is up.
+pub fn collect_quorum(grid: &Grid, up: ServerSet) -> Option<ServerSet>
+    ensures { option_map servers result ≡ collect_quorum grid.now (servers up) }
+{
+    Some(grid.choose(up)?.servers)
+}
+
+/// The servers that a store round sends to, where the servers of `up` are up; none where no quorum is up.
+pub fn store_quorum(grid: &Grid, up: ServerSet) -> Option<ServerSet>
+    ensures { option_map servers result ≡ store_quorum grid.now (servers up) }
+{
+    Some(grid.choose(up)?.servers)
+}
+
+/// Whether a collect round ends where these servers were heard.
+pub fn ends_collect(grid: &Grid, heard: ServerSet) -> bool
+    ensures { result ≡ ends_collect grid.now (servers heard) }
+{
+    heard.covers(grid)
+}
+
+/// Whether a store round ends where these servers were heard.
+pub fn ends_store(grid: &Grid, heard: ServerSet) -> bool
+    ensures { result ≡ ends_store grid.now (servers heard) }
+{
+    heard.covers(grid)
+}
