@@ -13,29 +13,29 @@ use std::alloc::AllocError;
 
 // The line of a tenant's refusal.
 fn put_refusal(out: &mut Vec<u8>, first: &[u8], refusal: Refusal) -> Result<(), AllocError>
-    ensures ok { OnOk result (out.new.items ≡ out.old.items ++ line_text first.now (codes "refused" ∷ refusal_words refusal)) }
+    ensures ok { OnOk result (out.new.items ≡
+        out.old.items ++ line_text first.now (codes "refused" ∷ refusal_words refusal)) }
     ensures err { OnErr result (out.new.items ≡ out.old.items) }
 {
-    let word = match refusal {
-        Refusal::Spent => b"spent".as_slice(),
-        Refusal::Bad => b"bad".as_slice(),
-        Refusal::NoQuorum => b"noquorum".as_slice(),
-        Refusal::NoMessage => b"nomessage".as_slice(),
-        Refusal::Size => b"size".as_slice(),
-        Refusal::Volumes => b"volumes".as_slice(),
+    let words = match refusal {
+        Refusal::Spent => b"refused spent".as_slice(),
+        Refusal::Bad => b"refused bad".as_slice(),
+        Refusal::NoQuorum => b"refused noquorum".as_slice(),
+        Refusal::NoMessage => b"refused nomessage".as_slice(),
+        Refusal::Size => b"refused size".as_slice(),
+        Refusal::Volumes => b"refused volumes".as_slice(),
         Refusal::Share { free } => {
             return put_line(
                 out,
                 first,
                 &[
-                    Piece::Text(b"refused"),
-                    Piece::Text(b"share"),
+                    Piece::Text(b"refused share"),
                     Piece::Number(u64::from(free)),
                 ],
             );
         }
     };
-    put_line(out, first, &[Piece::Text(b"refused"), Piece::Text(word)])
+    put_line(out, first, &[Piece::Text(words)])
 }
 
 // The word of a server line's refusal.
@@ -57,7 +57,8 @@ fn put_answer(
     grid: &Grid,
     answer: &Answer,
 ) -> Result<(), AllocError>
-    ensures ok { OnOk result (out.new.items ≡ out.old.items ++ line_text first.now (told_words (shown grid.now answer.now))) }
+    ensures ok { OnOk result (out.new.items ≡
+        out.old.items ++ line_text first.now (told_words (shown grid.now answer.now))) }
     ensures err { OnErr result (out.new.items ≡ out.old.items) }
 {
     match answer {
@@ -81,8 +82,7 @@ fn put_answer(
             out,
             first,
             &[
-                Piece::Text(b"volumes"),
-                Piece::Text(b"free"),
+                Piece::Text(b"volumes free"),
                 Piece::Number(u64::from(*free)),
                 Piece::Volumes(rows.items.as_slice()),
             ],
@@ -98,7 +98,7 @@ fn put_answer(
                 Piece::Text(server_refusal_text(*refusal)),
             ],
         ),
-        Answer::StrayBad => put_line(out, first, &[Piece::Text(b"refused"), Piece::Text(b"bad")]),
+        Answer::StrayBad => put_line(out, first, &[Piece::Text(b"refused bad")]),
     }
 }
 
@@ -111,7 +111,8 @@ pub fn write_answer(
     out: &mut Vec<u8>,
 ) -> Result<(), AllocError>
     requires { IsIn plan.now event.now }
-    ensures ok { OnOk result (out.new.items ≡ out.old.items ++ answer_line plan.now event.now (shown plan.now.grid answer.now)) }
+    ensures ok { OnOk result (out.new.items ≡
+        out.old.items ++ answer_line plan.now event.now (shown plan.now.grid answer.now)) }
     ensures err { OnErr result (out.new.items ≡ out.old.items) }
 {
     let grid = plan.grid();

@@ -22,10 +22,15 @@ pub enum Piece<'a> {
 }
 
 // Appends the digits of a number.
+#[tactic(auto, using(std::proofs::lemmas::Fmt::decimal_digit))]
 fn put_number(out: &mut Vec<u8>, n: u64) -> Result<(), AllocError>
     ensures ok { OnOk result (out.new.items ≡ out.old.items ++ decimal n) }
     ensures err { OnErr result (out.new.items ≡ out.old.items) }
 {
+    if n < 10 {
+        out.push(b'0' + n as u8)?;
+        return Ok(());
+    }
     let mut buffer = Buffer::new();
     out.extend_from_slice(buffer.format(n).as_bytes())
 }
@@ -50,7 +55,8 @@ fn put_spaced_number(out: &mut Vec<u8>, n: u64) -> Result<(), AllocError>
 
 // Appends the servers of a set, rising.
 fn put_servers(out: &mut Vec<u8>, grid: &Grid, set: ServerSet) -> Result<(), AllocError>
-    ensures ok { OnOk result (out.new.items ≡ out.old.items ++ spaced (map decimal (rising grid.now (servers set)))) }
+    ensures ok { OnOk result (out.new.items ≡
+        out.old.items ++ spaced (map decimal (rising grid.now (servers set)))) }
     ensures err { OnErr result (Extends out.old.items out.new.items) }
 {
     for server in 0..grid.servers() {

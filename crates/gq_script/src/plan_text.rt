@@ -48,7 +48,8 @@ ghost use Rattle.gq_script.specs.PlanText.{grid_of, blocks_of, line_at, at_line,
 
 // Line `number` of an input, and the text after it.
 fn line_at(number: u64, text: &[u8]) -> Result<(&[u8], &[u8]), PlanText>
-    ensures line { IfOk result (λ read. line_at number (lines_of text.now) ≡ Ok (read.0.now, lines_of read.1.now)) }
+    ensures line { IfOk result (λ read.
+        line_at number (lines_of text.now) ≡ Ok (read.0.now, lines_of read.1.now)) }
     ensures rest { IfOk result (λ read. IsRest text.now read.1.now) }
     ensures fault { IfErr result (λ e. IsFaultOf (line_at number (lines_of text.now)) e) }
 {
@@ -197,10 +198,11 @@ fn checked(alloc: Global, grid: Grid, blocks: u32, rows: &[TenantRow]) -> Result
 
 /// The plan at the head of an input, and the place of the byte after its line `go`, where the other lines begin. The
 /// lines are tested in order, lines 1 and 2 for form, then for value, each later line for form; only then are the rows
-/// tested by [`Plan::check`]. The first fault is told with its line.
+/// tested by [`Plan::check`]. The first fault is told with its line. `Memory` says nothing of the text.
 #[tactic(auto, using(crate::proofs::Rests::rest_of_rest, crate::proofs::Rests::rest_at, crate::proofs::Rests::rest_length), unfolding(crate::specs::PlanText::plan_of))]
 pub fn read_plan(alloc: Global, text: &[u8]) -> Result<(Plan, usize), PlanText>
-    ensures plan { IfOk result (λ read. plan_of (lines_of text.now) ≡ Ok (read.0, lines_of (drop read.1 text.now))) }
+    ensures plan { IfOk result (λ read.
+        plan_of (lines_of text.now) ≡ Ok (read.0, lines_of (drop read.1 text.now))) }
     ensures within { IfOk result (λ read. read.1 ≤ length text.now) }
     ensures fault { IfErr result (λ e. IsFaultOf (plan_of (lines_of text.now)) e) }
 {

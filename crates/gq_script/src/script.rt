@@ -205,6 +205,7 @@ fn write_whole<W: Write>(writer: &mut Watched<W>, text: &[u8]) -> Result<(), Run
 /// Reads the whole input, of at most [`MOST_INPUT`] bytes, and writes one line for each of its lines after `go`. Nothing
 /// is written before all is answered: after `Read`, `TooBig`, `Plan` and `Memory` the writer is as it was. The reader is
 /// read at most 16,777,218 times, not again after a failure or once it has given too much; what is read of it is gone.
+/// After `Write` a prefix of the output was written. A writer that buffers is flushed by the caller.
 pub fn run<R: Read, W: Write>(
     alloc: Global,
     reader: &mut Watched<R>,
@@ -225,10 +226,11 @@ pub fn run<R: Read, W: Write>(
     ensures plan { IfErr result (λ e. IfSome (R.remaining (inner_of reader.old))
         (λ input. IsPlanFaultOf input e)) }
     ensures write { IsErrOf result RunFault.Write ↔ (has_failed writer.new ≡ true) }
-    ensures late { IsErrOf result RunFault.Write → IfSome (R.remaining (inner_of reader.old)) IsAccepted }
 
     // What was written at a fault.
     ensures nothing { IfErr result (λ e. e ≢ RunFault.Write → writer.new ≡ writer.old) }
+    ensures answered { IsErrOf result RunFault.Write →
+        IfSome (R.remaining (inner_of reader.old)) IsAccepted }
     ensures prefix { IsErrOf result RunFault.Write → IfSome (R.remaining (inner_of reader.old)) (λ input.
         AppendsPrefix (W.contents (inner_of writer.old)) (W.contents (inner_of writer.new)) (out input)) }
 {

@@ -48,7 +48,8 @@ impl<R: Read> Watched<R> {
     /// Reads once, as the reader inside does, and remembers a failure.
     pub fn read(&mut self, buf: &mut [u8]) -> io::Result<usize>
         ensures bound { ReadsAtMost result buf.new }
-        ensures bytes { ReadConsumes (R.remaining (inner_of self.old)) (R.remaining (inner_of self.new)) result buf.new }
+        ensures bytes { ReadConsumes (R.remaining (inner_of self.old))
+            (R.remaining (inner_of self.new)) result buf.new }
         ensures ok { OnOk result (has_failed self.new ≡ has_failed self.old) }
         ensures err { OnErr result (has_failed self.new ≡ true) }
     {
@@ -64,7 +65,8 @@ impl<W: Write> Watched<W> {
     /// Writes once, as the writer inside does, and remembers a failure, or that some bytes were given and none taken.
     pub fn write(&mut self, buf: &[u8]) -> io::Result<usize>
         ensures bound { WritesAtMost result buf.now }
-        ensures bytes { WriteAppends (W.contents (inner_of self.old)) (W.contents (inner_of self.new)) result buf.now }
+        ensures bytes { WriteAppends (W.contents (inner_of self.old))
+            (W.contents (inner_of self.new)) result buf.now }
         ensures some { IfOk result (λ n. 0 < n → has_failed self.new ≡ has_failed self.old) }
         ensures none { IfOk result (λ n. n ≡ 0 → 0 < length buf.now → has_failed self.new ≡ true) }
         ensures empty { IfOk result (λ n. length buf.now ≡ 0 → has_failed self.new ≡ has_failed self.old) }
