@@ -1,9 +1,8 @@
 //! Makes the calls of a store one by one, so that the requests for memory of each can be counted and refused.
 //!
 //! `new BLOCKS` makes a store of so many blocks; `add FILES` adds a volume of so many files to one; `put TIMES` puts a
-//! content so many times; `serve 1` has a store and an ask
-//! answered. Each prints how many blocks are free at the end. The
-//! status is 0, 2 where the words are none of these, and 3 where memory was wanting.
+//! content so many times; `serve 1` has a store and an ask answered. Each prints how many blocks are free at the end.
+//! The status is 0, 2 where the words are none of these, and 3 where memory was wanting.
 #![tactic(auto)]
 
 ghost use Rattle.std.specs.Prelude.{◌≡◌, ◌≤◌, [], ◌∷◌, IfOk};

@@ -1,5 +1,10 @@
 //! From the words of a command line to what they ask for.
 
+ghost use Rattle.std.specs.Prelude.{◌≡◌, ◌∷◌, [], codes, IfOk, IfErr, IsErrAnd};
+ghost use Rattle.clap.specs.Simple.{app_of};
+ghost use Rattle.clap.specs.Walk.{Text, texts};
+ghost use Rattle.gq_cli.specs.Words.{AsksToRun, IsHelp, IsMemory, ShownFor, gridfs};
+
 use clap::error::ErrorKind;
 use clap::{Command, Error};
 use std::alloc::{AllocError, Global};
@@ -42,7 +47,9 @@ Each line after `go` is answered by one line on standard output, one that has no
 A fault of the plan is one line on standard error, with its line number, and nothing is written.";
 
 // The command line.
-fn command<'a>(alloc: Global) -> Result<Command<'a>, AllocError> {
+fn command<'a>(alloc: Global) -> Result<Command<'a>, AllocError>
+    ensures app { IfOk result (λ c. app_of c ≡ gridfs) }
+{
     let run = Command::new(alloc, "run")
         .about(
             "Read a script from standard input, and write one line of answer for each of its lines",
@@ -59,9 +66,17 @@ fn command<'a>(alloc: Global) -> Result<Command<'a>, AllocError> {
 
 /// Reads the words of a command line, of which the first is the program's name. Words that ask for help, or that are no
 /// request, give the text to show, whose exit status is its own (0 for help, else 2); where memory is wanting, that is told
-/// before any text.
-pub fn read_words<'a>(alloc: Global, words: &'a [&'a str]) -> Result<Request, Usage> {
-    match command(alloc)?.try_get_matches_from(words) {
+/// before any text. Behind `run` no word may come but `--`, by which clap ends the options.
+pub fn read_words<'a>(alloc: Global, words: &'a [&'a str]) -> Result<Request, Usage>
+    ensures run { IfOk result (λ _. AsksToRun (texts words.entry.now)) }
+    ensures asked { AsksToRun (texts words.entry.now) → IfErr result IsMemory }
+    ensures shown { IfErr result (ShownFor (texts words.entry.now)) }
+    ensures help { (program : Text) → texts words.entry.now ≡ program ∷ codes "--help" ∷ [] → IsErrAnd result IsHelp }
+{
+    let Ok(command) = command(alloc) else {
+        return Err(Usage::Memory);
+    };
+    match command.try_get_matches_from(words) {
         Ok(_) => Ok(Request::Run),
         Err(error) => {
             if error.kind() == ErrorKind::OutOfMemory {

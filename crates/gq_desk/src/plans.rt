@@ -124,7 +124,9 @@ fn shares(rows: &[TenantRow]) -> u64
 }
 
 impl Plan {
-    /// Tests the rows in order, and then all together.
+    /// The plan of these rows, of servers of `blocks` blocks each. The rows are tested in order, each for `TooMany`,
+    /// `SameName`, `ZeroShare`, `Sessions` and `Steps`, and then all together for `NoTenant` and `OverBlocks`; the first
+    /// fault is told, with the place of its row from 0. `Memory` may come before a later row is tested.
     pub fn check(
         alloc: Global,
         grid: Grid,

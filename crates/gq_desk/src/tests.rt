@@ -55,20 +55,53 @@ fn plan_with(
     alloc: Global,
     name: &[u8],
     share: u32,
+    sessions: u32,
     steps: u32,
 ) -> Result<Plan, PlanFault> {
-    let rows = [row(rt, b"ann", 3, 1, 10), row(rt, name, share, 1, steps)];
+    let rows = [
+        row(rt, b"ann", 3, 1, 10),
+        row(rt, name, share, sessions, steps),
+    ];
     plan_of(alloc, &rows)
+}
+
+// A plan of so many tenants, each with its own name of two letters.
+fn plan_of_many(
+    rt: &impl Abort,
+    alloc: Global,
+    tenants: u8,
+) -> Result<Result<Plan, PlanFault>, AllocError> {
+    let mut rows = Vec::new(alloc);
+    for number in 0..tenants {
+        let name = [b'a' + number / 26, b'a' + number % 26];
+        rows.push(row(rt, &name, 1, 1, 1))?;
+    }
+    Ok(plan_of(alloc, rows.as_slice()))
 }
 
 #[test]
 fn tells_the_first_fault(rt: HostRuntime) {
-    let told = plan_with(&rt, rt.alloc(), b"ann", 0, 0);
+    let told = plan_with(&rt, rt.alloc(), b"ann", 0, 0, 0);
     assert!(rt; matches!(told, Err(PlanFault::SameName { row: 1 })));
-    let told = plan_with(&rt, rt.alloc(), b"bob", 0, 0);
+    let told = plan_with(&rt, rt.alloc(), b"bob", 0, 0, 0);
     assert!(rt; matches!(told, Err(PlanFault::ZeroShare { row: 1 })));
-    let told = plan_with(&rt, rt.alloc(), b"bob", 2, 1);
+    let told = plan_with(&rt, rt.alloc(), b"bob", 2, 17, 0);
+    assert!(rt; matches!(told, Err(PlanFault::Sessions { row: 1 })));
+    let told = plan_with(&rt, rt.alloc(), b"bob", 2, 16, 0);
+    assert!(rt; matches!(told, Err(PlanFault::Steps { row: 1 })));
+    let told = plan_with(&rt, rt.alloc(), b"bob", 2, 1, 1);
     assert!(rt; matches!(told, Err(PlanFault::OverBlocks { sum: 5, blocks: 4 })));
+}
+
+#[test]
+fn counts_the_tenants(rt: HostRuntime) -> Result<(), Fail> {
+    let told = plan_of_many(&rt, rt.alloc(), 0)?;
+    assert!(rt; matches!(told, Err(PlanFault::NoTenant)));
+    let told = plan_of_many(&rt, rt.alloc(), 64)?;
+    assert!(rt; matches!(told, Err(PlanFault::OverBlocks { sum: 64, blocks: 4 })));
+    let told = plan_of_many(&rt, rt.alloc(), 65)?;
+    assert!(rt; matches!(told, Err(PlanFault::TooMany { row: 64 })));
+    Ok(())
 }
 
 #[test]

@@ -79,6 +79,34 @@ lost_key lanes t n u m k within is =
     in_lane same h (inl at) = absurd (gone (keys_at lanes t) n (sym (ap (λ x. get_or (set (keys_at lanes t) n None) x None) at) ∙ h))
     in_lane same h (inr other) = ((λ _ at. other at), ap (λ x. key_at lanes x m) same ∙ sym (get_or-set_other (keys_at lanes t) n m None None other) ∙ h)
 
+-- a key that is there lies in the list
+pub key_within : (keys : List (Option ℕ)) (n key : ℕ) → get_or keys n None ≡ Some key → n < length keys
+key_within [] n key is = absurd (cc)
+key_within (x ∷ keys) zero key is = omega arith
+key_within (x ∷ keys) (suc n) key is = let low : n < length keys = key_within keys n key is in omega arith
+
+-- a key that was there is there after the tenant at place t sent a message
+key_stays_sent : (lanes : List (List (Option ℕ))) (t key u n k : ℕ) → t < length lanes → key_at lanes u n ≡ Some k → key_at (set lanes t (keys_at lanes t ++ Some key ∷ [])) u n ≡ Some k
+key_stays_sent lanes t key u n k within is =
+    elim (key_set lanes t (keys_at lanes t ++ Some key ∷ []) u n within) [
+      | inl here ↦ (let at : get_or (keys_at lanes t) n None ≡ Some k = ap (λ x. key_at lanes x n) (sym here.0) ∙ is in
+        here.1 ∙ get_or_append_left (keys_at lanes t) (Some key ∷ []) None n (key_within (keys_at lanes t) n k at) ∙ at)
+      | inr there ↦ there.1 ∙ is
+    ]
+
+-- and after it lost a message of another key
+key_stays_lost : (lanes : List (List (Option ℕ))) (t n key u m k : ℕ) → t < length lanes → key_at lanes t n ≡ Some key → k ≢ key → key_at lanes u m ≡ Some k → key_at (set lanes t (set (keys_at lanes t) n None)) u m ≡ Some k
+key_stays_lost lanes t n key u m k within had other is =
+    elim (key_set lanes t (set (keys_at lanes t) n None) u m within) [
+      | inl here ↦ (let at : get_or (keys_at lanes t) m None ≡ Some k = ap (λ x. key_at lanes x m) (sym here.0) ∙ is in
+        let apart : m ≢ n = λ same. other (some_is (sym at ∙ ap (λ x. get_or (keys_at lanes t) x None) same ∙ had)) in
+        here.1 ∙ get_or-set_other (keys_at lanes t) n m None None apart ∙ at)
+      | inr there ↦ there.1 ∙ is
+    ]
+  where
+    some_is : Some k ≡ Some key → k ≡ key
+    some_is e = cc
+
 -- ---- a message is sent
 
 -- a key that has a message is no key that has none
@@ -93,8 +121,21 @@ keyed_sent old new lanes t key message within updates none keyed = record {
     | inr was ↦ (ap is_some (updates.others k (other_key old k key (keyed.held u n k was) none)) ∙ keyed.held u n k was)
   ];
   apart = λ u n v m k is is'. both u n v m k (sent_key lanes t key u n k within is) (sent_key lanes t key v m k within is');
+  used = λ k held. has_key k held (cases_eq k key);
 }
   where
+    has_key : (k : ℕ) → is_some (get new k) ≡ true → (k ≡ key) ⊎ (k ≢ key) → (u : ℕ) × (n : ℕ) × (key_at (set lanes t (keys_at lanes t ++ Some key ∷ [])) u n ≡ Some k)
+    has_key k held (inl same) = (t, length (keys_at lanes t),
+        ap (λ (keys : List (Option ℕ)). get_or keys (length (keys_at lanes t)) None) (get_or-set_same lanes t (keys_at lanes t ++ Some key ∷ []) [] within)
+        ∙ last (keys_at lanes t) ∙ ap (λ x. Some x) (sym same))
+      where
+        last : (keys : List (Option ℕ)) → get_or (keys ++ Some key ∷ []) (length keys) None ≡ Some key
+        last [] = refl
+        last (x ∷ keys) = last keys
+    has_key k held (inr other) =
+        let was = keyed.used k (ap is_some (sym (updates.others k other)) ∙ held) in
+        (was.0, was.1, key_stays_sent lanes t key was.0 was.1 k within was.2)
+
     New : ℕ → ℕ → ℕ → Type 0
     New u n k = ((u ≡ t) × (n ≡ length (keys_at lanes t)) × (k ≡ key)) ⊎ (key_at lanes u n ≡ Some k)
 
@@ -122,8 +163,16 @@ pub keyed_lost : (old new : Slab Message) (lanes : List (List (Option ℕ))) (t 
 keyed_lost old new lanes t n key within had updates keyed = record {
   held = λ u m k is. (let r = lost_key lanes t n u m k within is in ap is_some (stays u m k r.0 r.1) ∙ keyed.held u m k r.1);
   apart = λ u m v l k is is'. keyed.apart u m v l k (lost_key lanes t n u m k within is).1 (lost_key lanes t n v l k within is').1;
+  used = λ k held. has_key k held (cases_eq k key);
 }
   where
+    has_key : (k : ℕ) → is_some (get new k) ≡ true → (k ≡ key) ⊎ (k ≢ key) → (u : ℕ) × (m : ℕ) × (key_at (set lanes t (set (keys_at lanes t) n None)) u m ≡ Some k)
+    has_key k held (inl same) =
+        let gone : is_some {T = Message} None ≡ true = sym (ap is_some (ap (get new) same ∙ updates.changed)) ∙ held in absurd (cc)
+    has_key k held (inr other) =
+        let was = keyed.used k (ap is_some (sym (updates.others k other)) ∙ held) in
+        (was.0, was.1, key_stays_lost lanes t n key was.0 was.1 k within had other was.2)
+
     stays : (u m k : ℕ) → (u ≡ t → m ≡ n → ⊥) → key_at lanes u m ≡ Some k → get new k ≡ get old k
     stays u m k other was = updates.others k (λ same. let at = keyed.apart u m t n k was (had ∙ ap (λ x. Some x) (sym same)) in other at.0 at.1)
 
@@ -150,12 +199,6 @@ keys_read [] t keys within is = absurd (omega arith)
 keys_read (x ∷ lanes) zero keys within is = is
 keys_read (x ∷ lanes) (suc t) keys within is = keys_read lanes t keys (omega arith) is
 
--- a key that is there lies in the list
-pub key_within : (keys : List (Option ℕ)) (n key : ℕ) → get_or keys n None ≡ Some key → n < length keys
-key_within [] n key is = absurd (cc)
-key_within (x ∷ keys) zero key is = omega arith
-key_within (x ∷ keys) (suc n) key is = let low : n < length keys = key_within keys n key is in omega arith
-
 -- ---- nothing happens
 
 -- a lane in which message n is lost already, or was never sent
@@ -169,6 +212,7 @@ pub keyed_same : (old new : Slab Message) (lanes : List (List (Option ℕ))) →
 keyed_same old new lanes same keyed = record {
   held = λ t n k is. ap (λ (slots : List (Option Message)). is_some (get_or slots k None)) same ∙ keyed.held t n k is;
   apart = keyed.apart;
+  used = λ k held. keyed.used k (ap (λ (slots : List (Option Message)). is_some (get_or slots k None)) (sym same) ∙ held);
 }
 
 -- the view of a slab with the same slots
@@ -208,11 +252,12 @@ nothing_view messages lanes view t n is none =
     ap (map (lane_of messages)) (set-get_or lanes t []) ∙ is
     ∙ sym (ap (set view t) (nothing_lost (lane_at view t) n (found_there messages lanes view t n None is none)) ∙ set-get_or view t [])
 
--- no key in lanes that are empty
-pub keyed_empty : (messages : Slab Message) (lanes : List (List (Option ℕ))) → ((t n key : ℕ) → key_at lanes t n ≡ Some key → ⊥) → Keyed messages lanes
-keyed_empty messages lanes none = record {
+-- no key in lanes that are empty, and no message
+pub keyed_empty : (messages : Slab Message) (lanes : List (List (Option ℕ))) → messages.slots ≡ [] → ((t n key : ℕ) → key_at lanes t n ≡ Some key → ⊥) → Keyed messages lanes
+keyed_empty messages lanes empty none = record {
   held = λ t n k is. absurd (none t n k is);
   apart = λ t n u m k is _. absurd (none t n k is);
+  used = λ k held. (let no : is_some {T = Message} None ≡ true = sym (ap (λ (slots : List (Option Message)). is_some (get_or slots k None)) empty) ∙ held in absurd (cc));
 }
 
 pub empty_lanes : (count t n key : ℕ) → key_at (replicate count []) t n ≡ Some key → ⊥

@@ -20,7 +20,9 @@ keys_at lanes t = slice_index_or lanes t []
 abbrev pub key_at : List (List (Option ℕ)) → ℕ → ℕ → Option ℕ
 key_at lanes t n = slice_index_or (keys_at lanes t) n None
 
--- each key has a message, and no two messages have one key
+-- each key has a message, no two messages have one key, and no message lies under a key that no lane has: what is lost
+-- takes no place
 pub record Keyed (messages : Slab Message) (lanes : List (List (Option ℕ))) : Type 0 where
   pub held : (t n key : ℕ) → key_at lanes t n ≡ Some key → is_some (get messages key) ≡ true
   pub apart : (t n u m key : ℕ) → key_at lanes t n ≡ Some key → key_at lanes u m ≡ Some key → (t ≡ u) × (n ≡ m)
+  pub used : (key : ℕ) → is_some (get messages key) ≡ true → (t : ℕ) × (n : ℕ) × (key_at lanes t n ≡ Some key)

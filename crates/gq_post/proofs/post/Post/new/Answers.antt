@@ -6,7 +6,7 @@ use Rattle.gq_post.proofs.Holding.{keyed_empty, empty_lanes, empty_view}
 use Rattle.gq_post.proofs.post.Post.new.Goals as goal
 
 pub invariant_of-result : goal.invariant_of-result
-invariant_of-result c = rw c.loop-tenant.invariant (keyed_empty _ _ (empty_lanes _))
+invariant_of-result c = rw c.loop-tenant.invariant (keyed_empty _ _ c.new-messages.ensures.empty (empty_lanes _))
 
 pub returns : goal.returns
 returns c =

@@ -1,0 +1,211 @@
+-- Only words that ask to run have nothing wrong with them.
+use Rattle.std.proofs.Common.{refl, codes, true, false, Bool, ℕ, suc, List, Option, Some, None, ◌≡◌, ◌≢◌, [], ◌∷◌, ◌==◌, sym, ap, ap₂, ◌∙◌, inl, inr, ◌⊎◌, ◌++◌}
+use Rattle.std.proofs.lemmas.List.{append-nil, append_assoc}
+use Rattle.std.proofs.lemmas.Slice.Eq.{bytes_eq-Decides}
+use Rattle.std.specs.Prelude.{drop, fold, length, slice_get}
+use Rattle.std.specs.Option.{option_map_or}
+use Rattle.std.specs.Str.{bytes_eq, chars}
+use Rattle.clap.specs.Faults.{built_fault, bundle_fault, bundle_step_fault, entered_fault, flag_word_fault, flags_fault, level_fault, long_fault, short_fault, step_fault, turn_fault, walk_fault}
+use Rattle.clap.specs.Kinds.{Kinds, or_else}
+use Rattle.clap.specs.Lexer.{long_of, short_of}
+use Rattle.clap.specs.Simple.{Shape, built, names_of}
+use Rattle.clap.specs.Walk.{Held, Outcome, Text, Walk, Names, arg_by_long, arg_by_short, bundle_met, after_flag, idle, long_or_other, nothing_held, plain, short_or_plain, subcommand_met, value, walk, walk_from, walked}
+use Rattle.clap.specs.declared.error.kind.ErrorKind.TheVariants.{DisplayHelp, InvalidSubcommand, MissingSubcommand, TooManyValues, UnknownArgument}
+use Rattle.clap.proofs.OnLiterals.{clap_on_literals}
+use Rattle.gq_cli.specs.Words.{AsksToRun, faults_in, gridfs}
+
+both : (a b : Kinds) → or_else a b ≡ [] → (a ≡ []) × (b ≡ [])
+both [] b none = (refl, none)
+both (k ∷ ks) b none = absurd (cc)
+
+-- the command as it is built, and its subcommand
+abbrev top : Shape
+top = (built gridfs).top
+
+abbrev run_of : List Shape → Shape
+run_of [] = top
+run_of (s ∷ rest) = s
+
+-- whose words are read: those of the subcommand, or of the command
+abbrev level : Bool → Shape
+level true = run_of (built gridfs).subs
+level false = top
+
+-- what `--name` comes to: the one flag is that for help
+abbrev told_of_long : Bool → Option Text → Kinds
+told_of_long true None = DisplayHelp ∷ []
+told_of_long true (Some v) = TooManyValues ∷ []
+told_of_long false v = UnknownArgument ∷ []
+
+long_told : (name : Text) (v : Option Text) (is_help : Bool) → bytes_eq (codes "help") name ≡ is_help → long_fault top.rules false (arg_by_long top.rules name) v nothing_held ≡ told_of_long is_help v
+long_told name None true is = rw is refl
+long_told name (Some v) true is = rw is refl
+long_told name v false is = rw is refl
+
+long_is_wrong : (is_help : Bool) (v : Option Text) → told_of_long is_help v ≢ []
+long_is_wrong true None none = cc
+long_is_wrong true (Some v) none = cc
+long_is_wrong false v none = cc
+
+-- what `-x` comes to
+abbrev told_of_short : Bool → Kinds
+told_of_short true = DisplayHelp ∷ []
+told_of_short false = UnknownArgument ∷ []
+
+short_told : (x : ℕ) (rest : Text) (next : Held → Kinds) (is_help : Bool) → (104 == x) ≡ is_help → short_fault top.rules false (arg_by_short top.rules x) rest nothing_held next ≡ told_of_short is_help
+short_told x rest next true is = rw is refl
+short_told x rest next false is = rw is refl
+
+short_is_wrong : (is_help : Bool) → told_of_short is_help ≢ []
+short_is_wrong true none = cc
+short_is_wrong false none = cc
+
+-- flags with nothing wrong have no first character
+no_character : (first : Option ℕ) (flags : Text) (next : Text → ℕ → Held → Kinds) → bundle_step_fault top.rules false first flags 0 nothing_held next ≡ [] → first ≡ None
+no_character None flags next none = refl
+no_character (Some x) flags next none = absurd (short_is_wrong (104 == x) (sym (short_told x _ _ (104 == x) refl) ∙ none))
+
+no_flag : (k : ℕ) (flags : Text) → slice_get (chars flags) 0 ≡ None → bundle_met top.rules (suc k) flags 0 plain nothing_held ≡ (nothing_held, plain)
+unfolding bundle_met
+no_flag k flags is = rw is refl
+
+-- a word that no positional takes is wrong
+stray_is_wrong : (which : Bool) → step_fault (level which) 1 nothing_held value ≢ []
+stray_is_wrong true none = cc
+stray_is_wrong false none = cc
+
+-- what a word comes to that names no subcommand and is not `--`, by how it is taken apart
+abbrev of_short : Bool → Text → Option Text → Kinds
+of_short which word flags = or_else (option_map_or (λ f. bundle_fault top.rules false f nothing_held) flags [])
+    (step_fault (level which) 1 (short_or_plain top.rules idle word flags nothing_held).0 (short_or_plain top.rules idle word flags nothing_held).1)
+
+abbrev of_long : Bool → Text → Option (Text × Option Text) → Kinds
+of_long which word found = or_else (flag_word_fault top.rules false found word nothing_held)
+    (step_fault (level which) 1 (long_or_other top.rules idle word found nothing_held).0 (long_or_other top.rules idle word found nothing_held).1)
+
+of_short_is_wrong : (which : Bool) (word : Text) (flags : Option Text) → of_short which word flags ≢ []
+unfolding flags_fault bundle_met
+of_short_is_wrong which word None none = stray_is_wrong which none
+of_short_is_wrong which word (Some []) none = stray_is_wrong which none
+of_short_is_wrong which word (Some (x ∷ xs)) none =
+    let parts = both _ _ none in
+    let first : slice_get (chars (x ∷ xs)) 0 ≡ None = no_character _ (x ∷ xs) _ parts.0 in
+    stray_is_wrong which (sym (ap (λ (met : Held × Outcome). step_fault (level which) 1 (after_flag top.rules idle word met.0 met.1).0 (after_flag top.rules idle word met.0 met.1).1)
+    (no_flag (length xs) (x ∷ xs) first)) ∙ parts.1)
+
+of_long_is_wrong : (which : Bool) (word : Text) (found : Option (Text × Option Text)) → of_long which word found ≢ []
+of_long_is_wrong which word None none = of_short_is_wrong which word (short_of word) none
+of_long_is_wrong which word (Some p) none =
+    long_is_wrong (bytes_eq (codes "help") p.0) p.1 (sym (long_told p.0 p.1 (bytes_eq (codes "help") p.0) refl) ∙ (both _ _ none).0)
+
+-- ---- words in turn
+
+abbrev start : Walk
+start = walk_from nothing_held
+
+-- after `--`
+abbrev trailing_walk : Walk
+trailing_walk = record start { is_trailing = true }
+
+-- a word that names no subcommand and is not `--` is wrong
+other_is_wrong : (which : Bool) (names : Names) (word : Text) → subcommand_met names idle word ≡ None → bytes_eq word (codes "--") ≡ false → turn_fault (level which) names start word ≢ []
+other_is_wrong true names word no_name no_dashes none = of_long_is_wrong true word (long_of word) (sym same ∙ none)
+  where
+    same : turn_fault (level true) names start word ≡ of_long true word (long_of word)
+    same = rw (no_name, no_dashes) refl
+other_is_wrong false names word no_name no_dashes none = of_long_is_wrong false word (long_of word) (sym same ∙ none)
+  where
+    same : turn_fault (level false) names start word ≡ of_long false word (long_of word)
+    same = rw (no_name, no_dashes) refl
+
+-- `--` makes the words behind it values
+dashes_trail : (names : Names) (word : Text) → subcommand_met names idle word ≡ None → bytes_eq word (codes "--") ≡ true → walked top.rules names start word ≡ trailing_walk
+unfolding walked
+dashes_trail names word no_name dashes = rw (no_name, dashes) refl
+
+turns : (s : Shape) (names : Names) (w : Walk) (word : Text) (words : List Text) → walk_fault s names w (word ∷ words) ≡ [] → (turn_fault s names w word ≡ []) × (walk_fault s names (walked s.rules names w word) words ≡ [])
+unfolding walk_fault
+turns s names w word words none = both (turn_fault s names w word) (walk_fault s names (walked s.rules names w word) words) none
+
+-- of which there may be none
+nothing_trails : (which : Bool) (names : Names) (words : List Text) → walk_fault (level which) names trailing_walk words ≡ [] → words ≡ []
+nothing_trails which names [] none = refl
+nothing_trails true names (word ∷ words) none = absurd (stray_is_wrong true (turns (level true) names trailing_walk word words none).0)
+nothing_trails false names (word ∷ words) none = absurd (stray_is_wrong false (turns (level false) names trailing_walk word words none).0)
+
+same_bytes : (a b : Text) → bytes_eq a b ≡ true → a ≡ b
+same_bytes a b is = (bytes_eq-Decides a b).0 is
+
+-- the words behind `run`: none, or `--` alone
+behind_run : (words : List Text) → walk_fault (level true) [] start words ≡ [] → (words ≡ []) ⊎ (words ≡ codes "--" ∷ [])
+behind_run [] none = inl refl
+behind_run (word ∷ words) none = by (bytes_eq word (codes "--")) refl
+  where
+    by : (t : Bool) → bytes_eq word (codes "--") ≡ t → (word ∷ words ≡ []) ⊎ (word ∷ words ≡ codes "--" ∷ [])
+    by false is = absurd (other_is_wrong true [] word refl is (turns (level true) [] start word words none).0)
+    by true is =
+        let rest : words ≡ [] = nothing_trails true [] words (ap (λ (w : Walk). walk_fault (level true) [] w words) (sym (dashes_trail [] word refl is)) ∙ (turns (level true) [] start word words none).1) in
+        inr (ap (λ ws. word ∷ ws) rest ∙ ap (λ (w : Text). w ∷ []) (same_bytes word (codes "--") is))
+
+-- ---- the whole command line
+
+abbrev names : Names
+names = names_of (built gridfs)
+
+-- a first word that is `run`
+run_is_met : (word : Text) → bytes_eq (codes "run") word ≡ true → walked top.rules names start word ≡ record start { stopped = Some (codes "run", []) }
+unfolding walked
+run_is_met word is = rw is refl
+
+-- the words behind a subcommand are its own
+rest_is_kept : (words : List Text) (name : Text) (own : List Text) (w : Walk) → (fold (walked top.rules names) (record w { stopped = Some (name, own) }) words).stopped ≡ Some (name, own ++ words)
+unfolding walked
+rest_is_kept [] name own w = ap (λ ws. Some (name, ws)) (sym (append-nil own))
+rest_is_kept (word ∷ words) name own w = rest_is_kept words name (own ++ word ∷ []) w ∙ ap (λ ws. Some (name, ws)) (append_assoc own (word ∷ []) words)
+
+-- what is wrong at a level, in its words and below it
+at_level : (s : Shape) (subs : Names) (h : Held) (words : List Text) (is_entered : Bool) (under : Kinds) → level_fault s subs h words is_entered under ≡ [] → (walk_fault s subs (walk_from h) words ≡ []) × (under ≡ [])
+at_level s subs h words is_entered under none = let parts = both _ _ none in (parts.0, (both _ _ parts.1).0)
+
+-- what is wrong behind the place where the walk stopped
+stopped_at : (stop : Option (Text × List Text)) (words : List Text) → stop ≡ Some (codes "run", words) → entered_fault (built gridfs) stop ≡ level_fault (level true) [] nothing_held words false []
+stopped_at stop words is = rw is refl
+
+dashes_alone : (word : Text) → bytes_eq (codes "run") word ≡ false → bytes_eq (codes "help") word ≡ false → bytes_eq word (codes "--") ≡ true → built_fault (built gridfs) nothing_held (word ∷ []) ≡ MissingSubcommand ∷ []
+unfolding clap_on_literals
+dashes_alone word run help dashes = rw (run, help, dashes) refl
+
+asks_by : (word : Text) (words : List Text) → built_fault (built gridfs) nothing_held (word ∷ words) ≡ [] → (is_run is_help is_dashes : Bool) → bytes_eq (codes "run") word ≡ is_run → bytes_eq (codes "help") word ≡ is_help → bytes_eq word (codes "--") ≡ is_dashes →
+    (word ∷ words ≡ codes "run" ∷ []) ⊎ (word ∷ words ≡ codes "run" ∷ codes "--" ∷ [])
+asks_by word words none true is_help is_dashes run help dashes =
+    let stop = (walk top.rules names nothing_held (word ∷ words)).stopped in
+    let stops : stop ≡ Some (codes "run", words) = ap (λ (w : Walk). (fold (walked top.rules names) w words).stopped) (run_is_met word run) ∙ rest_is_kept words (codes "run") [] start in
+    let under : level_fault (level true) [] nothing_held words false [] ≡ [] = sym (stopped_at stop words stops) ∙ (at_level _ _ _ _ _ _ none).1 in
+    let named : word ≡ codes "run" = sym (same_bytes (codes "run") word run) in
+    elim (behind_run words (at_level _ _ _ _ false [] under).0) [
+      | inl no_more ↦ inl (ap₂ (λ w ws. w ∷ ws) named no_more)
+      | inr dashed ↦ inr (ap₂ (λ w ws. w ∷ ws) named dashed)
+    ]
+asks_by word words none false true is_dashes run help dashes =
+    let told : turn_fault top names start word ≡ DisplayHelp ∷ InvalidSubcommand ∷ [] = rw (run, help) refl in
+    let nothing = sym told ∙ (turns top names start word words (at_level _ _ _ _ _ _ none).0).0 in
+    absurd (cc)
+asks_by word words none false false false run help dashes =
+    absurd (other_is_wrong false names word (rw (run, help) refl) dashes (turns top names start word words (at_level _ _ _ _ _ _ none).0).0)
+asks_by word [] none false false true run help dashes = let nothing = sym (dashes_alone word run help dashes) ∙ none in absurd (cc)
+asks_by word (x ∷ words) none false false true run help dashes =
+    let trail = turns top names start word (x ∷ words) (at_level _ _ _ _ _ _ none).0 in
+    let nothing : x ∷ words ≡ [] = nothing_trails false names (x ∷ words) (ap (λ (w : Walk). walk_fault top names w (x ∷ words)) (sym (dashes_trail names word (rw (run, help) refl) dashes)) ∙ trail.1) in
+    absurd (cc)
+
+-- with no words there is no subcommand
+nothing_is_wrong : built_fault (built gridfs) nothing_held [] ≡ MissingSubcommand ∷ []
+unfolding clap_on_literals
+nothing_is_wrong = refl
+
+pub asks_to_run : (words : List Text) → faults_in words ≡ [] → AsksToRun words
+asks_to_run words none = by (drop 1 words) none
+  where
+    by : (args : List Text) → built_fault (built gridfs) nothing_held args ≡ [] → (args ≡ codes "run" ∷ []) ⊎ (args ≡ codes "run" ∷ codes "--" ∷ [])
+    by [] wrong = let nothing = sym nothing_is_wrong ∙ wrong in absurd (cc)
+    by (word ∷ args) right = asks_by word args right (bytes_eq (codes "run") word) (bytes_eq (codes "help") word) (bytes_eq word (codes "--")) refl refl refl
