@@ -90,7 +90,7 @@ key_stays_sent : (lanes : List (List (Option ℕ))) (t key u n k : ℕ) → t < 
 key_stays_sent lanes t key u n k within is =
     elim (key_set lanes t (keys_at lanes t ++ Some key ∷ []) u n within) [
       | inl here ↦ (let at : get_or (keys_at lanes t) n None ≡ Some k = ap (λ x. key_at lanes x n) (sym here.0) ∙ is in
-        here.1 ∙ get_or_append_left (keys_at lanes t) (Some key ∷ []) None n (key_within (keys_at lanes t) n k at) ∙ at)
+          here.1 ∙ get_or_append_left (keys_at lanes t) (Some key ∷ []) None n (key_within (keys_at lanes t) n k at) ∙ at)
       | inr there ↦ there.1 ∙ is
     ]
 
@@ -99,8 +99,8 @@ key_stays_lost : (lanes : List (List (Option ℕ))) (t n key u m k : ℕ) → t 
 key_stays_lost lanes t n key u m k within had other is =
     elim (key_set lanes t (set (keys_at lanes t) n None) u m within) [
       | inl here ↦ (let at : get_or (keys_at lanes t) m None ≡ Some k = ap (λ x. key_at lanes x m) (sym here.0) ∙ is in
-        let apart : m ≢ n = λ same. other (some_is (sym at ∙ ap (λ x. get_or (keys_at lanes t) x None) same ∙ had)) in
-        here.1 ∙ get_or-set_other (keys_at lanes t) n m None None apart ∙ at)
+          let apart : m ≢ n = λ same. other (some_is (sym at ∙ ap (λ x. get_or (keys_at lanes t) x None) same ∙ had)) in
+          here.1 ∙ get_or-set_other (keys_at lanes t) n m None None apart ∙ at)
       | inr there ↦ there.1 ∙ is
     ]
   where
@@ -125,9 +125,12 @@ keyed_sent old new lanes t key message within updates none keyed = record {
 }
   where
     has_key : (k : ℕ) → is_some (get new k) ≡ true → (k ≡ key) ⊎ (k ≢ key) → (u : ℕ) × (n : ℕ) × (key_at (set lanes t (keys_at lanes t ++ Some key ∷ [])) u n ≡ Some k)
-    has_key k held (inl same) = (t, length (keys_at lanes t),
-        ap (λ (keys : List (Option ℕ)). get_or keys (length (keys_at lanes t)) None) (get_or-set_same lanes t (keys_at lanes t ++ Some key ∷ []) [] within)
-        ∙ last (keys_at lanes t) ∙ ap (λ x. Some x) (sym same))
+    has_key k held (inl same) = (
+      t,
+      length (keys_at lanes t),
+      ap (λ (keys : List (Option ℕ)). get_or keys (length (keys_at lanes t)) None) (get_or-set_same lanes t (keys_at lanes t ++ Some key ∷ []) [] within)
+          ∙ last (keys_at lanes t) ∙ ap (λ x. Some x) (sym same),
+    )
       where
         last : (keys : List (Option ℕ)) → get_or (keys ++ Some key ∷ []) (length keys) None ≡ Some key
         last [] = refl
