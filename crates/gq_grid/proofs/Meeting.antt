@@ -1,8 +1,8 @@
 -- Two sets that cover share a server, and the chosen servers cover.
-use Rattle.std.proofs.Common.{◌≡◌, ℕ, zero, suc, ◌+◌, ◌*◌, ◌<◌, ◌≤◌, Bool, true, refl, sym, ◌∙◌, inl, inr, Option, Some, None, is_some, arith, eqb}
+use Rattle.std.proofs.Common.{◌≡◌, ℕ, zero, suc, ◌+◌, ◌*◌, ◌<◌, ◌≤◌, Bool, true, false, refl, sym, ◌∙◌, inl, inr, Option, Some, None, is_some, arith, eqb, mul-zero}
 use Rattle.std.specs.List.{find, list_all, list_any, range_with_len}
 use Rattle.std.proofs.lemmas.Bool.{and_parts, and_from, cases_Bool, cases_eq, eq-eqb, or_left, or_right, true≢false}
-use Rattle.gq_grid.specs.Grid.{Grid, Servers, server_at, is_full_row, is_full_column, least_row, least_column, has_row, has_column, covers, row_servers, column_servers, either, Choice, choose, choice_servers}
+use Rattle.gq_grid.specs.Grid.{Grid, Servers, server_at, is_full_row, is_full_column, least_row, least_column, has_row, has_column, covers, no_servers, row_servers, column_servers, either, Choice, choose, choice_servers}
 use Rattle.gq_grid.specs.Laws.{CoveringSetsMeet, ChosenSetsCover}
 use Rattle.gq_grid.proofs.Agreeing.{placed}
 
@@ -93,6 +93,42 @@ rowed_meets_columned grid left right row column =
 pub covers_meet : CoveringSetsMeet
 covers_meet grid left right first second =
     rowed_meets_columned grid left right (and_parts (has_row grid left) (has_column grid left) first).0 (and_parts (has_row grid right) (has_column grid right) second).1
+
+-- a set with all servers of another has its rows, its columns, and covers where it does
+pub has_row_more : (grid : Grid) (fewer more : Servers) → ((server : ℕ) → server < grid.rows * grid.cols → fewer server ≡ true → more server ≡ true) → has_row grid fewer ≡ true → has_row grid more ≡ true
+has_row_more grid fewer more within h =
+    let r = found (is_full_row grid fewer) 0 grid.rows h in
+    find_from (is_full_row grid more) 0 grid.rows r.0 (omega arith) (omega arith)
+    (all_from (λ c. more (server_at grid r.0 c)) 0 grid.cols
+    (λ c low high. within (server_at grid r.0 c) (placed grid.rows grid.cols r.0 c (omega arith) (omega arith))
+    (all_at (λ c. fewer (server_at grid r.0 c)) 0 grid.cols c r.3 low high)))
+
+pub has_column_more : (grid : Grid) (fewer more : Servers) → ((server : ℕ) → server < grid.rows * grid.cols → fewer server ≡ true → more server ≡ true) → has_column grid fewer ≡ true → has_column grid more ≡ true
+has_column_more grid fewer more within h =
+    let c = found (is_full_column grid fewer) 0 grid.cols h in
+    find_from (is_full_column grid more) 0 grid.cols c.0 (omega arith) (omega arith)
+    (all_from (λ r. more (server_at grid r c.0)) 0 grid.rows
+    (λ r low high. within (server_at grid r c.0) (placed grid.rows grid.cols r c.0 (omega arith) (omega arith))
+    (all_at (λ r. fewer (server_at grid r c.0)) 0 grid.rows r c.3 low high)))
+
+pub covers_more : (grid : Grid) (fewer more : Servers) → ((server : ℕ) → server < grid.rows * grid.cols → fewer server ≡ true → more server ≡ true) → covers grid fewer ≡ true → covers grid more ≡ true
+covers_more grid fewer more within h =
+    let parts = and_parts (has_row grid fewer) (has_column grid fewer) h in
+    and_from (has_row grid more) (has_column grid more) (has_row_more grid fewer more within parts.0) (has_column_more grid fewer more within parts.1)
+
+-- no server covers no grid that has one
+pub covers-none : (grid : Grid) → 0 < grid.rows * grid.cols → covers grid no_servers ≡ false
+covers-none grid some =
+    elim (cases_Bool (covers grid no_servers)) [
+      | inl e ↦
+          let r = found (is_full_row grid no_servers) 0 grid.rows (and_parts (has_row grid no_servers) (has_column grid no_servers) e).0 in
+          absurd (true≢false (sym (all_at (λ c. no_servers (server_at grid r.0 c)) 0 grid.cols 0 r.3 (omega arith) (some_of grid.rows grid.cols some))))
+      | inr e ↦ e
+    ]
+  where
+    some_of : (rows cols : ℕ) → 0 < rows * cols → 0 < 0 + cols
+    some_of rows zero h = absurd (omega (arith, mul-zero rows))
+    some_of rows (suc cols) h = omega arith
 
 -- the servers of a row of the grid have that row, and those of a column that column
 pub row_servers-row : (grid : Grid) (r : ℕ) (set : Servers) → r < grid.rows → has_row grid (either (row_servers grid r) set) ≡ true

@@ -3,20 +3,27 @@
 
 ghost use Rattle.std.specs.Prelude.{◌≡◌, ◌↔◌, ℕ, true, false, ◌+◌, ◌*◌, ◌<◌, ◌≤◌, IfOk, IsErrOf, IfSome, IsNone, Some, None, MatchOption, option_map};
 ghost use Rattle.gq_grid.specs.Grid.{Grid as Shape, Servers, no_servers, all_servers, with_server, without_server, server_at, is_full_row, is_full_column, row_servers, column_servers, either, is_side, least_row, least_column, has_row, has_column, covers, choose, choice_servers};
-ghost use Rattle.gq_grid.specs.Sets.{servers, place_of};
+ghost use Rattle.gq_grid.specs.Sets.{servers, shown_choice};
 
 pub mod laws;
 
 use std::marker::Model;
 use thiserror::Error;
 
-/// A set of server numbers below 64.
+/// The most rows that a grid can have, and the most columns.
+pub const MOST_SIDE: usize = 8;
+
+/// The most servers that a grid can have. Server numbers are from 0, and all that a set can hold are below it.
+pub const MOST_SERVERS: usize = 64;
+
+/// A set of server numbers below [`MOST_SERVERS`].
 #[derive(Clone, Copy, Debug, PartialEq, Eq)]
 pub struct ServerSet {
     bits: u64,
 }
 
-/// Servers in 1 to 8 rows and 1 to 8 columns. The server of row `r` and column `c` has number `r * cols + c`.
+/// Servers in rows and columns, 1 to [`MOST_SIDE`] each, numbered from 0. The server of row `r` and column `c` has
+/// number `r * cols + c`.
 #[derive(Clone, Copy, Debug, PartialEq, Eq)]
 pub struct Grid {
     rows: usize,
@@ -26,6 +33,7 @@ pub struct Grid {
 impl Model for Grid {
     ghost use Rattle.std.specs.Prelude.{◌≤◌};
     ghost use Rattle.gq_grid.specs.Grid.{Grid as Shape};
+    ghost use Rattle.gq_grid.specs.declared.TheConstants.{MOST_SIDE};
 
     ghost Value = { Shape };
 
@@ -33,7 +41,7 @@ impl Model for Grid {
 
     ghost inverse = { λ s. record { rows = s.rows; cols = s.cols } };
 
-    ghost invariant = { λ g. (1 ≤ g.rows) × (g.rows ≤ 8) × (1 ≤ g.cols) × (g.cols ≤ 8) };
+    ghost invariant = { λ g. (1 ≤ g.rows) × (g.rows ≤ MOST_SIDE) × (1 ≤ g.cols) × (g.cols ≤ MOST_SIDE) };
 }
 
 /// A quorum: a row and a column (numbered from 0), and all servers of either.
@@ -54,7 +62,7 @@ impl ServerSet {
 
     /// Puts the server into the set. The other servers of the set stay.
     pub fn insert(&mut self, server: usize)
-        requires { server < 64 }
+        requires { server < MOST_SERVERS }
         ensures { servers self.new ≡ with_server server (servers self.old) }
     {
         self.bits |= 1 << server;
@@ -63,7 +71,7 @@ impl ServerSet {
     /// Whether the server is in the set.
     #[tactic(auto, unfolding(crate::specs::Sets::servers))]
     pub fn has(&self, server: usize) -> bool
-        requires { server < 64 }
+        requires { server < MOST_SERVERS }
         ensures { result ≡ servers self.now server }
     {
         (self.bits >> server) & 1 == 1
@@ -71,7 +79,7 @@ impl ServerSet {
 
     /// Takes the server out of the set. The others stay.
     pub fn remove(&mut self, server: usize)
-        requires { server < 64 }
+        requires { server < MOST_SERVERS }
         ensures { servers self.new ≡ without_server server (servers self.old) }
     {
         let bits = self.bits;
@@ -101,35 +109,51 @@ impl ServerSet {
 /// Why a grid is refused. The rows are tested first.
 #[derive(Clone, Copy, Debug, PartialEq, Eq, Error)]
 pub enum GridFault {
-    /// The number of rows is not 1 to 8.
+    /// The number of rows is not 1 to [`MOST_SIDE`].
     #[error("rows")]
     Rows,
-    /// The number of columns is not 1 to 8.
+    /// The number of columns is not 1 to [`MOST_SIDE`].
     #[error("cols")]
     Cols,
 }
 
 impl Grid {
-    /// A grid of so many rows and columns, 1 to 8 each; a fault names the side that is out of range.
+    /// A grid of so many rows and columns, 1 to [`MOST_SIDE`] each; a fault names the side that is out of range.
     pub fn new(rows: usize, cols: usize) -> Result<Grid, GridFault>
         ensures ok { IfOk result (λ g. (g.rows ≡ rows) × (g.cols ≡ cols)) }
         ensures rows { IsErrOf result GridFault.Rows ↔ (is_side rows ≡ false) }
         ensures cols { IsErrOf result GridFault.Cols ↔ ((is_side rows ≡ true) × (is_side cols ≡ false)) }
     {
-        if rows == 0 || rows > 8 {
+        if rows == 0 || rows > MOST_SIDE {
             return Err(GridFault::Rows);
         }
-        if cols == 0 || cols > 8 {
+        if cols == 0 || cols > MOST_SIDE {
             return Err(GridFault::Cols);
         }
         Ok(Grid { rows, cols })
     }
 
-    /// The number of servers, 1 to 64.
+    /// The number of rows, 1 to [`MOST_SIDE`].
+    pub fn rows(&self) -> usize
+        ensures value { result ≡ self.now.rows }
+        ensures side { is_side result ≡ true }
+    {
+        self.rows
+    }
+
+    /// The number of columns, 1 to [`MOST_SIDE`].
+    pub fn cols(&self) -> usize
+        ensures value { result ≡ self.now.cols }
+        ensures side { is_side result ≡ true }
+    {
+        self.cols
+    }
+
+    /// The number of servers, 1 to [`MOST_SERVERS`].
     pub fn servers(&self) -> usize
         ensures value { result ≡ self.now.rows * self.now.cols }
         ensures positive { 1 ≤ result }
-        ensures bound { result ≤ 64 }
+        ensures bound { result ≤ MOST_SERVERS }
     {
         self.rows * self.cols
     }
@@ -211,8 +235,8 @@ impl Grid {
     /// The quorum to ask where the servers of `up` are up: the least row and the least column that are wholly up, and
     /// their servers. None where no row, or no column, is wholly up.
     pub fn choose(&self, up: ServerSet) -> Option<Choice>
-        ensures choice { option_map place_of result ≡ choose self.now (servers up) }
-        ensures servers { IfSome result (λ c. servers c.servers ≡ choice_servers self.now (place_of c)) }
+        ensures choice { option_map shown_choice result ≡ choose self.now (servers up) }
+        ensures servers { IfSome result (λ c. servers c.servers ≡ choice_servers self.now (shown_choice c)) }
     {
         let row = self.least_row(up)?;
         let col = self.least_column(up)?;
@@ -221,6 +245,3 @@ impl Grid {
         Some(Choice { row, col, servers })
     }
 }
-
-#[cfg(test)]
-mod tests;

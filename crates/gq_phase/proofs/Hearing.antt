@@ -6,22 +6,15 @@ use Rattle.std.proofs.lemmas.List.Elements.{filter_map-append}
 use Rattle.std.proofs.lemmas.List.Folds.{list_any-append}
 use Rattle.std.proofs.lemmas.Bool.{and_parts, true≢false, eqb-true, eq-eqb, or_cases, not-true}
 use Rattle.gq_grid.specs.Grid.{with_server}
+use Rattle.gq_grid.proofs.Same.{or-false, or-true}
 use Rattle.gq_tag.specs.declared.StoredCopy.{StoredCopy}
 use Rattle.gq_tag.specs.declared.Body.{Body}
 use Rattle.gq_tag.specs.declared.Body.TheVariants.{Ask, Copy, Store, Stored}
-use Rattle.gq_tag.specs.Tag.{is_less, is_tag, newer, latest, is_unexceeded}
-use Rattle.gq_tag.proofs.Order.{IsAtMost, newer-at_most}
+use Rattle.gq_tag.specs.Tag.{is_less, is_tag, newer_of, latest, is_unexceeded}
+use Rattle.gq_tag.proofs.Order.{IsAtMost, newer_of-at_most}
 use Rattle.gq_tag.proofs.Greatest.{latest-append, latest-single, latest-cons, latest-unexceeded}
 use Rattle.gq_phase.specs.Best.{best_with}
 use Rattle.gq_phase.specs.Phase.{Reply, heard_servers, heard_copies, hear_reply, is_reply, is_body, is_copy}
-
-or-false : (b : Bool) → (b || false) ≡ b
-or-false true = refl
-or-false false = refl
-
-or-true : (b : Bool) → (b || true) ≡ true
-or-true true = refl
-or-true false = refl
 
 or-same : (a b : Bool) → (b ≡ true → a ≡ true) → (a || b) ≡ a
 or-same true b h = refl
@@ -95,10 +88,10 @@ repeats_latest : (server : ℕ) (c : StoredCopy) (heard : List Reply) → list_a
     best_with (latest (heard_copies heard)) (Copy c) ≡ latest (heard_copies heard)
 repeats_latest server c heard h =
     let some = repeats_some server c heard h in
-    let best : StoredCopy = fold newer some.0 some.1 in
+    let best : StoredCopy = fold newer_of some.0 some.1 in
     let is_best : latest (heard_copies heard) ≡ Some best = ap latest some.2 ∙ latest-cons some.0 some.1 in
     let below : IsAtMost c.tag best.tag = repeats_at_most server c best heard h (latest-unexceeded (heard_copies heard) best is_best) in
-    rw is_best (ap Some (newer-at_most best c below))
+    rw is_best (ap Some (newer_of-at_most best c below))
 
 best_with-other : (o : Option StoredCopy) (b : Body) → ((c : StoredCopy) → b ≡ Copy c → best_with o (Copy c) ≡ o) → best_with o b ≡ o
 best_with-other o (Copy c) h = h c refl
@@ -114,8 +107,8 @@ best_with-other (Some g) Stored h = refl
 latest-push : (copies : List StoredCopy) (c : StoredCopy) → latest (copies ++ c ∷ []) ≡ best_with (latest copies) (Copy c)
 latest-push [] c = latest-single c
 latest-push (x ∷ xs) c =
-    let best : latest (x ∷ xs) ≡ Some (fold newer x xs) = latest-cons x xs in
-    latest-append (x ∷ xs) c (fold newer x xs) best ∙ sym (ap (λ b. best_with b (Copy c)) best)
+    let best : latest (x ∷ xs) ≡ Some (fold newer_of x xs) = latest-cons x xs in
+    latest-append (x ∷ xs) c (fold newer_of x xs) best ∙ sym (ap (λ b. best_with b (Copy c)) best)
 
 latest-more : (heard : List Reply) (server : ℕ) (b : Body) → latest (heard_copies (heard ++ record { server = server; body = b } ∷ [])) ≡ best_with (latest (heard_copies heard)) b
 latest-more heard server b = ap latest (filter_map-append _ heard (record { server = server; body = b } ∷ [])) ∙ by b

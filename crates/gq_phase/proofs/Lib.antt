@@ -1,4 +1,5 @@
 pub mod Meeting
 pub mod Lists
 pub mod Hearing
+pub mod Retrying
 pub mod Saying

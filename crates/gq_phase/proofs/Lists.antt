@@ -1,13 +1,10 @@
 -- Lists that grow by one.
-use Rattle.std.proofs.Common.{◌≡◌, ◌∙◌, ap, ℕ, suc, zero, ◌+◌, Bool, true, false, cond, refl, [], ◌∷◌, ◌++◌, List, arith, append-nil}
-use Rattle.std.specs.Prelude.{map, filter, ◌&&◌, not}
-use Rattle.gq_grid.specs.Grid.{Servers, no_servers}
+use Rattle.std.proofs.Common.{◌≡◌, ◌∙◌, ap, ℕ, suc, ◌+◌, Bool, true, false, cond, refl, [], ◌∷◌, ◌++◌, List, arith, append-nil}
+use Rattle.std.specs.Prelude.{map, filter}
+use Rattle.gq_grid.specs.Grid.{Servers}
+use Rattle.gq_grid.proofs.Same.{range_more}
 use Rattle.gq_phase.specs.Standing.{apart}
 use Rattle.std.specs.List.{range_with_len}
-
-pub range_more : (a n k : ℕ) → a + n ≡ k → range_with_len a (suc n) ≡ range_with_len a n ++ k ∷ []
-range_more a zero k e = let s : a ≡ k = omega arith in ap (λ x. x ∷ []) s
-range_more a (suc n) k e = let s : (a + 1) + n ≡ k = omega arith in ap (λ l. a ∷ l) (range_more (a + 1) n k s)
 
 filter-more : (p : ℕ → Bool) (xs ys : List ℕ) → filter p (xs ++ ys) ≡ filter p xs ++ filter p ys
 filter-more p [] ys = refl
@@ -35,14 +32,6 @@ map_filter_more f p n e = whole f p n true e ∙ rw e refl
 -- one that does not
 pub map_filter_same : {X : Type 0} (f : ℕ → X) (p : ℕ → Bool) (n : ℕ) → p n ≡ false → map f (filter p (range_with_len 0 (n + 1))) ≡ map f (filter p (range_with_len 0 n))
 map_filter_same f p n e = whole f p n false e ∙ rw e (append-nil _)
-
--- without the servers of no set
-pub apart-none : (set but : Servers) → but ≡ no_servers → apart set but ≡ set
-apart-none set but e = rw e (λ i k. and-true (set k) i)
-  where
-    and-true : (b : Bool) → (b && not false) ≡ b
-    and-true true = refl
-    and-true false = refl
 
 pub apart-true : (set but : Servers) (n : ℕ) → set n ≡ true → but n ≡ false → apart set but n ≡ true
 apart-true set but n e f = rw (e, f) refl

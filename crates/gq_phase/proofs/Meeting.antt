@@ -2,10 +2,12 @@
 use Rattle.std.proofs.Common.{◌≡◌, Option, Some, None, true, refl}
 use Rattle.std.specs.Prelude.{option_map}
 use Rattle.gq_grid.specs.Grid.{Grid, Servers, Choice, covers, choose, choice_servers}
-use Rattle.gq_grid.proofs.Meeting.{covers_meet, choose_covers}
-use Rattle.gq_phase.specs.Laws.{RoundsMeet, CollectQuorumsEnd, StoreQuorumsEnd}
+use Rattle.gq_grid.proofs.Meeting.{covers_meet, choose_covers, covers-none, covers_more}
+use Rattle.gq_phase.specs.Quorums.{collect_quorum, store_quorum, ends_collect, ends_store}
+use Rattle.gq_phase.specs.Laws.{RoundsMeet, CollectQuorumsEnd, StoreQuorumsEnd, NobodyEnds, MoreStillEnd}
 
 pub rounds_meet : RoundsMeet
+unfolding ends_collect ends_store
 rounds_meet grid collected stored first second = covers_meet grid collected stored first second
 
 -- the servers of a choice cover
@@ -20,7 +22,17 @@ chosen_covers grid up quorum h = go (choose grid up) refl
         rw (← same) (choose_covers grid up choice e)
 
 pub collect_quorums_end : CollectQuorumsEnd
+unfolding collect_quorum ends_collect
 collect_quorums_end grid up quorum h = chosen_covers grid up quorum h
 
 pub store_quorums_end : StoreQuorumsEnd
+unfolding store_quorum ends_store
 store_quorums_end grid up quorum h = chosen_covers grid up quorum h
+
+pub nobody_ends : NobodyEnds
+unfolding ends_collect ends_store
+nobody_ends grid some = (covers-none grid some, covers-none grid some)
+
+pub more_still_end : MoreStillEnd
+unfolding ends_collect ends_store
+more_still_end grid fewer more within = (covers_more grid fewer more within, covers_more grid fewer more within)

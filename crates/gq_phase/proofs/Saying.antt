@@ -2,7 +2,7 @@
 use Rattle.std.proofs.Common.{◌≡◌, ℕ, ◌+◌, ◌*◌, ◌%◌, Bool, true, false, ◌&&◌, List, [], ◌∷◌, ◌++◌, length, map, refl, sym, ap, ◌∙◌, Option, Some, None, arith, eqb}
 use Rattle.std.specs.Prelude.{◌==◌, not, unwrap_or, IfOk, OnOk, Result, Ok, Err, nat_lt, ◌-◌, ◌/◌}
 use Rattle.std.proofs.lemmas.Bool.{and_from, and_parts, true≢false, eqb-true, eq-eqb, ne_eqb}
-use Rattle.std.proofs.lemmas.List.{length_push, map-append}
+use Rattle.std.proofs.lemmas.List.{length_push, length-map, map-append}
 use Rattle.gq_grid.specs.Grid.{Grid, Servers, with_server, rising}
 use Rattle.gq_grid.specs.Sets.{servers}
 use Rattle.gq_grid.specs.declared.ServerSet.{ServerSet}
@@ -11,7 +11,7 @@ use Rattle.gq_tag.specs.declared.StoredCopy.{StoredCopy}
 use Rattle.gq_tag.specs.declared.FileId.{FileId}
 use Rattle.gq_tag.specs.declared.Body.TheVariants.{Ask, Store}
 use Rattle.gq_tag.specs.declared.Message.{Message}
-use Rattle.gq_tag.specs.Tag.{latest, first_copy, Letter, letter_of, message_of, file_of}
+use Rattle.gq_tag.specs.Tag.{latest, first_copy, OwnMessage, own_message, message_of, file_of}
 use Rattle.gq_phase.specs.declared.sending.RoundMessage.{RoundMessage}
 use Rattle.gq_phase.specs.Quorums.{collect_quorum, store_quorum}
 use Rattle.std.specs.List.{last_or}
@@ -24,9 +24,10 @@ use Rattle.gq_phase.specs.declared.operation.Task.{Task as CodeTask}
 use Rattle.gq_phase.specs.declared.operation.Task.TheVariants.{Write, Read, List as ListFiles}
 use Rattle.gq_phase.specs.Course.{Course, round_of}
 use Rattle.gq_phase.specs.Best.{best_with}
-use Rattle.gq_phase.specs.Phase.{Task, Reply, Operation, HeardNoted, HeardNext, HeardDone, heard_servers, heard_copies, reply_of, stored_copy, round_file, round_body, round_messages, messages_to, round_quorum, is_collect, is_current, ends_round, hear, with_reply, with_decided, decided_copy, begin_store, begin_collect, file_done, row_of, moved, begun, floor_after}
+use Rattle.gq_phase.specs.Phase.{Task, Reply, Operation, HeardNoted, HeardNext, HeardDone, heard_servers, heard_copies, reply_of, stored_copy, round_file, round_body, round_messages, messages_to, round_quorum, is_collect, is_current, ends_round, hear, with_reply, with_decided, decided_copy, begin_store, begin_collect, file_done, listed_row, moved, begun, floor_after}
 use Rattle.gq_phase.specs.Standing.{addressed, sent_to, task_of, StandsFor, HearsAs, Begins, BeginsStore, decided_as, floor_with, outcome_as, IsFresh, apart, ResendsAs, rows_of, rows_with, is_list, next_file, BeginsCollect, first_ask, is_current_as, quorum_as, ends_as, message_as, store_message, next_ask}
 use Rattle.gq_phase.proofs.Hearing.{heard_servers-hear, latest-hear}
+use Rattle.gq_phase.proofs.Retrying.{nothing_heard, one_unheard}
 
 -- ---- rounds
 
@@ -83,17 +84,17 @@ round_messages-sent grid up tenant o m (Some set) q t s n r f b = rw q (messages
 
 -- ---- what is said
 
-current : (o : Operation) (m : Letter) → m.op ≡ o.op → m.round ≡ o.round → is_current o m ≡ true
+current : (o : Operation) (m : OwnMessage) → m.op ≡ o.op → m.round ≡ o.round → is_current o m ≡ true
 current o m e f = and_from (eqb m.op o.op) (eqb m.round o.round) (eq-eqb m.op o.op e) (eq-eqb m.round o.round f)
 
-hear_noted : (grid : Grid) (up : Servers) (o : Operation) (m : Letter) → is_current o m ≡ true → ends_round grid o.round (with_reply o m).heard ≡ false → hear grid up o m ≡ HeardNoted
+hear_noted : (grid : Grid) (up : Servers) (o : Operation) (m : OwnMessage) → is_current o m ≡ true → ends_round grid o.round (with_reply o m).heard ≡ false → hear grid up o m ≡ HeardNoted
 hear_noted grid up o m cur goes_on = rw (cur, goes_on) refl
 
-hear_collected : (grid : Grid) (up : Servers) (o : Operation) (m : Letter) → is_current o m ≡ true → ends_round grid o.round (with_reply o m).heard ≡ true → is_collect o.round ≡ true →
+hear_collected : (grid : Grid) (up : Servers) (o : Operation) (m : OwnMessage) → is_current o m ≡ true → ends_round grid o.round (with_reply o m).heard ≡ true → is_collect o.round ≡ true →
     hear grid up o m ≡ begin_store grid up (with_decided (with_reply o m))
 hear_collected grid up o m cur ended odd = rw (cur, ended, odd) refl
 
-hear_stored : (grid : Grid) (up : Servers) (o : Operation) (m : Letter) → is_current o m ≡ true → ends_round grid o.round (with_reply o m).heard ≡ true → is_collect o.round ≡ false →
+hear_stored : (grid : Grid) (up : Servers) (o : Operation) (m : OwnMessage) → is_current o m ≡ true → ends_round grid o.round (with_reply o m).heard ≡ true → is_collect o.round ≡ false →
     hear grid up o m ≡ file_done grid up (with_reply o m)
 hear_stored grid up o m cur ended even = rw (cur, ended, even) refl
 
@@ -136,10 +137,10 @@ continued grid up (Write bytes) file files o t lists more = absurd (true≢false
 continued grid up Read file files o t lists more = absurd (true≢false (sym lists))
 continued grid up ListFiles file files o t lists more = rw (← t, more) refl
 
-rows_push : (t : CodeTask) (rows : List Row) (copies : List StoredCopy) (copy : StoredCopy) → rows ≡ rows_of t copies → rows_with t (row_of copy) rows ≡ rows_of t (copies ++ copy ∷ [])
+rows_push : (t : CodeTask) (rows : List Row) (copies : List StoredCopy) (copy : StoredCopy) → rows ≡ rows_of t copies → rows_with t (listed_row copy) rows ≡ rows_of t (copies ++ copy ∷ [])
 rows_push (Write bytes) rows copies copy e = e
 rows_push Read rows copies copy e = e
-rows_push ListFiles rows copies copy e = rw e (sym (map-append row_of copies (copy ∷ [])))
+rows_push ListFiles rows copies copy e = rw e (sym (map-append listed_row copies (copy ∷ [])))
 
 listed_file : (t : CodeTask) (file : FileId) (files : ℕ) (task : Task) (tenant n : ℕ) → task_of t file files ≡ task → is_list t ≡ true → file.tenant ≡ tenant →
     ◌≡◌ {A = FileId} (record { tenant = file.tenant; volume = file.volume; file = n }) (file_of tenant (round_file task (2 * n + 1)))
@@ -165,22 +166,23 @@ listed_floor ListFiles file files task floor e = rw (← e) refl
 module _ (grid : Grid) (tenant : ℕ) (old : Code) (o : Operation) (up : Servers) (m : Message) (set : ServerSet) (best : Option StoredCopy)
     (s : StandsFor grid tenant old o) (op : m.op ≡ old.who.op) (round : m.round ≡ round_of old.course)
     (adds : servers set ≡ with_server m.server (servers old.heard)) (betters : best ≡ best_with old.best m.body) where
-  is_now : is_current o (letter_of m) ≡ true
-  is_now = current o (letter_of m) (op ∙ s.op) (round ∙ s.round)
+  is_now : is_current o (own_message m) ≡ true
+  is_now = current o (own_message m) (op ∙ s.op) (round ∙ s.round)
 
-  heard_now : servers set ≡ heard_servers (with_reply o (letter_of m)).heard
-  heard_now = adds ∙ ap (with_server m.server) s.heard ∙ sym (heard_servers-hear o.heard (reply_of (letter_of m)))
+  heard_now : servers set ≡ heard_servers (with_reply o (own_message m)).heard
+  heard_now = adds ∙ ap (with_server m.server) s.heard ∙ sym (heard_servers-hear o.heard (reply_of (own_message m)))
 
-  best_now : best ≡ latest (heard_copies (with_reply o (letter_of m)).heard)
+  best_now : best ≡ latest (heard_copies (with_reply o (own_message m)).heard)
   best_now = betters ∙ ap (λ b. best_with b m.body) s.best ∙ sym (latest-hear o.heard m.server m.body)
 
-  ends_now : (b : Bool) → ends_as old (servers set) ≡ b → ends_round grid o.round (with_reply o (letter_of m)).heard ≡ b
-  ends_now b e = ends_is old grid o.round (with_reply o (letter_of m)).heard (servers set) s.its_grid s.round heard_now ∙ e
+  ends_now : (b : Bool) → ends_as old (servers set) ≡ b → ends_round grid o.round (with_reply o (own_message m)).heard ≡ b
+  ends_now b e = ends_is old grid o.round (with_reply o (own_message m)).heard (servers set) s.its_grid s.round heard_now ∙ e
 
-  noted_stands : StandsFor grid tenant (record old { heard = set; best = best }) (with_reply o (letter_of m))
-  noted_stands = record {
+  noted_stands : ends_as old (servers set) ≡ false → StandsFor grid tenant (record old { heard = set; best = best }) (with_reply o (own_message m))
+  noted_stands goes_on = record {
     going = s.going;
     its_grid = s.its_grid;
+    some = s.some;
     its_tenant = s.its_tenant;
     session = s.session;
     op = s.op;
@@ -189,20 +191,21 @@ module _ (grid : Grid) (tenant : ℕ) (old : Code) (o : Operation) (up : Servers
     round = s.round;
     collected = s.collected;
     heard = heard_now;
+    goes_on = ends_now false goes_on;
     best = best_now;
     stored = s.stored;
     rows = s.rows;
     floor = s.floor;
   }
 
-  said_noted : ends_as old (servers set) ≡ false → hear grid up o (letter_of m) ≡ HeardNoted
-  said_noted e = hear_noted grid up o (letter_of m) is_now (ends_now false e)
+  said_noted : ends_as old (servers set) ≡ false → hear grid up o (own_message m) ≡ HeardNoted
+  said_noted e = hear_noted grid up o (own_message m) is_now (ends_now false e)
 
   -- the copy with which the collect round ends
   module _ (new : Code) (copy : StoredCopy) (over : ends_as old (servers set) ≡ true) (collecting : old.course.collecting ≡ true)
       (decided : copy ≡ decided_as old.task old.who.session old.floor (unwrap_or best first_copy)) (b : BeginsStore old new copy) where
-    is_decided : copy ≡ decided_copy (with_reply o (letter_of m))
-    is_decided = decided ∙ decided_is old.task old.file old.course.files (with_reply o (letter_of m)) old.who.session old.floor best s.task s.session s.floor best_now
+    is_decided : copy ≡ decided_copy (with_reply o (own_message m))
+    is_decided = decided ∙ decided_is old.task old.file old.course.files (with_reply o (own_message m)) old.who.session old.floor best s.task s.session s.floor best_now
 
     is_odd : is_collect o.round ≡ true
     is_odd = round_odd old.course o.round s.round collecting
@@ -210,20 +213,20 @@ module _ (grid : Grid) (tenant : ℕ) (old : Code) (o : Operation) (up : Servers
     round_is : o.round ≡ 2 * old.course.collected + 1
     round_is = sym s.round ∙ rw collecting refl
 
-    count : 2 * length (o.collected ++ decided_copy (with_reply o (letter_of m)) ∷ []) ≡ 2 * (old.course.collected + 1)
-    count = ap (λ n. 2 * n) (length_push o.collected (decided_copy (with_reply o (letter_of m))) ∙ ap (λ n. n + 1) (sym s.collected))
+    count : 2 * length (o.collected ++ decided_copy (with_reply o (own_message m)) ∷ []) ≡ 2 * (old.course.collected + 1)
+    count = ap (λ n. 2 * n) (length_push o.collected (decided_copy (with_reply o (own_message m))) ∙ ap (λ n. n + 1) (sym s.collected))
 
-    stored : stored_copy (o.collected ++ decided_copy (with_reply o (letter_of m)) ∷ []) ≡ copy
-    stored = stored-push o.collected (decided_copy (with_reply o (letter_of m))) ∙ sym is_decided
+    stored : stored_copy (o.collected ++ decided_copy (with_reply o (own_message m)) ∷ []) ≡ copy
+    stored = stored-push o.collected (decided_copy (with_reply o (own_message m))) ∙ sym is_decided
 
     -- the operation in its store round
     next : ℕ → Operation
-    next n = record { session = o.session; op = o.op; task = o.task; round = n; heard = []; collected = o.collected ++ decided_copy (with_reply o (letter_of m)) ∷ []; floor = o.floor }
+    next n = record { session = o.session; op = o.op; task = o.task; round = n; heard = []; collected = o.collected ++ decided_copy (with_reply o (own_message m)) ∷ []; floor = o.floor }
 
-    said_next : hear grid up o (letter_of m) ≡ HeardNext (2 * (old.course.collected + 1)) (Some copy.tag) (round_messages grid up (next (2 * (old.course.collected + 1))))
+    said_next : hear grid up o (own_message m) ≡ HeardNext (2 * (old.course.collected + 1)) (Some copy.tag) (round_messages grid up (next (2 * (old.course.collected + 1))))
     unfolding next
     said_next =
-        hear_collected grid up o (letter_of m) is_now (ends_now true over) is_odd ∙
+        hear_collected grid up o (own_message m) is_now (ends_now true over) is_odd ∙
         rw (count, stored) refl
 
     sent : map (message_of tenant) (round_messages grid up (next (2 * (old.course.collected + 1)))) ≡ sent_to old.grid (store_quorum old.grid up) (store_message old copy)
@@ -231,22 +234,24 @@ module _ (grid : Grid) (tenant : ℕ) (old : Code) (o : Operation) (up : Servers
     sent =
         let even : is_collect (2 * (old.course.collected + 1)) ≡ false = even_is (old.course.collected + 1) in
         let quorum : round_quorum grid up (2 * (old.course.collected + 1)) ≡ store_quorum old.grid up = rw (even, s.its_grid) refl in
-        let body : round_body (2 * (old.course.collected + 1)) (o.collected ++ decided_copy (with_reply o (letter_of m)) ∷ []) ≡ Store copy = rw (even, stored) refl in
+        let body : round_body (2 * (old.course.collected + 1)) (o.collected ++ decided_copy (with_reply o (own_message m)) ∷ []) ≡ Store copy = rw (even, stored) refl in
         let file : old.file ≡ file_of tenant (round_file o.task (2 * (old.course.collected + 1))) = s.file ∙ ap (file_of tenant) (same_file old.task old.file old.course.files o.task old.course.collected o.round (2 * (old.course.collected + 1)) s.task round_is refl) in
         round_messages-sent grid up tenant (next (2 * (old.course.collected + 1))) (store_message old copy) (store_quorum old.grid up) quorum s.its_tenant s.session s.op refl file body ∙ rw s.its_grid refl
 
-    next_stands : StandsFor grid tenant new (moved o (letter_of m) (2 * (old.course.collected + 1)) (Some copy.tag))
+    next_stands : StandsFor grid tenant new (moved o (own_message m) (2 * (old.course.collected + 1)) (Some copy.tag))
     next_stands = record {
       going = b.going ∙ s.going;
       its_grid = b.grid ∙ s.its_grid;
+      some = s.some;
       its_tenant = ap (λ w. w.tenant) b.who ∙ s.its_tenant;
       session = ap (λ w. w.session) b.who ∙ s.session;
       op = ap (λ w. w.op) b.who ∙ s.op;
       task = rw (b.task, b.file, b.course) s.task;
       file = b.file ∙ s.file ∙ ap (file_of tenant) (same_file old.task old.file old.course.files o.task old.course.collected o.round (2 * (old.course.collected + 1)) s.task round_is refl);
       round = rw b.course refl;
-      collected = rw (b.course, is_odd) (ap (λ n. n + 1) s.collected ∙ sym (length_push o.collected (decided_copy (with_reply o (letter_of m)))));
+      collected = rw (b.course, is_odd) (ap (λ n. n + 1) s.collected ∙ sym (length_push o.collected (decided_copy (with_reply o (own_message m)))));
       heard = b.heard;
+      goes_on = nothing_heard grid (2 * (old.course.collected + 1)) s.some;
       best = b.best;
       stored = b.stored ∙ rw is_odd (sym stored);
       rows = b.rows ∙ rw (b.task, is_odd, ← is_decided) (rows_push old.task old.rows o.collected copy s.rows);
@@ -258,21 +263,21 @@ module _ (grid : Grid) (tenant : ℕ) (old : Code) (o : Operation) (up : Servers
     is_even : is_collect o.round ≡ false
     is_even = round_even old.course o.round s.round storing
 
-    said_done : (is_list old.task ≡ true → nat_lt old.course.collected old.course.files ≡ false) → hear grid up o (letter_of m) ≡ HeardDone (outcome_as old.task old.who old.stored old.rows)
+    said_done : (is_list old.task ≡ true → nat_lt old.course.collected old.course.files ≡ false) → hear grid up o (own_message m) ≡ HeardDone (outcome_as old.task old.who old.stored old.rows)
     said_done last =
-        hear_stored grid up o (letter_of m) is_now (ends_now true over) is_even ∙
-        finished grid up old.task old.file old.course.files (with_reply o (letter_of m)) old.who old.stored old.rows s.task s.session s.op s.stored s.rows (λ lists. rw (← s.collected) (last lists))
+        hear_stored grid up o (own_message m) is_now (ends_now true over) is_even ∙
+        finished grid up old.task old.file old.course.files (with_reply o (own_message m)) old.who old.stored old.rows s.task s.session s.op s.stored s.rows (λ lists. rw (← s.collected) (last lists))
 
     -- a listing goes on
     module _ (new : Code) (lists : is_list old.task ≡ true) (more : nat_lt old.course.collected old.course.files ≡ true) (b : BeginsCollect old new) where
       after : ℕ → Operation
       after n = record { session = o.session; op = o.op; task = o.task; round = n; heard = []; collected = o.collected; floor = o.floor }
 
-      said_on : hear grid up o (letter_of m) ≡ HeardNext (2 * old.course.collected + 1) None (round_messages grid up (after (2 * old.course.collected + 1)))
+      said_on : hear grid up o (own_message m) ≡ HeardNext (2 * old.course.collected + 1) None (round_messages grid up (after (2 * old.course.collected + 1)))
       unfolding after
       said_on =
-          hear_stored grid up o (letter_of m) is_now (ends_now true over) is_even ∙
-          continued grid up old.task old.file old.course.files (with_reply o (letter_of m)) s.task lists (rw (← s.collected) more) ∙
+          hear_stored grid up o (own_message m) is_now (ends_now true over) is_even ∙
+          continued grid up old.task old.file old.course.files (with_reply o (own_message m)) s.task lists (rw (← s.collected) more) ∙
           rw (← s.collected) refl
 
       file_on : next_file old ≡ file_of tenant (round_file o.task (2 * old.course.collected + 1))
@@ -286,10 +291,11 @@ module _ (grid : Grid) (tenant : ℕ) (old : Code) (o : Operation) (up : Servers
           let body : round_body (2 * old.course.collected + 1) o.collected ≡ Ask = rw odd refl in
           round_messages-sent grid up tenant (after (2 * old.course.collected + 1)) (next_ask old) (collect_quorum old.grid up) quorum s.its_tenant s.session s.op refl file_on body ∙ rw s.its_grid refl
 
-      on_stands : StandsFor grid tenant new (moved o (letter_of m) (2 * old.course.collected + 1) None)
+      on_stands : StandsFor grid tenant new (moved o (own_message m) (2 * old.course.collected + 1) None)
       on_stands = record {
         going = b.going ∙ s.going;
         its_grid = b.grid ∙ s.its_grid;
+        some = s.some;
         its_tenant = ap (λ w. w.tenant) b.who ∙ s.its_tenant;
         session = ap (λ w. w.session) b.who ∙ s.session;
         op = ap (λ w. w.op) b.who ∙ s.op;
@@ -298,6 +304,7 @@ module _ (grid : Grid) (tenant : ℕ) (old : Code) (o : Operation) (up : Servers
         round = rw b.course refl;
         collected = rw (b.course, is_even) s.collected;
         heard = b.heard;
+        goes_on = nothing_heard grid (2 * old.course.collected + 1) s.some;
         best = b.best;
         stored = b.stored ∙ rw is_even s.stored;
         rows = b.rows ∙ rw (b.task, is_even) s.rows;
@@ -322,7 +329,7 @@ pub noted_hears : (old : Code) (up : Servers) (m : Message) (set : ServerSet) (b
     HearsAs old (record old { heard = set; best = best }) up m Noted
 noted_hears old up m set best op round adds betters open_ = λ grid tenant o s.
     let said = said_noted grid tenant old o up m set best s op round adds betters open_ in
-    rw said (refl, noted_stands grid tenant old o up m set best s op round adds betters)
+    rw said (refl, noted_stands grid tenant old o up m set best s op round adds betters open_)
 
 pub collected_hears : (old new : Code) (up : Servers) (m : Message) (set : ServerSet) (best : Option StoredCopy) (copy : StoredCopy) (heard : Heard) → m.op ≡ old.who.op → m.round ≡ round_of old.course →
     servers set ≡ with_server m.server (servers old.heard) → best ≡ best_with old.best m.body → ends_as old (servers set) ≡ true → old.course.collecting ≡ true →
@@ -392,6 +399,7 @@ fresh_begins grid up who t task files file floor code quorum messages is_task ow
       record {
         going = f.going;
         its_grid = f.its_grid;
+        some = f.some;
         its_tenant = ap (λ w. w.tenant) f.its_who;
         session = ap (λ w. w.session) f.its_who;
         op = ap (λ w. w.op) f.its_who;
@@ -400,6 +408,7 @@ fresh_begins grid up who t task files file floor code quorum messages is_task ow
         round = rw f.course refl;
         collected = rw f.course refl;
         heard = f.heard;
+        goes_on = nothing_heard grid 1 f.some;
         best = f.best;
         stored = f.stored;
         rows = f.rows ∙ no_rows code.task;
@@ -426,8 +435,10 @@ body_is grid tenant code o s = go code.course.collecting refl
 -- the round's message goes out once more
 pub resends : (code : Code) (up : Servers) (quorum : ServerSet) (messages : List Message) → quorum_as code up ≡ Some (servers quorum) →
     messages ≡ map (addressed (message_as code)) (rising code.grid (apart (servers quorum) (servers code.heard))) → ResendsAs code up messages
-resends code up quorum messages chosen sent = λ grid tenant o s. (
-  servers quorum,
-  quorum_is grid tenant code o up s ∙ chosen,
-  sent ∙ rw (s.its_grid, s.heard) (sym (messages_to-sent grid tenant o (message_as code) (apart (servers quorum) (heard_servers o.heard)) s.its_tenant s.session s.op s.round s.file (body_is grid tenant code o s))),
-)
+resends code up quorum messages chosen sent = λ grid tenant o s.
+    let goes_on : ends_as code (servers code.heard) ≡ false = sym (ends_is code grid o.round o.heard (servers code.heard) s.its_grid s.round s.heard) ∙ s.goes_on in (
+      servers quorum,
+      quorum_is grid tenant code o up s ∙ chosen,
+      sent ∙ rw (s.its_grid, s.heard) (sym (messages_to-sent grid tenant o (message_as code) (apart (servers quorum) (heard_servers o.heard)) s.its_tenant s.session s.op s.round s.file (body_is grid tenant code o s))),
+      rw (sent, length-map) (one_unheard code up (servers quorum) (servers code.heard) chosen goes_on),
+    )

@@ -3,18 +3,18 @@ use Rattle.std.specs.Prelude.{ℕ, ◌<◌, Bool, true, Option, Some, None}
 use Rattle.gq_tag.specs.declared.StoredCopy.{StoredCopy}
 use Rattle.gq_tag.specs.declared.Body.{Body}
 use Rattle.gq_tag.specs.declared.Body.TheVariants.{Copy}
-use Rattle.gq_tag.specs.Tag.{is_less, newer}
+use Rattle.gq_tag.specs.Tag.{is_less, newer_of}
 
 -- the greatest copy, if there is one, where one more reply says this
 abbrev pub best_with : Option StoredCopy → Body → Option StoredCopy
 best_with None (Copy copy) = Some copy
-best_with (Some best) (Copy copy) = Some (newer best copy)
+best_with (Some best) (Copy copy) = Some (newer_of best copy)
 best_with best _ = best
 
 -- the number of the copy that a reply tells
-abbrev pub number_of : Body → ℕ
-number_of (Copy copy) = copy.tag.number
-number_of _ = 0
+abbrev pub copied_number : Body → ℕ
+copied_number (Copy copy) = copy.tag.number
+copied_number _ = 0
 
 -- a greater number is left
 abbrev pub IsBelow : Option StoredCopy → Type 0

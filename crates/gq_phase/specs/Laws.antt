@@ -1,6 +1,6 @@
 -- What the four words on quorums have to be like.
-use Rattle.std.specs.Prelude.{◌≡◌, ℕ, ◌*◌, ◌<◌, true, Some}
-use Rattle.gq_grid.specs.Grid.{Grid, Servers}
+use Rattle.std.specs.Prelude.{◌≡◌, ℕ, ◌*◌, ◌<◌, true, false, Some}
+use Rattle.gq_grid.specs.Grid.{Grid, Servers, no_servers}
 use Rattle.gq_phase.specs.Quorums.{collect_quorum, store_quorum, ends_collect, ends_store}
 
 -- a set that ends a collect round and a set that ends a store round share a server of the grid
@@ -18,3 +18,13 @@ CollectQuorumsEnd =
 abbrev pub StoreQuorumsEnd : Type 0
 StoreQuorumsEnd =
     (grid : Grid) (up quorum : Servers) → store_quorum grid up ≡ Some quorum → ends_store grid quorum ≡ true
+
+-- nobody ends no round, on a grid that has a server
+abbrev pub NobodyEnds : Type 0
+NobodyEnds = (grid : Grid) → 0 < grid.rows * grid.cols → (ends_collect grid no_servers ≡ false) × (ends_store grid no_servers ≡ false)
+
+-- what ends a round still ends it with more servers of the grid
+abbrev pub MoreStillEnd : Type 0
+MoreStillEnd =
+    (grid : Grid) (fewer more : Servers) → ((server : ℕ) → server < grid.rows * grid.cols → fewer server ≡ true → more server ≡ true) →
+    (ends_collect grid fewer ≡ true → ends_collect grid more ≡ true) × (ends_store grid fewer ≡ true → ends_store grid more ≡ true)

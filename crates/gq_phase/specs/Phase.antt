@@ -8,7 +8,7 @@ use Rattle.gq_tag.specs.declared.Tag.{Tag}
 use Rattle.gq_tag.specs.declared.StoredCopy.{StoredCopy}
 use Rattle.gq_tag.specs.declared.Body.{Body}
 use Rattle.gq_tag.specs.declared.Body.TheVariants.{Ask, Copy, Store, Stored}
-use Rattle.gq_tag.specs.Tag.{first_copy, greatest, is_tag, File, Letter}
+use Rattle.gq_tag.specs.Tag.{first_copy, greatest, is_tag, File, OwnMessage}
 use Rattle.gq_phase.specs.declared.Row.{Row}
 use Rattle.gq_phase.specs.declared.Outcome.{Outcome}
 use Rattle.gq_phase.specs.declared.Outcome.TheVariants.{Wrote, Gave, Listed}
@@ -65,15 +65,15 @@ abbrev pub round_quorum : Grid → Servers → ℕ → Option Servers
 round_quorum grid up round = if is_collect round then collect_quorum grid up else store_quorum grid up
 
 -- the round's message to each server of the set, rising
-abbrev pub messages_to : Grid → Operation → Servers → List Letter
+abbrev pub messages_to : Grid → Operation → Servers → List OwnMessage
 messages_to grid o set =
     map (λ server. record { session = o.session; op = o.op; round = o.round; server = server; file = round_file o.task o.round; body = round_body o.round o.collected }) (rising grid set)
 
 -- to the servers of the round's quorum, none where no quorum is up
-abbrev pub round_messages : Grid → Servers → Operation → List Letter
+abbrev pub round_messages : Grid → Servers → Operation → List OwnMessage
 round_messages grid up o = sent (round_quorum grid up o.round)
   where
-    sent : Option Servers → List Letter
+    sent : Option Servers → List OwnMessage
     sent None = []
     sent (Some set) = messages_to grid o set
 
@@ -133,7 +133,7 @@ pub data Heard : Type 0 where
   -- it was noted, and the round goes on
   HeardNoted : Heard
   -- this round begins, of this tag where it stores, and sends these messages
-  HeardNext : (round : ℕ) (tag : Option Tag) (messages : List Letter) → Heard
+  HeardNext : (round : ℕ) (tag : Option Tag) (messages : List OwnMessage) → Heard
   HeardDone : (outcome : Outcome) → Heard
 
 -- a new round of the operation
@@ -153,8 +153,8 @@ begin_collect grid up o =
     HeardNext next.round None (round_messages grid up next)
 
 -- a file of a listing: its length in bytes, and its tag
-abbrev pub row_of : StoredCopy → Row
-row_of copy = record { length = length copy.bytes; tag = copy.tag }
+abbrev pub listed_row : StoredCopy → Row
+listed_row copy = record { length = length copy.bytes; tag = copy.tag }
 
 -- after the last round of a file: the operation is done, or a listing goes on with its next file
 abbrev pub file_done : Grid → Servers → Operation → Heard
@@ -162,7 +162,7 @@ file_done grid up o = by o.task
   where
     more : Bool → Heard
     more true = begin_collect grid up o
-    more false = HeardDone (Listed o.session o.op (map row_of o.collected))
+    more false = HeardDone (Listed o.session o.op (map listed_row o.collected))
 
     by : Task → Heard
     by (Writing file bytes) = HeardDone (Wrote o.session o.op (stored_copy o.collected).tag)
@@ -183,14 +183,14 @@ round_done grid up o = by (is_collect o.round)
     by false = file_done grid up o
 
 -- whether a message to the session is of its operation and round
-abbrev pub is_current : Operation → Letter → Bool
+abbrev pub is_current : Operation → OwnMessage → Bool
 is_current o message = (message.op == o.op) && (message.round == o.round)
 
-abbrev pub reply_of : Letter → Reply
+abbrev pub reply_of : OwnMessage → Reply
 reply_of message = record { server = message.server; body = message.body }
 
 -- the operation with one more reply
-abbrev pub with_reply : Operation → Letter → Operation
+abbrev pub with_reply : Operation → OwnMessage → Operation
 with_reply o message =
     record { session = o.session; op = o.op; task = o.task; round = o.round; heard = hear_reply o.heard (reply_of message); collected = o.collected; floor = o.floor }
 
@@ -203,7 +203,7 @@ hear_current grid up o = by (ends_round grid o.round o.heard)
     by true = round_done grid up o
 
 -- what the operation says to a message of its session
-abbrev pub hear : Grid → Servers → Operation → Letter → Heard
+abbrev pub hear : Grid → Servers → Operation → OwnMessage → Heard
 hear grid up o message = by (is_current o message)
   where
     by : Bool → Heard
@@ -211,13 +211,13 @@ hear grid up o message = by (is_current o message)
     by true = hear_current grid up (with_reply o message)
 
 -- the round's message once more, to each server of a new quorum that was not heard
-abbrev pub resent : Grid → Operation → Servers → List Letter
+abbrev pub resent : Grid → Operation → Servers → List OwnMessage
 resent grid o quorum = messages_to grid o (λ server. quorum server && not (heard_servers o.heard server))
 
 -- ---- where the operation then stands
 
 -- the copies collected after a message that ends a round
-abbrev pub collected_after : Operation → Letter → List StoredCopy
+abbrev pub collected_after : Operation → OwnMessage → List StoredCopy
 collected_after o m = if is_collect o.round then o.collected ++ decided_copy (with_reply o m) ∷ [] else o.collected
 
 -- the session's last number after a round of that tag began: a write's is its new tag's
@@ -226,6 +226,6 @@ floor_after (Writing file bytes) (Some tag) floor = tag.number
 floor_after _ _ floor = floor
 
 -- the operation in the round that a message began
-abbrev pub moved : Operation → Letter → ℕ → Option Tag → Operation
+abbrev pub moved : Operation → OwnMessage → ℕ → Option Tag → Operation
 moved o m round tag =
     record { session = o.session; op = o.op; task = o.task; round = round; heard = []; collected = collected_after o m; floor = floor_after o.task tag o.floor }

@@ -1,20 +1,20 @@
--- The four words on quorums: whom a round asks, and when the servers heard end it. For a round
--- nothing else goes by covering sets and choices, and all that is used of these words is Laws.
+-- The four words on quorums: whom a round asks, and when the servers heard end it. Only the four
+-- functions of src/quorums.rt and the proofs of Laws open them: all else knows of them what Laws says.
 use Rattle.std.specs.Prelude.{Bool, Option, option_map}
 use Rattle.gq_grid.specs.Grid.{Grid, Servers, covers, choose, choice_servers}
 
 -- the servers that a collect round asks, where the servers of up are up; none where no quorum is up
-abbrev pub collect_quorum : Grid → Servers → Option Servers
+unfoldable pub collect_quorum : Grid → Servers → Option Servers
 collect_quorum grid up = option_map (choice_servers grid) (choose grid up)
 
 -- the servers that a store round sends to
-abbrev pub store_quorum : Grid → Servers → Option Servers
+unfoldable pub store_quorum : Grid → Servers → Option Servers
 store_quorum grid up = option_map (choice_servers grid) (choose grid up)
 
 -- whether a collect round ends where these servers were heard
-abbrev pub ends_collect : Grid → Servers → Bool
+unfoldable pub ends_collect : Grid → Servers → Bool
 ends_collect grid heard = covers grid heard
 
 -- whether a store round ends where these servers were heard
-abbrev pub ends_store : Grid → Servers → Bool
+unfoldable pub ends_store : Grid → Servers → Bool
 ends_store grid heard = covers grid heard

@@ -7,7 +7,7 @@ use Rattle.gq_tag.specs.declared.StoredCopy.{StoredCopy}
 use Rattle.gq_tag.specs.declared.FileId.{FileId}
 use Rattle.gq_tag.specs.declared.Body.TheVariants.{Ask, Store}
 use Rattle.gq_tag.specs.declared.Message.{Message}
-use Rattle.gq_tag.specs.Tag.{first_copy, latest, Letter, file_place, file_of, message_of, letter_of}
+use Rattle.gq_tag.specs.Tag.{first_copy, latest, OwnMessage, file_place, file_of, message_of, own_message}
 use Rattle.gq_phase.specs.declared.Row.{Row}
 use Rattle.gq_phase.specs.declared.Outcome.{Outcome}
 use Rattle.gq_phase.specs.declared.Outcome.TheVariants.{Wrote, Gave, Listed}
@@ -22,7 +22,7 @@ use Rattle.gq_phase.specs.declared.ResendRefused.{ResendRefused}
 use Rattle.gq_phase.specs.declared.ResendRefused.TheVariants.{NoQuorum, Memory}
 use Rattle.gq_phase.specs.Quorums.{collect_quorum, store_quorum, ends_collect, ends_store}
 use Rattle.gq_phase.specs.Course.{round_of}
-use Rattle.gq_phase.specs.Phase.{Task, Writing, Reading, Listing, Operation, Heard as Saying, HeardStale, HeardNoted, HeardNext, HeardDone, heard_servers, heard_copies, stored_copy, round_file, round_messages, round_quorum, resent, hear, with_reply, moved, begun, row_of}
+use Rattle.gq_phase.specs.Phase.{Task, Writing, Reading, Listing, Operation, Heard as Saying, HeardStale, HeardNoted, HeardNext, HeardDone, heard_servers, heard_copies, stored_copy, round_file, round_messages, round_quorum, ends_round, resent, hear, with_reply, moved, begun, listed_row}
 
 -- ---- what is sent and said, with the tenant in its messages
 
@@ -52,14 +52,16 @@ task_of ListFiles file files = Listing file.volume files
 
 -- of a listing, the files whose copies were collected
 abbrev pub rows_of : CodeTask → List StoredCopy → List Row
-rows_of ListFiles copies = map row_of copies
+rows_of ListFiles copies = map listed_row copies
 rows_of _ copies = []
 
 -- a value that is not done stands for an operation of the tenant in the grid: the servers heard
--- and the greatest copy are those of the list heard, the last copy is that of the list collected
+-- and the greatest copy are those of the list heard, the last copy is that of the list collected;
+-- the grid has a server, and the round goes on, which the servers heard do not end
 pub record StandsFor (grid : Grid) (tenant : ℕ) (code : Code) (o : Operation) : Type 0 where
   pub going : code.done ≡ false
   pub its_grid : code.grid ≡ grid
+  pub some : 0 < grid.rows * grid.cols
   pub its_tenant : code.who.tenant ≡ tenant
   pub session : code.who.session ≡ o.session
   pub op : code.who.op ≡ o.op
@@ -68,6 +70,7 @@ pub record StandsFor (grid : Grid) (tenant : ℕ) (code : Code) (o : Operation) 
   pub round : round_of code.course ≡ o.round
   pub collected : code.course.collected ≡ length o.collected
   pub heard : servers code.heard ≡ heard_servers o.heard
+  pub goes_on : ends_round grid o.round o.heard ≡ false
   pub best : code.best ≡ latest (heard_copies o.heard)
   pub stored : code.stored ≡ stored_copy o.collected
   pub rows : code.rows ≡ rows_of code.task o.collected
@@ -90,7 +93,7 @@ Begins grid who task floor up code messages =
     StandsFor grid who.tenant code o × (messages ≡ map (message_of who.tenant) (round_messages grid up o))
 
 -- what the value stands for after this was said to the message
-abbrev pub StandsAfter : Grid → ℕ → Code → Operation → Letter → Saying → Type 0
+abbrev pub StandsAfter : Grid → ℕ → Code → Operation → OwnMessage → Saying → Type 0
 StandsAfter grid tenant code o m HeardStale = StandsFor grid tenant code o
 StandsAfter grid tenant code o m HeardNoted = StandsFor grid tenant code (with_reply o m)
 StandsAfter grid tenant code o m (HeardNext round tag messages) = StandsFor grid tenant code (moved o m round tag)
@@ -100,7 +103,7 @@ StandsAfter grid tenant code o m (HeardDone outcome) = IsDone code × (code.floo
 abbrev pub HearsAs : Code → Code → Servers → Message → Heard → Type 0
 HearsAs old new up message heard =
     (grid : Grid) (tenant : ℕ) (o : Operation) → StandsFor grid tenant old o →
-    (heard ≡ heard_as tenant (hear grid up o (letter_of message))) × StandsAfter grid tenant new o (letter_of message) (hear grid up o (letter_of message))
+    (heard ≡ heard_as tenant (hear grid up o (own_message message))) × StandsAfter grid tenant new o (own_message message) (hear grid up o (own_message message))
 
 -- the operation is done where it says so, else it is done or not as before
 abbrev pub EndsAs : Code → Code → Heard → Type 0
@@ -116,11 +119,11 @@ RaisesFloor old new heard = by old.task heard
     by (Write bytes) (Next round (Some tag) messages) = (old.floor < tag.number) × (new.floor ≡ tag.number) × (tag.session ≡ old.who.session)
     by _ _ = new.floor ≡ old.floor
 
--- whatever operation the value stands for, there is a quorum for its round, and these messages go out to it
+-- whatever operation the value stands for, there is a quorum for its round, and these messages, one at least, go out to it
 abbrev pub ResendsAs : Code → Servers → List Message → Type 0
 ResendsAs code up messages =
     (grid : Grid) (tenant : ℕ) (o : Operation) → StandsFor grid tenant code o →
-    (quorum : Servers) × (round_quorum grid up o.round ≡ Some quorum) × (messages ≡ map (message_of tenant) (resent grid o quorum))
+    (quorum : Servers) × (round_quorum grid up o.round ≡ Some quorum) × (messages ≡ map (message_of tenant) (resent grid o quorum)) × (0 < length messages)
 
 -- whatever operation the value stands for, there is no quorum for its round, or there is one and memory is missing
 abbrev pub RefusesAs : Code → Servers → ResendRefused → Type 0
@@ -136,6 +139,7 @@ apart set but server = set server && not (but server)
 -- an operation in its first round
 pub record IsFresh (code : Code) (grid : Grid) (who : Who) (task : CodeTask) (files : ℕ) (file : FileId) (floor : ℕ) : Type 0 where
   pub its_grid : code.grid ≡ grid
+  pub some : 0 < grid.rows * grid.cols
   pub its_who : code.who ≡ who
   pub its_task : code.task ≡ task
   pub its_file : code.file ≡ file
@@ -213,7 +217,7 @@ pub record BeginsStore (old new : Code) (copy : StoredCopy) : Type 0 where
   pub heard : servers new.heard ≡ no_servers
   pub best : new.best ≡ None
   pub stored : new.stored ≡ copy
-  pub rows : new.rows ≡ rows_with old.task (row_of copy) old.rows
+  pub rows : new.rows ≡ rows_with old.task (listed_row copy) old.rows
   pub floor : new.floor ≡ floor_with old.task copy.tag old.floor
 
 -- the collect round of the next file begins

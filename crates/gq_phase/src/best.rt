@@ -2,14 +2,14 @@
 
 ghost use Rattle.std.specs.Prelude.{◌≡◌, ◌<◌, None, OnOk, OnErr};
 ghost use Rattle.std.specs.Option.{option_copied};
-ghost use Rattle.gq_phase.specs.Best.{best_with, exceeds, number_of, IsBelow};
+ghost use Rattle.gq_phase.specs.Best.{best_with, exceeds, copied_number, IsBelow};
 
 use gq_tag::{Body, StoredCopy, newer};
 use std::alloc::AllocError;
 use std::marker::Model;
 
 /// The earliest copy of greatest tag, if one was heard. A greater number than its tag's is left.
-#[derive(Drop)]
+#[derive(Debug, Drop)]
 pub struct Best {
     copy: Option<StoredCopy>,
 }
@@ -36,7 +36,7 @@ impl Best {
 
     /// The greatest copy with what one more reply says.
     pub fn with<'a>(&'a self, body: &'a Body) -> Option<&'a StoredCopy>
-        requires { number_of body.now < u64.MAX }
+        requires { copied_number body.now < u64.MAX }
         ensures value { option_copied result ≡ best_with self.now body.now }
         ensures bound { IsBelow (option_copied result) }
     {
@@ -49,7 +49,7 @@ impl Best {
 
     /// Notes what one more reply says. A copy that is not kept is not cloned.
     pub fn note(&mut self, body: &Body) -> Result<(), AllocError>
-        requires { number_of body.now < u64.MAX }
+        requires { copied_number body.now < u64.MAX }
         ensures ok { OnOk result (self.new ≡ best_with self.old body.now) }
         ensures err { OnErr result (self.new ≡ self.old) }
     {

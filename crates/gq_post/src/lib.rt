@@ -2,7 +2,5 @@
 #![tactic(auto)]
 
 mod post;
-#[cfg(test)]
-mod tests;
 
 pub use post::{Post, Unsent};

@@ -10,7 +10,7 @@ use std::marker::Model;
 use thiserror::Error;
 
 // The key of each message of a tenant, none where it is lost.
-#[derive(Drop)]
+#[derive(Debug, Drop)]
 struct Keys {
     keys: Vec<Option<usize>>,
 }
@@ -69,7 +69,7 @@ pub struct Unsent {
 
 /// The messages of all tenants: for each tenant a lane of its messages in order of sending, numbered from 0. A message stays
 /// until it is lost; its number is then nobody's, and its place in memory serves the next message of any tenant.
-#[derive(Drop)]
+#[derive(Debug, Drop)]
 pub struct Post {
     messages: Slab<Message>,
     lanes: Vec<Keys>,

@@ -5,7 +5,7 @@ use Rattle.std.specs.Option.{option_or}
 use Rattle.std.proofs.lemmas.List.Folds.{find-append, list_all-append}
 use Rattle.std.proofs.lemmas.Bool.{cases_Bool, and_parts, not-true}
 use Rattle.gq_tag.specs.declared.StoredCopy.{StoredCopy}
-use Rattle.gq_tag.specs.Tag.{is_less, is_unexceeded, latest, newer}
+use Rattle.gq_tag.specs.Tag.{is_less, is_unexceeded, latest, newer_of}
 use Rattle.gq_tag.proofs.Order.{at_most_refl, at_most_less, less_at_most}
 
 -- ---- a search with one more test
@@ -59,13 +59,13 @@ latest-parts : (xs : List StoredCopy) (c : StoredCopy) → latest (xs ++ c ∷ [
 latest-parts xs c = ap (λ f. find f (xs ++ c ∷ [])) (λ i x. list_all-append (λ other. not (is_less x.tag other.tag)) xs (c ∷ []) i)
 
 -- the greatest of a list and one more copy
-pub latest-append : (xs : List StoredCopy) (c b : StoredCopy) → latest xs ≡ Some b → latest (xs ++ c ∷ []) ≡ Some (newer b c)
+pub latest-append : (xs : List StoredCopy) (c b : StoredCopy) → latest xs ≡ Some b → latest (xs ++ c ∷ []) ≡ Some (newer_of b c)
 latest-append xs c b h = latest-parts xs c ∙ find-append both xs (c ∷ []) ∙ by
   where
     both : StoredCopy → Bool
     both x = is_unexceeded xs x && is_unexceeded (c ∷ []) x
 
-    by : option_or (find both xs) (find both (c ∷ [])) ≡ Some (newer b c)
+    by : option_or (find both xs) (find both (c ∷ [])) ≡ Some (newer_of b c)
     by =
         elim (cases_Bool (is_less b.tag c.tag)) [
           | inl e ↦
@@ -76,9 +76,9 @@ latest-append xs c b h = latest-parts xs c ∙ find-append both xs (c ∷ []) �
         ]
 
 -- the greatest is found by going through the list
-pub latest-fold : (xs ys : List StoredCopy) (b : StoredCopy) → latest xs ≡ Some b → latest (xs ++ ys) ≡ Some (fold newer b ys)
+pub latest-fold : (xs ys : List StoredCopy) (b : StoredCopy) → latest xs ≡ Some b → latest (xs ++ ys) ≡ Some (fold newer_of b ys)
 latest-fold xs [] b h = ap latest (append-nil xs) ∙ h
-latest-fold xs (y ∷ ys) b h = ap latest (sym (append_assoc xs (y ∷ []) ys)) ∙ latest-fold (xs ++ y ∷ []) ys (newer b y) (latest-append xs y b h)
+latest-fold xs (y ∷ ys) b h = ap latest (sym (append_assoc xs (y ∷ []) ys)) ∙ latest-fold (xs ++ y ∷ []) ys (newer_of b y) (latest-append xs y b h)
 
-pub latest-cons : (c : StoredCopy) (cs : List StoredCopy) → latest (c ∷ cs) ≡ Some (fold newer c cs)
+pub latest-cons : (c : StoredCopy) (cs : List StoredCopy) → latest (c ∷ cs) ≡ Some (fold newer_of c cs)
 latest-cons c cs = latest-fold (c ∷ []) cs c (latest-single c)

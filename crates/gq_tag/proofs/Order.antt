@@ -4,7 +4,7 @@ use Rattle.std.proofs.lemmas.Bool.{cases_Bool}
 use Rattle.std.proofs.lemmas.Bool.Decides.{nat_tests}
 use Rattle.gq_tag.specs.declared.Tag.{Tag}
 use Rattle.gq_tag.specs.declared.StoredCopy.{StoredCopy}
-use Rattle.gq_tag.specs.Tag.{is_less, newer}
+use Rattle.gq_tag.specs.Tag.{is_less, newer_of}
 
 -- a's tag is at most b's
 abbrev pub IsAtMost : Tag → Tag → Type 0
@@ -52,20 +52,20 @@ at_most_less a b c h k = less_from a c (go (at_most-parts b a h) (less-parts b c
 
 -- ---- the newer of two copies
 
-pub newer-left : (a b : StoredCopy) → IsAtMost a.tag (newer a b).tag
-newer-left a b =
+pub newer_of-left : (a b : StoredCopy) → IsAtMost a.tag (newer_of a b).tag
+newer_of-left a b =
     elim (cases_Bool (is_less a.tag b.tag)) [
       | inl e ↦ rw e (less_at_most a.tag b.tag e)
       | inr e ↦ rw e (at_most_refl a.tag)
     ]
 
-pub newer-right : (a b : StoredCopy) → IsAtMost b.tag (newer a b).tag
-newer-right a b =
+pub newer_of-right : (a b : StoredCopy) → IsAtMost b.tag (newer_of a b).tag
+newer_of-right a b =
     elim (cases_Bool (is_less a.tag b.tag)) [
       | inl e ↦ rw e (at_most_refl b.tag)
       | inr e ↦ rw e e
     ]
 
 -- a copy that is no newer changes nothing
-pub newer-at_most : (a b : StoredCopy) → IsAtMost b.tag a.tag → newer a b ≡ a
-newer-at_most a b h = rw h refl
+pub newer_of-at_most : (a b : StoredCopy) → IsAtMost b.tag a.tag → newer_of a b ≡ a
+newer_of-at_most a b h = rw h refl

@@ -47,8 +47,8 @@ abbrev pub greatest : List StoredCopy → StoredCopy
 greatest copies = unwrap_or (latest copies) first_copy
 
 -- the second copy where its tag is greater, else the first
-abbrev pub newer : StoredCopy → StoredCopy → StoredCopy
-newer a b = if is_less a.tag b.tag then b else a
+abbrev pub newer_of : StoredCopy → StoredCopy → StoredCopy
+newer_of a b = if is_less a.tag b.tag then b else a
 
 -- ---- one tenant's files and messages
 
@@ -60,8 +60,8 @@ pub record File : Type 0 where
 abbrev pub is_file : File → File → Bool
 is_file a b = (a.volume == b.volume) && (a.place == b.place)
 
--- a message of one tenant
-pub record Letter : Type 0 where
+-- a message of one tenant, which does not name the tenant
+pub record OwnMessage : Type 0 where
   pub session : ℕ
   pub op : ℕ
   pub round : ℕ
@@ -77,11 +77,11 @@ abbrev pub file_of : ℕ → File → FileId
 file_of tenant f = record { tenant = tenant; volume = f.volume; file = f.place }
 
 -- the message without its tenant, and with the tenant in that place of the plan
-abbrev pub letter_of : Message → Letter
-letter_of m =
+abbrev pub own_message : Message → OwnMessage
+own_message m =
     record { session = m.session; op = m.op; round = m.round; server = m.server; file = file_place m.file; body = m.body }
 
-abbrev pub message_of : ℕ → Letter → Message
+abbrev pub message_of : ℕ → OwnMessage → Message
 message_of tenant m =
     record { tenant = tenant; session = m.session; op = m.op; round = m.round; server = m.server; file = file_of tenant m.file; body = m.body }
 

@@ -2,16 +2,16 @@
 #![tactic(auto)]
 
 ghost use Rattle.std.specs.Prelude.{◌≡◌, ◌↔◌, ℕ, ◌+◌, ◌<◌, ◌≤◌, IsTrue};
-ghost use Rattle.gq_tag.specs.Tag.{is_less, first_tag, to_server};
+ghost use Rattle.gq_tag.specs.Tag.{is_less, first_tag, first_copy, to_server};
 
 use bytes::Bytes;
 use std::alloc::AllocError;
 use std::cmp::Ordering;
 
-/// When a content was written: a number, and the session that wrote it. Tags are ordered by
-/// number, and those of one number by session, so that two sessions never write under one tag.
-/// (The tags of several writers are those of Attiya, Bar-Noy and Dolev, Sharing memory robustly
-/// in message-passing systems, JACM 42(1), 1995.)
+/// When a content was written: a number, and the session that wrote it, so that two sessions never
+/// write under one tag. Tags are ordered by number, and those of one number by session. (The tags
+/// of several writers are those of Attiya, Bar-Noy and Dolev, Sharing memory robustly in
+/// message-passing systems, JACM 42(1), 1995.)
 #[derive(Clone, Copy, Debug, PartialEq, Eq)]
 pub struct Tag {
     pub number: u64,
@@ -81,6 +81,9 @@ impl Tag {
     }
 }
 
+/// The most files of a volume. File numbers are from 0, and all below it.
+pub const MOST_FILES: u32 = 64;
+
 /// A file: its tenant's place in the plan, the number of the tenant's volume, and the file's
 /// number in the volume, all from 0.
 #[derive(Clone, Copy, Debug, PartialEq, Eq)]
@@ -95,6 +98,18 @@ pub struct FileId {
 pub struct StoredCopy {
     pub tag: Tag,
     pub bytes: Bytes,
+}
+
+impl StoredCopy {
+    /// The copy that each server has of a file before the first store: the first tag, and no bytes.
+    pub fn first() -> StoredCopy
+        ensures { result ≡ first_copy }
+    {
+        StoredCopy {
+            tag: Tag::first(),
+            bytes: Bytes::new(),
+        }
+    }
 }
 
 impl Clone for StoredCopy {
@@ -163,6 +178,3 @@ pub fn newer(a: &StoredCopy, b: &StoredCopy) -> bool
 {
     b.tag < a.tag
 }
-
-#[cfg(test)]
-mod tests;

@@ -1,0 +1,18 @@
+-- Each law of the four words.
+use Rattle.gq_phase.proofs.Meeting.{rounds_meet, collect_quorums_end, store_quorums_end, nobody_ends, more_still_end}
+use Rattle.gq_phase.proofs.laws.rounds_meet.Goals as goal
+
+pub returns-clause-meet : goal.returns-clause-meet
+returns-clause-meet c = rounds_meet
+
+pub returns-clause-collect : goal.returns-clause-collect
+returns-clause-collect c = collect_quorums_end
+
+pub returns-clause-store : goal.returns-clause-store
+returns-clause-store c = store_quorums_end
+
+pub returns-clause-nobody : goal.returns-clause-nobody
+returns-clause-nobody c = nobody_ends
+
+pub returns-clause-more : goal.returns-clause-more
+returns-clause-more c = more_still_end
