@@ -2,22 +2,23 @@
 //!
 //! `new BLOCKS` makes a store of so many blocks; `add FILES` adds a volume of so many files to one; `put TIMES` puts a
 //! content so many times; `serve 1` has a store and an ask answered. Each prints how many blocks are free at the end.
-//! The status is 0, 2 where the words are none of these, and 3 where memory was wanting.
+//! `new` and `put` close the store, the others let it go. The status is 0, 2 where the words are none of these, and 3
+//! where memory was wanting.
 #![tactic(auto)]
 
 ghost use Rattle.std.specs.Prelude.{◌≡◌, ◌≤◌, [], ◌∷◌, IfOk};
-ghost use Rattle.gq_store.specs.Copies.{accounts_of};
+ghost use Rattle.gq_store.specs.Copies.{store_accounts};
 
 use bytes::Bytes;
-use gq_desk::{Name, Plan, PlanFault, TenantRow};
+use gq_desk::{MOST_BLOCKS, Name, Plan, PlanFault, TenantRow};
 use gq_grid::Grid;
 use gq_store::{ServeRefused, ServerStore};
-use gq_tag::{Body, FileId, Message, StoredCopy, Tag};
+use gq_tag::{Body, FileId, MOST_FILES, Message, StoredCopy, Tag};
 use std::alloc::{AllocError, Global};
 use std::process::ExitCode;
 use std::{env, io};
 
-// Why no store was made.
+// Why a store wasn't used to its end.
 #[derive(Drop)]
 enum Fault {
     // The words name no way.
@@ -40,9 +41,9 @@ const FILE: FileId = FileId {
 
 // The store of a server of so many blocks, all of them the share of one tenant.
 fn new_store(alloc: Global, blocks: u32) -> Result<ServerStore, Fault>
-    ensures { IfOk result (λ store. accounts_of store ≡ record { share = blocks; volumes = [] } ∷ []) }
+    ensures { IfOk result (λ store. store_accounts store ≡ record { share = blocks; volumes = [] } ∷ []) }
 {
-    if blocks < 1 || blocks > 4096 {
+    if blocks < 1 || blocks > MOST_BLOCKS {
         return Err(Fault::Usage);
     }
     let Ok(grid) = Grid::new(1, 1) else {
@@ -64,19 +65,26 @@ fn new_store(alloc: Global, blocks: u32) -> Result<ServerStore, Fault>
     }
 }
 
+// The number of free blocks of the store, which is closed.
+fn free_then_closed(store: ServerStore) -> usize {
+    let free = store.free();
+    store.close();
+    free
+}
+
 // A store of 64 blocks with a volume of so many files of a block.
 fn add_files(alloc: Global, files: u32) -> Result<usize, Fault> {
-    if files > 64 {
+    if files > MOST_FILES {
         return Err(Fault::Usage);
     }
-    let mut store = new_store(alloc, 64)?;
+    let mut store = new_store(alloc, MOST_FILES)?;
     store.add_files(0, files, 1)?;
     Ok(store.free())
 }
 
 // A store with one file of two blocks.
 fn store_of_a_file(alloc: Global) -> Result<ServerStore, Fault>
-    ensures { IfOk result (λ store. accounts_of store ≡ record { share = 4; volumes = record { files = 1; blocks = 2 } ∷ [] } ∷ []) }
+    ensures { IfOk result (λ store. store_accounts store ≡ record { share = 4; volumes = record { files = 1; blocks = 2 } ∷ [] } ∷ []) }
 {
     let mut store = new_store(alloc, 4)?;
     store.add_files(0, 1, 2)?;
@@ -98,7 +106,7 @@ fn put(alloc: Global, times: u32) -> Result<usize, Fault> {
         };
         store.put(FILE, tag, content);
     }
-    Ok(store.free())
+    Ok(free_then_closed(store))
 }
 
 fn message(body: Body) -> Message
@@ -145,7 +153,7 @@ fn free_at_the_end(alloc: Global, words: &[String]) -> Result<usize, Fault> {
         return Err(Fault::Usage);
     };
     match way.as_str() {
-        "new" => Ok(new_store(alloc, number)?.free()),
+        "new" => Ok(free_then_closed(new_store(alloc, number)?)),
         "add" => add_files(alloc, number),
         "put" => put(alloc, number),
         "serve" => serve(alloc),

@@ -1,8 +1,11 @@
-//! Blocks of 64 bytes: a pool owns the free ones, a chain owns those of its content.
+//! Blocks of [`BLOCK_BYTES`] bytes: a pool owns the free ones, a chain owns those of its content.
 //!
 //! Blocks are raw nodes on intrusive lists, as in an allocator with a free list: the pointer that links a block stands
 //! in the block, so that filling and draining a chain asks for no memory. `Nodes` has the few functions that carry
 //! pointers; all above it is safe code.
+//!
+//! Neither a block, a list of blocks, a chain nor a pool is `Drop`, so none is let go or forgotten: a block ends on a
+//! list or in `Block::free`, a list is closed once it is empty, a chain is drained, and a pool closed.
 #![tactic(auto)]
 
 mod node;
@@ -11,5 +14,8 @@ mod pool;
 mod stack;
 #[cfg(test)]
 mod tests;
+
+/// The bytes of a block.
+pub const BLOCK_BYTES: usize = 64;
 
 pub use pool::{Chain, Pool, Short};

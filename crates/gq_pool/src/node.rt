@@ -1,14 +1,15 @@
-//! A block with the pointer that links it, and where a block lies.
+//! The memory of a block with the pointer that links it, and where it lies.
 ghost use Rattle.std.specs.Prelude.{◌≡◌};
 
+use crate::BLOCK_BYTES;
 use std::alloc::AllocError;
 use std::marker::{Send, Sync};
 
-/// A block of 64 bytes, with the pointer to the block after it.
+/// The bytes of a block, with the pointer to the node after it. Its owner is a `Block`, or a list.
 #[derive(Drop)]
 pub struct Node {
     pub(crate) next: *mut Node,
-    pub(crate) bytes: [u8; 64],
+    pub(crate) bytes: [u8; BLOCK_BYTES],
 }
 
 /// Where a node lies. It owns nothing.

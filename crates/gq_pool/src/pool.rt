@@ -2,21 +2,21 @@
 ghost use Rattle.std.specs.Prelude.{◌≡◌, ℕ, ◌+◌, ◌*◌, ◌^◌, ◌<◌, ◌≤◌, ◌↔◌, List, length, IfOk, IfErr, OnOk, OnErr, IsErr};
 ghost use Rattle.gq_pool.specs.Blocks.{blocks_for, content_of};
 
-use crate::node::Node;
-use crate::stack::Stack;
+use crate::BLOCK_BYTES;
+use crate::stack::{Block, Stack};
 use std::alloc::{AllocError, Global};
+use std::fmt::{self, Debug, Formatter, Write};
 use std::marker::Model;
-use std::ptr;
 use thiserror::Error;
 
-/// Too few blocks are free for a content: `free` says how many are. The pool is as it was.
+/// Too few blocks are free for a content: `free` is the number of free blocks. The pool is as it was.
 #[derive(Debug, Drop, Error)]
 #[error("{free} blocks are free")]
 pub struct Short {
     pub free: usize,
 }
 
-/// Free blocks of 64 bytes, which contracts see as their number.
+/// Free blocks, which contracts see as their number.
 ///
 /// The blocks are taken from memory once, by `new`, and go back to it by `close`; between the two they move to chains
 /// and back with no request for memory. A pool isn't let go by itself: it is closed.
@@ -47,6 +47,22 @@ impl Model for Chain {
     ghost invariant = { λ c. (length c.blocks ≡ blocks_for c.len) × (length (content_of c.len c.blocks) ≡ c.len) };
 }
 
+// The number of free blocks.
+impl Debug for Pool {
+    fn fmt<W: Write>(&self, f: &mut Formatter<W>) -> fmt::Result {
+        f.debug_struct("Pool").field("free", &self.free()).finish()
+    }
+}
+
+// The number of bytes of the content.
+impl Debug for Chain {
+    fn fmt<W: Write>(&self, f: &mut Formatter<W>) -> fmt::Result {
+        f.debug_struct("Chain")
+            .field("len", &self.len)
+            .finish_non_exhaustive()
+    }
+}
+
 impl Chain {
     /// The number of bytes of the content.
     pub fn len(&self) -> usize
@@ -55,7 +71,8 @@ impl Chain {
         self.len
     }
 
-    /// The number of blocks that the content takes: one for each 64 bytes, and one for the rest where there is a rest.
+    /// The number of blocks that the content takes: one for each [`BLOCK_BYTES`] bytes, and one for the rest where there
+    /// is a rest.
     pub fn blocks(&self) -> usize
         ensures { result ≡ blocks_for (length self.now) }
     {
@@ -80,18 +97,12 @@ impl Pool {
     {
         let mut free = Stack::new();
         for _ in 0..n {
-            match Box::new(
-                alloc,
-                Node {
-                    next: ptr::null_mut(),
-                    bytes: [0; 64],
-                },
-            ) {
-                Ok(node) => free.push(node),
-                Err(_) => {
+            match Block::new(alloc) {
+                Ok(block) => free.push(block),
+                Err(error) => {
                     let pool = Pool { alloc, free };
                     pool.close();
-                    return Err(AllocError);
+                    return Err(error);
                 }
             }
         }
@@ -105,8 +116,8 @@ impl Pool {
         self.free.count()
     }
 
-    /// A chain of these bytes, in blocks that were free: `free` falls by one for each 64 bytes, and by one for the rest
-    /// where there is a rest. It takes no memory.
+    /// A chain of these bytes, in blocks that were free: `free` falls by one for each [`BLOCK_BYTES`] bytes, and by one
+    /// for the rest where there is a rest. It takes no memory.
     ///
     /// `Short` comes exactly where fewer blocks are free than the bytes take; the pool is then as it was.
     pub fn fill(&mut self, bytes: &[u8]) -> Result<Chain, Short>
@@ -117,7 +128,7 @@ impl Pool {
         ensures unchanged { OnErr result (self.new ≡ self.old) }
     {
         let len = bytes.len();
-        let need = len.div_ceil(64);
+        let need = len.div_ceil(BLOCK_BYTES);
         let free = self.free.count();
         if free < need {
             return Err(Short { free });
@@ -126,11 +137,11 @@ impl Pool {
         let mut i = need;
         while i > 0 {
             i -= 1;
-            let start = i * 64;
-            let end = len.min(start + 64);
-            let mut node = self.free.pop(self.alloc);
-            node.bytes[..end - start].copy_from_slice(&bytes[start..end]);
-            blocks.push(node);
+            let start = i * BLOCK_BYTES;
+            let end = len.min(start + BLOCK_BYTES);
+            let mut block = self.free.pop(self.alloc);
+            block.write(&bytes[start..end]);
+            blocks.push(block);
         }
         Ok(Chain { blocks, len })
     }
@@ -142,8 +153,8 @@ impl Pool {
     {
         let Chain { mut blocks, len: _ } = chain;
         while blocks.count() > 0 {
-            let node = blocks.pop(self.alloc);
-            self.free.push(node);
+            let block = blocks.pop(self.alloc);
+            self.free.push(block);
         }
         blocks.close();
     }
@@ -152,7 +163,8 @@ impl Pool {
     pub fn close(self) {
         let Pool { alloc, mut free } = self;
         while free.count() > 0 {
-            drop(free.pop(alloc));
+            let block = free.pop(alloc);
+            block.free();
         }
         free.close();
     }

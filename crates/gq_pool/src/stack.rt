@@ -1,13 +1,25 @@
-//! A list of nodes with the pointer to its first.
-ghost use Rattle.std.specs.Prelude.{◌≡◌, ℕ, ◌+◌, ◌*◌, ◌^◌, ◌<◌, ◌≤◌, List, [], ◌∷◌, length, map};
+//! A block, and a list of blocks with the pointer to its first.
+ghost use Rattle.std.specs.Prelude.{◌≡◌, ℕ, ◌+◌, ◌*◌, ◌^◌, ◌<◌, ◌≤◌, List, [], ◌∷◌, length, map, take, IfOk};
 ghost use Rattle.gq_pool.specs.Linked.{first_place};
 ghost use Rattle.gq_pool.specs.Blocks.{content_of};
 
+use crate::BLOCK_BYTES;
 use crate::node::{Link, Node};
 use crate::nodes::Nodes;
-use std::alloc::Global;
+use std::alloc::{AllocError, Global};
 use std::marker::Model;
 use std::ptr;
+
+/// A block on no list; contracts see its bytes. It is no `Drop`: it is put on a list, or given back by `free`.
+pub struct Block {
+    node: Box<Node>,
+}
+
+impl Model for Block {
+    ghost Value = { List ℕ };
+
+    ghost view = { λ b. b.node.value.bytes };
+}
 
 /// A list of blocks, the last that was pushed first; contracts see the bytes of each. It is emptied and then closed.
 pub struct Stack {
@@ -22,6 +34,34 @@ impl Model for Stack {
     ghost view = { λ s. map (λ n. n.1) s.nodes.nodes };
 
     ghost invariant = { λ s. (s.head.ptr ≡ first_place s.nodes.nodes) × (s.count ≡ length s.nodes.nodes) };
+}
+
+impl Block {
+    // A block of zeros, taken from memory.
+    pub(crate) fn new(alloc: Global) -> Result<Block, AllocError> {
+        let node = Box::new(
+            alloc,
+            Node {
+                next: ptr::null_mut(),
+                bytes: [0; BLOCK_BYTES],
+            },
+        )?;
+        Ok(Block { node })
+    }
+
+    // Writes the bytes, at most a block, at its start.
+    pub(crate) fn write(&mut self, bytes: &[u8])
+        requires { length bytes.now ≤ BLOCK_BYTES }
+        ensures { take (length bytes.now) self.new ≡ bytes.now }
+    {
+        self.node.bytes[..bytes.len()].copy_from_slice(bytes);
+    }
+
+    // Gives the block back to memory. No other function does.
+    pub(crate) fn free(self) {
+        let Block { node } = self;
+        drop(node);
+    }
 }
 
 impl Stack {
@@ -46,29 +86,30 @@ impl Stack {
     }
 
     // Puts the block before the others.
-    pub(crate) fn push(&mut self, mut node: Box<Node>)
+    pub(crate) fn push(&mut self, block: Block)
         requires { length self.old + 1 < 2 ^ 64 }
-        ensures { self.new ≡ node.value.bytes ∷ self.old }
+        ensures { self.new ≡ block ∷ self.old }
     {
+        let Block { mut node } = block;
         node.next = self.head.ptr;
         self.head = self.nodes.push(node);
         self.count += 1;
     }
 
     // Takes the first block.
-    pub(crate) fn pop(&mut self, alloc: Global) -> Box<Node>
+    pub(crate) fn pop(&mut self, alloc: Global) -> Block
         requires { 0 < length self.old }
-        ensures { self.old ≡ result.value.bytes ∷ self.new }
+        ensures { self.old ≡ result ∷ self.new }
     {
         let node = self.nodes.pop(self.head, alloc);
         self.head = Link { ptr: node.next };
         self.count -= 1;
-        node
+        Block { node }
     }
 
     // Writes the bytes of the blocks, one after another, until `out` is full.
     pub(crate) fn read(&self, out: &mut [u8])
-        requires { length out.old ≤ 64 * length self.now }
+        requires { length out.old ≤ BLOCK_BYTES * length self.now }
         ensures { out.new ≡ content_of (length out.old) self.now }
     {
         let len = out.len();
@@ -77,7 +118,7 @@ impl Stack {
         let mut start = 0;
         while start < len {
             let node = self.nodes.read(at, i);
-            let end = len.min(start + 64);
+            let end = len.min(start + BLOCK_BYTES);
             out[start..end].copy_from_slice(&node.bytes[..end - start]);
             at = Link { ptr: node.next };
             start = end;

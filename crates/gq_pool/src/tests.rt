@@ -1,8 +1,10 @@
-//! A pool of three blocks; that a pool and a chain are spent, and may go to another thread.
+//! A pool of three blocks; that blocks, chains and pools are spent, and may go to another thread.
 ghost use Rattle.std.specs.Prelude.{◌≡◌, ◌+◌, length};
 ghost use Rattle.gq_pool.specs.Blocks.{blocks_for};
 
 use super::*;
+use crate::nodes::Nodes;
+use crate::stack::{Block, Stack};
 use std::marker::Send;
 use std::process::Abort;
 use std::test::Fail;
@@ -61,7 +63,7 @@ fn fills_and_drains(rt: HostRuntime) -> Result<(), Fail> {
 }
 
 /// A type that is `Drop` can't have an `impl Spent` of its own: the two impls would overlap, and the tests not compile.
-/// So neither a pool nor a chain is let go unseen.
+/// So none of these is let go or forgotten, for `mem::forget`, `Box::into_raw` and their like take what is `Drop` alone.
 trait Spent {}
 
 impl<T: Drop> Spent for T {}
@@ -69,3 +71,9 @@ impl<T: Drop> Spent for T {}
 impl Spent for Pool {}
 
 impl Spent for Chain {}
+
+impl Spent for Stack {}
+
+impl Spent for Nodes {}
+
+impl Spent for Block {}

@@ -11,9 +11,9 @@ use Rattle.gq_tag.specs.declared.StoredCopy.{StoredCopy}
 use Rattle.gq_tag.specs.Tag.{first_copy}
 use Rattle.gq_desk.specs.declared.volumes.VolumeRow.{VolumeRow}
 use Rattle.gq_desk.specs.Volumes.{Account, account_at, with_volume, reserved, blocks_of, free_of}
-use Rattle.gq_store.specs.Copies.{StoreCopies, TenantCopies, VolumeCopies, no_tenant, no_volume, tenant_in, volume_in, copy_in, account_of, row_of, taken, volume_taken, tenant_taken, new_volume}
+use Rattle.gq_store.specs.Copies.{StoreCopies, TenantCopies, VolumeCopies, no_tenant, no_volume, tenant_in, volume_in, copy_in, copies_account, volume_size, taken, volume_taken, tenant_taken, new_volume}
 use Rattle.gq_store.specs.Balance.{Balanced, IsWithinFiles}
-use Rattle.gq_store.proofs.There.{IsThere, account_at-accounts_of}
+use Rattle.gq_store.proofs.There.{IsThere, account_at-store_accounts}
 
 -- the tenant with a new volume
 abbrev pub grown : TenantCopies → ℕ → ℕ → TenantCopies
@@ -28,18 +28,18 @@ size files blocks = record { files = files; blocks = blocks }
 
 -- ---- the sizes
 
-account_of-grown : (x : TenantCopies) (files blocks : ℕ) → account_of (grown x files blocks) ≡ with_volume (size files blocks) (account_of x)
-account_of-grown x files blocks =
+copies_account-grown : (x : TenantCopies) (files blocks : ℕ) → copies_account (grown x files blocks) ≡ with_volume (size files blocks) (copies_account x)
+copies_account-grown x files blocks =
     λ i. record { share = x.share; volumes = volumes i }
   where
-    volumes : map row_of (x.volumes ++ new_volume files blocks ∷ []) ≡ map row_of x.volumes ++ size files blocks ∷ []
-    volumes = map-append row_of x.volumes (new_volume files blocks ∷ []) ∙ ap (λ n. map row_of x.volumes ++ size n blocks ∷ []) (length-replicate files first_copy)
+    volumes : map volume_size (x.volumes ++ new_volume files blocks ∷ []) ≡ map volume_size x.volumes ++ size files blocks ∷ []
+    volumes = map-append volume_size x.volumes (new_volume files blocks ∷ []) ∙ ap (λ n. map volume_size x.volumes ++ size n blocks ∷ []) (length-replicate files first_copy)
 
-pub accounts-tenants_grown : (tenants : List TenantCopies) (t files blocks : ℕ) → map account_of (tenants_grown tenants t files blocks) ≡ set (map account_of tenants) t (with_volume (size files blocks) (account_at (map account_of tenants) t))
+pub accounts-tenants_grown : (tenants : List TenantCopies) (t files blocks : ℕ) → map copies_account (tenants_grown tenants t files blocks) ≡ set (map copies_account tenants) t (with_volume (size files blocks) (account_at (map copies_account tenants) t))
 accounts-tenants_grown tenants t files blocks =
     let x = tenant_in tenants t in
-    map-set account_of tenants t (grown x files blocks)
-    ∙ ap (set (map account_of tenants) t) (account_of-grown x files blocks ∙ ap (with_volume (size files blocks)) (sym (account_at-accounts_of tenants t)))
+    map-set copies_account tenants t (grown x files blocks)
+    ∙ ap (set (map copies_account tenants) t) (copies_account-grown x files blocks ∙ ap (with_volume (size files blocks)) (sym (account_at-store_accounts tenants t)))
 
 -- ---- the copies
 
@@ -54,10 +54,10 @@ new_copy files blocks place =
     ]
 
 pub copy_of-new : (tenants : List TenantCopies) (t files blocks : ℕ) (place : ℕ) → t < length tenants
-    → copy_of (tenants_grown tenants t files blocks) (record { tenant = t; volume = length (account_at (map account_of tenants) t).volumes; file = place }) ≡ first_copy
+    → copy_of (tenants_grown tenants t files blocks) (record { tenant = t; volume = length (account_at (map copies_account tenants) t).volumes; file = place }) ≡ first_copy
 copy_of-new tenants t files blocks place lt =
-    let x = tenant_in tenants t in let n = length (account_at (map account_of tenants) t).volumes in
-    let many : length x.volumes ≡ n = sym (ap (λ (a : Account). length a.volumes) (account_at-accounts_of tenants t) ∙ length-map x.volumes row_of) in
+    let x = tenant_in tenants t in let n = length (account_at (map copies_account tenants) t).volumes in
+    let many : length x.volumes ≡ n = sym (ap (λ (a : Account). length a.volumes) (account_at-store_accounts tenants t) ∙ length-map x.volumes volume_size) in
     ap (λ (y : TenantCopies). copy_in (volume_in y n) place) (get_or-set_same tenants t (grown x files blocks) no_tenant lt)
     ∙ (ap (λ (y : VolumeCopies). copy_in y place) (get_or_push x.volumes (new_volume files blocks) no_volume n many) ∙ new_copy files blocks place)
 
@@ -78,18 +78,18 @@ copy_of-old store t files blocks id n is =
 new_taken : (files blocks : ℕ) → volume_taken (new_volume files blocks) ≡ 0
 new_taken files blocks = omega (arith, sum_by-replicate taken files first_copy)
 
-pub balanced_grown : (blocks free : ℕ) (tenants : List TenantCopies) (t files size : ℕ) → Balanced blocks free tenants → t < length tenants → files * size ≤ free_of (account_of (tenant_in tenants t))
+pub balanced_grown : (blocks free : ℕ) (tenants : List TenantCopies) (t files size : ℕ) → Balanced blocks free tenants → t < length tenants → files * size ≤ free_of (copies_account (tenant_in tenants t))
     → Balanced blocks free (tenants_grown tenants t files size)
 balanced_grown blocks free tenants t files size is lt fits =
     let x = tenant_in tenants t in let new = new_volume files size in let x' = grown x files size in
-    let old_files : IsWithinFiles x = is.files t no_tenant lt in
+    let old_files : IsWithinFiles x = is.within_files t no_tenant lt in
     let new_files : IsWithinFiles x' = All-push (λ (y : VolumeCopies). All (λ copy. taken copy ≤ y.blocks) y.copies) x.volumes new old_files (All-replicate (λ copy. taken copy ≤ size) files first_copy (omega arith)) in
-    let within : reserved (account_of x).volumes ≤ x.share = is.reservations t no_tenant lt in
-    let more : reserved (account_of x').volumes ≡ reserved (account_of x).volumes + files * size =
-    ap (λ (a : Account). reserved a.volumes) (account_of-grown x files size) ∙ sum_by_push blocks_of (map row_of x.volumes) (record { files = files; blocks = size }) in
+    let within : reserved (copies_account x).volumes ≤ x.share = is.within_shares t no_tenant lt in
+    let more : reserved (copies_account x').volumes ≡ reserved (copies_account x).volumes + files * size =
+    ap (λ (a : Account). reserved a.volumes) (copies_account-grown x files size) ∙ sum_by_push blocks_of (map volume_size x.volumes) (record { files = files; blocks = size }) in
     record {
       balance = omega (arith, sum_by-set tenant_taken tenants t x' no_tenant lt, sum_by_push volume_taken x.volumes new, new_taken files size, is.balance);
-      files = All-set IsWithinFiles tenants t x' new_files is.files;
-      reservations = All-set (λ y. reserved (account_of y).volumes ≤ y.share) tenants t x' (omega arith) is.reservations;
-      shares = omega (arith, sum_by-set (λ (y : TenantCopies). y.share) tenants t x' no_tenant lt, is.shares);
+      within_files = All-set IsWithinFiles tenants t x' new_files is.within_files;
+      within_shares = All-set (λ y. reserved (copies_account y).volumes ≤ y.share) tenants t x' (omega arith) is.within_shares;
+      within_blocks = omega (arith, sum_by-set (λ (y : TenantCopies). y.share) tenants t x' no_tenant lt, is.within_blocks);
     }

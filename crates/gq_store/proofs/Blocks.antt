@@ -10,11 +10,11 @@ use Rattle.gq_tag.specs.Tag.{first_copy}
 use Rattle.gq_desk.specs.declared.plans.TenantRow.{TenantRow}
 use Rattle.gq_desk.specs.Plans.{shares}
 use Rattle.gq_desk.specs.Volumes.{Account, reserved, blocks_of}
-use Rattle.gq_store.specs.Copies.{StoreCopies, TenantCopies, VolumeCopies, new_tenant, no_tenant, no_volume, tenant_in, volume_in, copy_in, account_of, row_of, taken, volume_taken, tenant_taken, volume_with, tenant_with, tenants_with}
+use Rattle.gq_store.specs.Copies.{StoreCopies, TenantCopies, VolumeCopies, new_tenant, no_tenant, no_volume, tenant_in, volume_in, copy_in, copies_account, volume_size, taken, volume_taken, tenant_taken, volume_with, tenant_with, tenants_with}
 use Rattle.gq_store.specs.Balance.{Balanced, IsWithinFiles}
 use Rattle.gq_store.proofs.Sums.{sum_by_below, sum_by_spare, sum_by-map, sum_by-same, sum_by_at}
 use Rattle.gq_store.proofs.There.{IsThere}
-use Rattle.gq_store.proofs.Changed.{account_of-tenant_with}
+use Rattle.gq_store.proofs.Changed.{copies_account-tenant_with}
 
 -- ---- what is reserved for a file is there for it
 
@@ -22,7 +22,7 @@ abbrev IsWithinBlocks : VolumeCopies → Type 0
 IsWithinBlocks y = All (λ copy. taken copy ≤ y.blocks) y.copies
 
 abbrev volume_reserved : VolumeCopies → ℕ
-volume_reserved y = blocks_of (row_of y)
+volume_reserved y = blocks_of (volume_size y)
 
 volume_below : (y : VolumeCopies) → IsWithinBlocks y → volume_taken y ≤ volume_reserved y
 volume_below y h = omega (arith, sum_by_below taken (λ copy. y.blocks) y.copies h, sum_by-same y.blocks y.copies)
@@ -30,16 +30,16 @@ volume_below y h = omega (arith, sum_by_below taken (λ copy. y.blocks) y.copies
 volume_spare : (y : VolumeCopies) (f : ℕ) → f < length y.copies → IsWithinBlocks y → volume_taken y + y.blocks ≤ volume_reserved y + taken (copy_in y f)
 volume_spare y f lt h = omega (arith, sum_by_spare taken (λ copy. y.blocks) y.copies f first_copy lt h, sum_by-same y.blocks y.copies)
 
-tenant_reserved : (x : TenantCopies) → reserved (account_of x).volumes ≡ sum_by volume_reserved x.volumes
-tenant_reserved x = sum_by-map blocks_of row_of x.volumes
+tenant_reserved : (x : TenantCopies) → reserved (copies_account x).volumes ≡ sum_by volume_reserved x.volumes
+tenant_reserved x = sum_by-map blocks_of volume_size x.volumes
 
 all_volumes_below : (x : TenantCopies) → IsWithinFiles x → All (λ y. volume_taken y ≤ volume_reserved y) x.volumes
 all_volumes_below x h k d lt = volume_below (get_or x.volumes k d) (h k d lt)
 
-tenant_spare : (x : TenantCopies) (v : ℕ) → v < length x.volumes → IsWithinFiles x → tenant_taken x + volume_reserved (volume_in x v) ≤ reserved (account_of x).volumes + volume_taken (volume_in x v)
+tenant_spare : (x : TenantCopies) (v : ℕ) → v < length x.volumes → IsWithinFiles x → tenant_taken x + volume_reserved (volume_in x v) ≤ reserved (copies_account x).volumes + volume_taken (volume_in x v)
 tenant_spare x v lt h = omega (arith, sum_by_spare volume_taken volume_reserved x.volumes v no_volume lt (all_volumes_below x h), tenant_reserved x)
 
-tenant_below : (x : TenantCopies) → IsWithinFiles x → reserved (account_of x).volumes ≤ x.share → tenant_taken x ≤ x.share
+tenant_below : (x : TenantCopies) → IsWithinFiles x → reserved (copies_account x).volumes ≤ x.share → tenant_taken x ≤ x.share
 tenant_below x h within = omega (arith, sum_by_below volume_taken volume_reserved x.volumes (all_volumes_below x h), tenant_reserved x)
 
 -- the blocks of the file, beside those that all others may take
@@ -47,15 +47,15 @@ pub room : (blocks free : ℕ) (store : StoreCopies) (id : FileId) (n : ℕ) →
     → (volume_in (tenant_in store.tenants id.tenant) id.volume).blocks ≤ free + taken (copy_in (volume_in (tenant_in store.tenants id.tenant) id.volume) id.file)
 room blocks free store id n is there =
     let x = tenant_in store.tenants id.tenant in let y = volume_in x id.volume in
-    let files : IsWithinFiles x = is.files id.tenant no_tenant there.tenant in
-    let within : reserved (account_of x).volumes ≤ x.share = is.reservations id.tenant no_tenant there.tenant in
+    let files : IsWithinFiles x = is.within_files id.tenant no_tenant there.tenant in
+    let within : reserved (copies_account x).volumes ≤ x.share = is.within_shares id.tenant no_tenant there.tenant in
     omega (
       arith,
-      sum_by_spare tenant_taken (λ (t : TenantCopies). t.share) store.tenants id.tenant no_tenant there.tenant (λ k d lt. tenant_below (get_or store.tenants k d) (is.files k d lt) (is.reservations k d lt)),
+      sum_by_spare tenant_taken (λ (t : TenantCopies). t.share) store.tenants id.tenant no_tenant there.tenant (λ k d lt. tenant_below (get_or store.tenants k d) (is.within_files k d lt) (is.within_shares k d lt)),
       tenant_spare x id.volume there.volume files,
       volume_spare y id.file there.file (files id.volume no_volume there.volume),
       is.balance,
-      is.shares,
+      is.within_blocks,
     )
 
 -- the copy takes no more than all blocks
@@ -80,9 +80,9 @@ pub balanced_with : (blocks free left : ℕ) (store : StoreCopies) (id : FileId)
 balanced_with blocks free left store id n copy is there fits moved =
     let x = tenant_in store.tenants id.tenant in let y = volume_in x id.volume in
     let x' = tenant_with x id.volume id.file copy in let y' = volume_with y id.file copy in
-    let files : IsWithinFiles x = is.files id.tenant no_tenant there.tenant in
-    let within : reserved (account_of x).volumes ≤ x.share = is.reservations id.tenant no_tenant there.tenant in
-    let same : reserved (account_of x').volumes ≡ reserved (account_of x).volumes = ap (λ (a : Account). reserved a.volumes) (account_of-tenant_with x id.volume id.file copy) in
+    let files : IsWithinFiles x = is.within_files id.tenant no_tenant there.tenant in
+    let within : reserved (copies_account x).volumes ≤ x.share = is.within_shares id.tenant no_tenant there.tenant in
+    let same : reserved (copies_account x').volumes ≡ reserved (copies_account x).volumes = ap (λ (a : Account). reserved a.volumes) (copies_account-tenant_with x id.volume id.file copy) in
     let volume_files : IsWithinBlocks y' = All-set (λ c. taken c ≤ y.blocks) y.copies id.file copy fits (files id.volume no_volume there.volume) in
     record {
       balance = omega (
@@ -92,9 +92,9 @@ balanced_with blocks free left store id n copy is there fits moved =
         sum_by-set taken y.copies id.file copy first_copy there.file,
         is.balance,
       );
-      files = All-set IsWithinFiles store.tenants id.tenant x' (All-set IsWithinBlocks x.volumes id.volume y' volume_files files) is.files;
-      reservations = All-set (λ t. reserved (account_of t).volumes ≤ t.share) store.tenants id.tenant x' (omega arith) is.reservations;
-      shares = omega (arith, sum_by-set (λ (t : TenantCopies). t.share) store.tenants id.tenant x' no_tenant there.tenant, is.shares);
+      within_files = All-set IsWithinFiles store.tenants id.tenant x' (All-set IsWithinBlocks x.volumes id.volume y' volume_files files) is.within_files;
+      within_shares = All-set (λ t. reserved (copies_account t).volumes ≤ t.share) store.tenants id.tenant x' (omega arith) is.within_shares;
+      within_blocks = omega (arith, sum_by-set (λ (t : TenantCopies). t.share) store.tenants id.tenant x' no_tenant there.tenant, is.within_blocks);
     }
 
 -- ---- a store without volumes
@@ -110,7 +110,7 @@ pub balanced_empty : (blocks free : ℕ) (rows : List TenantRow) → free ≡ bl
 balanced_empty blocks free rows all within =
     record {
       balance = omega (arith, nothing_taken rows);
-      files = all_of_map IsWithinFiles new_tenant rows (λ row. All-nil (λ (y : VolumeCopies). All (λ copy. taken copy ≤ y.blocks) y.copies));
-      reservations = all_of_map (λ x. reserved (account_of x).volumes ≤ x.share) new_tenant rows (λ row. omega arith);
-      shares = omega (arith, sum_by-map (λ (x : TenantCopies). x.share) new_tenant rows);
+      within_files = all_of_map IsWithinFiles new_tenant rows (λ row. All-nil (λ (y : VolumeCopies). All (λ copy. taken copy ≤ y.blocks) y.copies));
+      within_shares = all_of_map (λ x. reserved (copies_account x).volumes ≤ x.share) new_tenant rows (λ row. omega arith);
+      within_blocks = omega (arith, sum_by-map (λ (x : TenantCopies). x.share) new_tenant rows);
     }

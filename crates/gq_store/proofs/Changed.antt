@@ -1,5 +1,5 @@
 -- A store with another copy of one file.
-use Rattle.std.proofs.Common.{◌≡◌, ◌≢◌, ℕ, true, false, is_lt, ◌<◌, List, length, map, ap, ◌∙◌, inl, inr}
+use Rattle.std.proofs.Common.{◌≡◌, ◌≢◌, ℕ, is_lt, ◌<◌, List, length, map, refl, ap, ◌∙◌, inl, inr}
 use Rattle.std.proofs.lemmas.Bool.{cases_Bool, cases_eq}
 use Rattle.std.proofs.lemmas.List.{get_or-set_same, get_or-set_other, length-set}
 use Rattle.std.proofs.Math.Seq.{map-set_same}
@@ -7,33 +7,33 @@ use Rattle.gq_tag.specs.declared.FileId.{FileId}
 use Rattle.gq_tag.specs.declared.StoredCopy.{StoredCopy}
 use Rattle.gq_tag.specs.declared.Tag.{Tag}
 use Rattle.gq_tag.specs.Tag.{first_copy, is_less, tag_cmp}
-use Rattle.gq_store.specs.Copies.{StoreCopies, TenantCopies, VolumeCopies, no_tenant, no_volume, tenant_in, volume_in, copy_in, account_of, row_of, volume_with, tenant_with, tenants_with}
+use Rattle.gq_store.specs.Copies.{StoreCopies, TenantCopies, VolumeCopies, no_tenant, no_volume, tenant_in, volume_in, copy_in, copies_account, volume_size, volume_with, tenant_with, tenants_with}
 use Rattle.gq_store.proofs.There.{IsThere}
 
--- a comparison that tells a smaller tag
-pub less_from_cmp : (a b : Tag) → is_lt (tag_cmp a b) ≡ true → is_less a b ≡ true
-less_from_cmp a b h =
+-- a comparison by `<` tells the lesser tag
+pub lt_is_less : (a b : Tag) → is_lt (tag_cmp a b) ≡ is_less a b
+lt_is_less a b =
     elim (cases_Bool (is_less a b)) [
-      | inl e ↦ e
-      | inr e ↦ absurd (elim (cases_Bool (is_less b a)) [
-        | inl k ↦ let no : false ≡ true = rw (e, k) at h in cc
-        | inr k ↦ let no : false ≡ true = rw (e, k) at h in cc
-      ])
+      | inl e ↦ rw e refl
+      | inr e ↦ elim (cases_Bool (is_less b a)) [
+        | inl k ↦ rw (e, k) refl
+        | inr k ↦ rw (e, k) refl
+      ]
     ]
 
 -- ---- the sizes stay
 
-row_of-volume_with : (x : VolumeCopies) (f : ℕ) (copy : StoredCopy) → row_of (volume_with x f copy) ≡ row_of x
-row_of-volume_with x f copy = λ i. record { files = length-set x.copies f copy i; blocks = x.blocks }
+volume_size-volume_with : (x : VolumeCopies) (f : ℕ) (copy : StoredCopy) → volume_size (volume_with x f copy) ≡ volume_size x
+volume_size-volume_with x f copy = λ i. record { files = length-set x.copies f copy i; blocks = x.blocks }
 
-pub account_of-tenant_with : (x : TenantCopies) (v f : ℕ) (copy : StoredCopy) → account_of (tenant_with x v f copy) ≡ account_of x
-account_of-tenant_with x v f copy =
-    λ i. record { share = x.share; volumes = map-set_same row_of x.volumes v (volume_with (volume_in x v) f copy) no_volume (row_of-volume_with (volume_in x v) f copy) i }
+pub copies_account-tenant_with : (x : TenantCopies) (v f : ℕ) (copy : StoredCopy) → copies_account (tenant_with x v f copy) ≡ copies_account x
+copies_account-tenant_with x v f copy =
+    λ i. record { share = x.share; volumes = map-set_same volume_size x.volumes v (volume_with (volume_in x v) f copy) no_volume (volume_size-volume_with (volume_in x v) f copy) i }
 
-pub accounts-tenants_with : (tenants : List TenantCopies) (id : FileId) (copy : StoredCopy) → map account_of (tenants_with tenants id copy) ≡ map account_of tenants
+pub accounts-tenants_with : (tenants : List TenantCopies) (id : FileId) (copy : StoredCopy) → map copies_account (tenants_with tenants id copy) ≡ map copies_account tenants
 accounts-tenants_with tenants id copy =
     let x = tenant_in tenants id.tenant in
-    map-set_same account_of tenants id.tenant (tenant_with x id.volume id.file copy) no_tenant (account_of-tenant_with x id.volume id.file copy)
+    map-set_same copies_account tenants id.tenant (tenant_with x id.volume id.file copy) no_tenant (copies_account-tenant_with x id.volume id.file copy)
 
 -- ---- the file's copy
 

@@ -8,30 +8,31 @@ use Rattle.std.proofs.lemmas.Option.{slice_get-map, slice_get_within, unwrap_or-
 use Rattle.std.proofs.Math.ListN.{get_or-map}
 use Rattle.std.proofs.lemmas.List.{get_or_past}
 use Rattle.gq_tag.specs.declared.FileId.{FileId}
+use Rattle.gq_pool.specs.declared.TheConstants.{BLOCK_BYTES}
 use Rattle.gq_pool.specs.Blocks.{blocks_for}
 use Rattle.gq_desk.specs.Volumes.{Account, account_at, no_account, limit_in}
-use Rattle.gq_store.specs.Copies.{StoreCopies, TenantCopies, VolumeCopies, no_tenant, no_volume, tenant_in, volume_in, account_of, row_of, file_limit}
+use Rattle.gq_store.specs.Copies.{StoreCopies, TenantCopies, VolumeCopies, no_tenant, no_volume, tenant_in, volume_in, copies_account, volume_size, file_limit}
 
 -- the account of a tenant of the store
-pub account_at-accounts_of : (tenants : List TenantCopies) (t : ℕ) → account_at (map account_of tenants) t ≡ account_of (tenant_in tenants t)
-account_at-accounts_of tenants t = unwrap_or-slice_get (map account_of tenants) t no_account ∙ get_or-map account_of tenants t no_tenant
+pub account_at-store_accounts : (tenants : List TenantCopies) (t : ℕ) → account_at (map copies_account tenants) t ≡ copies_account (tenant_in tenants t)
+account_at-store_accounts tenants t = unwrap_or-slice_get (map copies_account tenants) t no_account ∙ get_or-map copies_account tenants t no_tenant
 
 -- where a file of that limit lies
 pub record IsThere (store : StoreCopies) (id : FileId) (limit : ℕ) : Type 0 where
   pub tenant : id.tenant < length store.tenants
   pub volume : id.volume < length (tenant_in store.tenants id.tenant).volumes
   pub file : id.file < length (volume_in (tenant_in store.tenants id.tenant) id.volume).copies
-  pub bytes : limit ≡ 64 * (volume_in (tenant_in store.tenants id.tenant) id.volume).blocks
+  pub bytes : limit ≡ BLOCK_BYTES * (volume_in (tenant_in store.tenants id.tenant) id.volume).blocks
 
-in_volume : (x : VolumeCopies) (f n : ℕ) → limit_in f (row_of x) ≡ Some n → (f < length x.copies) × (n ≡ 64 * x.blocks)
+in_volume : (x : VolumeCopies) (f n : ℕ) → limit_in f (volume_size x) ≡ Some n → (f < length x.copies) × (n ≡ BLOCK_BYTES * x.blocks)
 in_volume x f n h =
     elim (cases_Bool (nat_lt f (length x.copies))) [
-      | inl e ↦ let k : Some (64 * x.blocks) ≡ Some n = rw e at h in (grind (arith, nat_tests), cc)
+      | inl e ↦ let k : Some (BLOCK_BYTES * x.blocks) ≡ Some n = rw e at h in (grind (arith, nat_tests), cc)
       | inr e ↦ let k : None ≡ Some n = rw e at h in absurd (cc)
     ]
 
-in_volumes : (volumes : List VolumeCopies) (v f n : ℕ) (o : Option VolumeCopies) → slice_get volumes v ≡ o → option_and_then (limit_in f) (option_map row_of o) ≡ Some n
-    → (v < length volumes) × (f < length (get_or volumes v no_volume).copies) × (n ≡ 64 * (get_or volumes v no_volume).blocks)
+in_volumes : (volumes : List VolumeCopies) (v f n : ℕ) (o : Option VolumeCopies) → slice_get volumes v ≡ o → option_and_then (limit_in f) (option_map volume_size o) ≡ Some n
+    → (v < length volumes) × (f < length (get_or volumes v no_volume).copies) × (n ≡ BLOCK_BYTES * (get_or volumes v no_volume).blocks)
 in_volumes volumes v f n None e h = absurd (cc)
 in_volumes volumes v f n (Some x) e h =
     let at : get_or volumes v no_volume ≡ x = get_or_from_slice_get volumes v x no_volume e in
@@ -48,8 +49,8 @@ in_tenants tenants t v h =
 pub there : (store : StoreCopies) (id : FileId) (n : ℕ) → file_limit store id ≡ Some n → IsThere store id n
 there store id n h =
     let tenant = tenant_in store.tenants id.tenant in
-    let seen : option_and_then (limit_in id.file) (option_map row_of (slice_get tenant.volumes id.volume)) ≡ Some n =
-    ap (option_and_then (limit_in id.file)) (sym (slice_get-map row_of tenant.volumes id.volume)) ∙ (ap (λ (a : Account). option_and_then (limit_in id.file) (slice_get a.volumes id.volume)) (sym (account_at-accounts_of store.tenants id.tenant)) ∙ h) in
+    let seen : option_and_then (limit_in id.file) (option_map volume_size (slice_get tenant.volumes id.volume)) ≡ Some n =
+    ap (option_and_then (limit_in id.file)) (sym (slice_get-map volume_size tenant.volumes id.volume)) ∙ (ap (λ (a : Account). option_and_then (limit_in id.file) (slice_get a.volumes id.volume)) (sym (account_at-store_accounts store.tenants id.tenant)) ∙ h) in
     let parts = in_volumes tenant.volumes id.volume id.file n (slice_get tenant.volumes id.volume) refl seen in
     record { tenant = in_tenants store.tenants id.tenant id.volume parts.0; volume = parts.0; file = parts.1; bytes = parts.2 }
 

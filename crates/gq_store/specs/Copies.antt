@@ -49,27 +49,27 @@ copy_at store id = copy_in (volume_in (tenant_in store.tenants id.tenant) id.vol
 -- ---- which files are there
 
 -- the volume's size
-abbrev pub row_of : VolumeCopies → VolumeRow
-row_of volume = record { files = length volume.copies; blocks = volume.blocks }
+abbrev pub volume_size : VolumeCopies → VolumeRow
+volume_size volume = record { files = length volume.copies; blocks = volume.blocks }
 
 -- the tenant's account: its share, and the sizes of its volumes
-abbrev pub account_of : TenantCopies → Account
-account_of tenant = record { share = tenant.share; volumes = map row_of tenant.volumes }
+abbrev pub copies_account : TenantCopies → Account
+copies_account tenant = record { share = tenant.share; volumes = map volume_size tenant.volumes }
 
 -- the accounts of the tenants, as a desk has them
-abbrev pub accounts_of : StoreCopies → List Account
-accounts_of store = map account_of store.tenants
+abbrev pub store_accounts : StoreCopies → List Account
+store_accounts store = map copies_account store.tenants
 
 abbrev pub tenant_account : StoreCopies → ℕ → Account
-tenant_account store tenant = account_at (accounts_of store) tenant
+tenant_account store tenant = account_at (store_accounts store) tenant
 
 -- the file at that place of the next volume of the tenant
-abbrev pub next_file : StoreCopies → ℕ → ℕ → FileId
-next_file store tenant place = record { tenant = tenant; volume = length (tenant_account store tenant).volumes; file = place }
+abbrev pub file_of_next_volume : StoreCopies → ℕ → ℕ → FileId
+file_of_next_volume store tenant place = record { tenant = tenant; volume = length (tenant_account store tenant).volumes; file = place }
 
 -- how many bytes the file may hold, where it is there
 abbrev pub file_limit : StoreCopies → FileId → Option ℕ
-file_limit store id = limit_of (accounts_of store) id
+file_limit store id = limit_of (store_accounts store) id
 
 -- ---- blocks
 

@@ -4,7 +4,7 @@ use Rattle.gq_tag.specs.declared.StoredCopy.{StoredCopy}
 use Rattle.gq_tag.specs.declared.Body.{Body}
 use Rattle.gq_tag.specs.declared.Body.TheVariants.{Copy, Store, Stored}
 use Rattle.gq_tag.specs.declared.Message.{Message}
-use Rattle.gq_tag.specs.Tag.{newer}
+use Rattle.gq_tag.specs.Tag.{newer_of}
 use Rattle.gq_store.specs.Copies.{StoreCopies, file_limit}
 use Rattle.gq_store.specs.declared.store.ServeRefused.{ServeRefused}
 use Rattle.gq_store.specs.declared.store.ServeRefused.TheVariants.{File, Long}
@@ -15,12 +15,12 @@ answer_body held (Store copy) = Stored
 answer_body held _ = Copy held
 
 -- the answer to a message, in the same round
-abbrev pub reply_of : StoredCopy → Message → Message
-reply_of held m = record m { body = answer_body held m.body }
+abbrev pub server_reply : StoredCopy → Message → Message
+server_reply held m = record m { body = answer_body held m.body }
 
 -- the copy that is held after a message of that body came
 abbrev pub held_after : StoredCopy → Body → StoredCopy
-held_after held (Store copy) = newer held copy
+held_after held (Store copy) = newer_of held copy
 held_after held _ = held
 
 -- why a body isn't served, in a file of that limit in bytes

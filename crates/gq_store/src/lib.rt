@@ -6,6 +6,3 @@ mod store;
 mod volumes;
 
 pub use store::{Put, ServeRefused, ServerStore};
-
-#[cfg(test)]
-mod tests;

@@ -2,9 +2,9 @@
 ghost use Rattle.std.specs.Prelude.{◌≡◌, ◌≢◌, ◌↔◌, ℕ, ◌+◌, ◌*◌, ◌^◌, ◌<◌, ◌≤◌, [], ◌++◌, length, map, vec_len, vec_capacity, None, Some, true, IfOk, IfErr, IfSome, OnOk, OnErr, IsErrOf, IsSome, IsTrue, slice_set};
 ghost use Rattle.std.specs.List.{sum_by};
 ghost use Rattle.gq_tag.specs.declared.FileId.{FileId};
-ghost use Rattle.gq_tag.specs.Tag.{is_less, newer, first_copy, to_server};
+ghost use Rattle.gq_tag.specs.Tag.{is_less, newer_of, first_copy, to_server};
 ghost use Rattle.gq_desk.specs.Volumes.{with_volume, free_of};
-ghost use Rattle.gq_store.specs.Copies.{TenantCopies, copy_at, accounts_of, tenant_account, next_file, file_limit, tenant_taken, blocks_taken, blocks_free, empty_store, new_tenant, tenants_with};
+ghost use Rattle.gq_store.specs.Copies.{TenantCopies, copy_at, store_accounts, tenant_account, file_of_next_volume, file_limit, tenant_taken, blocks_taken, blocks_free, empty_store, new_tenant, tenants_with};
 
 use crate::entry::Entry;
 use crate::volumes::Tenant;
@@ -13,6 +13,7 @@ use gq_desk::{Plan, TenantRow};
 use gq_pool::Pool;
 use gq_tag::{Body, FileId, Message, StoredCopy, Tag};
 use std::alloc::{AllocError, Global};
+use std::fmt::{self, Debug, Formatter, Write};
 use std::marker::Model;
 use thiserror::Error;
 
@@ -31,7 +32,7 @@ pub enum ServeRefused {
     /// The file is not there.
     #[error("no such file")]
     File,
-    /// The content is longer than 64 bytes for each block of the file.
+    /// The content is longer than the blocks of the file: [`gq_pool::BLOCK_BYTES`] bytes for each.
     #[error("content over the file's limit")]
     Long,
     /// Memory is wanting, for the content of a copy that an ask is to be given.
@@ -40,7 +41,7 @@ pub enum ServeRefused {
 }
 
 /// The copies of all tenants' files on one server. Contracts see the copies by tenant, volume and file, and the number
-/// of blocks in all (`StoreCopies`).
+/// of blocks in all, free and taken (`StoreCopies`).
 ///
 /// All blocks are taken from memory at the start. Each tenant's files stay within its share of them, and the shares
 /// within the blocks, so that a `put` finds the blocks that it needs whatever the other tenants do. A store that is let
@@ -61,6 +62,16 @@ impl Model for ServerStore {
     ghost view = { λ s. record { blocks = s.blocks; tenants = s.tenants.items } };
 
     ghost invariant = { λ s. Balanced s.blocks s.pool s.tenants.items };
+}
+
+// The number of blocks in all, and of those that no copy takes.
+impl Debug for ServerStore {
+    fn fmt<W: Write>(&self, f: &mut Formatter<W>) -> fmt::Result {
+        f.debug_struct("ServerStore")
+            .field("blocks", &self.blocks)
+            .field("free", &self.pool.free())
+            .finish_non_exhaustive()
+    }
 }
 
 impl Drop for ServerStore {
@@ -112,7 +123,7 @@ fn reply(message: &Message, body: Body) -> Message
 }
 
 impl ServerStore {
-    ghost use Rattle.gq_store.specs.Serving.{serve_fault, reply_of, held_after};
+    ghost use Rattle.gq_store.specs.Serving.{serve_fault, server_reply, held_after};
 
     /// The store of a server of the plan: no volume is there, and all blocks are free. It makes one request for memory
     /// for each block, and one for the table of the tenants.
@@ -140,18 +151,18 @@ impl ServerStore {
         }
     }
 
-    /// Adds the tenant's next volume, of so many files of at most so many blocks each: each file has its first copy,
-    /// tag (0,0) and empty. The volume's blocks have to fit in what its volumes leave of the tenant's share. It makes as
-    /// many requests for memory for many files as for one, and takes no block.
+    /// Adds the next volume of the tenant at that place of the plan: so many files, of at most so many blocks each. Each
+    /// file has its first copy, tag (0,0) and empty. The volume's blocks have to fit in what the volumes before leave of
+    /// the tenant's share, in blocks. It makes as many requests for memory for many files as for one, and takes no block.
     ///
     /// `AllocError` is want of memory: the store is then as it was.
     pub fn add_files(&mut self, tenant: u8, files: u32, blocks: u32) -> Result<(), AllocError>
-        requires tenant { tenant < length (accounts_of self.old) }
+        requires tenant { tenant < length (store_accounts self.old) }
         requires share { files * blocks ≤ free_of (tenant_account self.old tenant) }
-        ensures added { OnOk result (accounts_of self.new ≡ slice_set (accounts_of self.old) tenant
+        ensures added { OnOk result (store_accounts self.new ≡ slice_set (store_accounts self.old) tenant
             (with_volume (record { files = files; blocks = blocks }) (tenant_account self.old tenant))) }
         ensures first { OnOk result ((place : ℕ) → place < files
-            → copy_at self.new (next_file self.old tenant place) ≡ first_copy) }
+            → copy_at self.new (file_of_next_volume self.old tenant place) ≡ first_copy) }
         ensures others { OnOk result ((file : FileId) → IsSome (file_limit self.old file)
             → copy_at self.new file ≡ copy_at self.old file) }
         ensures blocks { self.new.blocks ≡ self.old.blocks }
@@ -168,6 +179,15 @@ impl ServerStore {
         ensures { result.now ≡ copy_at self.now file }
     {
         self.tenants[file.tenant as usize].entry(file.volume, file.file)
+    }
+
+    // Whether the tag is greater than that of the file's copy.
+    #[tactic(auto, using(crate::proofs::Changed::lt_is_less))]
+    fn is_newer(&self, file: FileId, tag: Tag) -> bool
+        requires { IsSome (file_limit self.now file) }
+        ensures { result ≡ is_less (copy_at self.now file).tag tag }
+    {
+        self.tag(file) < tag
     }
 
     // How many bytes the file may hold, where it is there.
@@ -215,20 +235,20 @@ impl ServerStore {
 
     /// Puts a copy of the file where its tag is greater than that of the file's copy, so that the file's copy is the
     /// greatest that was put; one that comes late, or twice, changes nothing. (So do the servers of Attiya, Bar-Noy and
-    /// Dolev, Sharing memory robustly in message-passing systems, JACM 42(1), 1995.) The content has at most 64 bytes
-    /// for each block of the file. It takes no memory and always finds the blocks.
+    /// Dolev, Sharing memory robustly in message-passing systems, JACM 42(1), 1995.) The content has at most
+    /// [`gq_pool::BLOCK_BYTES`] bytes for each block of the file. It takes no memory and always finds the blocks.
     pub fn put(&mut self, file: FileId, tag: Tag, bytes: &[u8]) -> Put
         requires limit { IfSome (file_limit self.old file) (λ limit. length bytes.now ≤ limit) }
         requires there { IsSome (file_limit self.old file) }
         ensures kept { (result ≡ Put.Kept) ↔ IsTrue (is_less (copy_at self.old file).tag tag) }
         ensures copy { copy_at self.new file
-            ≡ newer (copy_at self.old file) (record { tag = tag; bytes = bytes.now }) }
+            ≡ newer_of (copy_at self.old file) (record { tag = tag; bytes = bytes.now }) }
         ensures others { (other : FileId) → other ≢ file → copy_at self.new other ≡ copy_at self.old other }
-        ensures accounts { accounts_of self.new ≡ accounts_of self.old }
+        ensures accounts { store_accounts self.new ≡ store_accounts self.old }
         ensures blocks { self.new.blocks ≡ self.old.blocks }
         ensures older { result ≡ Put.Older → self.new ≡ self.old }
     {
-        if self.tag(file) < tag {
+        if self.is_newer(file, tag) {
             self.replace(file, tag, bytes);
             Put::Kept
         } else {
@@ -273,11 +293,11 @@ impl ServerStore {
             → serve_fault self.old message.now ≡ Some fault) }
         ensures memory { IsErrOf result ServeRefused.Memory → serve_fault self.old message.now ≡ None }
         ensures memory_for_asks { IsErrOf result ServeRefused.Memory → message.now.body ≡ Body.Ask }
-        ensures reply { IfOk result (λ reply. reply ≡ reply_of (copy_at self.old message.now.file) message.now) }
+        ensures reply { IfOk result (λ reply. reply ≡ server_reply (copy_at self.old message.now.file) message.now) }
         ensures held { OnOk result (copy_at self.new message.now.file
             ≡ held_after (copy_at self.old message.now.file) message.now.body) }
         ensures others { (other : FileId) → other ≢ message.now.file → copy_at self.new other ≡ copy_at self.old other }
-        ensures accounts { accounts_of self.new ≡ accounts_of self.old }
+        ensures accounts { store_accounts self.new ≡ store_accounts self.old }
         ensures blocks { self.new.blocks ≡ self.old.blocks }
         ensures same { OnErr result (self.new ≡ self.old) }
     {

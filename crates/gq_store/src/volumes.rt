@@ -4,10 +4,10 @@ ghost use Rattle.std.specs.Option.{option_and_then};
 ghost use Rattle.gq_desk.specs.Volumes.{limit_in};
 ghost use Rattle.gq_pool.specs.Blocks.{blocks_for};
 ghost use Rattle.gq_tag.specs.Tag.{first_copy};
-ghost use Rattle.gq_store.specs.Copies.{row_of, account_of, copy_in, volume_in, taken, volume_taken, tenant_taken, new_volume, volume_with, tenant_with};
+ghost use Rattle.gq_store.specs.Copies.{volume_size, copies_account, copy_in, volume_in, taken, volume_taken, tenant_taken, new_volume, volume_with, tenant_with};
 
 use crate::entry::Entry;
-use gq_pool::Pool;
+use gq_pool::{BLOCK_BYTES, Pool};
 use gq_tag::Tag;
 use std::alloc::{AllocError, Global};
 use std::marker::Model;
@@ -26,7 +26,7 @@ impl Model for Volume {
     ghost view = { λ v. record { blocks = v.blocks; copies = v.files.items } };
 }
 
-/// The volumes of a tenant in order, and its share of the blocks.
+/// The volumes of a tenant in order, and its share of the server's blocks.
 pub(crate) struct Tenant {
     share: u32,
     volumes: Vec<Volume>,
@@ -57,10 +57,10 @@ impl Volume {
 
     // The bytes that the file may hold, where it is there.
     fn limit(&self, file: u32) -> Option<u64>
-        ensures { result ≡ limit_in file (row_of self.now) }
+        ensures { result ≡ limit_in file (volume_size self.now) }
     {
         if (file as usize) < self.files.len() {
-            Some(64 * u64::from(self.blocks))
+            Some(BLOCK_BYTES as u64 * u64::from(self.blocks))
         } else {
             None
         }
@@ -125,7 +125,7 @@ impl Tenant {
 
     // The bytes that the file may hold, where it is there.
     pub(crate) fn limit(&self, volume: u32, file: u32) -> Option<u64>
-        ensures { result ≡ option_and_then (limit_in file) (slice_get (account_of self.now).volumes volume) }
+        ensures { result ≡ option_and_then (limit_in file) (slice_get (copies_account self.now).volumes volume) }
     {
         self.volumes.get(volume as usize)?.limit(file)
     }

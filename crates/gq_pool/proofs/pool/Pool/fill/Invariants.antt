@@ -1,4 +1,5 @@
 use Rattle.std.proofs.Common.{◌≡◌, ◌+◌, ◌-◌, ◌*◌, ◌≤◌, length, drop}
+use Rattle.gq_pool.specs.declared.TheConstants.{BLOCK_BYTES}
 use Rattle.gq_pool.specs.Blocks.{content_of}
 use Rattle.gq_pool.proofs.pool.Pool.fill.Given as goal
 
@@ -8,7 +9,7 @@ invariant-loop-i l =
     (l.i ≤ l.need)
     × (length l.blocks + l.i ≡ l.need)
     × (length l.self-inside.free + length l.blocks ≡ length l.initial.self-inside.free)
-    × (content_of (l.len - l.i * 64) l.blocks ≡ drop (l.i * 64) l.bytes)
+    × (content_of (l.len - l.i * BLOCK_BYTES) l.blocks ≡ drop (l.i * BLOCK_BYTES) l.bytes)
 
 abbrev pub decreases-loop-i : goal.decreases-loop-i
 decreases-loop-i l = l.i
