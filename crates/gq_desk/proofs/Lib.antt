@@ -1,1 +1,3 @@
 pub mod NamesOfRows
+pub mod SoundRows
+pub mod WordNumbers

@@ -1,5 +1,6 @@
 pub mod CheckedPlan
 pub mod NameBack
+pub mod NameNumbers
 pub mod Names
 pub mod Plans
 pub mod Volumes

@@ -1,8 +1,9 @@
 -- Plans, and the first fault of a table of rows.
-use Rattle.std.specs.Prelude.{ℕ, List, [], ◌∷◌, ◌++◌, Option, Some, None, Bool, ◌&&◌, ◌==◌, not, nat_lt, nat_le, length, sum_by, if◌then◌else◌}
-use Rattle.std.specs.List.{list_any}
+use Rattle.std.specs.Prelude.{◌≡◌, ◌≤◌, true, ℕ, List, [], ◌∷◌, ◌++◌, Option, Some, None, Bool, ◌&&◌, ◌==◌, not, nat_lt, nat_le, length, sum_by, if◌then◌else◌}
+use Rattle.std.specs.List.{list_all, list_any}
 use Rattle.std.specs.Option.{option_or}
 use Rattle.std.specs.Str.{bytes_eq}
+use Rattle.gq_desk.specs.declared.limits.TheConstants.{MOST_TENANTS, MOST_BLOCKS, MOST_SESSIONS, MOST_STEPS}
 use Rattle.gq_desk.specs.Names.{is_name}
 use Rattle.gq_desk.specs.declared.plans.TenantRow.{TenantRow}
 use Rattle.gq_desk.specs.declared.plans.PlanFault.{PlanFault}
@@ -24,14 +25,14 @@ is_in low high n = nat_le low n && nat_le n high
 abbrev pub number_fault : ℕ → TenantRow → Option PlanFault
 number_fault place row =
     if row.share == 0 then Some (ZeroShare place)
-    else if not (is_in 1 16 row.sessions) then Some (Sessions place)
-    else if not (is_in 1 1000000 row.steps) then Some (Steps place)
+    else if not (is_in 1 MOST_SESSIONS row.sessions) then Some (Sessions place)
+    else if not (is_in 1 MOST_STEPS row.steps) then Some (Steps place)
     else None
 
 -- the first fault of a row, those before it being so
 abbrev pub row_fault : List TenantRow → TenantRow → Option PlanFault
 row_fault before row =
-    if nat_le 64 (length before) then Some (TooMany (length before))
+    if nat_le MOST_TENANTS (length before) then Some (TooMany (length before))
     else if list_any (is_of row.name) before then Some (SameName (length before))
     else number_fault (length before) row
 
@@ -54,3 +55,13 @@ table_fault blocks rows =
 -- the first fault of a plan
 abbrev pub plan_fault : ℕ → List TenantRow → Option PlanFault
 plan_fault blocks rows = option_or (rows_fault [] rows) (table_fault blocks rows)
+
+-- `Plan::check` finds no fault: 1 to 64 rows of names and ranges of their own, whose shares sum to at most the blocks
+pub record IsSound (blocks : ℕ) (rows : List TenantRow) : Type 0 where
+  pub some : 1 ≤ length rows
+  pub few : length rows ≤ MOST_TENANTS
+  pub least : 1 ≤ blocks
+  pub bound : blocks ≤ MOST_BLOCKS
+  pub named : list_all is_named rows ≡ true
+  pub within : shares rows ≤ blocks
+  pub fault : plan_fault blocks rows ≡ None

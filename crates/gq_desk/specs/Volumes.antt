@@ -1,11 +1,14 @@
 -- A tenant's volumes inside its share of every server's blocks.
-use Rattle.std.specs.Prelude.{ℕ, ◌+◌, ◌-◌, ◌*◌, List, [], ◌∷◌, ◌++◌, Option, Some, None, Bool, ◌&&◌, not, nat_lt, nat_le, length, slice_get, unwrap_or, sum_by, if◌then◌else◌}
+use Rattle.std.specs.Prelude.{◌≡◌, ℕ, ◌+◌, ◌-◌, ◌*◌, List, [], ◌∷◌, ◌++◌, Option, Some, None, Bool, ◌&&◌, not, nat_lt, nat_le, length, slice_get, unwrap_or, sum_by, if◌then◌else◌}
 use Rattle.std.specs.Option.{option_and_then}
+use Rattle.gq_pool.specs.declared.TheConstants.{BLOCK_BYTES}
 use Rattle.gq_tag.specs.declared.FileId.{FileId}
+use Rattle.gq_tag.specs.declared.TheConstants.{MOST_FILES}
+use Rattle.gq_desk.specs.declared.limits.TheConstants.{MOST_FILE_BLOCKS, MOST_VOLUMES}
 use Rattle.gq_desk.specs.Plans.{is_in}
 use Rattle.gq_desk.specs.declared.volumes.VolumeRow.{VolumeRow}
 use Rattle.gq_desk.specs.declared.volumes.OpenRefused.{OpenRefused}
-use Rattle.gq_desk.specs.declared.volumes.OpenRefused.TheVariants.{Size, Volumes, Share}
+use Rattle.gq_desk.specs.declared.volumes.OpenRefused.TheVariants.{Size, Volumes, Share, Memory}
 
 -- the blocks that a volume takes of every server
 abbrev pub blocks_of : VolumeRow → ℕ
@@ -15,9 +18,9 @@ blocks_of v = v.files * v.blocks
 abbrev pub reserved : List VolumeRow → ℕ
 reserved volumes = sum_by blocks_of volumes
 
--- a volume has 1 to 64 files of 1 to 16 blocks each
+-- a volume has a file and no more than it may, and so has each file blocks
 abbrev pub is_sized : VolumeRow → Bool
-is_sized v = is_in 1 64 v.files && is_in 1 16 v.blocks
+is_sized v = is_in 1 MOST_FILES v.files && is_in 1 MOST_FILE_BLOCKS v.blocks
 
 -- a tenant's share of every server's blocks, and its volumes in order
 pub record Account : Type 0 where
@@ -28,13 +31,29 @@ pub record Account : Type 0 where
 abbrev pub free_of : Account → ℕ
 free_of account = account.share - reserved account.volumes
 
--- the first cause why the volume is not opened
-abbrev pub open_fault : Account → VolumeRow → Option OpenRefused
+-- why a volume can't be opened
+pub data OpenFault : Type 0 where
+  -- its files or their blocks are too few or too many
+  WrongSize : OpenFault
+  -- the tenant has all the volumes that it may have
+  NoVolumeLeft : OpenFault
+  -- so many blocks are left of the share, and the volume takes more
+  OverShare : (free : ℕ) → OpenFault
+
+-- the first cause why the volume can't be opened
+abbrev pub open_fault : Account → VolumeRow → Option OpenFault
 open_fault account v =
-    if not (is_sized v) then Some Size
-    else if nat_le 64 (length account.volumes) then Some Volumes
-    else if nat_lt (free_of account) (blocks_of v) then Some (Share (free_of account))
+    if not (is_sized v) then Some WrongSize
+    else if nat_le MOST_VOLUMES (length account.volumes) then Some NoVolumeLeft
+    else if nat_lt (free_of account) (blocks_of v) then Some (OverShare (free_of account))
     else None
+
+-- the refusal tells the cause, or want of memory where there is no cause
+abbrev pub IsRefusedFor : Option OpenFault → OpenRefused → Type 0
+IsRefusedFor fault Size = fault ≡ Some WrongSize
+IsRefusedFor fault Volumes = fault ≡ Some NoVolumeLeft
+IsRefusedFor fault (Share free) = fault ≡ Some (OverShare free)
+IsRefusedFor fault Memory = fault ≡ None
 
 -- the account with one volume more
 abbrev pub with_volume : VolumeRow → Account → Account
@@ -50,7 +69,7 @@ account_at accounts t = unwrap_or (slice_get accounts t) no_account
 
 -- how many bytes a file of the volume may hold, where the volume has it
 abbrev pub limit_in : ℕ → VolumeRow → Option ℕ
-limit_in file v = if nat_lt file v.files then Some (64 * v.blocks) else None
+limit_in file v = if nat_lt file v.files then Some (BLOCK_BYTES * v.blocks) else None
 
 -- how many bytes the file may hold, where it is there
 abbrev pub limit_of : List Account → FileId → Option ℕ

@@ -1,17 +1,21 @@
 //! The plan: a grid, the blocks of a server, and the tenants' rows.
 
-ghost use Rattle.std.specs.Prelude.{◌≡◌, ◌≤◌, ◌<◌, ◌≢◌, Some, true, false, IfOk, IfErr, IfSome, IfNone, OnOk, length, slice_get};
+ghost use Rattle.std.specs.Prelude.{◌≡◌, ◌≤◌, ◌<◌, ◌≢◌, Some, None, true, false, IfOk, IfErr, IfSome, IfNone, OnOk, length, slice_get};
 ghost use Rattle.std.specs.List.{list_all, list_any, position_from};
-ghost use Rattle.gq_desk.specs.Plans.{number_fault, row_fault, rows_fault, plan_fault, shares, is_of, is_in, is_named};
+ghost use Rattle.gq_desk.specs.Plans.{number_fault, row_fault, rows_fault, plan_fault, shares, is_of, is_in, is_named, IsSound};
 
+use crate::likely::Likely;
+use crate::limits::{MOST_BLOCKS, MOST_SESSIONS, MOST_STEPS, MOST_TENANTS};
 use crate::names::Name;
 use crate::rows::Rows;
 use gq_grid::Grid;
 use std::alloc::{AllocError, Global};
+use std::fmt::{self, Debug, Formatter, Write};
 use std::marker::Model;
 use thiserror::Error;
 
-/// What the plan says of a tenant.
+/// What the plan says of a tenant: its name, its share in blocks of every server, the number of its sessions, and how many
+/// lines it may send.
 #[derive(Clone, Copy, Debug, Drop)]
 pub struct TenantRow {
     pub name: Name,
@@ -32,16 +36,16 @@ pub enum PlanFault {
     /// The share is 0.
     #[error("zeroshare")]
     ZeroShare { row: usize },
-    /// The sessions are not 1 to 16.
+    /// The sessions are not 1 to [`MOST_SESSIONS`].
     #[error("sessions")]
     Sessions { row: usize },
-    /// The steps are not 1 to 1,000,000.
+    /// The steps are not 1 to [`MOST_STEPS`].
     #[error("steps")]
     Steps { row: usize },
-    /// The shares of all rows sum to more than the blocks of a server.
+    /// The shares of all rows sum to more blocks than a server has: `sum` blocks and `blocks`.
     #[error("overblocks {sum} {blocks}")]
     OverBlocks { sum: u64, blocks: u32 },
-    /// The row is the 65th.
+    /// There are [`MOST_TENANTS`] rows before it.
     #[error("toomany")]
     TooMany { row: usize },
     /// Memory is wanting.
@@ -49,27 +53,35 @@ pub enum PlanFault {
     Memory,
 }
 
-/// A grid, the blocks of a server, and the rows of 1 to 64 tenants, which have names of their own and shares that sum to
-/// at most the blocks.
+/// A grid, the blocks of a server, and the rows of the tenants, in which [`Plan::check`] found no fault.
 #[derive(Drop)]
 pub struct Plan {
     alloc: Global,
     grid: Grid,
     blocks: u32,
     rows: Rows,
+    likely: Likely,
 }
 
 impl Model for Plan {
-    ghost use Rattle.std.specs.Prelude.{◌≡◌, ◌≤◌, length, true};
-    ghost use Rattle.std.specs.List.{list_all};
     ghost use Rattle.gq_desk.specs.CheckedPlan.{CheckedPlan};
-    ghost use Rattle.gq_desk.specs.Plans.{is_named, shares};
+    ghost use Rattle.gq_desk.specs.Plans.{IsSound};
 
     ghost Value = { CheckedPlan };
 
     ghost view = { λ p. record { grid = p.grid; blocks = p.blocks; rows = p.rows } };
 
-    ghost invariant = { λ p. (1 ≤ length p.rows) × (length p.rows ≤ 64) × (shares p.rows ≤ p.blocks) × (p.blocks ≤ 4096) × (list_all is_named p.rows ≡ true) };
+    ghost invariant = { λ p. IsSound p.blocks p.rows };
+}
+
+impl Debug for Plan {
+    fn fmt<W: Write>(&self, f: &mut Formatter<W>) -> fmt::Result {
+        f.debug_struct("Plan")
+            .field("grid", &self.grid)
+            .field("blocks", &self.blocks)
+            .field("rows", &self.rows())
+            .finish()
+    }
 }
 
 // The first number of the row that is out of its range.
@@ -78,9 +90,9 @@ fn number_fault(place: usize, row: &TenantRow) -> Option<PlanFault>
 {
     if row.share == 0 {
         Some(PlanFault::ZeroShare { row: place })
-    } else if !is_in(1, 16, row.sessions) {
+    } else if !is_in(1, MOST_SESSIONS, row.sessions) {
         Some(PlanFault::Sessions { row: place })
-    } else if !is_in(1, 1_000_000, row.steps) {
+    } else if !is_in(1, MOST_STEPS, row.steps) {
         Some(PlanFault::Steps { row: place })
     } else {
         None
@@ -96,15 +108,15 @@ fn is_in(low: u32, high: u32, n: u32) -> bool
 // The first fault of a row, those before it being so.
 fn row_fault(before: &Rows, row: &TenantRow) -> Option<PlanFault>
     ensures fault { result ≡ row_fault before.now row.now }
-    ensures few { IfNone result (length before.now < 64) }
+    ensures few { IfNone result (length before.now < MOST_TENANTS) }
     ensures fresh { IfNone result (list_any (is_of row.now.name) before.now ≡ false) }
     ensures named { is_named row.now ≡ true }
 {
-    let _name = row.name.as_bytes();
+    let name = row.name.as_bytes();
     let place = before.as_slice().len();
-    if place >= 64 {
+    if place >= MOST_TENANTS {
         Some(PlanFault::TooMany { row: place })
-    } else if before.has(&row.name) {
+    } else if before.has(name) {
         Some(PlanFault::SameName { row: place })
     } else {
         number_fault(place, row)
@@ -113,7 +125,7 @@ fn row_fault(before: &Rows, row: &TenantRow) -> Option<PlanFault>
 
 // The blocks that the tenants may reserve.
 fn shares(rows: &[TenantRow]) -> u64
-    requires { length rows.now ≤ 64 }
+    requires { length rows.now ≤ MOST_TENANTS }
     ensures { result ≡ shares rows.now }
 {
     let mut sum = 0;
@@ -134,7 +146,7 @@ impl Plan {
         rows: &[TenantRow],
     ) -> Result<Plan, PlanFault>
         requires low { 1 ≤ blocks }
-        requires high { blocks ≤ 4096 }
+        requires high { blocks ≤ MOST_BLOCKS }
         ensures ok { IfOk result (λ plan. plan ≡ record { grid = grid; blocks = blocks; rows = rows.now }) }
         ensures sound { OnOk result (plan_fault blocks rows.now ≡ None) }
         ensures fault { IfErr result (λ fault. fault ≢ PlanFault.Memory → plan_fault blocks rows.now ≡ Some fault) }
@@ -155,15 +167,17 @@ impl Plan {
         if sum > u64::from(blocks) {
             return Err(PlanFault::OverBlocks { sum, blocks });
         }
+        let likely = Likely::of(held.as_slice());
         Ok(Plan {
             alloc,
             grid,
             blocks,
             rows: held,
+            likely,
         })
     }
 
-    /// An equal plan.
+    /// An equal plan. `AllocError` is want of memory.
     pub fn copy(&self) -> Result<Plan, AllocError>
         ensures { IfOk result (λ plan. plan ≡ self.now) }
     {
@@ -172,6 +186,7 @@ impl Plan {
             grid: self.grid,
             blocks: self.blocks,
             rows: self.rows.copy(self.alloc)?,
+            likely: self.likely,
         })
     }
 
@@ -179,19 +194,44 @@ impl Plan {
     pub fn find(&self, name: &Name) -> Option<u8>
         ensures place { result ≡ position_from (is_of name.now) 0 self.now.rows }
         ensures within { IfSome result (λ place. place < length self.now.rows) }
-        ensures named { list_all is_named self.now.rows ≡ true }
     {
-        let place = self.rows.place(name)?;
+        self.find_word(name.as_bytes())
+    }
+
+    /// The place, from 0, of the tenant of which the word is the name; none also where the word is no name.
+    pub fn find_word(&self, word: &[u8]) -> Option<u8>
+        ensures place { result ≡ position_from (is_of word.now) 0 self.now.rows }
+        ensures within { IfSome result (λ place. place < length self.now.rows) }
+    {
+        if let Some(place) = self.likely_place(word) {
+            return Some(place as u8);
+        }
+        let place = self.rows.place(word)?;
         Some(place as u8)
+    }
+
+    // The place of the row of the word, where it is the likely one; none says nothing.
+    fn likely_place(&self, word: &[u8]) -> Option<usize>
+        ensures place { IfSome result (λ place. position_from (is_of word.now) 0 self.now.rows ≡ Some place) }
+        ensures within { IfSome result (λ place. place < length self.now.rows) }
+        ensures few { length self.now.rows ≤ MOST_TENANTS }
+    {
+        let rows = self.rows();
+        let place = self.likely.place(word);
+        if place < rows.len() && rows[place].name.is(word) {
+            Some(place)
+        } else {
+            None
+        }
     }
 
     /// The number of tenants.
     pub fn tenants(&self) -> usize
         ensures value { result ≡ length self.now.rows }
         ensures some { 1 ≤ result }
-        ensures bound { result ≤ 64 }
+        ensures bound { result ≤ MOST_TENANTS }
     {
-        self.rows.as_slice().len()
+        self.rows().len()
     }
 
     /// The servers.
@@ -205,14 +245,16 @@ impl Plan {
     pub fn blocks(&self) -> u32
         ensures value { result ≡ self.now.blocks }
         ensures shares { shares self.now.rows ≤ result }
-        ensures bound { result ≤ 4096 }
+        ensures least { 1 ≤ result }
+        ensures bound { result ≤ MOST_BLOCKS }
     {
         self.blocks
     }
 
     /// The rows of the tenants, in order.
     pub fn rows(&self) -> &[TenantRow]
-        ensures { result.now ≡ self.now.rows }
+        ensures rows { result.now ≡ self.now.rows }
+        ensures sound { IsSound self.now.blocks result.now }
     {
         self.rows.as_slice()
     }
@@ -220,8 +262,9 @@ impl Plan {
     /// A tenant's row.
     pub fn row(&self, tenant: u8) -> &TenantRow
         requires { tenant < length self.now.rows }
-        ensures { slice_get self.now.rows tenant ≡ Some result.now }
+        ensures row { slice_get self.now.rows tenant ≡ Some result.now }
+        ensures ranges { number_fault tenant result.now ≡ None }
     {
-        &self.rows.as_slice()[tenant as usize]
+        &self.rows()[tenant as usize]
     }
 }

@@ -1,32 +1,35 @@
 //! Rows of tenants, by place and by name.
 
-ghost use Rattle.std.specs.Prelude.{◌≡◌, ◌++◌, ◌∷◌, ◌<◌, [], false, IfOk, IfSome, OnOk, OnErr, length};
-ghost use Rattle.std.specs.List.{list_any, position_from};
-ghost use Rattle.gq_desk.specs.Plans.{is_of};
+ghost use Rattle.std.specs.Prelude.{◌≡◌, ◌++◌, ◌∷◌, ◌<◌, [], false, true, IfOk, IfSome, OnOk, OnErr, length};
+ghost use Rattle.std.specs.List.{list_all, list_any, position_from};
+ghost use Rattle.gq_desk.specs.Plans.{is_of, is_named};
 
-use crate::names::Name;
+use crate::names::word_number;
 use crate::plans::TenantRow;
 use indexmap::IndexSet;
 use std::alloc::{AllocError, Global};
 use std::marker::Model;
 
-// Rows in order. A name is found without a walk.
+// Rows in order. A name is found without a walk, by its number.
 #[derive(Drop)]
 pub struct Rows {
     rows: Vec<TenantRow>,
-    names: IndexSet<Name>,
+    numbers: IndexSet<u128>,
 }
 
 impl Model for Rows {
-    ghost use Rattle.std.specs.Prelude.{◌≡◌, List, map};
+    ghost use Rattle.std.specs.Prelude.{◌≡◌, List, map, true};
+    ghost use Rattle.std.specs.List.{list_all};
     ghost use Rattle.indexmap.specs.IndexSet.{keys};
     ghost use Rattle.gq_desk.specs.declared.plans.TenantRow.{TenantRow};
+    ghost use Rattle.gq_desk.specs.NameNumbers.{word_number};
+    ghost use Rattle.gq_desk.specs.Plans.{is_named};
 
     ghost Value = { List TenantRow };
 
     ghost view = { λ r. r.rows.items };
 
-    ghost invariant = { λ r. keys r.names ≡ map (λ row. row.name) r.rows.items };
+    ghost invariant = { λ r. (keys r.numbers ≡ map (λ row. word_number row.name) r.rows.items) × (list_all is_named r.rows.items ≡ true) };
 }
 
 impl Rows {
@@ -36,25 +39,24 @@ impl Rows {
     {
         Rows {
             rows: Vec::new(alloc),
-            names: IndexSet::new(alloc),
+            numbers: IndexSet::new(alloc),
         }
     }
 
-    // Whether a row is of the name.
-    #[tactic(auto, using(crate::proofs::NamesOfRows::any_of))]
-    pub fn has(&self, name: &Name) -> bool
-        ensures { result ≡ list_any (is_of name.now) self.now }
+    // Whether a row is of the word.
+    pub fn has(&self, word: &[u8]) -> bool
+        ensures { result ≡ list_any (is_of word.now) self.now }
     {
-        self.names.contains(name)
+        self.place(word).is_some()
     }
 
-    // The place of the first row of the name.
-    #[tactic(auto, using(crate::proofs::NamesOfRows::place_of))]
-    pub fn place(&self, name: &Name) -> Option<usize>
-        ensures place { result ≡ position_from (is_of name.now) 0 self.now }
+    // The place of the first row of the word.
+    pub fn place(&self, word: &[u8]) -> Option<usize>
+        ensures place { result ≡ position_from (is_of word.now) 0 self.now }
         ensures within { IfSome result (λ place. place < length self.now) }
     {
-        self.names.get_index_of(name)
+        let numbers = &self.numbers;
+        numbers.get_index_of(&word_number(word)?)
     }
 
     // Adds a row of a new name.
@@ -64,14 +66,15 @@ impl Rows {
         ensures err { OnErr result (self.new ≡ self.old) }
     {
         self.rows.reserve(1)?;
-        self.names.insert(row.name)?;
+        self.numbers.insert(row.name.number())?;
         self.rows.push_reserved(row);
         Ok(())
     }
 
     // The rows in order.
     pub fn as_slice(&self) -> &[TenantRow]
-        ensures { result.now ≡ self.now }
+        ensures rows { result.now ≡ self.now }
+        ensures named { list_all is_named result.now ≡ true }
     {
         self.rows.as_slice()
     }
@@ -82,7 +85,7 @@ impl Rows {
     {
         Ok(Rows {
             rows: Vec::from_slice(alloc, self.rows.as_slice())?,
-            names: self.names.clone()?,
+            numbers: self.numbers.clone()?,
         })
     }
 }

@@ -1,10 +1,12 @@
 //! Volumes of the tenants, each inside its tenant's share of every server's blocks.
 
-ghost use Rattle.std.specs.Prelude.{◌≡◌, ◌≢◌, ◌<◌, ◌≤◌, ◌*◌, ◌+◌, [], None, Some, IfOk, IfErr, OnOk, OnErr, IsErrOf, IfNone, length, map, slice_set};
-ghost use Rattle.gq_desk.specs.Volumes.{Account as Holding, open_fault, with_volume, account_at, blocks_of, reserved, free_of, limit_in, limit_of};
+ghost use Rattle.std.specs.Prelude.{◌≡◌, ◌<◌, ◌≤◌, ◌*◌, ◌+◌, [], None, Some, IfOk, IfErr, OnOk, OnErr, IfSome, IfNone, length, map, slice_set};
+ghost use Rattle.gq_desk.specs.Volumes.{Account as Holding, open_fault, IsRefusedFor, with_volume, account_at, blocks_of, reserved, free_of, limit_in, limit_of};
 
+use crate::limits::{MOST_FILE_BLOCKS, MOST_VOLUMES};
 use crate::plans::Plan;
-use gq_tag::FileId;
+use gq_pool::BLOCK_BYTES;
+use gq_tag::{FileId, MOST_FILES};
 use std::alloc::{AllocError, Global};
 use std::marker::Model;
 use thiserror::Error;
@@ -34,13 +36,13 @@ impl Model for VolumeRows {
 /// Why a volume is not opened. The causes are tested in this order.
 #[derive(Clone, Copy, Debug, PartialEq, Eq, Error)]
 pub enum OpenRefused {
-    /// The files are not 1 to 64, or the blocks of a file not 1 to 16.
+    /// The files are not 1 to [`MOST_FILES`], or the blocks of a file not 1 to [`MOST_FILE_BLOCKS`].
     #[error("size")]
     Size,
-    /// The tenant has 64 volumes already.
+    /// The tenant has [`MOST_VOLUMES`] volumes already.
     #[error("volumes")]
     Volumes,
-    /// The volume's blocks are more than are left of the share: `free`.
+    /// The volume's blocks are more than the `free` blocks that are left of the share.
     #[error("share {free}")]
     Share { free: u32 },
     /// Memory is wanting.
@@ -49,7 +51,7 @@ pub enum OpenRefused {
 }
 
 // A tenant's volumes, and how many blocks of its share no volume takes.
-#[derive(Drop)]
+#[derive(Debug, Drop)]
 struct Account {
     share: u32,
     free: u32,
@@ -59,13 +61,14 @@ struct Account {
 impl Model for Account {
     ghost use Rattle.std.specs.Prelude.{◌≡◌, ◌+◌, ◌≤◌, length, true};
     ghost use Rattle.std.specs.List.{list_all};
+    ghost use Rattle.gq_desk.specs.declared.limits.TheConstants.{MOST_VOLUMES};
     ghost use Rattle.gq_desk.specs.Volumes.{Account as Holding, reserved, is_sized};
 
     ghost Value = { Holding };
 
     ghost view = { λ a. record { share = a.share; volumes = a.volumes.items } };
 
-    ghost invariant = { λ a. (a.free + reserved a.volumes.items ≡ a.share) × (length a.volumes.items ≤ 64) × (list_all is_sized a.volumes.items ≡ true) };
+    ghost invariant = { λ a. (a.free + reserved a.volumes.items ≡ a.share) × (length a.volumes.items ≤ MOST_VOLUMES) × (list_all is_sized a.volumes.items ≡ true) };
 }
 
 impl Account {
@@ -82,14 +85,19 @@ impl Account {
 
     // The first cause why the volume is not opened.
     fn fault(&self, volume: VolumeRow) -> Option<OpenRefused>
-        ensures fault { result ≡ open_fault self.now volume }
+        ensures fault { IfSome result (IsRefusedFor (open_fault self.now volume)) }
+        ensures none { IfNone result (open_fault self.now volume ≡ None) }
         ensures fits { IfNone result (volume.files * volume.blocks ≤ free_of self.now) }
-        ensures few { IfNone result (length self.now.volumes < 64) }
+        ensures few { IfNone result (length self.now.volumes < MOST_VOLUMES) }
     {
-        if volume.files < 1 || volume.files > 64 || volume.blocks < 1 || volume.blocks > 16 {
+        if volume.files < 1
+            || volume.files > MOST_FILES
+            || volume.blocks < 1
+            || volume.blocks > MOST_FILE_BLOCKS
+        {
             return Some(OpenRefused::Size);
         }
-        if self.volumes.len() >= 64 {
+        if self.volumes.len() >= MOST_VOLUMES {
             return Some(OpenRefused::Volumes);
         }
         if self.free < volume.files * volume.blocks {
@@ -113,7 +121,7 @@ impl Account {
 }
 
 /// The volumes of all tenants. Of each tenant they take no more blocks than its share, whatever the others open.
-#[derive(Drop)]
+#[derive(Debug, Drop)]
 pub struct Desk {
     accounts: Vec<Account>,
 }
@@ -128,7 +136,7 @@ impl Model for Desk {
 }
 
 impl Desk {
-    /// The desk of the plan's tenants: no volume is there, and each share is free.
+    /// The desk of the plan's tenants: no volume is there, and each share is free. `AllocError` is want of memory.
     pub fn new(alloc: Global, plan: &Plan) -> Result<Desk, AllocError>
         ensures { IfOk result (λ d. d ≡ map (λ row. record { share = row.share; volumes = [] }) plan.now.rows) }
     {
@@ -146,8 +154,7 @@ impl Desk {
         ensures number { IfOk result (λ number. number ≡ length (account_at self.old tenant).volumes) }
         ensures sound { OnOk result (open_fault (account_at self.old tenant) (record { files = files; blocks = blocks }) ≡ None) }
         ensures opened { OnOk result (self.new ≡ slice_set self.old tenant (with_volume (record { files = files; blocks = blocks }) (account_at self.old tenant))) }
-        ensures refused { IfErr result (λ e. e ≢ OpenRefused.Memory → open_fault (account_at self.old tenant) (record { files = files; blocks = blocks }) ≡ Some e) }
-        ensures memory { IsErrOf result OpenRefused.Memory → open_fault (account_at self.old tenant) (record { files = files; blocks = blocks }) ≡ None }
+        ensures refused { IfErr result (IsRefusedFor (open_fault (account_at self.old tenant) (record { files = files; blocks = blocks }))) }
         ensures same { OnErr result (self.new ≡ self.old) }
     {
         let volume = VolumeRow { files, blocks };
@@ -187,7 +194,7 @@ impl Desk {
         let account = self.accounts.get(id.tenant as usize)?;
         let volume = account.volumes.get(id.volume as usize)?;
         if id.file < volume.files {
-            Some(64 * volume.blocks)
+            Some(BLOCK_BYTES as u32 * volume.blocks)
         } else {
             None
         }
