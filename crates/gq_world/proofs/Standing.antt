@@ -8,11 +8,12 @@ use Rattle.std.proofs.lemmas.List.Sums.{fold-append}
 use Rattle.gq_grid.specs.Grid.{Grid, Servers}
 use Rattle.gq_desk.specs.declared.plans.TenantRow.{TenantRow}
 use Rattle.gq_desk.specs.CheckedPlan.{CheckedPlan, nobody, row_at}
-use Rattle.gq_world.specs.declared.events.Event.{Event}
-use Rattle.gq_world.specs.declared.events.Event.TheVariants.{Tenant, Server, Stray}
-use Rattle.gq_world.specs.Told.{Told}
-use Rattle.gq_world.specs.Lone.{Turn, Own, Serving, Trace, Past, State, Known, questions, changed, entry_of, asked, up, up_by, said, told, server_told, is_refusal, lines_after, trace_after, after, past_of, start}
-use Rattle.gq_world.specs.Events.{turn_of, own, server_turn, server_lines, past_at, server_past, IsIn, answer_to}
+use Rattle.gq_model.specs.declared.events.Event.{Event}
+use Rattle.gq_model.specs.declared.events.Event.TheVariants.{Tenant, Server, Stray}
+use Rattle.gq_model.specs.Told.{Told}
+use Rattle.gq_model.specs.Trace.{Turn, Own, Serving, Trace, Past, State, Known, questions, changed, asked, up, up_by, start}
+use Rattle.gq_model.specs.Lone.{entry_of, said, told, server_told, is_refusal, lines_after, trace_after, after, past_of}
+use Rattle.gq_model.specs.Events.{turn_of, own, server_turn, server_lines, past_at, server_past, IsIn, answer_to}
 use Rattle.gq_world.specs.Tables.{Tables, Agrees, up_in, Stands}
 use Rattle.gq_world.specs.Machine.{counted, state_after, next, next_seen, servers_after, Advances, Tells}
 

@@ -51,7 +51,7 @@ stands_first plan up lines desk lanes all none free empty = record {
     up = all_up plan.grid up all;
     account = rw free (fresh_at plan.rows t);
     sent = rw (empty, no_lane (length plan.rows) t) refl;
-    letters = λ n. rw (empty, no_lane (length plan.rows) t) refl;
+    messages = λ n. rw (empty, no_lane (length plan.rows) t) refl;
   };
   servers = all_up plan.grid up all;
 }

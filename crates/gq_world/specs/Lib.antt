@@ -1,6 +1,3 @@
-pub mod Events
-pub mod Lone
 pub mod Machine
-pub mod Shown
+pub mod Running
 pub mod Tables
-pub mod Told

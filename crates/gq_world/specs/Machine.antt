@@ -1,14 +1,19 @@
--- One step, over what is known: how it goes on for each tenant, without the events before.
+-- One step of the world, without the events before it: the induction step of `answer_to` and of `Stands`.
+--
+-- `Advances old event new` says in plain words: if the old tables agreed with what can be known of a tenant's run, the new
+-- ones agree with what is known after that tenant's turn of the event, whosever line it was. `Tells` says that the answer
+-- is what the model tells, given only that the tables agree. Standing.antt in proofs/ composes the two along the events.
 use Rattle.std.specs.Prelude.{◌≡◌, ◌≢◌, ℕ, ◌+◌, ◌<◌, Option, Some, None, nat_le, length, if◌then◌else◌}
 use Rattle.gq_grid.specs.Grid.{Grid, Servers}
 use Rattle.gq_desk.specs.CheckedPlan.{row_at}
 use Rattle.gq_desk.specs.declared.plans.TenantRow.{TenantRow}
-use Rattle.gq_world.specs.declared.events.Event.{Event}
-use Rattle.gq_world.specs.declared.events.Event.TheVariants.{Tenant, Server, Stray}
-use Rattle.gq_world.specs.declared.events.Line.{Line}
-use Rattle.gq_world.specs.Told.{Told, StrayBad}
-use Rattle.gq_world.specs.Lone.{Turn, Own, Serving, State, Known, changed, entry_of, told, line_told, is_refusal, server_told, up_by}
-use Rattle.gq_world.specs.Events.{turn_of}
+use Rattle.gq_model.specs.declared.events.Event.{Event}
+use Rattle.gq_model.specs.declared.events.Event.TheVariants.{Tenant, Server, Stray}
+use Rattle.gq_model.specs.declared.events.Line.{Line}
+use Rattle.gq_model.specs.Told.{Told, StrayBad}
+use Rattle.gq_model.specs.Trace.{Turn, Own, Serving, State, Known, changed, up_by}
+use Rattle.gq_model.specs.Lone.{entry_of, told, line_told, is_refusal, server_told}
+use Rattle.gq_model.specs.Events.{turn_of}
 use Rattle.gq_world.specs.Tables.{Tables, Agrees, up_in}
 
 -- the steps that are taken after a turn

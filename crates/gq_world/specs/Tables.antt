@@ -5,11 +5,11 @@ use Rattle.gq_grid.specs.Sets.{servers}
 use Rattle.gq_grid.specs.declared.ServerSet.{ServerSet}
 use Rattle.gq_desk.specs.CheckedPlan.{CheckedPlan, row_at}
 use Rattle.gq_desk.specs.Volumes.{Account, account_at}
-use Rattle.gq_world.specs.declared.events.Event.{Event}
+use Rattle.gq_model.specs.declared.events.Event.{Event}
 use Rattle.gq_tag.specs.Tag.{message_of}
 use Rattle.gq_post.specs.Lanes.{Lane, lane_at, message_at}
-use Rattle.gq_world.specs.Lone.{Known, asked, account_of, letter_at, up as up_of}
-use Rattle.gq_world.specs.Events.{past_at, server_past}
+use Rattle.gq_model.specs.Trace.{Known, asked, account_of, own_message_at, up as up_of}
+use Rattle.gq_model.specs.Events.{past_at, server_past}
 
 -- the plan, the servers that are up, how many steps of each tenant are taken, the tenants' volumes and messages, and whether memory ran out
 pub record Tables : Type 0 where
@@ -34,7 +34,7 @@ pub record Agrees (w : Tables) (t : ℕ) (known : Known) : Type 0 where
   pub up : up_in w.plan.grid w.up ≡ known.state.up
   pub account : account_at w.desk t ≡ account_of (row_at w.plan t) known.state
   pub sent : length (lane_at w.lanes t) ≡ length known.state.sent
-  pub letters : (n : ℕ) → message_at (lane_at w.lanes t) n ≡ option_map (message_of t) (letter_at known.state n)
+  pub messages : (n : ℕ) → message_at (lane_at w.lanes t) n ≡ option_map (message_of t) (own_message_at known.state n)
 
 -- the tables have what the events leave: for each tenant those that it sees, and for the servers the server lines
 pub record Stands (w : Tables) (events : List Event) : Type 0 where

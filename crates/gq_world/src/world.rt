@@ -2,17 +2,18 @@
 
 ghost use Rattle.std.specs.Prelude.{◌≡◌, ◌+◌, ◌*◌, ◌<◌, ◌≤◌, ◌++◌, ◌∷◌, [], List, true, false, not, nat_le, length, slice_set, IfOk, OnOk, OnErr, IsErr, IfNone};
 ghost use Rattle.gq_desk.specs.CheckedPlan.{row_at};
-ghost use Rattle.gq_world.specs.declared.events.Event.{Event};
-ghost use Rattle.gq_world.specs.Lone.{choice_told, change_refusal};
-ghost use Rattle.gq_world.specs.Events.{IsIn, answer_to};
+ghost use Rattle.gq_model.specs.declared.events.Event.{Event};
+ghost use Rattle.gq_model.specs.Lone.{choice_told, change_refusal};
+ghost use Rattle.gq_model.specs.Events.{IsIn, answer_to};
 ghost use Rattle.gq_world.specs.Tables.{Tables, Stands, taken_at, up_in};
 ghost use Rattle.gq_world.specs.Machine.{Advances, Acts, Tells, TellsLine};
-ghost use Rattle.gq_world.specs.Shown.{shown};
+ghost use Rattle.gq_model.specs.Shown.{shown};
 ghost use Rattle.gq_grid.specs.Grid.{choose};
+ghost use Rattle.gq_grid.specs.declared.TheConstants.{MOST_SERVERS};
 
-use crate::events::{Answer, Event, Line, Refusal, ServerLine, ServerRefusal};
+use crate::chooser::Chooser;
 use gq_desk::{Desk, OpenRefused, Plan, VolumeRows};
-use gq_grid::ServerSet;
+use gq_model::{Answer, Event, Line, Refusal, ServerLine, ServerRefusal};
 use gq_post::Post;
 use std::alloc::{AllocError, Global};
 use std::marker::Model;
@@ -20,11 +21,11 @@ use thiserror::Error;
 
 /// The tenants of a plan and its servers. What it has for a tenant depends on that tenant's lines and the server lines
 /// alone.
-#[derive(Drop)]
+#[derive(Debug, Drop)]
 pub struct World {
     alloc: Global,
     plan: Plan,
-    up: ServerSet,
+    up: Chooser,
     // how many steps of each tenant are taken
     lines: Vec<u32>,
     desk: Desk,
@@ -38,9 +39,9 @@ impl Model for World {
 
     ghost Value = { Tables };
 
-    ghost view = { λ w. record { plan = w.plan; up = w.up; lines = w.lines.items; desk = w.desk; lanes = w.post; ended = w.ended } };
+    ghost view = { λ w. record { plan = w.plan; up = w.up.up; lines = w.lines.items; desk = w.desk; lanes = w.post; ended = w.ended } };
 
-    ghost invariant = { λ w. (length w.lines.items ≡ length w.plan.rows) × (length w.desk ≡ length w.plan.rows) × (length w.post ≡ length w.plan.rows) };
+    ghost invariant = { λ w. (w.up.grid ≡ w.plan.grid) × (length w.lines.items ≡ length w.plan.rows) × (length w.desk ≡ length w.plan.rows) × (length w.post ≡ length w.plan.rows) };
 }
 
 /// Memory was wanting, in this step or in an earlier one. The world answers no further line.
@@ -59,7 +60,7 @@ impl World {
         let lines = vec![in alloc; 0u32; plan.tenants()]?;
         let desk = Desk::new(alloc, &plan)?;
         let post = Post::new(alloc, plan.tenants())?;
-        let up = ServerSet::all(plan.grid());
+        let up = Chooser::new(*plan.grid());
         Ok(World {
             alloc,
             plan,
@@ -80,9 +81,9 @@ impl World {
 
     // What is told to a quorum line.
     fn quorum(&self) -> Answer
-        ensures { shown self.now.plan.grid result ≡ choice_told self.now.plan.grid (choose self.now.plan.grid (up_in self.now.plan.grid self.now.up)) }
+        ensures { shown result ≡ choice_told self.now.plan.grid (choose self.now.plan.grid (up_in self.now.plan.grid self.now.up)) }
     {
-        match self.plan.grid().choose(self.up) {
+        match self.up.choice() {
             Some(choice) => Answer::Quorum(choice),
             None => Answer::Refused(Refusal::NoQuorum),
         }
@@ -108,7 +109,7 @@ impl World {
     // A line of a tenant.
     fn tenant_line(&mut self, tenant: u8, line: &Line) -> Result<Answer, Ended>
         requires { tenant < length self.old.plan.rows }
-        ensures answer { IfOk result (λ answer. Tells self.old (Event.Tenant tenant line.now) (shown self.old.plan.grid answer)) }
+        ensures answer { IfOk result (λ answer. Tells self.old (Event.Tenant tenant line.now) (shown answer)) }
         ensures advances { OnOk result (Advances self.old (Event.Tenant tenant line.now) self.new) }
         ensures plan { self.new.plan ≡ self.old.plan }
         ensures goes { OnOk result (self.new.ended ≡ self.old.ended) }
@@ -123,7 +124,7 @@ impl World {
     // A line of a tenant, whose step is taken.
     fn act(&mut self, tenant: u8, line: &Line) -> Result<Answer, Ended>
         requires { tenant < length self.old.plan.rows }
-        ensures answer { IfOk result (λ answer. TellsLine self.old tenant line.now (shown self.old.plan.grid answer)) }
+        ensures answer { IfOk result (λ answer. TellsLine self.old tenant line.now (shown answer)) }
         ensures acts { OnOk result (Acts self.old tenant line.now self.new) }
         ensures plan { self.new.plan ≡ self.old.plan }
         ensures goes { OnOk result (self.new.ended ≡ self.old.ended) }
@@ -142,7 +143,7 @@ impl World {
     // A line that opens a volume, whose step is taken.
     fn open(&mut self, tenant: u8, files: u32, blocks: u32) -> Result<Answer, Ended>
         requires { tenant < length self.old.plan.rows }
-        ensures answer { IfOk result (λ answer. TellsLine self.old tenant (Line.NewVolume files blocks) (shown self.old.plan.grid answer)) }
+        ensures answer { IfOk result (λ answer. TellsLine self.old tenant (Line.NewVolume files blocks) (shown answer)) }
         ensures acts { OnOk result (Acts self.old tenant (Line.NewVolume files blocks) self.new) }
         ensures plan { self.new.plan ≡ self.old.plan }
         ensures goes { OnOk result (self.new.ended ≡ self.old.ended) }
@@ -163,7 +164,7 @@ impl World {
     // A line that asks for the volumes, whose step is taken.
     fn volumes(&mut self, tenant: u8) -> Result<Answer, Ended>
         requires { tenant < length self.old.plan.rows }
-        ensures answer { IfOk result (λ answer. TellsLine self.old tenant Line.Volumes (shown self.old.plan.grid answer)) }
+        ensures answer { IfOk result (λ answer. TellsLine self.old tenant Line.Volumes (shown answer)) }
         ensures acts { OnOk result (Acts self.old tenant Line.Volumes self.new) }
         ensures plan { self.new.plan ≡ self.old.plan }
         ensures goes { OnOk result (self.new.ended ≡ self.old.ended) }
@@ -185,7 +186,7 @@ impl World {
     // A line that loses a message, whose step is taken.
     fn lose(&mut self, tenant: u8, number: u32) -> Answer
         requires { tenant < length self.old.plan.rows }
-        ensures answer { TellsLine self.old tenant (Line.Lose number) (shown self.old.plan.grid result) }
+        ensures answer { TellsLine self.old tenant (Line.Lose number) (shown result) }
         ensures acts { Acts self.old tenant (Line.Lose number) self.new }
         ensures plan { self.new.plan ≡ self.old.plan }
         ensures goes { self.new.ended ≡ self.old.ended }
@@ -197,11 +198,11 @@ impl World {
         }
     }
 
-    // What a server line of the server is refused for, where it is up already or not.
+    // Why a line is refused by which the server comes up, or goes down where `up` is false.
     fn refusal(&self, server: u32, up: bool) -> Option<ServerRefusal>
         ensures word { result ≡ change_refusal self.now.plan.grid (up_in self.now.plan.grid self.now.up) server up }
         ensures inside { IfNone result (server < self.now.plan.grid.rows * self.now.plan.grid.cols) }
-        ensures bound { self.now.plan.grid.rows * self.now.plan.grid.cols ≤ 64 }
+        ensures bound { self.now.plan.grid.rows * self.now.plan.grid.cols ≤ MOST_SERVERS }
     {
         let servers = self.plan.grid().servers();
         if server as usize >= servers {
@@ -215,7 +216,7 @@ impl World {
 
     // A server line.
     fn server_line(&mut self, line: &ServerLine) -> Answer
-        ensures answer { Tells self.old (Event.Server line.now) (shown self.old.plan.grid result) }
+        ensures answer { Tells self.old (Event.Server line.now) (shown result) }
         ensures advances { Advances self.old (Event.Server line.now) self.new }
         ensures ended { self.new.ended ≡ self.old.ended }
     {
@@ -241,7 +242,7 @@ impl World {
     // One event, without the events before.
     fn advance(&mut self, event: &Event) -> Result<Answer, Ended>
         requires { IsIn self.old.plan event.now }
-        ensures answer { IfOk result (λ answer. Tells self.old event.now (shown self.old.plan.grid answer)) }
+        ensures answer { IfOk result (λ answer. Tells self.old event.now (shown answer)) }
         ensures advances { OnOk result (Advances self.old event.now self.new) }
         ensures plan { self.new.plan ≡ self.old.plan }
         ensures goes { OnOk result (self.new.ended ≡ self.old.ended) }
@@ -260,7 +261,7 @@ impl World {
     pub fn step(&mut self, event: &Event) -> Result<Answer, Ended>
         requires { IsIn self.old.plan event.now }
         ensures answer { IfOk result (λ answer. (events : List Event) → Stands self.old events →
-            shown self.old.plan.grid answer ≡ answer_to self.old.plan events event.now) }
+            shown answer ≡ answer_to self.old.plan events event.now) }
         ensures stands { OnOk result ((events : List Event) → Stands self.old events →
             Stands self.new (events ++ event.now ∷ [])) }
         ensures plan { self.new.plan ≡ self.old.plan }

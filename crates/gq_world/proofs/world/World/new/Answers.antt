@@ -8,6 +8,6 @@ use Rattle.gq_world.proofs.world.World.new.Goals as goal
 
 pub returns-clause-stands : goal.returns-clause-stands
 returns-clause-stands c =
-    let all : servers c.all-up.result ≡ all_servers c.args.plan.grid = rw (← c.grid.ensures) c.all-up.ensures in
+    let all : servers c.new-up.result.up ≡ all_servers c.args.plan.grid = rw (← c.grid.ensures) c.new-up.ensures.up in
     let none : c.in_ok-lines.lines.items ≡ replicate (length c.args.plan.rows) 0 = rw (← c.tenants.ensures.value) (c.in_ok-lines.ensures.items_if_clones_equal (λ y same. same)) in
-    stands_first c.args.plan c.all-up.result c.in_ok-lines.lines.items c.in_ok-desk.desk c.in_ok-post.post all none c.in_ok-desk.ensures (rw (← c.tenants-2.ensures.value) c.in_ok-post.ensures)
+    stands_first c.args.plan c.new-up.result.up c.in_ok-lines.lines.items c.in_ok-desk.desk c.in_ok-post.post all none c.in_ok-desk.ensures (rw (← c.tenants-2.ensures.value) c.in_ok-post.ensures)

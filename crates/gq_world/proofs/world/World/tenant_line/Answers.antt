@@ -3,15 +3,15 @@ use Rattle.std.proofs.Common.{◌≡◌, ◌∙◌, ℕ, ◌<◌, Bool, true, fa
 use Rattle.std.specs.Prelude.{nat_le, not}
 use Rattle.std.specs.Result.{IfOk, OnOk}
 use Rattle.std.proofs.lemmas.Result.{IfOk-weaker, on_ok_weaker}
-use Rattle.gq_world.specs.declared.events.Answer.{Answer}
-use Rattle.gq_world.specs.declared.events.Line.{Line}
-use Rattle.gq_world.specs.declared.events.Line.TheVariants.{Bad, Quorum, NewVolume}
-use Rattle.gq_world.specs.declared.events.Event.TheVariants.{Tenant}
+use Rattle.gq_model.specs.declared.events.Answer.{Answer}
+use Rattle.gq_model.specs.declared.events.Line.{Line}
+use Rattle.gq_model.specs.declared.events.Line.TheVariants.{Bad, Quorum, NewVolume}
+use Rattle.gq_model.specs.declared.events.Event.TheVariants.{Tenant}
 use Rattle.gq_desk.specs.CheckedPlan.{row_at}
 use Rattle.gq_world.specs.Tables.{Tables, taken_at}
 use Rattle.gq_world.specs.Machine.{Acts, Advances, Tells, TellsLine}
-use Rattle.gq_world.specs.Shown.{shown}
-use Rattle.gq_world.proofs.Lines.{taken, taken_advances, taken_tells}
+use Rattle.gq_model.specs.Shown.{shown}
+use Rattle.gq_world.proofs.TenantLines.{taken, taken_advances, taken_tells}
 use Rattle.gq_world.proofs.world.World.tenant_line.Goals as goal
 
 was_left : (left spent : Bool) → left ≡ not spent → left ≡ true → spent ≡ false
@@ -25,10 +25,10 @@ returns-clause-answer c =
     let line : Line = c.args.line.now in
     let left = was_left _ (nat_le (row_at w.plan t).steps (taken_at w t)) c.take_step.ensures.left c.if-not-take_step.false in
     let now_is : c.take_step.new.self ≡ taken w t = c.take_step.ensures.taken c.if-not-take_step.false in
-    let P : Answer → Type 0 = λ answer. TellsLine (taken w t) t line (shown w.plan.grid answer) in
-    let Q : Answer → Type 0 = λ answer. Tells w (Tenant t line) (shown w.plan.grid answer) in
+    let P : Answer → Type 0 = λ answer. TellsLine (taken w t) t line (shown answer) in
+    let Q : Answer → Type 0 = λ answer. Tells w (Tenant t line) (shown answer) in
     IfOk-weaker c.act.result P Q
-    (λ answer tells. taken_tells w t line (shown w.plan.grid answer) c.take_step.ensures.within left tells)
+    (λ answer tells. taken_tells w t line (shown answer) c.take_step.ensures.within left tells)
     (rw now_is at c.act.ensures.answer)
 
 pub returns-clause-advances : goal.returns-clause-advances

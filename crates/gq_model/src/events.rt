@@ -53,11 +53,11 @@ pub enum Refusal {
     NoQuorum,
     /// No such message was sent, or it is lost.
     NoMessage,
-    /// A volume has 1 to 64 files, of 1 to 16 blocks each.
+    /// The files are not 1 to `gq_tag::MOST_FILES`, or the blocks of a file not 1 to `gq_desk::MOST_FILE_BLOCKS`.
     Size,
-    /// The tenant has 64 volumes already.
+    /// The tenant has `gq_desk::MOST_VOLUMES` volumes already.
     Volumes,
-    /// The volume's blocks are more than are left of the share: `free`.
+    /// The volume's blocks are more than the `free` blocks that are left of the share.
     Share { free: u32 },
 }
 

@@ -1,0 +1,5 @@
+pub mod Told
+pub mod Trace
+pub mod Lone
+pub mod Events
+pub mod Shown

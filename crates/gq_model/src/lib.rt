@@ -1,0 +1,7 @@
+//! What the service means: the run of one tenant by itself, as questions to what was accepted before. The definitions stand
+//! in `specs/`, over the lines and answers here; nothing of the world's tables is known.
+#![tactic(auto)]
+
+mod events;
+
+pub use events::{Answer, Event, Line, Refusal, ServerLine, ServerRefusal};

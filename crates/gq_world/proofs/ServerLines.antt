@@ -1,0 +1,76 @@
+-- What a server line does to the tables.
+use Rattle.std.proofs.Common.{◌≡◌, ◌∙◌, ℕ, ◌-◌, ◌*◌, ◌<◌, length, Bool, true, false, None, refl, sym, ap, arith, inl, inr, ◌⊎◌, append-nil}
+use Rattle.std.proofs.Math.Path.{fun_ext}
+use Rattle.std.specs.Prelude.{if◌then◌else◌, nat_lt, option_map}
+use Rattle.std.proofs.lemmas.Bool.{cases_Bool}
+use Rattle.std.proofs.lemmas.Bool.Decides.{nat_tests}
+use Rattle.gq_grid.specs.Grid.{Grid, Servers, with_server, without_server}
+use Rattle.gq_grid.specs.Sets.{servers}
+use Rattle.gq_grid.specs.declared.ServerSet.{ServerSet}
+use Rattle.gq_desk.specs.CheckedPlan.{row_at}
+use Rattle.gq_model.specs.declared.events.Event.TheVariants.{Server}
+use Rattle.gq_model.specs.declared.events.ServerLine.{ServerLine}
+use Rattle.gq_model.specs.declared.events.ServerLine.TheVariants.{Down, Up}
+use Rattle.gq_tag.specs.Tag.{message_of}
+use Rattle.gq_model.specs.Told.{Told}
+use Rattle.gq_model.specs.Trace.{Serving, State, changed, own_message_at, up_by}
+use Rattle.gq_model.specs.Lone.{entry_of, change_refusal, told, server_told, is_refusal}
+use Rattle.gq_world.specs.Tables.{Tables, up_in}
+use Rattle.gq_world.specs.Machine.{servers_after, Advances}
+
+-- the servers go on, for each tenant alike
+pub server_advances : (w : Tables) (line : ServerLine) (set : ServerSet) → up_in w.plan.grid set ≡ servers_after w.plan.grid (up_in w.plan.grid w.up) (Server line) → Advances w (Server line) (record w { up = set })
+server_advances w line set servers = record {
+  plan = refl;
+  servers = servers;
+  tenants = λ u within known agrees. record {
+    lines = agrees.lines;
+    up = servers ∙ ap (λ up. servers_after w.plan.grid up (Server line)) agrees.up ∙ by (is_refusal (server_told w.plan.grid known.state.up line)) (server_told w.plan.grid known.state.up line) known.state;
+    account = agrees.account ∙ ap (λ vs. record { share = (row_at w.plan u).share; volumes = vs }) (same (is_refusal (server_told w.plan.grid known.state.up line)) (server_told w.plan.grid known.state.up line) known.state);
+    sent = agrees.sent ∙ ap length (sym (nothing (is_refusal (server_told w.plan.grid known.state.up line)) (server_told w.plan.grid known.state.up line) known.state));
+    messages = λ n. agrees.messages n ∙ ap (option_map (message_of u)) (message (is_refusal (server_told w.plan.grid known.state.up line)) (server_told w.plan.grid known.state.up line) known.state n);
+  };
+}
+  where
+    nothing : (b : Bool) (told : Told) (state : State) → (if b then state else changed (entry_of (Serving line) told) state).sent ≡ state.sent
+    nothing true told state = refl
+    nothing false told state = append-nil state.sent
+
+    message : (b : Bool) (told : Told) (state : State) (n : ℕ) → own_message_at state n ≡ own_message_at (if b then state else changed (entry_of (Serving line) told) state) n
+    message true told state n = refl
+    message false told state n = ap (λ messages. own_message_at (record state { sent = messages }) n) (sym (append-nil state.sent))
+
+    same : (b : Bool) (told : Told) (state : State) → state.volumes ≡ (if b then state else changed (entry_of (Serving line) told) state).volumes
+    same true told state = refl
+    same false told state = refl
+
+    by : (b : Bool) (told : Told) (state : State) → (if b then state.up else up_by (Serving line) state.up) ≡ (if b then state else changed (entry_of (Serving line) told) state).up
+    by true told state = refl
+    by false told state = refl
+
+-- a refused server line
+pub still_advances : (w : Tables) (line : ServerLine) → is_refusal (server_told w.plan.grid (up_in w.plan.grid w.up) line) ≡ true → Advances w (Server line) w
+still_advances w line refused = server_advances w line w.up (rw refused refl)
+
+-- the server goes down; comes up
+pub down_in : (grid : Grid) (old new : ServerSet) (n : ℕ) → servers new ≡ without_server n (servers old) → n < grid.rows * grid.cols → up_in grid new ≡ up_by (Serving (Down n)) (up_in grid old)
+down_in grid old new n removed within = fun_ext (λ s. by s (cases_Bool (nat_lt s (grid.rows * grid.cols))))
+  where
+    by : (s : ℕ) → (nat_lt s (grid.rows * grid.cols) ≡ true) ⊎ (nat_lt s (grid.rows * grid.cols) ≡ false) → up_in grid new s ≡ up_by (Serving (Down n)) (up_in grid old) s
+    by s (inl is) = rw (is, ap (λ (f : Servers). f s) removed) (grind (arith, nat_tests))
+    by s (inr is) = rw is (grind (arith, nat_tests))
+
+pub up_again : (grid : Grid) (old new : ServerSet) (n : ℕ) → servers new ≡ with_server n (servers old) → n < grid.rows * grid.cols → up_in grid new ≡ up_by (Serving (Up n)) (up_in grid old)
+up_again grid old new n added within = fun_ext (λ s. by s (cases_Bool (nat_lt s (grid.rows * grid.cols))))
+  where
+    by : (s : ℕ) → (nat_lt s (grid.rows * grid.cols) ≡ true) ⊎ (nat_lt s (grid.rows * grid.cols) ≡ false) → up_in grid new s ≡ up_by (Serving (Up n)) (up_in grid old) s
+    by s (inl is) = rw (is, ap (λ (f : Servers). f s) added) (grind (arith, nat_tests))
+    by s (inr is) = rw is (grind (arith, nat_tests))
+
+pub down_advances : (w : Tables) (set : ServerSet) (n : ℕ) → servers set ≡ without_server n (servers w.up) → n < w.plan.grid.rows * w.plan.grid.cols → None ≡ change_refusal w.plan.grid (up_in w.plan.grid w.up) n false → Advances w (Server (Down n)) (record w { up = set })
+down_advances w set n removed within word =
+    server_advances w (Down n) set (rw (← word) (down_in w.plan.grid w.up set n removed within))
+
+pub up_advances : (w : Tables) (set : ServerSet) (n : ℕ) → servers set ≡ with_server n (servers w.up) → n < w.plan.grid.rows * w.plan.grid.cols → None ≡ change_refusal w.plan.grid (up_in w.plan.grid w.up) n true → Advances w (Server (Up n)) (record w { up = set })
+up_advances w set n added within word =
+    server_advances w (Up n) set (rw (← word) (up_again w.plan.grid w.up set n added within))
