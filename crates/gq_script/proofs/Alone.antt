@@ -9,10 +9,11 @@ use Rattle.std.proofs.lemmas.List.Sums.{fold-append}
 use Rattle.gq_grid.specs.Grid.{Grid}
 use Rattle.gq_desk.specs.CheckedPlan.{CheckedPlan, nobody, row_at}
 use Rattle.gq_desk.specs.declared.plans.TenantRow.{TenantRow}
-use Rattle.gq_world.specs.declared.events.Event.{Event}
-use Rattle.gq_world.specs.declared.events.Event.TheVariants.{Tenant, Server}
-use Rattle.gq_world.specs.Lone.{Turn, Own, Serving, Past, start, after, past_of, told_from}
-use Rattle.gq_world.specs.Events.{turn_of, own, past_at, answer_to}
+use Rattle.gq_model.specs.declared.events.Event.{Event}
+use Rattle.gq_model.specs.declared.events.Event.TheVariants.{Tenant, Server}
+use Rattle.gq_model.specs.Trace.{Turn, Own, Serving, Past, start}
+use Rattle.gq_model.specs.Lone.{after, past_of, told_from}
+use Rattle.gq_model.specs.Events.{turn_of, own, past_at, answer_to}
 use Rattle.gq_script.specs.Words.{words_of}
 use Rattle.gq_script.specs.Lines.{lines_of}
 use Rattle.gq_script.specs.Input.{event_of}
@@ -29,7 +30,7 @@ past_more grid row t before event turn is =
     (fold-append (after grid row) start (own t before) (cons_option turn []))
 
 -- from events on, the answers to a tenant's lines are what its run by itself says from there on
-told_alone : (plan : CheckedPlan) (t : ℕ) → HasPlace plan t (row_at plan t) → (before : List Event) (lines : List (List ℕ)) → lines_to (row_at plan t).name lines (answer_lines plan before (map (event_of plan) lines)) ≡ own_text (row_at plan t).name (turns_of (row_at plan t).name lines) (told_from plan.grid (row_at plan t) (past_at plan t before) (turns_of (row_at plan t).name lines))
+told_alone : (plan : CheckedPlan) (t : ℕ) → HasPlace plan t (row_at plan t) → (before : List Event) (lines : List (List ℕ)) → lines_to (row_at plan t).name lines (answer_lines plan before (map (event_of plan) lines)) ≡ own_text plan.grid (row_at plan t).name (turns_of (row_at plan t).name lines) (told_from plan.grid (row_at plan t) (past_at plan t before) (turns_of (row_at plan t).name lines))
 told_alone plan t has before [] = refl
 told_alone plan t has before (line ∷ lines) = by (event_of plan line) (is_own (row_at plan t).name line) (turn_from (row_at plan t).name (words_of line)) (sight plan t (row_at plan t) line has) (λ before. told_alone plan t has before lines)
   where
@@ -43,7 +44,7 @@ told_alone plan t has before (line ∷ lines) = by (event_of plan line) (is_own 
     rest event = lines_to row.name lines (answer_lines plan (before ++ event ∷ []) (map (event_of plan) lines))
 
     said_on : Past → List (List ℕ)
-    said_on past = own_text row.name turns (told_from plan.grid row past turns)
+    said_on past = own_text plan.grid row.name turns (told_from plan.grid row past turns)
 
     Later : Type 0
     Later = (before : List Event) → lines_to row.name lines (answer_lines plan before (map (event_of plan) lines)) ≡ said_on (past_at plan t before)
@@ -52,7 +53,7 @@ told_alone plan t has before (line ∷ lines) = by (event_of plan line) (is_own 
     goes_on later event turn is = later (before ++ event ∷ []) ∙ ap said_on (past_more plan.grid row t before event turn is)
 
     by : (event : Event) (mine : Bool) (turn : Option Turn) → Sight t event mine turn → Later
-        → cond mine (answer_line plan event (answer_to plan before event) ∷ rest event) (rest event) ≡ own_text row.name (cons_option turn turns) (told_from plan.grid row (past_at plan t before) (cons_option turn turns))
+        → cond mine (answer_line plan event (answer_to plan before event) ∷ rest event) (rest event) ≡ own_text plan.grid row.name (cons_option turn turns) (told_from plan.grid row (past_at plan t before) (cons_option turn turns))
     by event mine turn (inl (line, is, holds, sees)) later =
         let here : turn_of t (Tenant t line) ≡ Some (Own line) = rw (eq-eqb t t refl) refl in
         rw (is, holds, sees) (ap (λ xs. answer_line plan (Tenant t line) (answer_to plan before (Tenant t line)) ∷ xs) (goes_on later (Tenant t line) (Some (Own line)) here))

@@ -1,9 +1,10 @@
 -- A run goes on by one line.
-use Rattle.std.proofs.Common.{◌≡◌, ◌∙◌, ℕ, List, [], ◌∷◌, ◌++◌, map, append_assoc}
+use Rattle.std.proofs.Common.{◌≡◌, ◌∙◌, ℕ, List, [], ◌∷◌, ◌++◌, map, append_assoc, append-nil, length, sym, arith}
 use Rattle.gq_desk.specs.CheckedPlan.{CheckedPlan}
-use Rattle.gq_world.specs.declared.events.Event.{Event}
+use Rattle.gq_model.specs.declared.events.Event.{Event}
 use Rattle.gq_world.specs.Tables.{Tables, Stands}
-use Rattle.gq_world.specs.Events.{answer_to}
+use Rattle.gq_model.specs.Events.{answer_to}
+use Rattle.gq_script.specs.Lines.{lines_of}
 use Rattle.gq_script.specs.Input.{event_of}
 use Rattle.gq_script.specs.Output.{answer_line}
 use Rattle.gq_script.specs.Out.{answer_lines, output_lines, joined}
@@ -32,3 +33,8 @@ answers_more plan world world' text text' line left rest all before is same stan
       plan_is = same ∙ before.plan_is;
       told = rw now (append_assoc text x (joined ys) ∙ all_so_far);
     }
+
+-- no line is left
+pub answers_end : (plan : CheckedPlan) (world : Tables) (text rest : List ℕ) (all : List (List ℕ)) → Answers plan world text (lines_of rest) all → length rest ≡ 0 → text ≡ joined (output_lines plan all)
+answers_end plan world text [] all is none = sym (append-nil text) ∙ is.told
+answers_end plan world text (c ∷ rest) all is none = absurd (omega arith)

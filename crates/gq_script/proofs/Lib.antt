@@ -10,3 +10,6 @@ pub mod Answering
 pub mod PlanNames
 pub mod Sights
 pub mod Alone
+pub mod Cutting
+pub mod Marking
+pub mod OneNumber

@@ -16,7 +16,7 @@ lines_of-newline (x ∷ xs) (suc i) lt e h =
     rw (no, rest) refl
 
 -- a line that ends with a newline at i
-lines_of-line : (text : List ℕ) (i : ℕ) → i < length text → get_or text i 0 ≡ 10 → ((k : ℕ) → k < i → get_or text k 0 ≡ 10 → ⊥)
+pub lines_of-line : (text : List ℕ) (i : ℕ) → i < length text → get_or text i 0 ≡ 10 → ((k : ℕ) → k < i → get_or text k 0 ≡ 10 → ⊥)
     → lines_of text ≡ take i text ∷ lines_of (take (length text - (i + 1)) (drop (i + 1) text))
 lines_of-line text i lt e h =
     let whole : take (length text - (i + 1)) (drop (i + 1) text) ≡ drop (i + 1) text =

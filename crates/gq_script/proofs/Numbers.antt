@@ -3,6 +3,7 @@ use Rattle.std.proofs.Common.{◌≡◌, ◌≢◌, ℕ, zero, suc, ◌+◌, ◌
 use Rattle.std.specs.Prelude.{decimal, nat_le, ◌&&◌}
 use Rattle.std.proofs.lemmas.Bool.{le-leb, ne_eqb, leb-true, eqb-false}
 use Rattle.std.proofs.lemmas.Fmt.{decimal_by_steps, decimal_nonempty, first_decimal, length-decimal-le, decimal_step, decimal_digit}
+use Rattle.gq_script.specs.declared.words.TheConstants.{MOST_NUMBER}
 use Rattle.gq_script.specs.Words.{Word, number_of, number_after}
 use Rattle.gq_script.specs.Laws.{NumbersReadBack, NumbersHaveOneForm}
 
@@ -12,7 +13,7 @@ step_ok n d word small fits =
     let less : (48 + d) - 48 ≡ d = omega arith in
     let low : nat_le 48 (48 + d) ≡ true = le-leb 48 (48 + d) (omega arith) in
     let high : nat_le (48 + d) 57 ≡ true = le-leb (48 + d) 57 (omega arith) in
-    let room : nat_le (n * 10 + d) 4294967295 ≡ true = le-leb (n * 10 + d) 4294967295 (omega arith) in
+    let room : nat_le (n * 10 + d) MOST_NUMBER ≡ true = le-leb (n * 10 + d) MOST_NUMBER (omega arith) in
     rw (less, low, high, room) refl
 
 first_digit : (m : ℕ) → m < 10 → m < 2 ^ 32 → (rest : Word) → number_after 0 ((48 + m) ∷ rest) ≡ number_after m rest
@@ -56,8 +57,8 @@ tests false false false x m is = cc
 -- a digit that was read
 digit_read : (n c : ℕ) (word : Word) (m : ℕ) → number_after n (c ∷ word) ≡ Some m → (48 ≤ c) × (c ≤ 57) × (n * 10 + (c - 48) < 2 ^ 32) × (number_after (n * 10 + (c - 48)) word ≡ Some m)
 digit_read n c word m is =
-    let t = tests (nat_le 48 c) (nat_le c 57) (nat_le (n * 10 + (c - 48)) 4294967295) (number_after (n * 10 + (c - 48)) word) m is in
-    (leb-true 48 c t.0, leb-true c 57 t.1, omega (arith, leb-true (n * 10 + (c - 48)) 4294967295 t.2), t.3)
+    let t = tests (nat_le 48 c) (nat_le c 57) (nat_le (n * 10 + (c - 48)) MOST_NUMBER) (number_after (n * 10 + (c - 48)) word) m is in
+    (leb-true 48 c t.0, leb-true c 57 t.1, omega (arith, leb-true (n * 10 + (c - 48)) MOST_NUMBER t.2), t.3)
 
 -- digits that go on from a number complete its text
 go_on : (n : ℕ) (word : Word) (m : ℕ) → 0 < n → n < 2 ^ 32 → number_after n word ≡ Some m → (decimal n ++ word ≡ decimal m) × (m < 2 ^ 32)

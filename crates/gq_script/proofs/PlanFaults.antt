@@ -3,6 +3,7 @@ use Rattle.std.proofs.Common.{◌≡◌, ◌≢◌, ℕ, ◌+◌, ◌≤◌, Lis
 use Rattle.std.specs.Prelude.{IfSome, ◌==◌, not, nat_le, nat_lt}
 use Rattle.std.specs.List.{list_any}
 use Rattle.std.specs.Option.{option_or}
+use Rattle.gq_desk.specs.declared.limits.TheConstants.{MOST_TENANTS, MOST_SESSIONS, MOST_STEPS}
 use Rattle.gq_desk.specs.Plans.{is_of, is_in, shares, row_fault, rows_fault, table_fault, plan_fault}
 use Rattle.gq_desk.specs.declared.plans.TenantRow.{TenantRow}
 use Rattle.gq_desk.specs.declared.plans.PlanFault.{PlanFault}
@@ -24,11 +25,11 @@ IsLow n fault = line_of_fault n fault ≤ 3 + n
 row_low : (before : List TenantRow) (row : TenantRow) (n : ℕ) → length before ≤ n → IfSome (row_fault before row) (IsLow n)
 row_low before row n within =
     let low : 3 + length before ≤ 3 + n = omega arith in
-    of_cond (nat_le 64 (length before)) (Some (TooMany (length before))) _ (IsLow n) low
+    of_cond (nat_le MOST_TENANTS (length before)) (Some (TooMany (length before))) _ (IsLow n) low
     (of_cond (list_any (is_of row.name) before) (Some (SameName (length before))) _ (IsLow n) low
     (of_cond (row.share == 0) (Some (ZeroShare (length before))) _ (IsLow n) low
-    (of_cond (not (is_in 1 16 row.sessions)) (Some (Sessions (length before))) _ (IsLow n) low
-    (of_cond (not (is_in 1 1000000 row.steps)) (Some (Steps (length before))) None (IsLow n) low tt))))
+    (of_cond (not (is_in 1 MOST_SESSIONS row.sessions)) (Some (Sessions (length before))) _ (IsLow n) low
+    (of_cond (not (is_in 1 MOST_STEPS row.steps)) (Some (Steps (length before))) None (IsLow n) low tt))))
 
 rows_low : (before rows : List TenantRow) (n : ℕ) → length before + length rows ≤ n → IfSome (rows_fault before rows) (IsLow n)
 rows_low before [] n low = tt

@@ -12,68 +12,10 @@ use Rattle.gq_desk.specs.Plans.{is_of, row_fault, rows_fault, table_fault, plan_
 use Rattle.gq_desk.specs.CheckedPlan.{CheckedPlan}
 use Rattle.gq_desk.specs.declared.plans.TenantRow.{TenantRow}
 use Rattle.gq_desk.specs.declared.plans.PlanFault.{PlanFault}
+use Rattle.gq_desk.proofs.SoundRows.{or_none, found, row_found}
 use Rattle.gq_script.specs.Words.{Word, words_of, number_of}
-use Rattle.gq_script.specs.Input.{◌>>=◌, place_of}
-use Rattle.gq_script.specs.PlanText.{Reading, then_read, at_line, line_at, grid_of, blocks_of, row_of, row_then, rows_from, plan_unless, checked, plan_of}
-
-pub same_word : (word : Word) → bytes_eq word word ≡ true
-same_word word = (bytes_eq-Decides word word).1 refl
-
--- ---- rows without a fault have names of their own
-
-or_none : (x y : Option PlanFault) → option_or x y ≡ None → (x ≡ None) × (y ≡ None)
-or_none None y is = (refl, is)
-or_none (Some x) y is = cc
-
-unless_none : (b : Bool) (x : PlanFault) (y : Option PlanFault) → cond b (Some x) y ≡ None → (b ≡ false) × (y ≡ None)
-unless_none true x y is = cc
-unless_none false x y is = (refl, is)
-
-unused_by_one : (before : List TenantRow) (row : TenantRow) → row_fault before row ≡ None → list_any (is_of row.name) before ≡ false
-unused_by_one before row none = (unless_none _ _ _ (unless_none _ _ _ none).1).0
-
--- the name of a row isn't used before it
-unused : (before rows : List TenantRow) (t : ℕ) (row : TenantRow) → rows_fault before rows ≡ None → slice_get rows t ≡ Some row → list_any (is_of row.name) before ≡ false
-unused before [] t row none at = cc
-unused before (first ∷ rows) zero row none at =
-    let same : first ≡ row = cc in
-    let P : TenantRow → Type 0 = λ r. list_any (is_of r.name) before ≡ false in
-    subst P same (unused_by_one before first (or_none (row_fault before first) (rows_fault (before ++ first ∷ []) rows) none).0)
-unused before (first ∷ rows) (suc t) row none at =
-    let rest = (or_none (row_fault before first) (rows_fault (before ++ first ∷ []) rows) none).1 in
-    let later = unused (before ++ first ∷ []) rows t row rest at in
-    (or_parts (list_any (is_of row.name) before) (list_any (is_of row.name) (first ∷ [])) (sym (list_any-append (is_of row.name) before (first ∷ [])) ∙ later)).0
-
--- a row is found by its name
-found : (before rows : List TenantRow) (t from : ℕ) (row : TenantRow) → rows_fault before rows ≡ None → slice_get rows t ≡ Some row → position_from (is_of row.name) from rows ≡ Some (from + t)
-found before [] t from row none at = cc
-found before (first ∷ rows) zero from row none at =
-    let same : first ≡ row = cc in
-    let here : from ≡ from + 0 = omega arith in
-    let P : TenantRow → Type 0 = λ r. position_from (is_of row.name) from (r ∷ rows) ≡ Some (from + 0) in
-    subst P (sym same) (rw (same_word row.name) (ap Some here))
-found before (first ∷ rows) (suc t) from row none at =
-    let rest = (or_none (row_fault before first) (rows_fault (before ++ first ∷ []) rows) none).1 in
-    let later = unused (before ++ first ∷ []) rows t row rest at in
-    let here = (or_parts (list_any (is_of row.name) before) (list_any (is_of row.name) (first ∷ [])) (sym (list_any-append (is_of row.name) before (first ∷ [])) ∙ later)).1 in
-    let differs : is_of row.name first ≡ false = (or_parts (is_of row.name first) false here).0 in
-    let place : from + 1 + t ≡ from + suc t = omega arith in
-    rw differs (found (before ++ first ∷ []) rows t (from + 1) row rest at ∙ ap Some place)
-
--- the row at the place that is found
-row_found : (p : TenantRow → Bool) (rows : List TenantRow) (from u : ℕ) → position_from p from rows ≡ Some u → (row : TenantRow) × (k : ℕ) × (u ≡ from + k) × (slice_get rows k ≡ Some row) × (p row ≡ true)
-row_found p [] from u is = cc
-row_found p (first ∷ rows) from u is = by (p first) refl is (row_found p rows (from + 1) u)
-  where
-    by : (b : Bool) → p first ≡ b → cond b (Some from) (position_from p (from + 1) rows) ≡ Some u
-        → (position_from p (from + 1) rows ≡ Some u → (row : TenantRow) × (k : ℕ) × (u ≡ from + 1 + k) × (slice_get rows k ≡ Some row) × (p row ≡ true))
-        → (row : TenantRow) × (k : ℕ) × (u ≡ from + k) × (slice_get (first ∷ rows) k ≡ Some row) × (p row ≡ true)
-    by true here is later =
-        let same : from ≡ u = cc in
-        (first, 0, omega arith, refl, here)
-    by false here is later =
-        let r = later is in
-        (r.0, suc r.1, omega (arith, r.2), r.3, r.4)
+use Rattle.gq_script.specs.Input.{◌>>=◌, place_named}
+use Rattle.gq_script.specs.PlanText.{Reading, then_read, at_line, line_at, grid_told, blocks_told, row_told, row_then, rows_from, plan_unless, checked, plan_of}
 
 -- ---- the rows of lines are named
 
@@ -94,8 +36,8 @@ then_some (Some x) next y is = (x, refl, is)
 some_same : {x y : TenantRow} → Some x ≡ Some y → x ≡ y
 some_same is = cc
 
-row_named : (words : List Word) (row : TenantRow) → row_of words ≡ Some row → is_name row.name ≡ true
-unfolding row_of
+row_named : (words : List Word) (row : TenantRow) → row_told words ≡ Some row → is_name row.name ≡ true
+unfolding row_told
 row_named [] row is = cc
 row_named (verb ∷ []) row is = cc
 row_named (verb ∷ name ∷ []) row is = cc
@@ -132,20 +74,20 @@ rows_named n (line ∷ lines) rest rows t row is at = by (bytes_eq line (codes "
     Named : List TenantRow → ℕ → Type 0
     Named more t = rows_from (n + 1) lines ≡ Ok (more, rest) → slice_get more t ≡ Some row → is_name row.name ≡ true
 
-    one : (first : TenantRow) (more : List TenantRow) (t : ℕ) → row_of (words_of line) ≡ Some first → rows_from (n + 1) lines ≡ Ok (more, rest) → slice_get (first ∷ more) t ≡ Some row → ((more : List TenantRow) (t : ℕ) → Named more t) → is_name row.name ≡ true
+    one : (first : TenantRow) (more : List TenantRow) (t : ℕ) → row_told (words_of line) ≡ Some first → rows_from (n + 1) lines ≡ Ok (more, rest) → slice_get (first ∷ more) t ≡ Some row → ((more : List TenantRow) (t : ℕ) → Named more t) → is_name row.name ≡ true
     one first more zero first_is more_is at later =
         let same : first ≡ row = cc in
         let P : TenantRow → Type 0 = λ r. is_name r.name ≡ true in
         subst P same (row_named (words_of line) first first_is)
     one first more (suc t) first_is more_is at later = later more t more_is at
 
-    by : (b : Bool) → cond b (Ok ([], lines)) (row_then n (row_of (words_of line)) (rows_from (n + 1) lines)) ≡ Ok (rows, rest) → ((more : List TenantRow) (t : ℕ) → Named more t) → is_name row.name ≡ true
+    by : (b : Bool) → cond b (Ok ([], lines)) (row_then n (row_told (words_of line)) (rows_from (n + 1) lines)) ≡ Ok (rows, rest) → ((more : List TenantRow) (t : ℕ) → Named more t) → is_name row.name ≡ true
     by true here later =
         let same : [] ≡ rows = ap (λ x. x.0) (ok_same here) in
         let P : List TenantRow → Type 0 = λ rs. slice_get rs t ≡ Some row in
         absurd (none_there t row (subst P (sym same) at))
     by false there later =
-        let r = row_and_rest n (row_of (words_of line)) (rows_from (n + 1) lines) rows rest there in
+        let r = row_and_rest n (row_told (words_of line)) (rows_from (n + 1) lines) rows rest there in
         let P : List TenantRow → Type 0 = λ rs. slice_get rs t ≡ Some row in
         one r.0 r.1 t r.2 r.3 (subst P r.4 at) later
 
@@ -170,9 +112,9 @@ pub rows_of_plan : (lines rest : List (List ℕ)) (plan : CheckedPlan) → plan_
 unfolding plan_of
 rows_of_plan lines rest plan is =
     let first = then_read_ok (line_at 1 lines) _ (plan, rest) is in
-    let grid = then_read_ok (at_line 1 (grid_of (words_of first.0.0))) _ (plan, rest) first.2 in
+    let grid = then_read_ok (at_line 1 (grid_told (words_of first.0.0))) _ (plan, rest) first.2 in
     let second = then_read_ok (line_at 2 first.0.1) _ (plan, rest) grid.2 in
-    let blocks = then_read_ok (at_line 2 (blocks_of (words_of second.0.0))) _ (plan, rest) second.2 in
+    let blocks = then_read_ok (at_line 2 (blocks_told (words_of second.0.0))) _ (plan, rest) second.2 in
     let rows = then_read_ok (rows_from 3 second.0.1) _ (plan, rest) blocks.2 in
     let made = then_read_ok (checked grid.0 blocks.0 rows.0.0) _ (plan, rest) rows.2 in
     let sound = unless_ok (plan_fault blocks.0 rows.0.0) (record { grid = grid.0; blocks = blocks.0; rows = rows.0.0 }) made.0 made.1 in
@@ -190,8 +132,8 @@ rows_of_plan lines rest plan is =
 -- the tenant at place t has this row, its name leads to it alone, and isn't `server`
 pub record HasPlace (plan : CheckedPlan) (t : ℕ) (row : TenantRow) : Type 0 where
   pub at : slice_get plan.rows t ≡ Some row
-  pub found : place_of plan row.name ≡ Some t
-  pub alone : (word : Word) → place_of plan word ≡ Some t → word ≡ row.name
+  pub found : place_named plan row.name ≡ Some t
+  pub alone : (word : Word) → place_named plan word ≡ Some t → word ≡ row.name
   pub not_server : bytes_eq row.name (codes "server") ≡ false
 
 not_true : (b : Bool) → not b ≡ true → b ≡ false
@@ -205,9 +147,9 @@ has_place lines rest plan t row is at =
     let zero_t : 0 + t ≡ t = omega arith in
     record {
       at = at;
-      found = rw named (found [] plan.rows t 0 row rows.sound at ∙ ap Some zero_t);
+      found = found [] plan.rows t 0 row rows.sound at ∙ ap Some zero_t;
       alone = λ word place.
-          let found_row = row_found (is_of word) plan.rows 0 t (if_some (is_name word) (position_from (is_of word) 0 plan.rows) t place).1 in
+          let found_row = row_found (is_of word) plan.rows 0 t place in
           let here : found_row.1 ≡ t = omega (arith, found_row.2) in
           let same : found_row.0 ≡ row = some_same (sym found_row.3 ∙ ap (slice_get plan.rows) here ∙ at) in
           (bytes_eq-Decides word found_row.0.name).0 found_row.4 ∙ ap (λ (r : TenantRow). r.name) same;

@@ -7,14 +7,14 @@ use Rattle.std.proofs.lemmas.Bool.{or_parts, ne_eqb}
 use Rattle.std.proofs.lemmas.Slice.Eq.{bytes_eq-Decides}
 use Rattle.gq_desk.specs.CheckedPlan.{CheckedPlan}
 use Rattle.gq_desk.specs.declared.plans.TenantRow.{TenantRow}
-use Rattle.gq_world.specs.declared.events.Event.{Event}
-use Rattle.gq_world.specs.declared.events.Event.TheVariants.{Tenant, Server}
-use Rattle.gq_world.specs.declared.events.Line.{Line}
-use Rattle.gq_world.specs.declared.events.ServerLine.{ServerLine}
-use Rattle.gq_world.specs.Lone.{Turn, Own, Serving}
-use Rattle.gq_world.specs.Events.{turn_of}
+use Rattle.gq_model.specs.declared.events.Event.{Event}
+use Rattle.gq_model.specs.declared.events.Event.TheVariants.{Tenant, Server}
+use Rattle.gq_model.specs.declared.events.Line.{Line}
+use Rattle.gq_model.specs.declared.events.ServerLine.{ServerLine}
+use Rattle.gq_model.specs.Trace.{Turn, Own, Serving}
+use Rattle.gq_model.specs.Events.{turn_of}
 use Rattle.gq_script.specs.Words.{Word, words_of}
-use Rattle.gq_script.specs.Input.{line_of, server_line_of, place_of, tenant_event, event_of_words, event_of}
+use Rattle.gq_script.specs.Input.{line_of, server_line_of, place_named, tenant_event, event_of_words, event_of}
 use Rattle.gq_script.specs.Alone.{first_word_of, is_own, is_serving, seen_lines, turn_from, turns_of}
 use Rattle.gq_script.proofs.PlanNames.{HasPlace}
 
@@ -52,19 +52,19 @@ unfolding event_of_words
 sight_of_words plan t row first words has = by_server (bytes_eq first (codes "server")) refl
   where
     Goal : Bool → Bool → Type 0
-    Goal server own = Sight t (cond server (Server (server_line_of words)) (tenant_event (place_of plan first) words)) own (cond server (Some (Serving (server_line_of words))) (cond own (Some (Own (line_of words))) None))
+    Goal server own = Sight t (cond server (Server (server_line_of words)) (tenant_event (place_named plan first) words)) own (cond server (Some (Serving (server_line_of words))) (cond own (Some (Own (line_of words))) None))
 
     by_own : (own : Bool) → bytes_eq first row.name ≡ own → Goal false own
     by_own true is =
         let same : first ≡ row.name = (bytes_eq-Decides first row.name).0 is in
-        let place : place_of plan first ≡ Some t = ap (place_of plan) same ∙ has.found in
+        let place : place_named plan first ≡ Some t = ap (place_named plan) same ∙ has.found in
         inl (line_of words, ap (λ o. tenant_event o words) place, refl, refl)
     by_own false is =
-        let other : (u : ℕ) → place_of plan first ≡ Some u → u ≢ t = λ u place same.
+        let other : (u : ℕ) → place_named plan first ≡ Some u → u ≢ t = λ u place same.
         let mine : first ≡ row.name = has.alone first (place ∙ ap Some same) in
         let holds : bytes_eq first row.name ≡ true = (bytes_eq-Decides first row.name).1 mine in
         cc in
-        inr (inr (unseen t (place_of plan first) words other, refl, refl))
+        inr (inr (unseen t (place_named plan first) words other, refl, refl))
 
     by_server : (server : Bool) → bytes_eq first (codes "server") ≡ server → Goal server (bytes_eq first row.name)
     by_server true is =

@@ -5,8 +5,9 @@ use Rattle.std.specs.Str.{bytes_eq}
 use Rattle.gq_grid.specs.Grid.{Grid}
 use Rattle.gq_desk.specs.CheckedPlan.{CheckedPlan}
 use Rattle.gq_desk.specs.declared.plans.TenantRow.{TenantRow}
-use Rattle.gq_world.specs.Told.{Told}
-use Rattle.gq_world.specs.Lone.{Turn, Own, Serving, lone}
+use Rattle.gq_model.specs.Told.{Told}
+use Rattle.gq_model.specs.Trace.{Turn, Own, Serving}
+use Rattle.gq_model.specs.Lone.{lone}
 use Rattle.gq_script.specs.declared.script.TheConstants.{MOST_INPUT}
 use Rattle.gq_script.specs.Words.{Word, words_of}
 use Rattle.gq_script.specs.Lines.{lines_of}
@@ -48,14 +49,14 @@ abbrev pub turns_of : Word → List (List ℕ) → List Turn
 turns_of name lines = filter_map (λ line. turn_from name (words_of line)) lines
 
 -- the text of what is told to the tenant's own turns
-abbrev pub own_text : Word → List Turn → List Told → List (List ℕ)
-own_text name (Own line ∷ turns) (told ∷ more) = line_text name (told_words told) ∷ own_text name turns more
-own_text name (Serving line ∷ turns) (told ∷ more) = own_text name turns more
-own_text name _ _ = []
+abbrev pub own_text : Grid → Word → List Turn → List Told → List (List ℕ)
+own_text grid name (Own line ∷ turns) (told ∷ more) = line_text name (told_words grid told) ∷ own_text grid name turns more
+own_text grid name (Serving line ∷ turns) (told ∷ more) = own_text grid name turns more
+own_text grid name _ _ = []
 
 -- what the tenant is told in its run by itself over the lines
 abbrev pub lone_text : Grid → TenantRow → List (List ℕ) → List (List ℕ)
-lone_text grid row lines = own_text row.name (turns_of row.name lines) (lone grid row (turns_of row.name lines))
+lone_text grid row lines = own_text grid row.name (turns_of row.name lines) (lone grid row (turns_of row.name lines))
 
 -- the input is accepted, with this plan and these lines after `go`
 pub record Accepts (input : List ℕ) (plan : CheckedPlan) (lines : List (List ℕ)) : Type 0 where

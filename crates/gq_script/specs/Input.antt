@@ -2,15 +2,14 @@
 use Rattle.std.specs.Prelude.{ℕ, List, [], ◌∷◌, if◌then◌else◌, codes, Option, Some, None}
 use Rattle.std.specs.List.{position_from}
 use Rattle.std.specs.Str.{bytes_eq}
-use Rattle.gq_desk.specs.Names.{is_name}
 use Rattle.gq_desk.specs.Plans.{is_of}
 use Rattle.gq_desk.specs.CheckedPlan.{CheckedPlan}
-use Rattle.gq_world.specs.declared.events.Event.{Event}
-use Rattle.gq_world.specs.declared.events.Event.TheVariants.{Tenant, Server, Stray}
-use Rattle.gq_world.specs.declared.events.Line.{Line}
-use Rattle.gq_world.specs.declared.events.Line.TheVariants.{Bad, Quorum, NewVolume, Volumes, Deliver, Lose}
-use Rattle.gq_world.specs.declared.events.ServerLine.{ServerLine}
-use Rattle.gq_world.specs.declared.events.ServerLine.TheVariants.{Bad as ServerBad, Down, Up}
+use Rattle.gq_model.specs.declared.events.Event.{Event}
+use Rattle.gq_model.specs.declared.events.Event.TheVariants.{Tenant, Server, Stray}
+use Rattle.gq_model.specs.declared.events.Line.{Line}
+use Rattle.gq_model.specs.declared.events.Line.TheVariants.{Bad, Quorum, NewVolume, Volumes, Deliver, Lose}
+use Rattle.gq_model.specs.declared.events.ServerLine.{ServerLine}
+use Rattle.gq_model.specs.declared.events.ServerLine.TheVariants.{Bad as ServerBad, Down, Up}
 use Rattle.gq_script.specs.Words.{Word, words_of, number_of}
 
 -- the second value, where the first is there
@@ -66,8 +65,8 @@ server_line_of (a ∷ way ∷ []) = change_of (number_of a) way
 server_line_of _ = ServerBad
 
 -- the place of the tenant of which the word is the name
-abbrev pub place_of : CheckedPlan → Word → Option ℕ
-place_of plan word = if is_name word then position_from (is_of word) 0 plan.rows else None
+abbrev pub place_named : CheckedPlan → Word → Option ℕ
+place_named plan word = position_from (is_of word) 0 plan.rows
 
 -- a tenant's line, or a stray one
 abbrev pub tenant_event : Option ℕ → List Word → Event
@@ -79,7 +78,7 @@ unfoldable pub event_of_words : CheckedPlan → List Word → Event
 event_of_words plan [] = Stray
 event_of_words plan (first ∷ words) =
     if bytes_eq first (codes "server") then Server (server_line_of words)
-    else tenant_event (place_of plan first) words
+    else tenant_event (place_named plan first) words
 
 -- the event of a line
 abbrev pub event_of : CheckedPlan → List ℕ → Event

@@ -4,6 +4,7 @@ pub mod Input
 pub mod PlanText
 pub mod Output
 pub mod Pieces
+pub mod QuorumText
 pub mod Watched
 pub mod Out
 pub mod Steps

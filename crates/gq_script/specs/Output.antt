@@ -1,15 +1,16 @@
 -- The text of an answer.
 use Rattle.std.specs.Prelude.{ℕ, List, [], ◌∷◌, ◌++◌, map, codes, decimal}
 use Rattle.std.specs.List.{flat_map}
+use Rattle.gq_grid.specs.Grid.{Grid, rising}
 use Rattle.gq_desk.specs.declared.volumes.VolumeRow.{VolumeRow}
 use Rattle.gq_desk.specs.CheckedPlan.{CheckedPlan, row_at}
-use Rattle.gq_world.specs.declared.events.Event.{Event}
-use Rattle.gq_world.specs.declared.events.Event.TheVariants.{Tenant, Server, Stray}
-use Rattle.gq_world.specs.declared.events.Refusal.{Refusal}
-use Rattle.gq_world.specs.declared.events.Refusal.TheVariants.{Spent, Bad, NoQuorum, NoMessage, Size, Volumes, Share}
-use Rattle.gq_world.specs.declared.events.ServerRefusal.{ServerRefusal}
-use Rattle.gq_world.specs.declared.events.ServerRefusal.TheVariants.{Bad as ServerBad, NoServer, Same}
-use Rattle.gq_world.specs.Told.{Told, Chosen, Opened, Listed, Lost, Refused, ServerOk, ServerRefused, StrayBad}
+use Rattle.gq_model.specs.declared.events.Event.{Event}
+use Rattle.gq_model.specs.declared.events.Event.TheVariants.{Tenant, Server, Stray}
+use Rattle.gq_model.specs.declared.events.Refusal.{Refusal}
+use Rattle.gq_model.specs.declared.events.Refusal.TheVariants.{Spent, Bad, NoQuorum, NoMessage, Size, Volumes, Share}
+use Rattle.gq_model.specs.declared.events.ServerRefusal.{ServerRefusal}
+use Rattle.gq_model.specs.declared.events.ServerRefusal.TheVariants.{Bad as ServerBad, NoServer, Same}
+use Rattle.gq_model.specs.Told.{Told, Chosen, Opened, Listed, Lost, Refused, ServerOk, ServerRefused, StrayBad}
 use Rattle.gq_script.specs.Words.{Word}
 
 abbrev pub volume_word : VolumeRow → Word
@@ -30,16 +31,16 @@ server_refusal_word ServerBad = codes "bad"
 server_refusal_word NoServer = codes "noserver"
 server_refusal_word Same = codes "same"
 
--- the words of what is told, after the one that says to whom
-unfoldable pub told_words : Told → List Word
-told_words (Chosen choice servers) = codes "quorum" ∷ decimal choice.row ∷ decimal choice.col ∷ codes "servers" ∷ map decimal servers
-told_words (Opened volume) = codes "volume" ∷ decimal volume ∷ []
-told_words (Listed free volumes) = codes "volumes" ∷ codes "free" ∷ decimal free ∷ map volume_word volumes
-told_words Lost = codes "lost" ∷ []
-told_words (Refused refusal) = codes "refused" ∷ refusal_words refusal
-told_words ServerOk = codes "ok" ∷ []
-told_words (ServerRefused refusal) = codes "refused" ∷ server_refusal_word refusal ∷ []
-told_words StrayBad = codes "refused" ∷ codes "bad" ∷ []
+-- the words of what is told, after the one that says to whom; servers of the grid are told in rising number
+unfoldable pub told_words : Grid → Told → List Word
+told_words grid (Chosen choice servers) = codes "quorum" ∷ decimal choice.row ∷ decimal choice.col ∷ codes "servers" ∷ map decimal (rising grid servers)
+told_words grid (Opened volume) = codes "volume" ∷ decimal volume ∷ []
+told_words grid (Listed free volumes) = codes "volumes" ∷ codes "free" ∷ decimal free ∷ map volume_word volumes
+told_words grid Lost = codes "lost" ∷ []
+told_words grid (Refused refusal) = codes "refused" ∷ refusal_words refusal
+told_words grid ServerOk = codes "ok" ∷ []
+told_words grid (ServerRefused refusal) = codes "refused" ∷ server_refusal_word refusal ∷ []
+told_words grid StrayBad = codes "refused" ∷ codes "bad" ∷ []
 
 -- whose line the event is: the tenant's name, `server` or `?`
 abbrev pub who : CheckedPlan → Event → Word
@@ -51,10 +52,14 @@ who plan Stray = codes "?"
 abbrev pub spaced : List Word → List ℕ
 spaced words = flat_map (λ word. 32 ∷ word) words
 
+-- words to the end of a line
+abbrev pub ended : List Word → List ℕ
+ended words = spaced words ++ 10 ∷ []
+
 -- a first word, the other words and the end of the line
 abbrev pub line_text : Word → List Word → List ℕ
-line_text first words = first ++ spaced words ++ 10 ∷ []
+line_text first words = first ++ ended words
 
 -- the line of what is told to an event
 abbrev pub answer_line : CheckedPlan → Event → Told → List ℕ
-answer_line plan event told = line_text (who plan event) (told_words told)
+answer_line plan event told = line_text (who plan event) (told_words plan.grid told)

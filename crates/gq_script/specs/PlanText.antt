@@ -3,6 +3,7 @@ use Rattle.std.specs.Prelude.{◌≡◌, ℕ, ◌+◌, List, [], ◌∷◌, ◌&
 use Rattle.std.specs.Str.{bytes_eq}
 use Rattle.gq_grid.specs.Grid.{Grid, is_side}
 use Rattle.gq_grid.specs.declared.GridFault.TheVariants.{Rows, Cols}
+use Rattle.gq_desk.specs.declared.limits.TheConstants.{MOST_BLOCKS}
 use Rattle.gq_desk.specs.Names.{is_name}
 use Rattle.gq_desk.specs.Plans.{is_in, plan_fault}
 use Rattle.gq_desk.specs.CheckedPlan.{CheckedPlan}
@@ -44,27 +45,27 @@ grid_from (Some sides) =
     else Ok (record { rows = sides.0; cols = sides.1 })
 
 -- the grid of a line `grid ROWS COLS`
-unfoldable pub grid_of : List Word → Result Grid TextFault
-grid_of [] = Err Form
-grid_of (verb ∷ words) = if bytes_eq verb (codes "grid") then grid_from (two_numbers_of words) else Err Form
+unfoldable pub grid_told : List Word → Result Grid TextFault
+grid_told [] = Err Form
+grid_told (verb ∷ words) = if bytes_eq verb (codes "grid") then grid_from (two_numbers_of words) else Err Form
 
 -- this number of blocks, tested for form, then for value
 abbrev pub blocks_from : Option ℕ → Result ℕ TextFault
 blocks_from None = Err Form
-blocks_from (Some blocks) = if is_in 1 4096 blocks then Ok blocks else Err Blocks
+blocks_from (Some blocks) = if is_in 1 MOST_BLOCKS blocks then Ok blocks else Err Blocks
 
 -- the blocks of a line `blocks BLOCKS`
-unfoldable pub blocks_of : List Word → Result ℕ TextFault
-blocks_of [] = Err Form
-blocks_of (verb ∷ words) = if bytes_eq verb (codes "blocks") then blocks_from (one_number_of words) else Err Form
+unfoldable pub blocks_told : List Word → Result ℕ TextFault
+blocks_told [] = Err Form
+blocks_told (verb ∷ words) = if bytes_eq verb (codes "blocks") then blocks_from (one_number_of words) else Err Form
 
 -- the row of a line `tenant NAME SHARE SESSIONS STEPS`
-unfoldable pub row_of : List Word → Option TenantRow
-row_of (verb ∷ name ∷ a ∷ b ∷ c ∷ []) =
+unfoldable pub row_told : List Word → Option TenantRow
+row_told (verb ∷ name ∷ a ∷ b ∷ c ∷ []) =
     if bytes_eq verb (codes "tenant") && is_name name then
     number_of a >>= (λ share. number_of b >>= (λ sessions. number_of c >>= (λ steps. Some (record { name = name; share = share; sessions = sessions; steps = steps }))))
     else None
-row_of _ = None
+row_told _ = None
 
 -- a row before the others, or the fault of its line, which has number n
 abbrev pub row_then : ℕ → Option TenantRow → Reading (List TenantRow × List (List ℕ)) → Reading (List TenantRow × List (List ℕ))
@@ -75,7 +76,7 @@ row_then n (Some row) (Err fault) = Err fault
 -- the rows of the lines up to `go`, of which the first has number n, and the lines after it
 abbrev pub rows_from : ℕ → List (List ℕ) → Reading (List TenantRow × List (List ℕ))
 rows_from n [] = Err (n, End)
-rows_from n (line ∷ lines) = if bytes_eq line (codes "go") then Ok ([], lines) else row_then n (row_of (words_of line)) (rows_from (n + 1) lines)
+rows_from n (line ∷ lines) = if bytes_eq line (codes "go") then Ok ([], lines) else row_then n (row_told (words_of line)) (rows_from (n + 1) lines)
 
 -- the line of a fault of so many rows: that of the row, or that of `go`
 abbrev pub line_of_fault : ℕ → PlanFault → ℕ
@@ -101,9 +102,9 @@ checked grid blocks rows = plan_unless (plan_fault blocks rows) (record { grid =
 unfoldable pub plan_of : List (List ℕ) → Reading (CheckedPlan × List (List ℕ))
 plan_of lines =
     then_read (line_at 1 lines) (λ (first, lines).
-    then_read (at_line 1 (grid_of (words_of first))) (λ grid.
+    then_read (at_line 1 (grid_told (words_of first))) (λ grid.
     then_read (line_at 2 lines) (λ (second, lines).
-    then_read (at_line 2 (blocks_of (words_of second))) (λ blocks.
+    then_read (at_line 2 (blocks_told (words_of second))) (λ blocks.
     then_read (rows_from 3 lines) (λ (rows, lines).
     then_read (checked grid blocks rows) (λ plan.
     Ok (plan, lines)))))))

@@ -1,12 +1,12 @@
 //! Lines of the input after the plan.
 
-ghost use Rattle.std.specs.Prelude.{◌≡◌, ◌<◌, length, IfOk, IfSome};
-ghost use Rattle.gq_world.specs.Events.{IsIn};
+ghost use Rattle.std.specs.Prelude.{◌≡◌, ◌∷◌, IfOk};
+ghost use Rattle.gq_model.specs.Events.{IsIn};
 ghost use Rattle.gq_script.specs.Words.{words_after};
-ghost use Rattle.gq_script.specs.Input.{one_number_of, two_numbers_of, line_of, server_line_of, place_of, event_of};
+ghost use Rattle.gq_script.specs.Input.{one_number_of, two_numbers_of, line_of, server_line_of, event_of, event_of_words};
 
 use crate::words::{first_word, is_end, next_word, number};
-use gq_desk::{Name, Plan};
+use gq_desk::Plan;
 use gq_world::{Event, Line, ServerLine};
 use std::alloc::{AllocError, Global};
 
@@ -35,9 +35,34 @@ pub fn two_numbers(text: &[u8]) -> Option<(u32, u32)>
     Some((number(first)?, number(second)?))
 }
 
-// The line of the words after a tenant's name.
+// The line of the words after a tenant's name. The most frequent kinds are seen without a search for the ends of words.
 #[tactic(auto, unfolding(crate::specs::Input::line_of))]
 fn tenant_line(text: &[u8]) -> Line
+    ensures { result ≡ line_of (words_after text.now) }
+{
+    match text {
+        b" quorum" => return Line::Quorum,
+        b" volumes" => return Line::Volumes,
+        _ => {}
+    }
+    if let Some(word) = text.strip_prefix(b" deliver ".as_slice()) {
+        return match number(word) {
+            Some(number) => Line::Deliver { number },
+            None => Line::Bad,
+        };
+    }
+    if let Some(word) = text.strip_prefix(b" lose ".as_slice()) {
+        return match number(word) {
+            Some(number) => Line::Lose { number },
+            None => Line::Bad,
+        };
+    }
+    line_of_words(text)
+}
+
+// The same, word by word.
+#[tactic(auto, unfolding(crate::specs::Input::line_of))]
+fn line_of_words(text: &[u8]) -> Line
     ensures { result ≡ line_of (words_after text.now) }
 {
     let Some((verb, rest)) = next_word(text) else {
@@ -101,30 +126,34 @@ fn server_line(text: &[u8]) -> ServerLine
     }
 }
 
-// The tenant of which the word is the name.
-fn tenant_named(plan: &Plan, word: &[u8]) -> Option<u8>
-    ensures place { result ≡ place_of plan.now word.now }
-    ensures within { IfSome result (λ tenant. tenant < length plan.now.rows) }
-{
-    let name = Name::new(word)?;
-    plan.find(&name)
-}
-
 /// The event of a line, which has no newline. The bytes before the first space say whose line it is: a tenant's where
 /// they are the name of a tenant of the plan, a server line where they are `server`, else nobody's. A line of a tenant
 /// or a server line that has no known form is a bad one of its kind. The only error is want of memory.
-#[tactic(auto, unfolding(crate::specs::Input::event_of_words))]
-pub fn read_line(_alloc: Global, line: &[u8], plan: &Plan) -> Result<Event, AllocError>
+pub fn read_line(alloc: Global, line: &[u8], plan: &Plan) -> Result<Event, AllocError>
     ensures event { IfOk result (λ event. event ≡ event_of plan.now line.now) }
     ensures within { IfOk result (λ event. IsIn plan.now event) }
 {
     let (first, rest) = first_word(line);
+    read_words(alloc, first, rest, plan)
+}
+
+// The event of a line's first word and the text after it.
+#[tactic(auto, unfolding(crate::specs::Input::event_of_words))]
+pub fn read_words(
+    _alloc: Global,
+    first: &[u8],
+    rest: &[u8],
+    plan: &Plan,
+) -> Result<Event, AllocError>
+    ensures event { IfOk result (λ event. event ≡ event_of_words plan.now (first.now ∷ words_after rest.now)) }
+    ensures within { IfOk result (λ event. IsIn plan.now event) }
+{
     if first == b"server".as_slice() {
         return Ok(Event::Server {
             line: server_line(rest),
         });
     }
-    match tenant_named(plan, first) {
+    match plan.find_word(first) {
         Some(tenant) => Ok(Event::Tenant {
             tenant,
             line: tenant_line(rest),

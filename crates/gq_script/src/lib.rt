@@ -4,9 +4,11 @@
 mod input;
 pub mod laws;
 mod lines;
+mod near;
 mod output;
 mod pieces;
 mod plan_text;
+mod quorum_text;
 mod script;
 mod watched;
 mod words;
@@ -16,6 +18,3 @@ pub use output::write_answer;
 pub use plan_text::{PlanText, TextFault, read_plan};
 pub use script::{MOST_INPUT, RunFault, run};
 pub use watched::Watched;
-
-#[cfg(test)]
-mod tests;

@@ -1,8 +1,10 @@
 //! Lines of a text.
 
 ghost use Rattle.std.specs.Prelude.{◌≡◌, ◌∷◌, ◌<◌, length};
-ghost use Rattle.gq_script.specs.Lines.{lines_of, IsRest};
+ghost use Rattle.gq_script.specs.Lines.{lines_of, IsRest, IsCut};
 
+use crate::near::near;
+use crate::words::first_word;
 use memchr::memchr;
 
 // The first line of a text without its newline, and what follows it.
@@ -16,4 +18,30 @@ pub fn first_line(text: &[u8]) -> (&[u8], &[u8])
         Some(end) => (&text[..end], &text[end + 1..]),
         None => (text, &[]),
     }
+}
+
+// The first line of a text, cut behind its first word, and what follows the line.
+#[inline(always)]
+pub fn cut_line(text: &[u8]) -> (&[u8], &[u8], &[u8])
+    requires { 0 < length text.now }
+    ensures { IsCut text.now result.0.now result.1.now result.2.now }
+{
+    if text.len() >= 32 {
+        let end = near(b'\n', text);
+        if end < 32 {
+            let first = near(b' ', text).min(end);
+            return (&text[..first], &text[first..end], &text[end + 1..]);
+        }
+    }
+    cut_far_line(text)
+}
+
+// The same, of a line of any length.
+fn cut_far_line(text: &[u8]) -> (&[u8], &[u8], &[u8])
+    requires { 0 < length text.now }
+    ensures { IsCut text.now result.0.now result.1.now result.2.now }
+{
+    let (line, after) = first_line(text);
+    let (first, rest) = first_word(line);
+    (first, rest, after)
 }

@@ -1,105 +1,142 @@
 //! Lines of the output.
 
-ghost use Rattle.std.specs.Prelude.{◌≡◌, ◌∷◌, ◌++◌, codes, OnOk, OnErr};
-ghost use Rattle.gq_world.specs.Events.{IsIn};
-ghost use Rattle.gq_world.specs.Shown.{shown};
-ghost use Rattle.gq_script.specs.Output.{answer_line, told_words, refusal_words, server_refusal_word, line_text};
+ghost use Rattle.std.specs.Prelude.{◌≡◌, [], ◌∷◌, ◌++◌, codes, OnOk, OnErr};
+ghost use Rattle.gq_model.specs.Events.{IsIn};
+ghost use Rattle.gq_model.specs.Shown.{shown};
+ghost use Rattle.gq_script.specs.Pieces.{Extends};
+ghost use Rattle.gq_script.specs.Output.{answer_line, told_words, refusal_words, server_refusal_word, ended, who};
 
-use crate::pieces::{Piece, put_line};
-use gq_desk::Plan;
-use gq_grid::Grid;
+use crate::pieces::{Piece, put_words};
+use crate::quorum_text::{QuorumText, put_quorum};
+use gq_desk::{MOST_LETTERS, Name, Plan};
+use gq_grid::{Choice, Grid};
 use gq_world::{Answer, Event, Refusal, ServerRefusal};
 use std::alloc::AllocError;
 
-// The line of a tenant's refusal.
-fn put_refusal(out: &mut Vec<u8>, first: &[u8], refusal: Refusal) -> Result<(), AllocError>
+// Appends the words of a tenant's refusal, and the newline.
+fn put_refusal(out: &mut Vec<u8>, refusal: Refusal) -> Result<(), AllocError>
     ensures ok { OnOk result (out.new.items ≡
-        out.old.items ++ line_text first.now (codes "refused" ∷ refusal_words refusal)) }
-    ensures err { OnErr result (out.new.items ≡ out.old.items) }
-{
-    let words = match refusal {
-        Refusal::Spent => b"refused spent".as_slice(),
-        Refusal::Bad => b"refused bad".as_slice(),
-        Refusal::NoQuorum => b"refused noquorum".as_slice(),
-        Refusal::NoMessage => b"refused nomessage".as_slice(),
-        Refusal::Size => b"refused size".as_slice(),
-        Refusal::Volumes => b"refused volumes".as_slice(),
-        Refusal::Share { free } => {
-            return put_line(
-                out,
-                first,
-                &[
-                    Piece::Text(b"refused share"),
-                    Piece::Number(u64::from(free)),
-                ],
-            );
-        }
-    };
-    put_line(out, first, &[Piece::Text(words)])
-}
-
-// The word of a server line's refusal.
-fn server_refusal_text(refusal: ServerRefusal) -> &'static [u8]
-    ensures { result.now ≡ server_refusal_word refusal }
+        out.old.items ++ ended (codes "refused" ∷ refusal_words refusal)) }
+    ensures err { OnErr result (Extends out.old.items out.new.items) }
 {
     match refusal {
-        ServerRefusal::Bad => b"bad",
-        ServerRefusal::NoServer => b"noserver",
-        ServerRefusal::Same => b"same",
+        Refusal::Spent => out.extend_from_slice(b" refused spent\n"),
+        Refusal::Bad => out.extend_from_slice(b" refused bad\n"),
+        Refusal::NoQuorum => out.extend_from_slice(b" refused noquorum\n"),
+        Refusal::NoMessage => out.extend_from_slice(b" refused nomessage\n"),
+        Refusal::Size => out.extend_from_slice(b" refused size\n"),
+        Refusal::Volumes => out.extend_from_slice(b" refused volumes\n"),
+        Refusal::Share { free } => put_words(
+            out,
+            &[
+                Piece::Text(b"refused share"),
+                Piece::Number(u64::from(free)),
+            ],
+        ),
     }
 }
 
-// The line of an answer that begins with `first`.
-#[tactic(auto, unfolding(crate::specs::Output::told_words))]
-fn put_answer(
-    out: &mut Vec<u8>,
-    first: &[u8],
-    grid: &Grid,
-    answer: &Answer,
-) -> Result<(), AllocError>
+// Appends the words of a server line's refusal, and the newline.
+fn put_server_refusal(out: &mut Vec<u8>, refusal: ServerRefusal) -> Result<(), AllocError>
     ensures ok { OnOk result (out.new.items ≡
-        out.old.items ++ line_text first.now (told_words (shown grid.now answer.now))) }
-    ensures err { OnErr result (out.new.items ≡ out.old.items) }
+        out.old.items ++ ended (codes "refused" ∷ server_refusal_word refusal ∷ [])) }
+    ensures err { OnErr result (Extends out.old.items out.new.items) }
+{
+    match refusal {
+        ServerRefusal::Bad => out.extend_from_slice(b" refused bad\n"),
+        ServerRefusal::NoServer => out.extend_from_slice(b" refused noserver\n"),
+        ServerRefusal::Same => out.extend_from_slice(b" refused same\n"),
+    }
+}
+
+// Appends the words of an answer, and the newline.
+#[tactic(auto, unfolding(crate::specs::Output::told_words))]
+fn put_answer(out: &mut Vec<u8>, grid: &Grid, answer: &Answer) -> Result<(), AllocError>
+    ensures ok { OnOk result (out.new.items ≡
+        out.old.items ++ ended (told_words grid.now (shown answer.now))) }
+    ensures err { OnErr result (Extends out.old.items out.new.items) }
 {
     match answer {
-        Answer::Quorum(choice) => put_line(
+        Answer::Quorum(choice) => put_quorum(out, grid, *choice),
+        Answer::Volume { number } => put_words(
             out,
-            first,
-            &[
-                Piece::Text(b"quorum"),
-                Piece::Number(choice.row as u64),
-                Piece::Number(choice.col as u64),
-                Piece::Text(b"servers"),
-                Piece::Servers(grid, choice.servers),
-            ],
-        ),
-        Answer::Volume { number } => put_line(
-            out,
-            first,
             &[Piece::Text(b"volume"), Piece::Number(u64::from(*number))],
         ),
-        Answer::Volumes { free, rows } => put_line(
+        Answer::Volumes { free, rows } => put_words(
             out,
-            first,
             &[
                 Piece::Text(b"volumes free"),
                 Piece::Number(u64::from(*free)),
                 Piece::Volumes(rows.items.as_slice()),
             ],
         ),
-        Answer::Lost => put_line(out, first, &[Piece::Text(b"lost")]),
-        Answer::Refused(refusal) => put_refusal(out, first, *refusal),
-        Answer::ServerOk => put_line(out, first, &[Piece::Text(b"ok")]),
-        Answer::ServerRefused(refusal) => put_line(
-            out,
-            first,
-            &[
-                Piece::Text(b"refused"),
-                Piece::Text(server_refusal_text(*refusal)),
-            ],
-        ),
-        Answer::StrayBad => put_line(out, first, &[Piece::Text(b"refused bad")]),
+        Answer::Lost => out.extend_from_slice(b" lost\n"),
+        Answer::Refused(refusal) => put_refusal(out, *refusal),
+        Answer::ServerOk => out.extend_from_slice(b" ok\n"),
+        Answer::ServerRefused(refusal) => put_server_refusal(out, *refusal),
+        Answer::StrayBad => out.extend_from_slice(b" refused bad\n"),
     }
+}
+
+// Appends a name. A copy of all its bytes, cut, is faster than one of the letters alone.
+fn put_name(out: &mut Vec<u8>, name: &Name) -> Result<(), AllocError>
+    ensures ok { OnOk result (out.new.items ≡ out.old.items ++ name.now) }
+    ensures err { OnErr result (Extends out.old.items out.new.items) }
+{
+    out.extend_from_slice(name.padded())?;
+    let over = MOST_LETTERS - name.len();
+    out.truncate(out.len() - over);
+    Ok(())
+}
+
+// Appends whose line it is.
+#[inline(always)]
+fn put_who(out: &mut Vec<u8>, plan: &Plan, event: &Event) -> Result<(), AllocError>
+    requires { IsIn plan.now event.now }
+    ensures ok { OnOk result (out.new.items ≡ out.old.items ++ who plan.now event.now) }
+    ensures err { OnErr result (Extends out.old.items out.new.items) }
+{
+    match event {
+        Event::Tenant { tenant, .. } => put_name(out, &plan.row(*tenant).name),
+        Event::Server { .. } => out.extend_from_slice(b"server"),
+        Event::Stray => out.extend_from_slice(b"?"),
+    }
+}
+
+// Appends the line of the answer to an event.
+fn put_line(
+    out: &mut Vec<u8>,
+    plan: &Plan,
+    event: &Event,
+    answer: &Answer,
+) -> Result<(), AllocError>
+    requires { IsIn plan.now event.now }
+    ensures ok { OnOk result (out.new.items ≡
+        out.old.items ++ answer_line plan.now event.now (shown answer.now)) }
+    ensures err { OnErr result (Extends out.old.items out.new.items) }
+{
+    put_who(out, plan, event)?;
+    put_answer(out, plan.grid(), answer)
+}
+
+// Appends the line of a chosen quorum, whose words are put together only where they are not those of the last one.
+#[tactic(auto, unfolding(crate::specs::Output::told_words))]
+pub fn put_quorum_line(
+    out: &mut Vec<u8>,
+    plan: &Plan,
+    event: &Event,
+    choice: Choice,
+    last: &mut QuorumText,
+) -> Result<(), AllocError>
+    requires event { IsIn plan.now event.now }
+    requires grid { last.old.grid ≡ plan.now.grid }
+    ensures grid { last.new.grid ≡ last.old.grid }
+    ensures ok { OnOk result (out.new.items ≡
+        out.old.items ++ answer_line plan.now event.now (shown (Answer.Quorum choice))) }
+{
+    put_who(out, plan, event)?;
+    last.hold(choice)?;
+    out.extend_from_slice(last.text())
 }
 
 /// Appends the line of the answer to an event, or nothing where memory is refused. The line begins with the tenant's
@@ -112,15 +149,13 @@ pub fn write_answer(
 ) -> Result<(), AllocError>
     requires { IsIn plan.now event.now }
     ensures ok { OnOk result (out.new.items ≡
-        out.old.items ++ answer_line plan.now event.now (shown plan.now.grid answer.now)) }
+        out.old.items ++ answer_line plan.now event.now (shown answer.now)) }
     ensures err { OnErr result (out.new.items ≡ out.old.items) }
 {
-    let grid = plan.grid();
-    match event {
-        Event::Tenant { tenant, .. } => {
-            put_answer(out, plan.row(*tenant).name.as_bytes(), grid, answer)
-        }
-        Event::Server { .. } => put_answer(out, b"server", grid, answer),
-        Event::Stray => put_answer(out, b"?", grid, answer),
+    let start = out.len();
+    let done = put_line(out, plan, event, answer);
+    if done.is_err() {
+        out.truncate(start);
     }
+    done
 }

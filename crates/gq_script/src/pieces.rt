@@ -1,10 +1,10 @@
 //! Words straight into a buffer.
 
-ghost use Rattle.std.specs.Prelude.{◌≡◌, ℕ, ◌∷◌, ◌++◌, map, decimal, OnOk, OnErr};
+ghost use Rattle.std.specs.Prelude.{◌≡◌, ◌∷◌, ◌++◌, map, decimal, OnOk, OnErr};
 ghost use Rattle.std.specs.List.{flat_map};
 ghost use Rattle.gq_grid.specs.Grid.{rising};
 ghost use Rattle.gq_grid.specs.Sets.{servers};
-ghost use Rattle.gq_script.specs.Output.{spaced, line_text, volume_word};
+ghost use Rattle.gq_script.specs.Output.{spaced, ended, volume_word};
 ghost use Rattle.gq_script.specs.Pieces.{words_in, Extends};
 
 use gq_desk::VolumeRow;
@@ -36,6 +36,7 @@ fn put_number(out: &mut Vec<u8>, n: u64) -> Result<(), AllocError>
 }
 
 // Appends a word after a space.
+#[inline(always)]
 fn put_text(out: &mut Vec<u8>, word: &[u8]) -> Result<(), AllocError>
     ensures ok { OnOk result (out.new.items ≡ out.old.items ++ 32 ∷ word.now) }
     ensures err { OnErr result (Extends out.old.items out.new.items) }
@@ -45,6 +46,7 @@ fn put_text(out: &mut Vec<u8>, word: &[u8]) -> Result<(), AllocError>
 }
 
 // Appends a number after a space.
+#[inline(always)]
 fn put_spaced_number(out: &mut Vec<u8>, n: u64) -> Result<(), AllocError>
     ensures ok { OnOk result (out.new.items ≡ out.old.items ++ 32 ∷ decimal n) }
     ensures err { OnErr result (Extends out.old.items out.new.items) }
@@ -89,6 +91,7 @@ fn put_volumes(out: &mut Vec<u8>, volumes: &[VolumeRow]) -> Result<(), AllocErro
 }
 
 // Appends the words of a piece.
+#[inline(always)]
 fn put_piece(out: &mut Vec<u8>, piece: Piece) -> Result<(), AllocError>
     ensures ok { OnOk result (out.new.items ≡ out.old.items ++ spaced (words_in piece.entry)) }
     ensures err { OnErr result (Extends out.old.items out.new.items) }
@@ -102,6 +105,7 @@ fn put_piece(out: &mut Vec<u8>, piece: Piece) -> Result<(), AllocError>
 }
 
 // Appends the words of pieces.
+#[inline(always)]
 fn put_pieces(out: &mut Vec<u8>, pieces: &[Piece]) -> Result<(), AllocError>
     ensures ok { OnOk result (out.new.items ≡ out.old.items ++ spaced (flat_map words_in pieces.now)) }
     ensures err { OnErr result (Extends out.old.items out.new.items) }
@@ -112,26 +116,13 @@ fn put_pieces(out: &mut Vec<u8>, pieces: &[Piece]) -> Result<(), AllocError>
     Ok(())
 }
 
-// Appends a line of words.
-fn put_whole(out: &mut Vec<u8>, first: &[u8], words: &[Piece]) -> Result<(), AllocError>
-    ensures ok { OnOk result (out.new.items ≡ out.old.items ++ line_text first.now (flat_map words_in words.now)) }
+// Appends the words of pieces, and a newline.
+#[inline(always)]
+pub fn put_words(out: &mut Vec<u8>, pieces: &[Piece]) -> Result<(), AllocError>
+    ensures ok { OnOk result (out.new.items ≡ out.old.items ++ ended (flat_map words_in pieces.now)) }
     ensures err { OnErr result (Extends out.old.items out.new.items) }
 {
-    out.extend_from_slice(first)?;
-    put_pieces(out, words)?;
+    put_pieces(out, pieces)?;
     out.push(b'\n')?;
     Ok(())
-}
-
-// Appends a line of words, or nothing.
-pub fn put_line(out: &mut Vec<u8>, first: &[u8], words: &[Piece]) -> Result<(), AllocError>
-    ensures ok { OnOk result (out.new.items ≡ out.old.items ++ line_text first.now (flat_map words_in words.now)) }
-    ensures err { OnErr result (out.new.items ≡ out.old.items) }
-{
-    let start = out.len();
-    let done = put_whole(out, first, words);
-    if done.is_err() {
-        out.truncate(start);
-    }
-    done
 }

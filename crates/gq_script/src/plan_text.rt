@@ -7,7 +7,7 @@ ghost use Rattle.gq_script.specs.Lines.{lines_of, IsRest};
 use crate::input::{one_number, two_numbers};
 use crate::lines::first_line;
 use crate::words::{first_word, is_end, next_word, number};
-use gq_desk::{Name, Plan, PlanFault, TenantRow};
+use gq_desk::{MOST_BLOCKS, Name, Plan, PlanFault, TenantRow};
 use gq_grid::{Grid, GridFault};
 use std::alloc::Global;
 use thiserror::Error;
@@ -24,7 +24,7 @@ pub enum TextFault {
     /// The grid has no such sides.
     #[error("{0}")]
     Grid(GridFault),
-    /// The blocks of a server are not 1 to 4096.
+    /// The blocks of a server are not 1 to [`MOST_BLOCKS`].
     #[error("blocks")]
     Blocks,
     /// The rows of the tenants make no plan. A fault of a row is told with the line of that row, one of the rows as a
@@ -44,7 +44,7 @@ pub enum PlanText {
     Memory,
 }
 
-ghost use Rattle.gq_script.specs.PlanText.{grid_of, blocks_of, line_at, at_line, row_of, rows_from, line_of_fault, checked, plan_of, IsFaultOf};
+ghost use Rattle.gq_script.specs.PlanText.{grid_told, blocks_told, line_at, at_line, row_told, rows_from, line_of_fault, checked, plan_of, IsFaultOf};
 
 // Line `number` of an input, and the text after it.
 fn line_at(number: u64, text: &[u8]) -> Result<(&[u8], &[u8]), PlanText>
@@ -71,9 +71,9 @@ fn at_line<T>(line: u64, read: Result<T, TextFault>) -> Result<T, PlanText>
 }
 
 // The grid of a line `grid ROWS COLS`.
-#[tactic(auto, unfolding(crate::specs::PlanText::grid_of))]
-fn grid_of(line: &[u8]) -> Result<Grid, TextFault>
-    ensures { result ≡ grid_of (words_of line.now) }
+#[tactic(auto, unfolding(crate::specs::PlanText::grid_told))]
+fn grid_told(line: &[u8]) -> Result<Grid, TextFault>
+    ensures { result ≡ grid_told (words_of line.now) }
 {
     let (verb, rest) = first_word(line);
     if verb != b"grid".as_slice() {
@@ -89,11 +89,11 @@ fn grid_of(line: &[u8]) -> Result<Grid, TextFault>
 }
 
 // The number of a line `blocks BLOCKS`.
-#[tactic(auto, unfolding(crate::specs::PlanText::blocks_of))]
-fn blocks_of(line: &[u8]) -> Result<u32, TextFault>
-    ensures value { result ≡ blocks_of (words_of line.now) }
+#[tactic(auto, unfolding(crate::specs::PlanText::blocks_told))]
+fn blocks_told(line: &[u8]) -> Result<u32, TextFault>
+    ensures value { result ≡ blocks_told (words_of line.now) }
     ensures least { IfOk result (λ blocks. 1 ≤ blocks) }
-    ensures most { IfOk result (λ blocks. blocks ≤ 4096) }
+    ensures most { IfOk result (λ blocks. blocks ≤ MOST_BLOCKS) }
 {
     let (verb, rest) = first_word(line);
     if verb != b"blocks".as_slice() {
@@ -102,16 +102,16 @@ fn blocks_of(line: &[u8]) -> Result<u32, TextFault>
     let Some(blocks) = one_number(rest) else {
         return Err(TextFault::Form);
     };
-    if blocks < 1 || blocks > 4096 {
+    if blocks < 1 || blocks > MOST_BLOCKS {
         return Err(TextFault::Blocks);
     }
     Ok(blocks)
 }
 
 // The row of a line `tenant NAME SHARE SESSIONS STEPS`.
-#[tactic(auto, unfolding(crate::specs::PlanText::row_of))]
-fn row_of(line: &[u8]) -> Option<TenantRow>
-    ensures { result ≡ row_of (words_of line.now) }
+#[tactic(auto, unfolding(crate::specs::PlanText::row_told))]
+fn row_told(line: &[u8]) -> Option<TenantRow>
+    ensures { result ≡ row_told (words_of line.now) }
 {
     let (verb, rest) = first_word(line);
     let (name, rest) = next_word(rest)?;
@@ -146,7 +146,7 @@ fn rows_from(alloc: Global, text: &[u8]) -> Result<(Vec<TenantRow>, &[u8]), Plan
         if first == b"go".as_slice() {
             return Ok((rows, rest));
         }
-        let Some(row) = row_of(first) else {
+        let Some(row) = row_told(first) else {
             return Err(PlanText::Fault {
                 line,
                 fault: TextFault::Form,
@@ -181,7 +181,7 @@ fn line_of_fault(rows: usize, fault: PlanFault) -> u64
 // The plan of the rows, of which the last stands before `go`.
 fn checked(alloc: Global, grid: Grid, blocks: u32, rows: &[TenantRow]) -> Result<Plan, PlanText>
     requires least { 1 ≤ blocks }
-    requires most { blocks ≤ 4096 }
+    requires most { blocks ≤ MOST_BLOCKS }
     requires few { length rows.now < 2 ^ 63 }
     ensures plan { IfOk result (λ plan. checked grid blocks rows.now ≡ Ok plan) }
     ensures fault { IfErr result (λ e. IsFaultOf (checked grid blocks rows.now) e) }
@@ -207,9 +207,9 @@ pub fn read_plan(alloc: Global, text: &[u8]) -> Result<(Plan, usize), PlanText>
     ensures fault { IfErr result (λ e. IsFaultOf (plan_of (lines_of text.now)) e) }
 {
     let (first, rest) = line_at(1, text)?;
-    let grid = at_line(1, grid_of(first))?;
+    let grid = at_line(1, grid_told(first))?;
     let (second, rest) = line_at(2, rest)?;
-    let blocks = at_line(2, blocks_of(second))?;
+    let blocks = at_line(2, blocks_told(second))?;
     let (rows, rest) = rows_from(alloc, rest)?;
     let plan = checked(alloc, grid, blocks, rows.as_slice())?;
     Ok((plan, text.len() - rest.len()))

@@ -3,13 +3,14 @@
 ghost use Rattle.std.specs.Prelude.{◌≡◌, ◌≢◌, ◌↔◌, ◌+◌, ◌<◌, ◌≤◌, ◌++◌, [], ◌∷◌, List, true, false, length, vec_len, IfOk, IfErr, IfSome, OnOk, OnErr, IsOk, IsErrOf};
 ghost use Rattle.std.specs.Io.KnownBytes.{Appends, IsAtEnd};
 
-use crate::input::read_line;
-use crate::lines::first_line;
-use crate::output::write_answer;
+use crate::input::read_words;
+use crate::lines::cut_line;
+use crate::output::{put_quorum_line, write_answer};
 use crate::plan_text::{PlanText, TextFault, read_plan};
+use crate::quorum_text::QuorumText;
 use crate::watched::Watched;
 use gq_desk::Plan;
-use gq_world::World;
+use gq_world::{Answer, World};
 use std::alloc::{AllocError, Global};
 use std::io::{Read, Write};
 use thiserror::Error;
@@ -37,11 +38,12 @@ pub enum RunFault {
 /// The most bytes that an input may have.
 pub const MOST_INPUT: usize = 16_777_216;
 
-ghost use Rattle.gq_world.specs.Events.{answer_to};
+ghost use Rattle.gq_model.specs.Events.{answer_to};
 ghost use Rattle.gq_world.specs.Tables.{Stands};
-ghost use Rattle.gq_world.specs.declared.events.Event.{Event};
-ghost use Rattle.gq_script.specs.Input.{event_of};
+ghost use Rattle.gq_model.specs.declared.events.Event.{Event};
+ghost use Rattle.gq_script.specs.Input.{event_of_words};
 ghost use Rattle.gq_script.specs.Lines.{lines_of};
+ghost use Rattle.gq_script.specs.Words.{words_after};
 ghost use Rattle.gq_script.specs.Output.{answer_line};
 ghost use Rattle.gq_script.specs.PlanText.{plan_of};
 ghost use Rattle.gq_script.specs.Out.{joined, output_lines, out, IsAccepted, IsPlanFaultOf};
@@ -124,22 +126,29 @@ fn read_whole<R: Read>(alloc: Global, reader: &mut Watched<R>) -> Result<Vec<u8>
     unreachable!()
 }
 
-// Answers one line, and appends the answer.
+// Answers one line, cut behind its first word, and appends the answer.
 fn answer_line(
     alloc: Global,
     world: &mut World,
-    line: &[u8],
+    first: &[u8],
+    rest: &[u8],
+    quorum: &mut QuorumText,
     text: &mut Vec<u8>,
 ) -> Result<(), AllocError>
+    requires { quorum.old.grid ≡ world.old.plan.grid }
+    ensures grid { quorum.new.grid ≡ quorum.old.grid }
     ensures plan { world.new.plan ≡ world.old.plan }
     ensures stands { OnOk result ((events : List Event) → Stands world.old events →
-        Stands world.new (events ++ event_of world.old.plan line.now ∷ [])) }
+        Stands world.new (events ++ event_of_words world.old.plan (first.now ∷ words_after rest.now) ∷ [])) }
     ensures written { OnOk result ((events : List Event) → Stands world.old events →
-        text.new.items ≡ text.old.items ++ answer_line world.old.plan (event_of world.old.plan line.now)
-        (answer_to world.old.plan events (event_of world.old.plan line.now))) }
+        text.new.items ≡ text.old.items ++ answer_line world.old.plan (event_of_words world.old.plan (first.now ∷ words_after rest.now))
+        (answer_to world.old.plan events (event_of_words world.old.plan (first.now ∷ words_after rest.now)))) }
 {
-    let event = read_line(alloc, line, world.plan())?;
+    let event = read_words(alloc, first, rest, world.plan())?;
     match world.step(&event) {
+        Ok(Answer::Quorum(choice)) => {
+            put_quorum_line(text, world.plan(), &event, choice, quorum)
+        }
         Ok(answer) => write_answer(world.plan(), &event, &answer, text),
         Err(_) => Err(AllocError),
     }
@@ -150,11 +159,12 @@ fn answers(alloc: Global, plan: Plan, lines: &[u8]) -> Result<Vec<u8>, AllocErro
     ensures { IfOk result (λ text. text.items ≡ joined (output_lines plan (lines_of lines.now))) }
 {
     let mut text = Vec::new(alloc);
+    let mut quorum = QuorumText::new(alloc, *plan.grid());
     let mut world = World::new(alloc, plan)?;
     let mut rest = lines;
     while !rest.is_empty() {
-        let (line, after) = first_line(rest);
-        answer_line(alloc, &mut world, line, &mut text)?;
+        let (first, words, after) = cut_line(rest);
+        answer_line(alloc, &mut world, first, words, &mut quorum, &mut text)?;
         rest = after;
     }
     Ok(text)

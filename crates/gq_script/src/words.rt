@@ -1,14 +1,18 @@
 //! Words and numbers.
 
-ghost use Rattle.std.specs.Prelude.{◌≡◌, ℕ, List, [], ◌∷◌, MatchOption, MatchBool};
+ghost use Rattle.std.specs.Prelude.{◌≡◌, ℕ, List, [], ◌∷◌, ◌++◌, MatchOption, MatchBool};
 ghost use Rattle.gq_script.specs.Words.{words_of, words_after, number_after, number_of};
+
+// The greatest number that a text may have.
+pub const MOST_NUMBER: u64 = 4_294_967_295;
 
 // The first word of a text, and the text after it, which begins with a space or is empty.
 pub fn first_word(text: &[u8]) -> (&[u8], &[u8])
-    ensures { words_of text.now ≡ result.0.now ∷ words_after result.1.now }
+    ensures words { words_of text.now ≡ result.0.now ∷ words_after result.1.now }
+    ensures whole { text.now ≡ result.0.now ++ result.1.now }
 {
     for (i, c) in text.iter().enumerate() {
-        if *c == 32 {
+        if *c == b' ' {
             return (&text[..i], &text[i..]);
         }
     }
@@ -46,7 +50,7 @@ pub fn number(word: &[u8]) -> Option<u32>
     }
 }
 
-// The number of digits, up to the largest.
+// The number that digits write, up to the largest.
 fn number_from_digits(word: &[u8]) -> Option<u32>
     ensures { result ≡ number_after 0 word.now }
 {
@@ -56,7 +60,7 @@ fn number_from_digits(word: &[u8]) -> Option<u32>
             return None;
         }
         n = n * 10 + u64::from(*c - b'0');
-        if n > 4_294_967_295 {
+        if n > MOST_NUMBER {
             return None;
         }
     }
