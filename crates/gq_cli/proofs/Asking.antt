@@ -1,16 +1,16 @@
 -- Only words that ask to run have nothing wrong with them.
-use Rattle.std.proofs.Common.{refl, codes, true, false, Bool, ℕ, suc, List, Option, Some, None, ◌≡◌, ◌≢◌, [], ◌∷◌, ◌==◌, sym, ap, ap₂, ◌∙◌, inl, inr, ◌⊎◌, ◌++◌}
+use Rattle.std.proofs.Common.{refl, codes, true, false, Bool, ℕ, suc, List, Option, Some, None, ◌≡◌, ◌≢◌, [], ◌∷◌, sym, ap, ap₂, ◌∙◌, inl, inr, ◌⊎◌, ◌++◌}
 use Rattle.std.proofs.lemmas.List.{append-nil, append_assoc}
 use Rattle.std.proofs.lemmas.Slice.Eq.{bytes_eq-Decides}
-use Rattle.std.specs.Prelude.{drop, fold, length, slice_get}
+use Rattle.std.specs.Prelude.{IfSome, cond, drop, find, fold, length, slice_get, ⊤}
 use Rattle.std.specs.Option.{option_map_or}
 use Rattle.std.specs.Str.{bytes_eq, chars}
-use Rattle.clap.specs.Faults.{built_fault, bundle_fault, bundle_step_fault, entered_fault, flag_word_fault, flags_fault, level_fault, long_fault, short_fault, step_fault, turn_fault, walk_fault}
+use Rattle.clap.specs.Faults.{built_fault, bundle_fault, bundle_step_fault, entered_fault, flag_word_fault, flags_fault, level_fault, long_fault, react_fault, short_fault, step_fault, turn_fault, walk_fault}
 use Rattle.clap.specs.Kinds.{Kinds, or_else}
 use Rattle.clap.specs.Lexer.{long_of, short_of}
 use Rattle.clap.specs.Simple.{Shape, built, names_of}
-use Rattle.clap.specs.Walk.{Held, Outcome, Text, Walk, Names, arg_by_long, arg_by_short, bundle_met, after_flag, idle, long_or_other, nothing_held, plain, short_or_plain, subcommand_met, value, walk, walk_from, walked}
-use Rattle.clap.specs.declared.error.kind.ErrorKind.TheVariants.{DisplayHelp, InvalidSubcommand, MissingSubcommand, TooManyValues, UnknownArgument}
+use Rattle.clap.specs.Walk.{Held, Outcome, Rule, Text, Walk, Names, arg_by_long, arg_by_short, bundle_met, after_flag, idle, long_or_other, nothing_held, plain, reacted, short_or_plain, subcommand_met, takes_values, value, walk, walk_from, walked}
+use Rattle.clap.specs.declared.error.kind.ErrorKind.TheVariants.{DisplayHelp, InvalidSubcommand, MissingSubcommand, TooManyValues}
 use Rattle.clap.proofs.OnLiterals.{clap_on_literals}
 use Rattle.gq_cli.specs.Words.{AsksToRun, faults_in, gridfs}
 
@@ -31,43 +31,60 @@ abbrev level : Bool → Shape
 level true = run_of (built gridfs).subs
 level false = top
 
--- what `--name` comes to: the one flag is that for help
-abbrev told_of_long : Bool → Option Text → Kinds
-told_of_long true None = DisplayHelp ∷ []
-told_of_long true (Some v) = TooManyValues ∷ []
-told_of_long false v = UnknownArgument ∷ []
+-- ---- flags: each asks for help or for the version, so each use of one is wrong
 
-long_told : (name : Text) (v : Option Text) (is_help : Bool) → bytes_eq (codes "help") name ≡ is_help → long_fault top.rules false (arg_by_long top.rules name) v nothing_held ≡ told_of_long is_help v
-long_told name None true is = rw is refl
-long_told name (Some v) true is = rw is refl
-long_told name v false is = rw is refl
+abbrev rules : Bool → List Rule
+rules which = (level which).rules
 
-long_is_wrong : (is_help : Bool) (v : Option Text) → told_of_long is_help v ≢ []
-long_is_wrong true None none = cc
-long_is_wrong true (Some v) none = cc
-long_is_wrong false v none = cc
+-- the flag takes no value, and its use is wrong
+abbrev IsWrong : List Rule → Rule → Type 0
+IsWrong flags flag = (takes_values flag ≡ false) × (react_fault flags false flag [] nothing_held ≢ [])
+
+abbrev EachIsWrong : List Rule → List Rule → Type 0
+EachIsWrong flags [] = ⊤
+EachIsWrong flags (flag ∷ rest) = IsWrong flags flag × EachIsWrong flags rest
+
+each_is_wrong : (which : Bool) → EachIsWrong (rules which) (rules which)
+each_is_wrong true = ((refl, λ none. cc), tt)
+each_is_wrong false = ((refl, λ none. cc), ((refl, λ none. cc), tt))
+
+found_is_wrong : (flags : List Rule) (test : Rule → Bool) (rest : List Rule) → EachIsWrong flags rest → IfSome (find test rest) (IsWrong flags)
+found_is_wrong flags test [] each = tt
+found_is_wrong flags test (flag ∷ rest) each = by (test flag) (found_is_wrong flags test rest each.1)
+  where
+    by : (t : Bool) → IfSome (find test rest) (IsWrong flags) → IfSome (cond t (Some flag) (find test rest)) (IsWrong flags)
+    by true later = each.0
+    by false later = later
+
+flag_is_wrong : (which : Bool) (test : Rule → Bool) → IfSome (find test (rules which)) (IsWrong (rules which))
+flag_is_wrong which test = found_is_wrong (rules which) test (rules which) (each_is_wrong which)
+
+-- what `--name` comes to
+long_is_wrong : (flags : List Rule) (found : Option Rule) (v : Option Text) → IfSome found (IsWrong flags) → long_fault flags false found v nothing_held ≢ []
+long_is_wrong flags None v wrong none = cc
+long_is_wrong flags (Some flag) None wrong none =
+    let told : long_fault flags false (Some flag) None nothing_held ≡ react_fault flags false flag [] nothing_held = rw (wrong.0) refl in
+    wrong.1 (sym told ∙ none)
+long_is_wrong flags (Some flag) (Some v) wrong none =
+    let told : long_fault flags false (Some flag) (Some v) nothing_held ≡ TooManyValues ∷ [] = rw (wrong.0) refl in
+    let nothing = sym told ∙ none in
+    absurd (cc)
 
 -- what `-x` comes to
-abbrev told_of_short : Bool → Kinds
-told_of_short true = DisplayHelp ∷ []
-told_of_short false = UnknownArgument ∷ []
-
-short_told : (x : ℕ) (rest : Text) (next : Held → Kinds) (is_help : Bool) → (104 == x) ≡ is_help → short_fault top.rules false (arg_by_short top.rules x) rest nothing_held next ≡ told_of_short is_help
-short_told x rest next true is = rw is refl
-short_told x rest next false is = rw is refl
-
-short_is_wrong : (is_help : Bool) → told_of_short is_help ≢ []
-short_is_wrong true none = cc
-short_is_wrong false none = cc
+short_is_wrong : (flags : List Rule) (found : Option Rule) (rest : Text) (next : Held → Kinds) → IfSome found (IsWrong flags) → short_fault flags false found rest nothing_held next ≢ []
+short_is_wrong flags None rest next wrong none = cc
+short_is_wrong flags (Some flag) rest next wrong none =
+    let told : short_fault flags false (Some flag) rest nothing_held next ≡ or_else (react_fault flags false flag [] nothing_held) (next (reacted flags flag [] nothing_held)) = rw (wrong.0) refl in
+    wrong.1 (both _ _ (sym told ∙ none)).0
 
 -- flags with nothing wrong have no first character
-no_character : (first : Option ℕ) (flags : Text) (next : Text → ℕ → Held → Kinds) → bundle_step_fault top.rules false first flags 0 nothing_held next ≡ [] → first ≡ None
-no_character None flags next none = refl
-no_character (Some x) flags next none = absurd (short_is_wrong (104 == x) (sym (short_told x _ _ (104 == x) refl) ∙ none))
+no_character : (which : Bool) (first : Option ℕ) (flags : Text) (next : Text → ℕ → Held → Kinds) → bundle_step_fault (rules which) false first flags 0 nothing_held next ≡ [] → first ≡ None
+no_character which None flags next none = refl
+no_character which (Some x) flags next none = absurd (short_is_wrong (rules which) (arg_by_short (rules which) x) _ _ (flag_is_wrong which _) none)
 
-no_flag : (k : ℕ) (flags : Text) → slice_get (chars flags) 0 ≡ None → bundle_met top.rules (suc k) flags 0 plain nothing_held ≡ (nothing_held, plain)
+no_flag : (which : Bool) (k : ℕ) (flags : Text) → slice_get (chars flags) 0 ≡ None → bundle_met (rules which) (suc k) flags 0 plain nothing_held ≡ (nothing_held, plain)
 unfolding bundle_met
-no_flag k flags is = rw is refl
+no_flag which k flags is = rw is refl
 
 -- a word that no positional takes is wrong
 stray_is_wrong : (which : Bool) → step_fault (level which) 1 nothing_held value ≢ []
@@ -76,12 +93,12 @@ stray_is_wrong false none = cc
 
 -- what a word comes to that names no subcommand and is not `--`, by how it is taken apart
 abbrev of_short : Bool → Text → Option Text → Kinds
-of_short which word flags = or_else (option_map_or (λ f. bundle_fault top.rules false f nothing_held) flags [])
-    (step_fault (level which) 1 (short_or_plain top.rules idle word flags nothing_held).0 (short_or_plain top.rules idle word flags nothing_held).1)
+of_short which word flags = or_else (option_map_or (λ f. bundle_fault (rules which) false f nothing_held) flags [])
+    (step_fault (level which) 1 (short_or_plain (rules which) idle word flags nothing_held).0 (short_or_plain (rules which) idle word flags nothing_held).1)
 
 abbrev of_long : Bool → Text → Option (Text × Option Text) → Kinds
-of_long which word found = or_else (flag_word_fault top.rules false found word nothing_held)
-    (step_fault (level which) 1 (long_or_other top.rules idle word found nothing_held).0 (long_or_other top.rules idle word found nothing_held).1)
+of_long which word found = or_else (flag_word_fault (rules which) false found word nothing_held)
+    (step_fault (level which) 1 (long_or_other (rules which) idle word found nothing_held).0 (long_or_other (rules which) idle word found nothing_held).1)
 
 of_short_is_wrong : (which : Bool) (word : Text) (flags : Option Text) → of_short which word flags ≢ []
 unfolding flags_fault bundle_met
@@ -89,14 +106,14 @@ of_short_is_wrong which word None none = stray_is_wrong which none
 of_short_is_wrong which word (Some []) none = stray_is_wrong which none
 of_short_is_wrong which word (Some (x ∷ xs)) none =
     let parts = both _ _ none in
-    let first : slice_get (chars (x ∷ xs)) 0 ≡ None = no_character _ (x ∷ xs) _ parts.0 in
-    stray_is_wrong which (sym (ap (λ (met : Held × Outcome). step_fault (level which) 1 (after_flag top.rules idle word met.0 met.1).0 (after_flag top.rules idle word met.0 met.1).1)
-    (no_flag (length xs) (x ∷ xs) first)) ∙ parts.1)
+    let first : slice_get (chars (x ∷ xs)) 0 ≡ None = no_character which _ (x ∷ xs) _ parts.0 in
+    stray_is_wrong which (sym (ap (λ (met : Held × Outcome). step_fault (level which) 1 (after_flag (rules which) idle word met.0 met.1).0 (after_flag (rules which) idle word met.0 met.1).1)
+    (no_flag which (length xs) (x ∷ xs) first)) ∙ parts.1)
 
 of_long_is_wrong : (which : Bool) (word : Text) (found : Option (Text × Option Text)) → of_long which word found ≢ []
 of_long_is_wrong which word None none = of_short_is_wrong which word (short_of word) none
 of_long_is_wrong which word (Some p) none =
-    long_is_wrong (bytes_eq (codes "help") p.0) p.1 (sym (long_told p.0 p.1 (bytes_eq (codes "help") p.0) refl) ∙ (both _ _ none).0)
+    long_is_wrong (rules which) (arg_by_long (rules which) p.0) p.1 (flag_is_wrong which _) (both _ _ none).0
 
 -- ---- words in turn
 
@@ -119,9 +136,9 @@ other_is_wrong false names word no_name no_dashes none = of_long_is_wrong false 
     same = rw (no_name, no_dashes) refl
 
 -- `--` makes the words behind it values
-dashes_trail : (names : Names) (word : Text) → subcommand_met names idle word ≡ None → bytes_eq word (codes "--") ≡ true → walked top.rules names start word ≡ trailing_walk
+dashes_trail : (which : Bool) (names : Names) (word : Text) → subcommand_met names idle word ≡ None → bytes_eq word (codes "--") ≡ true → walked (rules which) names start word ≡ trailing_walk
 unfolding walked
-dashes_trail names word no_name dashes = rw (no_name, dashes) refl
+dashes_trail which names word no_name dashes = rw (no_name, dashes) refl
 
 turns : (s : Shape) (names : Names) (w : Walk) (word : Text) (words : List Text) → walk_fault s names w (word ∷ words) ≡ [] → (turn_fault s names w word ≡ []) × (walk_fault s names (walked s.rules names w word) words ≡ [])
 unfolding walk_fault
@@ -144,7 +161,7 @@ behind_run (word ∷ words) none = by (bytes_eq word (codes "--")) refl
     by : (t : Bool) → bytes_eq word (codes "--") ≡ t → (word ∷ words ≡ []) ⊎ (word ∷ words ≡ codes "--" ∷ [])
     by false is = absurd (other_is_wrong true [] word refl is (turns (level true) [] start word words none).0)
     by true is =
-        let rest : words ≡ [] = nothing_trails true [] words (ap (λ (w : Walk). walk_fault (level true) [] w words) (sym (dashes_trail [] word refl is)) ∙ (turns (level true) [] start word words none).1) in
+        let rest : words ≡ [] = nothing_trails true [] words (ap (λ (w : Walk). walk_fault (level true) [] w words) (sym (dashes_trail true [] word refl is)) ∙ (turns (level true) [] start word words none).1) in
         inr (ap (λ ws. word ∷ ws) rest ∙ ap (λ (w : Text). w ∷ []) (same_bytes word (codes "--") is))
 
 -- ---- the whole command line
@@ -195,7 +212,7 @@ asks_by word words none false false false run help dashes =
 asks_by word [] none false false true run help dashes = let nothing = sym (dashes_alone word run help dashes) ∙ none in absurd (cc)
 asks_by word (x ∷ words) none false false true run help dashes =
     let trail = turns top names start word (x ∷ words) (at_level _ _ _ _ _ _ none).0 in
-    let nothing : x ∷ words ≡ [] = nothing_trails false names (x ∷ words) (ap (λ (w : Walk). walk_fault top names w (x ∷ words)) (sym (dashes_trail names word (rw (run, help) refl) dashes)) ∙ trail.1) in
+    let nothing : x ∷ words ≡ [] = nothing_trails false names (x ∷ words) (ap (λ (w : Walk). walk_fault top names w (x ∷ words)) (sym (dashes_trail false names word (rw (run, help) refl) dashes)) ∙ trail.1) in
     absurd (cc)
 
 -- with no words there is no subcommand

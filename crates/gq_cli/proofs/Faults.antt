@@ -1,9 +1,9 @@
 -- What is wrong with words that are written out but for the program's name.
-use Rattle.std.proofs.Common.{refl, ap, inl, inr, codes, true, List, ◌≡◌, ◌∙◌, [], ◌∷◌}
-use Rattle.clap.specs.Faults.{built_fault, is_simple_and_free}
+use Rattle.std.proofs.Common.{refl, ap, inl, inr, codes, List, ◌≡◌, ◌∙◌, [], ◌∷◌}
+use Rattle.clap.specs.Faults.{built_fault}
 use Rattle.clap.specs.Simple.{built}
 use Rattle.clap.specs.Walk.{Text, nothing_held}
-use Rattle.clap.specs.declared.error.kind.ErrorKind.TheVariants.{DisplayHelp}
+use Rattle.clap.specs.declared.error.kind.ErrorKind.TheVariants.{DisplayHelp, DisplayVersion}
 use Rattle.clap.proofs.OnLiterals.{clap_on_literals}
 use Rattle.gq_cli.specs.Words.{AsksToRun, faults_in, gridfs}
 
@@ -21,3 +21,7 @@ asked_is_right words (inr run) = ap (built_fault (built gridfs) nothing_held) ru
 pub help_is_shown : (program : Text) → faults_in (program ∷ codes "--help" ∷ []) ≡ DisplayHelp ∷ []
 unfolding clap_on_literals
 help_is_shown program = refl
+
+pub version_is_shown : (program : Text) → faults_in (program ∷ codes "--version" ∷ []) ≡ DisplayVersion ∷ []
+unfolding clap_on_literals
+version_is_shown program = refl

@@ -5,17 +5,17 @@ use Rattle.clap.specs.Kinds.{IsAmong, Kinds}
 use Rattle.clap.specs.Simple.{App, new_app, new_shape, on_top, with_subcommand}
 use Rattle.clap.specs.Values.{kind_of}
 use Rattle.clap.specs.Walk.{Text}
-use Rattle.clap.specs.declared.error.kind.ErrorKind.TheVariants.{DisplayHelp}
+use Rattle.clap.specs.declared.error.kind.ErrorKind.{ErrorKind}
 use Rattle.gq_cli.specs.declared.words.Usage.{Usage}
 use Rattle.gq_cli.specs.declared.words.Usage.TheVariants.{Shown, Memory}
 
--- the command line: `gridfs`, which wants its one subcommand `run`
+-- the command line: `gridfs`, which has a version and wants its one subcommand `run`
 abbrev pub gridfs : App
 gridfs = with_subcommand
-    (on_top (λ top. record top { subcommand_required = true }) (new_app (codes "gridfs")))
+    (on_top (λ top. record top { has_version = true; subcommand_required = true }) (new_app (codes "gridfs")))
     (new_shape (codes "run"))
 
--- what is wrong with the words, the program's name first; a call for help counts
+-- what is wrong with the words, the program's name first; a call for help or for the version counts
 abbrev pub faults_in : List Text → Kinds
 faults_in words = fault_of gridfs words
 
@@ -32,7 +32,7 @@ abbrev pub IsMemory : Usage → Type 0
 IsMemory (Shown error) = ⊥
 IsMemory Memory = ⊤
 
--- the text shown is the help that was asked for
-abbrev pub IsHelp : Usage → Type 0
-IsHelp (Shown error) = kind_of error ≡ DisplayHelp
-IsHelp Memory = ⊤
+-- a text of that kind is shown
+abbrev pub Shows : ErrorKind → Usage → Type 0
+Shows kind (Shown error) = kind_of error ≡ kind
+Shows kind Memory = ⊤

@@ -3,7 +3,8 @@
 ghost use Rattle.std.specs.Prelude.{◌≡◌, ◌∷◌, [], codes, IfOk, IfErr, IsErrAnd};
 ghost use Rattle.clap.specs.Simple.{app_of};
 ghost use Rattle.clap.specs.Walk.{Text, texts};
-ghost use Rattle.gq_cli.specs.Words.{AsksToRun, IsHelp, IsMemory, ShownFor, gridfs};
+ghost use Rattle.clap.specs.declared.error.kind.ErrorKind.TheVariants.{DisplayHelp, DisplayVersion};
+ghost use Rattle.gq_cli.specs.Words.{AsksToRun, IsMemory, ShownFor, Shows, gridfs};
 
 use clap::error::ErrorKind;
 use clap::{Command, Error};
@@ -17,9 +18,9 @@ pub enum Request {
 }
 
 /// Why the words of a command line ask for nothing to be run.
-#[derive(Drop)]
+#[derive(Debug, Drop)]
 pub enum Usage {
-    /// Help that was asked for, for standard output, or what is wrong with the words, for standard error.
+    /// Help or the version, which was asked for, for standard output, or what is wrong with the words, for standard error.
     Shown(Error),
     /// Memory is wanting.
     Memory,
@@ -31,20 +32,30 @@ impl From<AllocError> for Usage {
     }
 }
 
+const VERSION: &str = "0.1.0";
+
 const INPUT: &str = "\
-The input is a plan and, after the line `go`, one request, delivery or change of a server a line:
+The input is a plan, and after its line `go` the lines of tenants and servers:
 
-    grid 1 1                 rows and columns of servers, 1 to 8 each
-    blocks 4                 blocks of 64 bytes on each server, 1 to 4096
-    tenant ann 4 1 1000      a name, a share of the blocks, sessions, and how many lines it may send
+    grid ROWS COLS                      servers in 1 to 8 rows and 1 to 8 columns, numbered from 0, row by row
+    blocks BLOCKS                       blocks of 64 bytes on each server, 1 to 4096
+    tenant NAME SHARE SESSIONS STEPS    1 to 64 of these lines: a share of at least 1 of each server's blocks, and in all
+                                        no more than BLOCKS; 1 to 16 sessions; 1 to 1000000 lines that the tenant may send
     go
-    ann quorum               which quorum is chosen now?
-    ann open 2 1             a volume of 2 files of 1 block each
-    ann volumes              what is open, and what is free
-    server 0 down            a server stops, and by `up` returns
+    NAME quorum                         which quorum is chosen now?
+    NAME open FILES BLOCKS              open a volume of 1 to 64 files, each of at most BLOCKS blocks, 1 to 16
+    NAME volumes                        which volumes are open, and how many blocks of the share are free?
+    NAME deliver N                      deliver message N of the tenant; refused so far, as no line sends a message
+    NAME lose N                         lose it; refused so far
+    server N down                       server N stops
+    server N up                         server N returns
 
-Each line after `go` is answered by one line on standard output, one that has no form by `refused bad`.
-A fault of the plan is one line on standard error, with its line number, and nothing is written.";
+Words are separated by one space. NAME is 1 to 16 letters a to z, and not `server`. The other words in capitals are numbers:
+0, or digits of which the first is no 0; at most 4294967295.
+
+Each line after `go` is answered by one line on standard output. A fault of the plan is told by one line on standard error,
+with the number of the line, and nothing is written. docs/FORMATS.md has all forms of input and output, the refusals and the
+limits.";
 
 // The command line.
 fn command<'a>(alloc: Global) -> Result<Command<'a>, AllocError>
@@ -59,19 +70,21 @@ fn command<'a>(alloc: Global) -> Result<Command<'a>, AllocError>
         .about(
             "A replicated file service for many tenants: each is told what its run alone would tell",
         )
+        .version(VERSION)
         .after_help(INPUT)
         .subcommand_required(true)
         .subcommand(run)
 }
 
-/// Reads the words of a command line, of which the first is the program's name. Words that ask for help, or that are no
-/// request, give the text to show, whose exit status is its own (0 for help, else 2); where memory is wanting, that is told
-/// before any text. Behind `run` no word may come but `--`, by which clap ends the options.
+/// Reads the words of a command line, of which the first is the program's name. Words that ask for help or for the version,
+/// or that are no request, give the text to show, whose exit status is its own (0 where it was asked for, else 2); where
+/// memory is wanting, that is told before any text. Behind `run` no word may come but `--`, by which clap ends the options.
 pub fn read_words<'a>(alloc: Global, words: &'a [&'a str]) -> Result<Request, Usage>
     ensures run { IfOk result (λ _. AsksToRun (texts words.entry.now)) }
     ensures asked { AsksToRun (texts words.entry.now) → IfErr result IsMemory }
     ensures shown { IfErr result (ShownFor (texts words.entry.now)) }
-    ensures help { (program : Text) → texts words.entry.now ≡ program ∷ codes "--help" ∷ [] → IsErrAnd result IsHelp }
+    ensures help { (program : Text) → texts words.entry.now ≡ program ∷ codes "--help" ∷ [] → IsErrAnd result (Shows DisplayHelp) }
+    ensures version { (program : Text) → texts words.entry.now ≡ program ∷ codes "--version" ∷ [] → IsErrAnd result (Shows DisplayVersion) }
 {
     let Ok(command) = command(alloc) else {
         return Err(Usage::Memory);

@@ -4,7 +4,7 @@ use Rattle.clap.specs.Values.{kind_of}
 use Rattle.clap.specs.Walk.{texts}
 use Rattle.gq_cli.specs.Words.{faults_in}
 use Rattle.gq_cli.proofs.Asking.{asks_to_run}
-use Rattle.gq_cli.proofs.Faults.{asked_is_right, help_is_shown}
+use Rattle.gq_cli.proofs.Faults.{asked_is_right, help_is_shown, version_is_shown}
 use Rattle.gq_cli.proofs.words.read_words.Goals as goal
 
 -- clap found nothing wrong
@@ -28,11 +28,23 @@ among c kinds have =
     let shown : IsAmong (kind_of c.in-Err.error) (faults_in (texts c.args.words.now)) = search rules in
     subst (IsAmong (kind_of c.in-Err.error)) have shown
 
+pub returns-in-Ok-try_get_matches_from-clause-version :
+    goal.returns-in-Ok-try_get_matches_from-clause-version
+returns-in-Ok-try_get_matches_from-clause-version c program is =
+    let wrong = sym (version_is_shown program) ∙ sym (ap faults_in is) ∙ right c in
+    absurd (cc)
+
 pub returns-clause-asked : goal.returns-clause-asked
 returns-clause-asked c asked = among c [] (asked_is_right (texts c.args.words.now) asked)
 
 pub returns-clause-help : goal.returns-clause-help
 returns-clause-help c program are = elim (among c _ (ap faults_in are ∙ help_is_shown program)) [
+  | inl is ↦ is
+  | inr none ↦ absurd none
+]
+
+pub returns-clause-version : goal.returns-clause-version
+returns-clause-version c program are = elim (among c _ (ap faults_in are ∙ version_is_shown program)) [
   | inl is ↦ is
   | inr none ↦ absurd none
 ]
