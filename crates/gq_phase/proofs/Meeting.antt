@@ -1,10 +1,11 @@
 -- The laws of the four words on quorums.
-use Rattle.std.proofs.Common.{◌≡◌, Option, Some, None, true, refl}
+use Rattle.std.proofs.Common.{◌≡◌, Option, Some, None, true, refl, ap}
 use Rattle.std.specs.Prelude.{option_map}
 use Rattle.gq_grid.specs.Grid.{Grid, Servers, Choice, covers, choose, choice_servers}
+use Rattle.gq_grid.proofs.Agreeing.{choose_agree}
 use Rattle.gq_grid.proofs.Meeting.{covers_meet, choose_covers, covers-none, covers_more}
 use Rattle.gq_phase.specs.Quorums.{collect_quorum, store_quorum, ends_collect, ends_store}
-use Rattle.gq_phase.specs.Laws.{RoundsMeet, CollectQuorumsEnd, StoreQuorumsEnd, NobodyEnds, MoreStillEnd}
+use Rattle.gq_phase.specs.Laws.{RoundsMeet, CollectQuorumsEnd, StoreQuorumsEnd, NobodyEnds, MoreStillEnd, QuorumsInGrid}
 
 pub rounds_meet : RoundsMeet
 unfolding ends_collect ends_store
@@ -36,3 +37,9 @@ nobody_ends grid some = (covers-none grid some, covers-none grid some)
 pub more_still_end : MoreStillEnd
 unfolding ends_collect ends_store
 more_still_end grid fewer more within = (covers_more grid fewer more within, covers_more grid fewer more within)
+
+pub quorums_in_grid : QuorumsInGrid
+unfolding collect_quorum store_quorum
+quorums_in_grid grid up also same =
+    let chosen : choose grid up ≡ choose grid also = choose_agree grid up also same in
+    (ap (option_map (choice_servers grid)) chosen, ap (option_map (choice_servers grid)) chosen)

@@ -28,3 +28,12 @@ abbrev pub MoreStillEnd : Type 0
 MoreStillEnd =
     (grid : Grid) (fewer more : Servers) → ((server : ℕ) → server < grid.rows * grid.cols → fewer server ≡ true → more server ≡ true) →
     (ends_collect grid fewer ≡ true → ends_collect grid more ≡ true) × (ends_store grid fewer ≡ true → ends_store grid more ≡ true)
+
+-- on the grid the two sets have the same quorums
+abbrev pub SameQuorums : Grid → Servers → Servers → Type 0
+SameQuorums grid up also = (collect_quorum grid up ≡ collect_quorum grid also) × (store_quorum grid up ≡ store_quorum grid also)
+
+-- sets that have the same servers of the grid have the same quorums
+abbrev pub QuorumsInGrid : Type 0
+QuorumsInGrid =
+    (grid : Grid) (up also : Servers) → ((server : ℕ) → server < grid.rows * grid.cols → up server ≡ also server) → SameQuorums grid up also

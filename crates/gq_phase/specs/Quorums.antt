@@ -1,5 +1,5 @@
 -- The four words on quorums: whom a round asks, and when the servers heard end it. Only the four
--- functions of src/quorums.rt and the proofs of Laws open them: all else knows of them what Laws says.
+-- functions of src/quorums.rt, the proofs of Laws and worked cases open them: all else knows of them what Laws says.
 use Rattle.std.specs.Prelude.{Bool, Option, option_map}
 use Rattle.gq_grid.specs.Grid.{Grid, Servers, covers, choose, choice_servers}
 

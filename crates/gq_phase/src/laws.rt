@@ -1,10 +1,10 @@
 //! Laws of the quorums of rounds.
 
-ghost use Rattle.gq_phase.specs.Laws.{RoundsMeet, CollectQuorumsEnd, StoreQuorumsEnd, NobodyEnds, MoreStillEnd};
+ghost use Rattle.gq_phase.specs.Laws.{RoundsMeet, CollectQuorumsEnd, StoreQuorumsEnd, NobodyEnds, MoreStillEnd, QuorumsInGrid};
 
 /// Any set of servers that ends a store round shares a server with any set that ends a collect round, so that a copy
 /// stored is met by each later collect round. The servers that a round asks end it, more servers end it still, and
-/// nobody ends none. That any two quorums meet is
+/// nobody ends none; whom it asks depends on the servers of the grid alone. That any two quorums meet is
 /// Maekawa's idea (A sqrt(N) algorithm for mutual exclusion in decentralized systems, ACM TOCS 3(2), 1985).
 pub fn rounds_meet()
     ensures meet { RoundsMeet }
@@ -12,4 +12,5 @@ pub fn rounds_meet()
     ensures store { StoreQuorumsEnd }
     ensures nobody { NobodyEnds }
     ensures more { MoreStillEnd }
+    ensures grid { QuorumsInGrid }
 {}

@@ -1,5 +1,5 @@
 -- Each law of the four words.
-use Rattle.gq_phase.proofs.Meeting.{rounds_meet, collect_quorums_end, store_quorums_end, nobody_ends, more_still_end}
+use Rattle.gq_phase.proofs.Meeting.{rounds_meet, collect_quorums_end, store_quorums_end, nobody_ends, more_still_end, quorums_in_grid}
 use Rattle.gq_phase.proofs.laws.rounds_meet.Goals as goal
 
 pub returns-clause-meet : goal.returns-clause-meet
@@ -16,3 +16,6 @@ returns-clause-nobody c = nobody_ends
 
 pub returns-clause-more : goal.returns-clause-more
 returns-clause-more c = more_still_end
+
+pub returns-clause-grid : goal.returns-clause-grid
+returns-clause-grid c = quorums_in_grid
