@@ -1,25 +1,30 @@
--- One tenant's run by itself: what is told to each of its lines.
+-- One tenant's run by itself: what is told to each of its lines, and what is sent.
 --
--- The words, from one line to a whole run: `line_told` is what is told to a line that is not spent, from the answers to the
--- questions; `told` is what is told to a turn, from what is known; `said` is the same, from the past; `lone` is what is said
--- to all turns in order.
-use Rattle.std.specs.Prelude.{ℕ, ◌+◌, ◌*◌, List, [], ◌∷◌, Bool, true, false, not, nat_lt, nat_le, length, Option, Some, None, fold, if◌then◌else◌}
+-- The words, from one line to a whole run: `line_step` is what is told to a line that is not spent, with the messages that
+-- it sends, from the answers to the questions; `step` is the same of a turn, from what is known; `told` is its first part;
+-- `said` is what is told, from the past; `lone` is what is said to all turns in order.
+use Rattle.std.specs.Prelude.{ℕ, ◌+◌, ◌*◌, List, [], ◌∷◌, Bool, true, false, not, nat_lt, nat_le, Option, Some, None, is_some, is_none, unwrap_or, length, fold, if◌then◌else◌}
 use Rattle.gq_grid.specs.Grid.{Grid, Servers, Choice, choose, choice_servers}
-use Rattle.gq_tag.specs.Tag.{OwnMessage}
+use Rattle.gq_tag.specs.declared.StoredCopy.{StoredCopy}
+use Rattle.gq_tag.specs.declared.Body.{Body}
+use Rattle.gq_tag.specs.declared.Body.TheVariants.{Copy, Store, Stored}
+use Rattle.gq_tag.specs.Tag.{OwnMessage, to_server}
+use Rattle.gq_desk.specs.Plans.{is_in}
 use Rattle.gq_desk.specs.declared.plans.TenantRow.{TenantRow}
 use Rattle.gq_desk.specs.Volumes.{OpenFault, WrongSize, NoVolumeLeft, OverShare, free_of, open_fault}
+use Rattle.gq_phase.specs.Phase.{Task, Operation, Heard, HeardStale, HeardNoted, HeardNext, HeardDone, begun, round_quorum, round_messages, resent, hear}
 use Rattle.gq_model.specs.declared.events.Line.{Line}
-use Rattle.gq_model.specs.declared.events.Line.TheVariants.{Bad, Quorum, NewVolume, Volumes, Deliver, Lose}
+use Rattle.gq_model.specs.declared.events.Line.TheVariants.{Bad, Quorum, NewVolume, Volumes, Write, Read, List as ListFiles, Deliver, Lose, Retry, Abandon}
 use Rattle.gq_model.specs.declared.events.ServerLine.{ServerLine}
 use Rattle.gq_model.specs.declared.events.ServerLine.TheVariants.{Bad as BadServer, Down, Up}
 use Rattle.gq_model.specs.declared.events.Refusal.{Refusal}
-use Rattle.gq_model.specs.declared.events.Refusal.TheVariants.{Spent, Bad as BadLine, NoQuorum, NoMessage, Size, Volumes as TooMany, Share}
+use Rattle.gq_model.specs.declared.events.Refusal.TheVariants.{Spent, Bad as BadLine, NoSession, Busy, Idle, NoVolume, NoFile, TooLong, NoQuorum, NoMessage, Size, Volumes as TooMany, Share}
 use Rattle.gq_model.specs.declared.events.ServerRefusal.{ServerRefusal}
 use Rattle.gq_model.specs.declared.events.ServerRefusal.TheVariants.{Bad as ServerBad, NoServer, Same}
-use Rattle.gq_model.specs.Told.{Told, Chosen, Opened, Listed, Lost, Refused, ServerOk, ServerRefused}
-use Rattle.gq_model.specs.Trace.{Turn, Own, Serving, Entry, Trace, State, Known, Past, start, asked, own_message_at, account_of}
+use Rattle.gq_model.specs.Told.{Told, Chosen, Opened, Listed, Began, Replied, IsDown, Stale, Noted, Round, Done, Lost, Resent, Abandoned, Refused, ServerOk, ServerRefused}
+use Rattle.gq_model.specs.Trace.{Turn, Own, Serving, Entry, Trace, State, Known, Past, start, asked, questions, own_message_at, held, operation, account_of, limit_at, task_of}
 
--- ---- what is told
+-- ---- server lines
 
 -- whether the server is as a line says by which it comes up, or goes down
 abbrev pub is_so : Servers → ℕ → Bool → Bool
@@ -47,6 +52,58 @@ server_told grid up line = unless (server_refusal grid up line)
     unless (Some word) = ServerRefused word
     unless None = ServerOk
 
+-- ---- why a session's line is refused
+
+-- a refusal, and whether its cause holds
+abbrev pub Cause : Type 0
+Cause = Bool × Refusal
+
+-- the first cause that holds
+abbrev pub first_cause : List Cause → Option Refusal
+first_cause [] = None
+first_cause (cause ∷ causes) = if cause.0 then Some cause.1 else first_cause causes
+
+abbrev pub no_session : TenantRow → ℕ → Cause
+no_session row k = (not (is_in 1 row.sessions k), NoSession)
+
+abbrev pub busy : State → ℕ → Cause
+busy state k = (is_some (state.session k).current, Busy)
+
+abbrev pub idle : State → ℕ → Cause
+idle state k = (is_none (state.session k).current, Idle)
+
+abbrev pub no_volume : State → ℕ → Cause
+no_volume state v = (not (nat_lt v (length state.volumes)), NoVolume)
+
+abbrev pub no_file : State → ℕ → ℕ → Cause
+no_file state v f = (is_none (limit_at state v f), NoFile)
+
+abbrev pub too_long : State → ℕ → ℕ → List ℕ → Cause
+too_long state v f bytes = (nat_lt (unwrap_or (limit_at state v f) 0) (length bytes), TooLong)
+
+abbrev pub no_quorum : Grid → State → ℕ → Cause
+no_quorum grid state round = (is_none (round_quorum grid state.up round), NoQuorum)
+
+-- the causes in their order
+abbrev pub session_causes : Grid → TenantRow → State → Line → List Cause
+session_causes grid row state (Write k v f bytes) = no_session row k ∷ busy state k ∷ no_volume state v ∷ no_file state v f ∷ too_long state v f bytes ∷ no_quorum grid state 1 ∷ []
+session_causes grid row state (Read k v f) = no_session row k ∷ busy state k ∷ no_volume state v ∷ no_file state v f ∷ no_quorum grid state 1 ∷ []
+session_causes grid row state (ListFiles k v) = no_session row k ∷ busy state k ∷ no_volume state v ∷ no_quorum grid state 1 ∷ []
+session_causes grid row state (Retry k) = no_session row k ∷ idle state k ∷ no_quorum grid state (state.session k).round ∷ []
+session_causes grid row state (Abandon k) = no_session row k ∷ idle state k ∷ []
+session_causes grid row state _ = []
+
+-- ---- what is told and sent
+
+-- what is told to a turn, with the messages that it sends
+pub record Step : Type 0 where
+  pub told : Told
+  pub new : List OwnMessage
+
+-- nothing is sent
+abbrev pub quiet : Told → Step
+quiet told = record { told = told; new = [] }
+
 -- which quorum is chosen
 abbrev pub choice_told : Grid → Option Choice → Told
 choice_told grid None = Refused NoQuorum
@@ -64,19 +121,111 @@ abbrev pub lose_told : Option OwnMessage → Told
 lose_told None = Refused NoMessage
 lose_told (Some message) = Lost
 
--- what is told to a line of the tenant that isn't spent; no line sends a message yet, so there is none to deliver
-abbrev pub line_told : Grid → TenantRow → State → Line → Told
-line_told grid row state Bad = Refused BadLine
-line_told grid row state Quorum = choice_told grid (choose grid state.up)
-line_told grid row state (NewVolume files blocks) = open_told (length state.volumes) (open_fault (account_of row state) (record { files = files; blocks = blocks }))
-line_told grid row state Volumes = Listed (free_of (account_of row state)) state.volumes
-line_told grid row state (Deliver number) = Refused NoMessage
-line_told grid row state (Lose number) = lose_told (own_message_at state number)
+-- the operation that a request of session k begins
+abbrev pub first_operation : State → ℕ → Task → Operation
+first_operation state k task = begun k ((state.session k).op + 1) task (state.session k).floor
 
--- what is told to a turn
+-- a request begins an operation, whose first round asks
+abbrev pub begin_step : Grid → State → ℕ → Option Task → Step
+begin_step grid state k None = quiet (Refused BadLine)
+begin_step grid state k (Some task) = began (round_messages grid state.up (first_operation state k task))
+  where
+    began : List OwnMessage → Step
+    began messages = record { told = Began ((state.session k).op + 1) (length state.sent) (length messages); new = messages }
+
+-- what a server that holds the copy answers: stored to a store, its copy to an ask
+abbrev pub answer_body : StoredCopy → Body → Body
+answer_body copy (Store stored) = Stored
+answer_body copy _ = Copy copy
+
+-- the message that a server which holds the copy sends back
+abbrev pub reply_to : StoredCopy → OwnMessage → OwnMessage
+reply_to copy message =
+    record { session = message.session; op = message.op; round = message.round; server = message.server; file = message.file; body = answer_body copy message.body }
+
+-- a message comes to its server
+abbrev pub serve_step : State → OwnMessage → Step
+serve_step state message = by (state.up message.server)
+  where
+    by : Bool → Step
+    by false = quiet IsDown
+    by true = record { told = Replied (length state.sent); new = reply_to (held state message.server message.file) message ∷ [] }
+
+-- what is told and sent where the operation says this; so many messages were sent before
+abbrev pub heard_step : ℕ → Heard → Step
+heard_step first HeardStale = quiet Stale
+heard_step first HeardNoted = quiet Noted
+heard_step first (HeardNext round tag messages) = record { told = Round round tag first (length messages); new = messages }
+heard_step first (HeardDone outcome) = quiet (Done outcome)
+
+-- a message comes to its session, which has this operation
+abbrev pub hear_step : Grid → State → OwnMessage → Option Operation → Step
+hear_step grid state message None = quiet Stale
+hear_step grid state message (Some o) = heard_step (length state.sent) (hear grid state.up o message)
+
+-- a message is delivered
+abbrev pub deliver_step : Grid → State → Option OwnMessage → Step
+deliver_step grid state None = quiet (Refused NoMessage)
+deliver_step grid state (Some message) = by (to_server message.body)
+  where
+    by : Bool → Step
+    by true = serve_step state message
+    by false = hear_step grid state message (operation state message.session)
+
+-- the round's message goes out once more
+abbrev pub retry_step : Grid → State → Option Operation → Step
+retry_step grid state None = quiet (Refused Idle)
+retry_step grid state (Some o) = by (round_quorum grid state.up o.round)
+  where
+    again : List OwnMessage → Step
+    again messages = record { told = Resent (length state.sent) (length messages); new = messages }
+
+    by : Option Servers → Step
+    by None = quiet (Refused NoQuorum)
+    by (Some quorum) = again (resent grid o quorum)
+
+-- the step, unless there is a cause why not
+abbrev pub unless : Option Refusal → Step → Step
+unless (Some word) step = quiet (Refused word)
+unless None step = step
+
+-- what is told and sent to a session's line that is not refused
+abbrev pub session_step : Grid → State → Line → Step
+session_step grid state (Write k v f bytes) = begin_step grid state k (task_of state.volumes (Write k v f bytes))
+session_step grid state (Read k v f) = begin_step grid state k (task_of state.volumes (Read k v f))
+session_step grid state (ListFiles k v) = begin_step grid state k (task_of state.volumes (ListFiles k v))
+session_step grid state (Retry k) = retry_step grid state (operation state k)
+session_step grid state (Abandon k) = quiet Abandoned
+session_step grid state _ = quiet (Refused BadLine)
+
+-- what is told and sent to a session's line
+abbrev pub asked_step : Grid → TenantRow → State → Line → Step
+asked_step grid row state line = unless (first_cause (session_causes grid row state line)) (session_step grid state line)
+
+-- what is told and sent to a line of the tenant that isn't spent
+abbrev pub line_step : Grid → TenantRow → State → Line → Step
+line_step grid row state Bad = quiet (Refused BadLine)
+line_step grid row state Quorum = quiet (choice_told grid (choose grid state.up))
+line_step grid row state (NewVolume files blocks) = quiet (open_told (length state.volumes) (open_fault (account_of row state) (record { files = files; blocks = blocks })))
+line_step grid row state Volumes = quiet (Listed (free_of (account_of row state)) state.volumes)
+line_step grid row state (Write k v f bytes) = asked_step grid row state (Write k v f bytes)
+line_step grid row state (Read k v f) = asked_step grid row state (Read k v f)
+line_step grid row state (ListFiles k v) = asked_step grid row state (ListFiles k v)
+line_step grid row state (Deliver number) = deliver_step grid state (own_message_at state number)
+line_step grid row state (Lose number) = quiet (lose_told (own_message_at state number))
+line_step grid row state (Retry k) = asked_step grid row state (Retry k)
+line_step grid row state (Abandon k) = asked_step grid row state (Abandon k)
+
+abbrev pub line_told : Grid → TenantRow → State → Line → Told
+line_told grid row state line = (line_step grid row state line).told
+
+-- what is told and sent to a turn
+abbrev pub step : Grid → TenantRow → Known → Turn → Step
+step grid row known (Own line) = if nat_le row.steps known.lines then quiet (Refused Spent) else line_step grid row known.state line
+step grid row known (Serving line) = quiet (server_told grid known.state.up line)
+
 abbrev pub told : Grid → TenantRow → Known → Turn → Told
-told grid row known (Own line) = if nat_le row.steps known.lines then Refused Spent else line_told grid row known.state line
-told grid row known (Serving line) = server_told grid known.state.up line
+told grid row known turn = (step grid row known turn).told
 
 -- ---- whole runs
 
@@ -89,20 +238,29 @@ abbrev pub lines_after : ℕ → Turn → ℕ
 lines_after lines (Own line) = lines + 1
 lines_after lines (Serving line) = lines
 
+-- what is told to a turn, and what it sends
+abbrev pub step_at : Grid → TenantRow → Past → Turn → Step
+step_at grid row past turn = step grid row (asked row past) turn
+
 abbrev pub said : Grid → TenantRow → Past → Turn → Told
 said grid row past turn = told grid row (asked row past) turn
 
--- the entry of an accepted turn; no line sends a message yet
-abbrev pub entry_of : Turn → Told → Entry
-entry_of turn told = record { turn = turn; told = told; new = [] }
+-- the message that a turn delivers
+abbrev pub message_of_turn : State → Turn → Option OwnMessage
+message_of_turn state (Own (Deliver number)) = own_message_at state number
+message_of_turn state _ = None
 
--- the trace after a turn to which this was told
-abbrev pub trace_after : Trace → Turn → Told → Trace
-trace_after t turn told = if is_refusal told then t else entry_of turn told ∷ t
+-- the entry of an accepted turn
+abbrev pub entry_of : State → Turn → Step → Entry
+entry_of state turn step = record { turn = turn; message = message_of_turn state turn; told = step.told; new = step.new }
+
+-- the trace after a turn
+abbrev pub trace_after : Trace → Turn → Step → Trace
+trace_after t turn step = if is_refusal step.told then t else entry_of (questions t) turn step ∷ t
 
 -- the past after a turn
 abbrev pub after : Grid → TenantRow → Past → Turn → Past
-after grid row past turn = record { lines = lines_after past.lines turn; trace = trace_after past.trace turn (said grid row past turn) }
+after grid row past turn = record { lines = lines_after past.lines turn; trace = trace_after past.trace turn (step_at grid row past turn) }
 
 -- the past after the turns, which stand in order
 abbrev pub past_of : Grid → TenantRow → List Turn → Past

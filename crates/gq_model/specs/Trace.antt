@@ -2,19 +2,26 @@
 --
 -- The words, from what came to what is told: a *turn* is a line as the tenant sees it; a turn that is accepted makes an
 -- *entry* of the *trace*; each question (`up`, `volumes`, ..) asks something of a trace, and its step (`up_by`, ..) says what
--- the answer is after one more entry; `State` has the answers to all questions. `Past` is what was before a turn: the number
--- of lines and the trace; `Known` is what the next answer depends on: the steps taken and the state.
-use Rattle.std.specs.Prelude.{ℕ, ◌+◌, ◌++◌, List, [], ◌∷◌, Bool, true, false, ◌==◌, ◌||◌, slice_get, min, Option, None, if◌then◌else◌}
+-- the answer is after one more entry; in a session an entry does a *deed*, and what is asked of the session goes on by the
+-- deed. `State` has the answers to all questions. `Past` is what was before a turn: the number of lines and the trace;
+-- `Known` is what the next answer depends on: the steps taken and the state.
+use Rattle.std.specs.Prelude.{ℕ, ◌+◌, List, [], ◌∷◌, ◌++◌, Bool, true, false, ◌==◌, ◌||◌, ◌&&◌, not, Option, Some, None, option_map, slice_get, min, if◌then◌else◌}
+use Rattle.std.specs.Option.{option_and_then}
 use Rattle.gq_grid.specs.Grid.{Servers}
-use Rattle.gq_tag.specs.Tag.{OwnMessage}
+use Rattle.gq_tag.specs.declared.Tag.{Tag}
+use Rattle.gq_tag.specs.declared.StoredCopy.{StoredCopy}
+use Rattle.gq_tag.specs.declared.Body.{Body}
+use Rattle.gq_tag.specs.declared.Body.TheVariants.{Store}
+use Rattle.gq_tag.specs.Tag.{File, is_file, OwnMessage, first_copy, greatest, to_server}
 use Rattle.gq_desk.specs.declared.plans.TenantRow.{TenantRow}
 use Rattle.gq_desk.specs.declared.volumes.VolumeRow.{VolumeRow}
-use Rattle.gq_desk.specs.Volumes.{Account}
+use Rattle.gq_desk.specs.Volumes.{Account, limit_in}
+use Rattle.gq_phase.specs.Phase.{Task, Writing, Reading, Listing, Reply, Operation, hear_reply, reply_of, collected_after, floor_after}
 use Rattle.gq_model.specs.declared.events.Line.{Line}
-use Rattle.gq_model.specs.declared.events.Line.TheVariants.{NewVolume, Lose}
+use Rattle.gq_model.specs.declared.events.Line.TheVariants.{NewVolume, Write, Read, List as ListFiles, Deliver, Lose, Abandon}
 use Rattle.gq_model.specs.declared.events.ServerLine.{ServerLine}
 use Rattle.gq_model.specs.declared.events.ServerLine.TheVariants.{Bad as BadServer, Down, Up}
-use Rattle.gq_model.specs.Told.{Told}
+use Rattle.gq_model.specs.Told.{Told, Noted, Round, Done}
 
 -- what a tenant sees of an event: a line of its own, or a server line
 pub data Turn : Type 0 where
@@ -23,9 +30,10 @@ pub data Turn : Type 0 where
 
 -- ---- the trace
 
--- an accepted turn, what was told, and the messages that it sent
+-- an accepted turn, the message that it delivers if it delivers one, what was told, and the messages that it sent
 pub record Entry : Type 0 where
   pub turn : Turn
+  pub message : Option OwnMessage
   pub told : Told
   pub new : List OwnMessage
 
@@ -69,23 +77,158 @@ abbrev pub is_lost : Trace → ℕ → Bool
 is_lost [] = λ n. false
 is_lost (e ∷ t) = lost_by e.turn (is_lost t)
 
--- the answers to all questions, on which all that is told depends
+-- the copies of the file that stores brought to the server while it was up, in order
+abbrev pub brought_by : Servers → Option OwnMessage → (ℕ → File → List StoredCopy) → ℕ → File → List StoredCopy
+brought_by up None before server file = before server file
+brought_by up (Some message) before server file = by message.body
+  where
+    by : Body → List StoredCopy
+    by (Store copy) = if (message.server == server) && is_file message.file file && up server then before server file ++ copy ∷ [] else before server file
+    by _ = before server file
+
+abbrev pub brought : Trace → ℕ → File → List StoredCopy
+brought [] = λ server file. []
+brought (e ∷ t) = brought_by (up t) e.message (brought t)
+
+-- ---- questions about one session
+
+-- what an entry does in a session
+pub data Deed : Type 0 where
+  Elsewhere : Deed
+  -- an operation begins
+  Begins : (line : Line) → Deed
+  -- a reply is noted
+  Hears : (message : OwnMessage) → Deed
+  -- a reply ends the round, and another begins, of this tag where it stores
+  Moves : (message : OwnMessage) (round : ℕ) (tag : Option Tag) → Deed
+  -- the operation is done or abandoned
+  Ends : Deed
+
+-- what a message to a session does there, where this was told
+abbrev pub heard_deed : OwnMessage → Told → Deed
+heard_deed message Noted = Hears message
+heard_deed message (Round round tag first count) = Moves message round tag
+heard_deed message (Done outcome) = Ends
+heard_deed message _ = Elsewhere
+
+-- what the delivery of the message does in session k
+abbrev pub delivered_deed : ℕ → Option OwnMessage → Told → Deed
+delivered_deed k None told = Elsewhere
+delivered_deed k (Some message) told = if not (to_server message.body) && (message.session == k) then heard_deed message told else Elsewhere
+
+-- what the entry does in session k
+abbrev pub deed : ℕ → Entry → Deed
+deed k e = by e.turn
+  where
+    by : Turn → Deed
+    by (Own (Write s v f bytes)) = if s == k then Begins (Write s v f bytes) else Elsewhere
+    by (Own (Read s v f)) = if s == k then Begins (Read s v f) else Elsewhere
+    by (Own (ListFiles s v)) = if s == k then Begins (ListFiles s v) else Elsewhere
+    by (Own (Abandon s)) = if s == k then Ends else Elsewhere
+    by (Own (Deliver n)) = delivered_deed k e.message e.told
+    by _ = Elsewhere
+
+-- how many files the volume has, none where there is no such volume
+abbrev pub files_of : List VolumeRow → ℕ → ℕ
+files_of volumes v = count (slice_get volumes v)
+  where
+    count : Option VolumeRow → ℕ
+    count None = 0
+    count (Some volume) = volume.files
+
+-- what a line asks its session to do, if it begins an operation
+abbrev pub task_of : List VolumeRow → Line → Option Task
+task_of volumes (Write s v f bytes) = Some (Writing (record { volume = v; place = f }) bytes)
+task_of volumes (Read s v f) = Some (Reading (record { volume = v; place = f }))
+task_of volumes (ListFiles s v) = Some (Listing v (files_of volumes v))
+task_of volumes _ = None
+
+-- one session: how many operations it began; what the operation that it has is to do, none where it has none; of the
+-- last operation the round, what was heard in it, and the copies with which its collect rounds ended, in order; and
+-- the number of the tag in the last Round answer of a write, or 0
+pub record Session : Type 0 where
+  pub op : ℕ
+  pub current : Option Task
+  pub round : ℕ
+  pub heard : List Reply
+  pub collected : List StoredCopy
+  pub floor : ℕ
+
+abbrev pub new_session : Session
+new_session = record { op = 0; current = None; round = 1; heard = []; collected = []; floor = 0 }
+
+-- session k's operation in its round
+abbrev pub operation_with : ℕ → Session → Task → Operation
+operation_with k s task =
+    record { session = k; op = s.op; task = task; round = s.round; heard = s.heard; collected = s.collected; floor = s.floor }
+
+-- the copies collected after a message that ends a round; the session's last number after a round of that tag began
+abbrev pub collected_by : ℕ → OwnMessage → Session → Option Task → List StoredCopy
+collected_by k message s None = s.collected
+collected_by k message s (Some task) = collected_after (operation_with k s task) message
+
+abbrev pub floor_by : Option Tag → ℕ → Option Task → ℕ
+floor_by tag floor None = floor
+floor_by tag floor (Some task) = floor_after task tag floor
+
+abbrev pub session_by : List VolumeRow → ℕ → Deed → Session → Session
+session_by volumes k Elsewhere s = s
+session_by volumes k (Begins line) s =
+    record { op = s.op + 1; current = task_of volumes line; round = 1; heard = []; collected = []; floor = s.floor }
+session_by volumes k (Hears message) s =
+    record { op = s.op; current = s.current; round = s.round; heard = hear_reply s.heard (reply_of message); collected = s.collected; floor = s.floor }
+session_by volumes k (Moves message next tag) s =
+    record { op = s.op; current = s.current; round = next; heard = []; collected = collected_by k message s s.current; floor = floor_by tag s.floor s.current }
+session_by volumes k Ends s =
+    record { op = s.op; current = None; round = s.round; heard = s.heard; collected = s.collected; floor = s.floor }
+
+abbrev pub session : Trace → ℕ → Session
+session [] = λ k. new_session
+session (e ∷ t) = λ k. session_by (volumes t) k (deed k e) (session t k)
+
+-- ---- the answers to all questions, on which all that is told depends
+
 pub record State : Type 0 where
   pub up : Servers
   pub volumes : List VolumeRow
   pub sent : List OwnMessage
   pub is_lost : ℕ → Bool
+  pub brought : ℕ → File → List StoredCopy
+  pub session : ℕ → Session
 
 abbrev pub questions : Trace → State
-questions t = record { up = up t; volumes = volumes t; sent = sent t; is_lost = is_lost t }
+questions t = record { up = up t; volumes = volumes t; sent = sent t; is_lost = is_lost t; brought = brought t; session = session t }
 
 -- the answers after one more entry
 abbrev pub changed : Entry → State → State
-changed e state = record { up = up_by e.turn state.up; volumes = volumes_by e.turn state.volumes; sent = state.sent ++ e.new; is_lost = lost_by e.turn state.is_lost }
+changed e state = record {
+  up = up_by e.turn state.up;
+  volumes = volumes_by e.turn state.volumes;
+  sent = state.sent ++ e.new;
+  is_lost = lost_by e.turn state.is_lost;
+  brought = brought_by state.up e.message state.brought;
+  session = λ k. session_by state.volumes k (deed k e) (state.session k);
+}
 
 -- message n, none where it was never sent or is lost
 abbrev pub own_message_at : State → ℕ → Option OwnMessage
 own_message_at state n = if state.is_lost n then None else slice_get state.sent n
+
+-- the copy of the file that the server holds
+abbrev pub held : State → ℕ → File → StoredCopy
+held state server file = greatest (first_copy ∷ state.brought server file)
+
+-- session k's operation as it stands, none where it has none
+abbrev pub operation : State → ℕ → Option Operation
+operation state k = option_map (operation_with k (state.session k)) (state.session k).current
+
+-- the tenant's share with its volumes
+abbrev pub account_of : TenantRow → State → Account
+account_of row state = record { share = row.share; volumes = state.volumes }
+
+-- how many bytes the file of the volume may hold, where it is there
+abbrev pub limit_at : State → ℕ → ℕ → Option ℕ
+limit_at state v f = option_and_then (limit_in f) (slice_get state.volumes v)
 
 -- ---- what is known of a run
 
@@ -104,7 +247,3 @@ pub record Known : Type 0 where
 
 abbrev pub asked : TenantRow → Past → Known
 asked row past = record { lines = min row.steps past.lines; state = questions past.trace }
-
--- the tenant's share with its volumes
-abbrev pub account_of : TenantRow → State → Account
-account_of row state = record { share = row.share; volumes = state.volumes }

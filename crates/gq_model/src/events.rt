@@ -1,7 +1,10 @@
 //! The lines of the input after `go`, and what is answered to them.
 
+use bytes::Bytes;
 use gq_desk::VolumeRows;
 use gq_grid::Choice;
+use gq_phase::Outcome;
+use gq_tag::Tag;
 
 /// A line of the input after `go`, read.
 #[derive(Debug, Drop)]
@@ -15,20 +18,54 @@ pub enum Event {
 }
 
 /// What a tenant's line asks.
-#[derive(Clone, Copy, Debug, PartialEq, Eq)]
+#[derive(Debug, PartialEq, Eq, Drop)]
 pub enum Line {
     /// The line has no form that is known.
     Bad,
     /// Which quorum is chosen now?
     Quorum,
     /// Open a volume of so many files of so many blocks each.
-    NewVolume { files: u32, blocks: u32 },
+    NewVolume {
+        files: u32,
+        blocks: u32,
+    },
     /// Which volumes are there, and how many blocks are free?
     Volumes,
+    /// The session is to write this content to the file of the volume.
+    Write {
+        session: u32,
+        volume: u32,
+        file: u32,
+        bytes: Bytes,
+    },
+    /// The session is to read the file of the volume.
+    Read {
+        session: u32,
+        volume: u32,
+        file: u32,
+    },
+    /// The session is to read the files of the volume one after another, and to tell their lengths and tags. It is no
+    /// snapshot.
+    List {
+        session: u32,
+        volume: u32,
+    },
     /// Deliver the tenant's message of this number.
-    Deliver { number: u32 },
+    Deliver {
+        number: u32,
+    },
     /// Lose the tenant's message of this number.
-    Lose { number: u32 },
+    Lose {
+        number: u32,
+    },
+    /// The session sends its round's message once more, to the servers of a new quorum that it has not heard.
+    Retry {
+        session: u32,
+    },
+    /// The session gives its operation up.
+    Abandon {
+        session: u32,
+    },
 }
 
 /// What a server line tells.
@@ -49,6 +86,18 @@ pub enum Refusal {
     Spent,
     /// The line has no form that is known.
     Bad,
+    /// The tenant has no session of this number.
+    NoSession,
+    /// The session has an operation already.
+    Busy,
+    /// The session has no operation.
+    Idle,
+    /// The tenant has no volume of this number.
+    NoVolume,
+    /// The volume has no file of this number.
+    NoFile,
+    /// The content is longer than the blocks of the file: `gq_pool::BLOCK_BYTES` bytes for each.
+    TooLong,
     /// No row, or no column, is wholly up.
     NoQuorum,
     /// No such message was sent, or it is lost.
@@ -72,17 +121,55 @@ pub enum ServerRefusal {
     Same,
 }
 
-/// What is answered to a line.
+/// What is answered to a line. Messages that are sent are told by the number of the first and how many they are.
 #[derive(Debug, Drop)]
 pub enum Answer {
     /// The chosen quorum.
     Quorum(Choice),
     /// The number of the volume that was opened.
-    Volume { number: u32 },
+    Volume {
+        number: u32,
+    },
     /// The blocks that no volume reserves, and the volumes in order.
-    Volumes { free: u32, rows: VolumeRows },
+    Volumes {
+        free: u32,
+        rows: VolumeRows,
+    },
+    /// The session's operation of this number begins, with these messages.
+    Began {
+        op: u32,
+        first: u64,
+        count: u32,
+    },
+    /// The message came to its server, which sent the one of this number back.
+    Reply {
+        number: u64,
+    },
+    /// The message came to a server that is down.
+    Down,
+    /// The message came to its session, and is not of its current operation and round.
+    Stale,
+    /// The message came to its session, and the round goes on.
+    Noted,
+    /// The message came to its session and ended the round. This round begins, of this tag where it stores, with these
+    /// messages: none where no quorum is up.
+    Round {
+        round: u32,
+        tag: Option<Tag>,
+        first: u64,
+        count: u32,
+    },
+    /// The message came to its session, whose operation is done.
+    Done(Outcome),
     /// The message is lost.
     Lost,
+    /// The round's message is sent once more, in these messages.
+    Resent {
+        first: u64,
+        count: u32,
+    },
+    /// The session has no operation any more.
+    Abandoned,
     /// The tenant's line is refused; it counts as a step unless the steps are spent.
     Refused(Refusal),
     /// The server is as the line says from now on.
