@@ -1,9 +1,9 @@
 -- What a line that loses a message does to the tables.
-use Rattle.std.proofs.Common.{◌≡◌, ◌≢◌, ◌∙◌, ℕ, ◌-◌, ◌<◌, List, [], ◌∷◌, length, Bool, true, false, Option, Some, None, refl, sym, ap, subst, inl, inr, zero, suc, append-nil, is_some}
-use Rattle.std.specs.Prelude.{slice_set, option_map}
+use Rattle.std.proofs.Common.{◌≡◌, ◌≢◌, ◌∙◌, ℕ, ◌<◌, ◌≤◌, arith, List, [], ◌∷◌, length, Bool, true, false, Option, Some, None, refl, sym, ap, subst, inl, inr, zero, suc, append-nil, is_some}
+use Rattle.std.specs.Prelude.{slice_set, slice_get, option_map, if◌then◌else◌}
 use Rattle.std.proofs.lemmas.Bool.{cases_eq, ne_eqb, eq-eqb}
+use Rattle.std.proofs.lemmas.Option.{slice_get_within}
 use Rattle.std.proofs.lemmas.List.{get_or-set_same, get_or-set_other, length-set}
-use Rattle.gq_grid.specs.Sets.{servers}
 use Rattle.gq_desk.specs.CheckedPlan.{row_at}
 use Rattle.gq_model.specs.declared.events.Line.TheVariants.{Lose}
 use Rattle.gq_model.specs.declared.events.Refusal.TheVariants.{NoMessage}
@@ -69,25 +69,63 @@ lost_own_message lane state n m t before =
     gone (x ∷ xs) zero = refl
     gone (x ∷ xs) (suc i) = gone xs i
 
+-- what is known after it
+lost_known : (w : Tables) (t n : ℕ) (known : Known) → lose_told (own_message_at known.state n) ≡ Lost → acted w.plan.grid (row_at w.plan t) known (Lose n) ≡ record known { state = record known.state { is_lost = lost_by (Own (Lose n)) known.state.is_lost } }
+lost_known w t n known is = rw is (ap (λ messages. record known { state = record known.state { sent = messages; is_lost = lost_by (Own (Lose n)) known.state.is_lost } }) (append-nil known.state.sent))
+
+-- no number at or past those that were sent is lost
+still_none : (state : State) (n m : ℕ) → is_some (own_message_at state n) ≡ true → ((i : ℕ) → length state.sent ≤ i → state.is_lost i ≡ false) → length state.sent ≤ m → lost_by (Own (Lose n)) state.is_lost m ≡ false
+still_none state n m there none past =
+    let sent : n < length state.sent = was_sent (state.is_lost n) state.sent n there in
+    rw (ne_eqb n m (λ same. let k : m < length state.sent = subst (λ i. i < length state.sent) same sent in omega arith)) (none m past)
+  where
+    was_sent : (b : Bool) (sent : List OwnMessage) (n : ℕ) → is_some (if b then None else slice_get sent n) ≡ true → n < length sent
+    was_sent true sent n h = absurd (cc)
+    was_sent false sent n h = by (slice_get sent n) refl
+      where
+        by : (o : Option OwnMessage) → slice_get sent n ≡ o → n < length sent
+        by None e = let k = rw e at h in absurd (cc)
+        by (Some message) e = slice_get_within sent n message e
+
+lost_own : (w : Tables) (t n : ℕ) (known : Known) → t < length w.lanes → is_some (own_message_at known.state n) ≡ true → Agrees w t known →
+    Agrees (record w { lanes = lost w.lanes t n }) t (record known { state = record known.state { is_lost = lost_by (Own (Lose n)) known.state.is_lost } })
+lost_own w t n known within there agrees = record {
+  lines = agrees.lines;
+  up = agrees.up;
+  account = agrees.account;
+  sent = ap length (get_or-set_same w.lanes t (slice_set (lane_at w.lanes t) n None) [] within) ∙ length-set (lane_at w.lanes t) n None ∙ agrees.sent;
+  lost = λ m past. still_none known.state n m there agrees.lost past;
+  messages = λ m. ap (λ lane. message_at lane m) (get_or-set_same w.lanes t (slice_set (lane_at w.lanes t) n None) [] within) ∙ lost_own_message (lane_at w.lanes t) known.state n m t (agrees.messages m);
+  accounts = agrees.accounts;
+  copies = agrees.copies;
+  seats = λ place inside. let seat = agrees.seats place inside in record { op = seat.op; sits = seat.sits };
+}
+
+lost_other : (w : Tables) (t u n : ℕ) (known : Known) → u ≢ t → Agrees w u known → Agrees (record w { lanes = lost w.lanes t n }) u known
+lost_other w t u n known other agrees = record {
+  lines = agrees.lines;
+  up = agrees.up;
+  account = agrees.account;
+  sent = ap length (get_or-set_other w.lanes t u (slice_set (lane_at w.lanes t) n None) [] other) ∙ agrees.sent;
+  lost = agrees.lost;
+  messages = λ m. ap (λ lane. message_at lane m) (get_or-set_other w.lanes t u (slice_set (lane_at w.lanes t) n None) [] other) ∙ agrees.messages m;
+  accounts = agrees.accounts;
+  copies = agrees.copies;
+  seats = agrees.seats;
+}
+
 pub lost_acts : (w : Tables) (t n : ℕ) → t < length w.lanes → is_some (message_at (lane_at w.lanes t) n) ≡ true → Acts w t (Lose n) (record w { lanes = lost w.lanes t n })
 lost_acts w t n within there = record {
   plan = refl;
-  own = λ known agrees. subst (Agrees (record w { lanes = lost w.lanes t n }) t) (sym (accepted known (told_by (own_message_at known.state n) true (was_there w t n known true agrees there)))) (record {
-    lines = agrees.lines;
-    up = agrees.up;
-    account = agrees.account;
-    sent = ap length (get_or-set_same w.lanes t (slice_set (lane_at w.lanes t) n None) [] within) ∙ length-set (lane_at w.lanes t) n None ∙ agrees.sent;
-    messages = λ m. ap (λ lane. message_at lane m) (get_or-set_same w.lanes t (slice_set (lane_at w.lanes t) n None) [] within) ∙ lost_own_message (lane_at w.lanes t) known.state n m t (agrees.messages m);
-  });
-  others = λ u other known agrees. record {
-    lines = agrees.lines;
-    up = agrees.up;
-    account = agrees.account;
-    sent = ap length (get_or-set_other w.lanes t u (slice_set (lane_at w.lanes t) n None) [] other) ∙ agrees.sent;
-    messages = λ m. ap (λ lane. message_at lane m) (get_or-set_other w.lanes t u (slice_set (lane_at w.lanes t) n None) [] other) ∙ agrees.messages m;
-  };
+  own = λ known agrees.
+      let known_there : is_some (own_message_at known.state n) ≡ true = was_there w t n known true agrees there in
+      subst (Agrees (record w { lanes = lost w.lanes t n }) t) (sym (lost_known w t n known (told_by (own_message_at known.state n) true known_there))) (lost_own w t n known within known_there agrees);
+  others = λ u other known agrees. lost_other w t u n known other agrees;
   servers = refl;
 }
-  where
-    accepted : (known : Known) → lose_told (own_message_at known.state n) ≡ Lost → acted w.plan.grid (row_at w.plan t) known (Lose n) ≡ record known { state = record known.state { is_lost = lost_by (Own (Lose n)) known.state.is_lost } }
-    accepted known is = rw is (ap (λ messages. record known { state = record known.state { sent = messages; is_lost = lost_by (Own (Lose n)) known.state.is_lost } }) (append-nil known.state.sent))
+
+-- whether there was one to lose or not
+pub lose_acts : (w : Tables) (t n : ℕ) (was : Bool) (lanes : List Lane) → t < length w.lanes → was ≡ is_some (message_at (lane_at w.lanes t) n) → lanes ≡ lost w.lanes t n → (was ≡ false → lanes ≡ w.lanes) →
+    Acts w t (Lose n) (record w { lanes = lanes })
+lose_acts w t n true lanes within there new same = subst (λ all. Acts w t (Lose n) (record w { lanes = all })) (sym new) (lost_acts w t n within (sym there))
+lose_acts w t n false lanes within there new same = subst (λ all. Acts w t (Lose n) (record w { lanes = all })) (sym (same refl)) (nothing_acts w t n (sym there))

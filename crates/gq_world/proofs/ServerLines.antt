@@ -1,52 +1,52 @@
 -- What a server line does to the tables.
-use Rattle.std.proofs.Common.{◌≡◌, ◌∙◌, ℕ, ◌-◌, ◌*◌, ◌<◌, length, Bool, true, false, None, refl, sym, ap, arith, inl, inr, ◌⊎◌, append-nil}
+use Rattle.std.proofs.Common.{◌≡◌, ◌∙◌, ℕ, ◌*◌, ◌<◌, Bool, true, false, None, refl, sym, ap, subst, arith, inl, inr, ◌⊎◌, append-nil}
 use Rattle.std.proofs.Math.Path.{fun_ext}
-use Rattle.std.specs.Prelude.{if◌then◌else◌, nat_lt, option_map}
+use Rattle.std.specs.Prelude.{if◌then◌else◌, nat_lt}
 use Rattle.std.proofs.lemmas.Bool.{cases_Bool}
 use Rattle.std.proofs.lemmas.Bool.Decides.{nat_tests}
 use Rattle.gq_grid.specs.Grid.{Grid, Servers, with_server, without_server}
 use Rattle.gq_grid.specs.Sets.{servers}
 use Rattle.gq_grid.specs.declared.ServerSet.{ServerSet}
-use Rattle.gq_desk.specs.CheckedPlan.{row_at}
 use Rattle.gq_model.specs.declared.events.Event.TheVariants.{Server}
 use Rattle.gq_model.specs.declared.events.ServerLine.{ServerLine}
 use Rattle.gq_model.specs.declared.events.ServerLine.TheVariants.{Down, Up}
-use Rattle.gq_tag.specs.Tag.{message_of}
 use Rattle.gq_model.specs.Told.{Told}
-use Rattle.gq_model.specs.Trace.{Serving, State, changed, own_message_at, up_by}
-use Rattle.gq_model.specs.Lone.{entry_of, change_refusal, told, server_told, is_refusal}
-use Rattle.gq_world.specs.Tables.{Tables, up_in}
-use Rattle.gq_world.specs.Machine.{servers_after, Advances}
+use Rattle.gq_model.specs.Trace.{Serving, State, Known, changed, up_by}
+use Rattle.gq_model.specs.Lone.{quiet, entry_of, change_refusal, server_told, is_refusal}
+use Rattle.gq_world.specs.Tables.{Tables, Agrees, up_in}
+use Rattle.gq_world.specs.Machine.{state_after, servers_after, Advances}
+
+-- what is known after it: the servers that are up, and nothing else, may be others
+server_state : (state : State) (line : ServerLine) (told : Told) → state_after state (Serving line) (quiet told) ≡ record state { up = if is_refusal told then state.up else up_by (Serving line) state.up }
+server_state state line told = by (is_refusal told)
+  where
+    by : (b : Bool) → (if b then state else changed (entry_of state (Serving line) (quiet told)) state) ≡ record state { up = if b then state.up else up_by (Serving line) state.up }
+    by true = refl
+    by false = ap (λ messages. record state { up = up_by (Serving line) state.up; sent = messages }) (append-nil state.sent)
+
+agrees_up : (w : Tables) (set : ServerSet) (up : Servers) (u : ℕ) (known : Known) → up_in w.plan.grid set ≡ up → Agrees w u known → Agrees (record w { up = set }) u (record known { state = record known.state { up = up } })
+agrees_up w set up u known is agrees = record {
+  lines = agrees.lines;
+  up = is;
+  account = agrees.account;
+  sent = agrees.sent;
+  lost = agrees.lost;
+  messages = agrees.messages;
+  accounts = agrees.accounts;
+  copies = agrees.copies;
+  seats = λ place within. let seat = agrees.seats place within in record { op = seat.op; sits = seat.sits };
+}
 
 -- the servers go on, for each tenant alike
 pub server_advances : (w : Tables) (line : ServerLine) (set : ServerSet) → up_in w.plan.grid set ≡ servers_after w.plan.grid (up_in w.plan.grid w.up) (Server line) → Advances w (Server line) (record w { up = set })
 server_advances w line set servers = record {
   plan = refl;
   servers = servers;
-  tenants = λ u within known agrees. record {
-    lines = agrees.lines;
-    up = servers ∙ ap (λ up. servers_after w.plan.grid up (Server line)) agrees.up ∙ by (is_refusal (server_told w.plan.grid known.state.up line)) (server_told w.plan.grid known.state.up line) known.state;
-    account = agrees.account ∙ ap (λ vs. record { share = (row_at w.plan u).share; volumes = vs }) (same (is_refusal (server_told w.plan.grid known.state.up line)) (server_told w.plan.grid known.state.up line) known.state);
-    sent = agrees.sent ∙ ap length (sym (nothing (is_refusal (server_told w.plan.grid known.state.up line)) (server_told w.plan.grid known.state.up line) known.state));
-    messages = λ n. agrees.messages n ∙ ap (option_map (message_of u)) (message (is_refusal (server_told w.plan.grid known.state.up line)) (server_told w.plan.grid known.state.up line) known.state n);
-  };
+  tenants = λ u within known agrees.
+      subst (Agrees (record w { up = set }) u)
+      (ap (λ state. record known { state = state }) (sym (server_state known.state line (server_told w.plan.grid known.state.up line))))
+      (agrees_up w set (servers_after w.plan.grid known.state.up (Server line)) u known (servers ∙ ap (λ up. servers_after w.plan.grid up (Server line)) agrees.up) agrees);
 }
-  where
-    nothing : (b : Bool) (told : Told) (state : State) → (if b then state else changed (entry_of (Serving line) told) state).sent ≡ state.sent
-    nothing true told state = refl
-    nothing false told state = append-nil state.sent
-
-    message : (b : Bool) (told : Told) (state : State) (n : ℕ) → own_message_at state n ≡ own_message_at (if b then state else changed (entry_of (Serving line) told) state) n
-    message true told state n = refl
-    message false told state n = ap (λ messages. own_message_at (record state { sent = messages }) n) (sym (append-nil state.sent))
-
-    same : (b : Bool) (told : Told) (state : State) → state.volumes ≡ (if b then state else changed (entry_of (Serving line) told) state).volumes
-    same true told state = refl
-    same false told state = refl
-
-    by : (b : Bool) (told : Told) (state : State) → (if b then state.up else up_by (Serving line) state.up) ≡ (if b then state else changed (entry_of (Serving line) told) state).up
-    by true told state = refl
-    by false told state = refl
 
 -- a refused server line
 pub still_advances : (w : Tables) (line : ServerLine) → is_refusal (server_told w.plan.grid (up_in w.plan.grid w.up) line) ≡ true → Advances w (Server line) w

@@ -1,25 +1,24 @@
 -- A world that stands for events stands, after a step, for those and one more.
-use Rattle.std.proofs.Common.{◌≡◌, ◌≢◌, ◌∙◌, ℕ, ◌+◌, ◌<◌, List, [], ◌∷◌, ◌++◌, length, Bool, true, false, Option, Some, None, refl, sym, ap, ap₂, subst, arith}
+use Rattle.std.proofs.Common.{◌≡◌, ◌∙◌, ℕ, ◌+◌, ◌<◌, List, [], ◌∷◌, ◌++◌, length, Bool, true, false, Option, Some, None, refl, sym, ap, ap₂, subst, arith}
 use Rattle.std.specs.Prelude.{min, fold, nat_le, if◌then◌else◌}
 use Rattle.std.specs.List.{filter_map}
 use Rattle.std.proofs.lemmas.Bool.Decides.{nat_tests}
 use Rattle.std.proofs.lemmas.List.Elements.{filter_map-append}
 use Rattle.std.proofs.lemmas.List.Sums.{fold-append}
-use Rattle.gq_grid.specs.Grid.{Grid, Servers}
+use Rattle.gq_grid.specs.Grid.{Grid}
 use Rattle.gq_desk.specs.declared.plans.TenantRow.{TenantRow}
 use Rattle.gq_desk.specs.CheckedPlan.{CheckedPlan, nobody, row_at}
 use Rattle.gq_model.specs.declared.events.Event.{Event}
 use Rattle.gq_model.specs.declared.events.Event.TheVariants.{Tenant, Server, Stray}
 use Rattle.gq_model.specs.Told.{Told}
 use Rattle.gq_model.specs.Trace.{Turn, Own, Serving, Trace, Past, State, Known, questions, changed, asked, up, up_by, start}
-use Rattle.gq_model.specs.Lone.{entry_of, said, told, server_told, is_refusal, lines_after, trace_after, after, past_of}
-use Rattle.gq_model.specs.Events.{turn_of, own, server_turn, server_lines, past_at, server_past, IsIn, answer_to}
+use Rattle.gq_model.specs.Lone.{Step, entry_of, step, step_at, server_told, is_refusal, lines_after, trace_after, after, past_of}
+use Rattle.gq_model.specs.Events.{turn_of, server_turn, past_at, server_past, IsIn, answer_to}
 use Rattle.gq_world.specs.Tables.{Tables, Agrees, up_in, Stands}
 use Rattle.gq_world.specs.Machine.{counted, state_after, next, next_seen, servers_after, Advances, Tells}
 
 -- ---- each question, after one more turn
 
--- the steps that are taken
 lines_on : (steps lines : ℕ) → min steps (lines + 1) ≡ (if nat_le steps (min steps lines) then min steps lines else min steps lines + 1)
 lines_on steps lines = grind (arith, nat_tests)
 
@@ -27,25 +26,22 @@ counted_on : (row : TenantRow) (lines : ℕ) (turn : Turn) → min row.steps (li
 counted_on row lines (Own line) = lines_on row.steps lines
 counted_on row lines (Serving line) = refl
 
--- the questions to the trace: each is one step by computation
-state_on : (t : Trace) (turn : Turn) (told : Told) → questions (trace_after t turn told) ≡ state_after turn told (questions t)
-state_on t turn told = by (is_refusal told)
+state_on : (t : Trace) (turn : Turn) (s : Step) → questions (trace_after t turn s) ≡ state_after (questions t) turn s
+state_on t turn s = by (is_refusal s.told)
   where
-    by : (b : Bool) → questions (if b then t else entry_of turn told ∷ t) ≡ (if b then questions t else changed (entry_of turn told) (questions t))
+    by : (b : Bool) → questions (if b then t else entry_of (questions t) turn s ∷ t) ≡ (if b then questions t else changed (entry_of (questions t) turn s) (questions t))
     by true = refl
     by false = refl
 
--- all that is known
 pub goes_on : (grid : Grid) (row : TenantRow) (past : Past) (turn : Turn) → asked row (after grid row past turn) ≡ next grid row (asked row past) turn
 goes_on grid row past turn =
-    ap₂ known (counted_on row past.lines turn) (state_on past.trace turn (said grid row past turn))
+    ap₂ known (counted_on row past.lines turn) (state_on past.trace turn (step_at grid row past turn))
   where
     known : ℕ → State → Known
     known lines state = record { lines = lines; state = state }
 
 -- ---- after one more event
 
--- what h sees of one event
 seen_one : (h : Event → Option Turn) (grid : Grid) (row : TenantRow) (past : Past) (e : Event) → asked row (fold (after grid row) past (filter_map h (e ∷ []))) ≡ next_seen grid row (asked row past) (h e)
 seen_one h grid row past e = by (h e) refl
   where
@@ -58,17 +54,16 @@ seen_on h grid row events e =
     rw (filter_map-append h events (e ∷ []), fold-append (after grid row) start (filter_map h events) (filter_map h (e ∷ [])))
     (seen_one h grid row (past_of grid row (filter_map h events)) e)
 
--- the servers that are up
 servers_on : (plan : CheckedPlan) (events : List Event) (e : Event) → up (server_past plan (events ++ e ∷ [])).trace ≡ servers_after plan.grid (up (server_past plan events).trace) e
 servers_on plan events e = ap (λ (k : Known). k.state.up) (seen_on server_turn plan.grid nobody events e) ∙ by e
   where
-    one : (b : Bool) (turn : Turn) (told : Told) (state : State) → (if b then state else changed (entry_of turn told) state).up ≡ (if b then state.up else up_by turn state.up)
-    one true turn told state = refl
-    one false turn told state = refl
+    one : (b : Bool) (turn : Turn) (s : Step) (state : State) → (if b then state else changed (entry_of state turn s) state).up ≡ (if b then state.up else up_by turn state.up)
+    one true turn s state = refl
+    one false turn s state = refl
 
     by : (e : Event) → (next_seen plan.grid nobody (asked nobody (server_past plan events)) (server_turn e)).state.up ≡ servers_after plan.grid (up (server_past plan events).trace) e
     by (Tenant tenant line) = refl
-    by (Server line) = let word = server_told plan.grid (up (server_past plan events).trace) line in one (is_refusal word) (Serving line) word (questions (server_past plan events).trace)
+    by (Server line) = one (is_refusal (server_told plan.grid (up (server_past plan events).trace) line)) (Serving line) (step plan.grid nobody (asked nobody (server_past plan events)) (Serving line)) (questions (server_past plan events).trace)
     by Stray = refl
 
 -- ---- the tables
@@ -89,5 +84,5 @@ stands_on old new events e stands advances =
 
 pub tells_as : (w : Tables) (events : List Event) (e : Event) (answer : Told) → Stands w events → IsIn w.plan e → Tells w e answer → answer ≡ answer_to w.plan events e
 tells_as w events (Tenant t line) answer stands within tells = tells (asked (row_at w.plan t) (past_at w.plan t events)) (stands.tenants t within)
-tells_as w events (Server line) answer stands within tells = tells ∙ ap (λ s. server_told w.plan.grid s line) stands.servers
+tells_as w events (Server line) answer stands within tells = tells ∙ ap (λ up. server_told w.plan.grid up line) stands.servers
 tells_as w events Stray answer stands within tells = tells

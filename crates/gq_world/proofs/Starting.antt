@@ -1,21 +1,32 @@
--- Tables in which nothing has happened stand for no event.
-use Rattle.std.proofs.Common.{◌≡◌, ◌∙◌, ℕ, zero, suc, ◌*◌, ◌<◌, List, [], length, Bool, true, false, Option, Some, None, refl, sym, ap, arith, inl, inr, ◌⊎◌, get_or}
+-- Tables in which nothing has happened are shaped and sound.
+use Rattle.std.proofs.Common.{◌≡◌, ◌∙◌, ℕ, zero, suc, ◌+◌, ◌*◌, ◌<◌, ◌≤◌, List, [], ◌∷◌, length, map, replicate, true, false, Option, Some, None, refl, sym, ap, subst, arith, inl, inr, ◌⊎◌, All, get_or}
 use Rattle.std.proofs.Math.Path.{fun_ext}
-use Rattle.std.specs.Prelude.{min, nat_lt, slice_get, unwrap_or, if◌then◌else◌, map, replicate}
+use Rattle.std.specs.Prelude.{min, nat_lt, not, slice_get, unwrap_or}
 use Rattle.std.specs.Option.{option_map}
 use Rattle.std.proofs.lemmas.Bool.{cases_Bool}
-use Rattle.std.proofs.lemmas.Option.{unwrap_or-slice_get, slice_get-map}
-use Rattle.std.proofs.lemmas.List.{get_or-replicate}
+use Rattle.std.proofs.lemmas.Bool.Decides.{nat_tests}
+use Rattle.std.proofs.lemmas.Option.{unwrap_or-slice_get, slice_get-map, slice_get-get_or}
+use Rattle.std.proofs.lemmas.List.{get_or-replicate, length-map, length-replicate}
+use Rattle.std.proofs.lemmas.List.Elements.{All-replicate}
 use Rattle.gq_grid.specs.Grid.{Grid, Servers, all_servers}
 use Rattle.gq_grid.specs.Sets.{servers}
 use Rattle.gq_grid.specs.declared.ServerSet.{ServerSet}
+use Rattle.gq_grid.specs.declared.TheConstants.{MOST_SERVERS}
+use Rattle.gq_tag.specs.Tag.{File, file_of, first_copy}
 use Rattle.gq_desk.specs.declared.plans.TenantRow.{TenantRow}
+use Rattle.gq_desk.specs.declared.limits.TheConstants.{MOST_SESSIONS}
+use Rattle.gq_desk.specs.Plans.{is_in, number_fault, plan_fault}
+use Rattle.gq_desk.proofs.SoundRows.{row_numbers, unless_none}
 use Rattle.gq_desk.specs.CheckedPlan.{CheckedPlan, nobody, row_at}
 use Rattle.gq_desk.specs.Volumes.{Account, no_account, account_at}
-use Rattle.gq_post.specs.Lanes.{Lane, lane_at}
-use Rattle.gq_world.specs.Tables.{Tables, Stands, up_in}
+use Rattle.gq_post.specs.Lanes.{lane_at, message_at}
+use Rattle.gq_store.specs.Copies.{StoreCopies, VolumeCopies, copies_account, store_accounts, new_tenant, empty_store, tenant_in, copy_in, copy_at, no_volume}
+use Rattle.gq_model.specs.Trace.{questions}
+use Rattle.gq_world.specs.declared.sessions.Seat.{Seat}
+use Rattle.gq_world.specs.Tables.{Tables, Agrees, Stands, SeatAgrees, IsOfPlan, IsShaped, up_in, store_at, no_store, seats_at, seat_in, no_seat}
+use Rattle.gq_world.specs.Whole.{AllSound, FewSessions, IsFirst}
+use Rattle.gq_world.proofs.Steps.{start_bounded}
 
--- all servers are up
 all_up : (grid : Grid) (set : ServerSet) → servers set ≡ all_servers grid → up_in grid set ≡ (λ server. true)
 all_up grid set is = fun_ext (λ s. by s (cases_Bool (nat_lt s (grid.rows * grid.cols))))
   where
@@ -23,8 +34,7 @@ all_up grid set is = fun_ext (λ s. by s (cases_Bool (nat_lt s (grid.rows * grid
     by s (inl within) = rw within (ap (λ (f : Servers). f s) is ∙ within)
     by s (inr outside) = rw outside refl
 
--- the whole share of a row is free
-abbrev pub fresh : TenantRow → Account
+abbrev fresh : TenantRow → Account
 fresh row = record { share = row.share; volumes = [] }
 
 fresh_at : (rows : List TenantRow) (t : ℕ) → account_at (map fresh rows) t ≡ fresh (unwrap_or (slice_get rows t) nobody)
@@ -34,24 +44,105 @@ fresh_at rows t = rw (slice_get-map fresh rows t) (by (slice_get rows t))
     by None = refl
     by (Some row) = refl
 
-none_taken : (steps : ℕ) → 0 ≡ min steps 0
-none_taken steps = omega arith
-
--- each lane is empty
 no_lane : (count t : ℕ) → lane_at (replicate count []) t ≡ []
 no_lane zero t = refl
 no_lane (suc count) zero = refl
 no_lane (suc count) (suc t) = no_lane count t
 
-pub stands_first : (plan : CheckedPlan) (up : ServerSet) (lines : List ℕ) (desk : List Account) (lanes : List Lane) → servers up ≡ all_servers plan.grid → lines ≡ replicate (length plan.rows) 0 → desk ≡ map fresh plan.rows →
-    lanes ≡ replicate (length plan.rows) [] → Stands (record { plan = plan; up = up; lines = lines; desk = desk; lanes = lanes; ended = false }) []
-stands_first plan up lines desk lanes all none free empty = record {
-  tenants = λ t within. record {
-    lines = rw none (unwrap_or-slice_get (replicate (length plan.rows) 0) t 0 ∙ get_or-replicate (length plan.rows) t 0 0 within ∙ none_taken (row_at plan t).steps);
-    up = all_up plan.grid up all;
-    account = rw free (fresh_at plan.rows t);
-    sent = rw (empty, no_lane (length plan.rows) t) refl;
-    messages = λ n. rw (empty, no_lane (length plan.rows) t) refl;
-  };
-  servers = all_up plan.grid up all;
+-- ---- the sessions
+
+abbrev new_seats : TenantRow → List Seat
+new_seats row = replicate row.sessions no_seat
+
+seats_are : (rows : List TenantRow) (t : ℕ) → t < length rows → seats_at (map new_seats rows) t ≡ replicate (unwrap_or (slice_get rows t) nobody).sessions no_seat
+seats_are [] t within = absurd (omega arith)
+seats_are (row ∷ rows) zero within = refl
+seats_are (row ∷ rows) (suc t) within = seats_are rows t (omega arith)
+
+within_few : (sessions : ℕ) → not (is_in 1 MOST_SESSIONS sessions) ≡ false → sessions ≤ MOST_SESSIONS
+within_few sessions is = grind (arith, nat_tests)
+
+row_few : (t : ℕ) (row : TenantRow) → number_fault t row ≡ None → row.sessions ≤ MOST_SESSIONS
+row_few t row none = within_few row.sessions (unless_none _ _ _ (unless_none _ _ _ none).1).0
+
+pub few_sessions : (plan : CheckedPlan) → plan_fault plan.blocks plan.rows ≡ None → FewSessions plan
+few_sessions plan none t within =
+    let there = slice_get-get_or plan.rows t nobody within in
+    rw there (row_few t (get_or plan.rows t nobody) (row_numbers plan.blocks plan.rows t (get_or plan.rows t nobody) none there))
+
+-- ---- the stores
+
+accounts_first : (rows : List TenantRow) → map copies_account (map new_tenant rows) ≡ map fresh rows
+accounts_first [] = refl
+accounts_first (row ∷ rows) = ap (λ rest. fresh row ∷ rest) (accounts_first rows)
+
+no_volumes : (rows : List TenantRow) (t : ℕ) → (tenant_in (map new_tenant rows) t).volumes ≡ []
+no_volumes [] t = refl
+no_volumes (row ∷ rows) zero = refl
+no_volumes (row ∷ rows) (suc t) = no_volumes rows t
+
+copy_first : (plan : CheckedPlan) (t : ℕ) (file : File) → copy_at (empty_store plan) (file_of t file) ≡ first_copy
+copy_first plan t file = ap (λ (volumes : List VolumeCopies). copy_in (get_or volumes file.volume no_volume) file.place) (no_volumes plan.rows t)
+
+store_first : (plan : CheckedPlan) (w : Tables) (s : ℕ) → IsFirst plan w → s < plan.grid.rows * plan.grid.cols → store_at w.stores s ≡ empty_store plan
+store_first plan w s first within = ap (λ stores. store_at stores s) first.stores ∙ get_or-replicate (plan.grid.rows * plan.grid.cols) s (empty_store plan) no_store within
+
+-- ---- the tables
+
+of_plan : (plan : CheckedPlan) → IsOfPlan plan (empty_store plan)
+of_plan plan = record { blocks = refl; tenants = length-map (map new_tenant plan.rows) copies_account ∙ length-map plan.rows new_tenant }
+
+pub first_shaped : (plan : CheckedPlan) (w : Tables) → w.plan ≡ plan → IsFirst plan w → FewSessions plan → plan.grid.rows * plan.grid.cols ≤ MOST_SERVERS → IsShaped w
+first_shaped plan w is first few small =
+    let S : CheckedPlan → Type 0 = λ p. (length w.lines ≡ length p.rows) × (length w.desk ≡ length p.rows) × (length w.lanes ≡ length p.rows) × (length w.stores ≡ p.grid.rows * p.grid.cols) × All (IsOfPlan p) w.stores × (length w.seats ≡ length p.rows)
+    × ((t : ℕ) → t < length p.rows → length (seats_at w.seats t) ≡ (row_at p t).sessions) × ((t : ℕ) → t < length p.rows → (row_at p t).sessions ≤ MOST_SESSIONS) × (p.grid.rows * p.grid.cols ≤ MOST_SERVERS) in
+    let all : S plan = (
+      ap length first.lines ∙ length-replicate (length plan.rows) 0,
+      ap length first.desk ∙ length-map plan.rows fresh,
+      ap length first.lanes ∙ length-replicate (length plan.rows) [],
+      ap length first.stores ∙ length-replicate (plan.grid.rows * plan.grid.cols) (empty_store plan),
+      subst (All (IsOfPlan plan)) (sym first.stores) (All-replicate (IsOfPlan plan) (plan.grid.rows * plan.grid.cols) (empty_store plan) (of_plan plan)),
+      ap length first.seats ∙ length-map plan.rows new_seats,
+      (λ t within. ap (λ all. length (seats_at all t)) first.seats ∙ ap length (seats_are plan.rows t within) ∙ length-replicate (row_at plan t).sessions no_seat),
+      few,
+      small,
+    ) in
+    let h : S w.plan = subst S (sym is) all in
+    record { lines = h.0; desk = h.1; lanes = h.2; servers = h.3; stores = h.4; tenants = h.5; seats = h.6; sessions = h.7; grid = h.8 }
+
+agrees_first : (w : Tables) (t : ℕ) → IsFirst w.plan w → t < length w.plan.rows → Agrees w t (record { lines = 0; state = questions [] })
+agrees_first w t first within = record {
+  lines = ap (λ lines. unwrap_or (slice_get lines t) 0) first.lines ∙ unwrap_or-slice_get (replicate (length w.plan.rows) 0) t 0 ∙ get_or-replicate (length w.plan.rows) t 0 0 within;
+  up = all_up w.plan.grid w.up first.up;
+  account = ap (λ desk. account_at desk t) first.desk ∙ fresh_at w.plan.rows t;
+  sent = ap (λ lanes. length (lane_at lanes t)) first.lanes ∙ ap length (no_lane (length w.plan.rows) t);
+  lost = λ n past. refl;
+  messages = λ n. ap (λ lanes. message_at (lane_at lanes t) n) first.lanes ∙ ap (λ lane. message_at lane n) (no_lane (length w.plan.rows) t);
+  accounts = λ s inside. ap (λ (store : StoreCopies). account_at (store_accounts store) t) (store_first w.plan w s first inside) ∙ ap (λ accounts. account_at accounts t) (accounts_first w.plan.rows ∙ sym first.desk);
+  copies = λ s inside file. ap (λ (store : StoreCopies). copy_at store (file_of t file)) (store_first w.plan w s first inside) ∙ copy_first w.plan t file;
+  seats = λ place inside.
+      let are : seats_at w.seats t ≡ replicate (row_at w.plan t).sessions no_seat = ap (λ all. seats_at all t) first.seats ∙ seats_are w.plan.rows t within in
+      let is : seat_in (seats_at w.seats t) place ≡ no_seat = ap (λ (seats : List Seat). seat_in seats place) are ∙ get_or-replicate (row_at w.plan t).sessions place no_seat no_seat inside in
+      subst (λ (seat : Seat). SeatAgrees w.plan.grid t (place + 1) seat (questions [])) (sym is) (record { op = refl; sits = refl });
 }
+
+pub first_sound : (plan : CheckedPlan) (w : Tables) → IsFirst plan w → AllSound w
+first_sound plan w first t within =
+    let f : IsFirst w.plan w = subst (λ p. IsFirst p w) (sym first.plan_is) first in
+    record {
+      known = record { lines = 0; state = questions [] };
+      agrees = agrees_first w t f within;
+      bounded = start_bounded w.plan.grid (row_at w.plan t);
+    }
+
+-- they stand for no event
+pub first_stands : (plan : CheckedPlan) (w : Tables) → IsFirst plan w → Stands w []
+first_stands plan w first =
+    let f : IsFirst w.plan w = subst (λ p. IsFirst p w) (sym first.plan_is) first in
+    record {
+      tenants = λ t within. subst (λ n. Agrees w t (record { lines = n; state = questions [] })) (none_taken (row_at w.plan t).steps) (agrees_first w t f within);
+      servers = all_up w.plan.grid w.up f.up;
+    }
+  where
+    none_taken : (steps : ℕ) → 0 ≡ min steps 0
+    none_taken steps = omega arith

@@ -1,3 +1,9 @@
+pub mod Adding
+pub mod Asking
+pub mod Bounds
 pub mod Machine
 pub mod Running
+pub mod Saying
+pub mod Seats
 pub mod Tables
+pub mod Whole

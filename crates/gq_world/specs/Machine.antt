@@ -1,8 +1,4 @@
--- One step of the world, without the events before it: the induction step of `answer_to` and of `Stands`.
---
--- `Advances old event new` says in plain words: if the old tables agreed with what can be known of a tenant's run, the new
--- ones agree with what is known after that tenant's turn of the event, whosever line it was. `Tells` says that the answer
--- is what the model tells, given only that the tables agree. Standing.antt in proofs/ composes the two along the events.
+-- One step, over what is known: how it goes on for each tenant, without the events before.
 use Rattle.std.specs.Prelude.{◌≡◌, ◌≢◌, ℕ, ◌+◌, ◌<◌, Option, Some, None, nat_le, length, if◌then◌else◌}
 use Rattle.gq_grid.specs.Grid.{Grid, Servers}
 use Rattle.gq_desk.specs.CheckedPlan.{row_at}
@@ -12,7 +8,7 @@ use Rattle.gq_model.specs.declared.events.Event.TheVariants.{Tenant, Server, Str
 use Rattle.gq_model.specs.declared.events.Line.{Line}
 use Rattle.gq_model.specs.Told.{Told, StrayBad}
 use Rattle.gq_model.specs.Trace.{Turn, Own, Serving, State, Known, changed, up_by}
-use Rattle.gq_model.specs.Lone.{entry_of, told, line_told, is_refusal, server_told}
+use Rattle.gq_model.specs.Lone.{Step, entry_of, step, told, line_step, line_told, is_refusal, server_told}
 use Rattle.gq_model.specs.Events.{turn_of}
 use Rattle.gq_world.specs.Tables.{Tables, Agrees, up_in}
 
@@ -21,13 +17,13 @@ abbrev pub counted : TenantRow → ℕ → Turn → ℕ
 counted row lines (Own line) = if nat_le row.steps lines then lines else lines + 1
 counted row lines (Serving line) = lines
 
--- the answers to the questions after a turn to which this was told
-abbrev pub state_after : Turn → Told → State → State
-state_after turn told state = if is_refusal told then state else changed (entry_of turn told) state
+-- the answers to the questions after a turn at which this was told and sent
+abbrev pub state_after : State → Turn → Step → State
+state_after state turn step = if is_refusal step.told then state else changed (entry_of state turn step) state
 
 -- what is known after a turn
 abbrev pub next : Grid → TenantRow → Known → Turn → Known
-next grid row known turn = record { lines = counted row known.lines turn; state = state_after turn (told grid row known turn) known.state }
+next grid row known turn = record { lines = counted row known.lines turn; state = state_after known.state turn (step grid row known turn) }
 
 -- what is known after an event that the tenant may see
 abbrev pub next_seen : Grid → TenantRow → Known → Option Turn → Known
@@ -56,7 +52,7 @@ Tells w Stray answer = answer ≡ StrayBad
 
 -- what is known after it
 abbrev pub acted : Grid → TenantRow → Known → Line → Known
-acted grid row known line = record { lines = known.lines; state = state_after (Own line) (line_told grid row known.state line) known.state }
+acted grid row known line = record { lines = known.lines; state = state_after known.state (Own line) (line_step grid row known.state line) }
 
 -- it leads from the old tables to the new: the tenant's part goes on, and the others' are unchanged
 pub record Acts (old : Tables) (t : ℕ) (line : Line) (new : Tables) : Type 0 where

@@ -48,6 +48,13 @@ impl Chooser {
         self.choice
     }
 
+    // The servers that are up.
+    pub fn servers(&self) -> ServerSet
+        ensures { result ≡ self.now.up }
+    {
+        self.up
+    }
+
     // Whether the server is up.
     pub fn has(&self, server: usize) -> bool
         requires { server < MOST_SERVERS }

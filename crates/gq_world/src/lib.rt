@@ -1,8 +1,13 @@
 //! All tenants at once: each is answered as in its run by itself.
 #![tactic(auto)]
 
+mod adding;
 mod chooser;
+mod sending;
+mod sessions;
+mod tables;
 mod world;
 
+pub use gq_laws::laws;
 pub use gq_model::{Answer, Event, Line, Refusal, ServerLine, ServerRefusal};
 pub use world::{Ended, World};

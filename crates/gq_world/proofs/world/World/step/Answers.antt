@@ -1,27 +1,27 @@
 -- The world stands for one event more, and answers what its events say.
-use Rattle.std.proofs.Common.{◌≡◌, ap, sym, ◌∙◌, subst, List, [], ◌∷◌, ◌++◌}
-use Rattle.std.proofs.lemmas.Result.{IfOk-weaker, on_ok_weaker}
-use Rattle.gq_model.specs.declared.events.Answer.{Answer}
+use Rattle.std.proofs.Common.{◌≡◌, ◌∙◌, ap, sym, subst}
 use Rattle.gq_model.specs.declared.events.Event.{Event}
-use Rattle.gq_model.specs.Events.{answer_to}
-use Rattle.gq_world.specs.Tables.{Tables, Stands}
-use Rattle.gq_world.specs.Machine.{Advances, Tells}
+use Rattle.gq_model.specs.Events.{IsIn, answer_to}
 use Rattle.gq_model.specs.Shown.{shown}
+use Rattle.gq_world.specs.Tables.{Tables, Stands}
+use Rattle.gq_world.specs.Whole.{Whole}
+use Rattle.gq_world.proofs.Soundness.{sound_after}
 use Rattle.gq_world.proofs.Standing.{stands_on, tells_as}
 use Rattle.gq_world.proofs.world.World.step.Goals as goal
 
+pub invariant_of-self : goal.invariant_of-self
+invariant_of-self c = λ goes. sound_after c.self.inside.tables c.advance.new.self c.args.event.now c.in-Ok.ensures.advances (c.self.invariant c.if-self.false)
+
 pub returns-clause-answer : goal.returns-clause-answer
-returns-clause-answer c =
-    let w : Tables = c.args.self.now in
+returns-clause-answer c = λ events stands.
     let e : Event = c.args.event.now in
-    let P : Answer → Type 0 = λ answer. Tells w e (shown answer) in
-    let Q : Answer → Type 0 = λ answer. (events : List Event) → Stands w events → shown answer ≡ answer_to w.plan events e in
-    IfOk-weaker c.advance.result P Q (λ answer tells events stands. tells_as w events e (shown answer) stands c.requires tells) c.advance.ensures.answer
+    let tables : c.self.inside.tables ≡ c.args.self.now.tables = ap (λ (x : Whole). x.tables) c.self.view_is in
+    let before : Stands c.self.inside.tables events = subst (λ (x : Tables). Stands x events) (sym tables) stands in
+    let within : IsIn c.self.inside.tables.plan e = subst (λ (x : Tables). IsIn x.plan e) (sym tables) c.requires in
+    tells_as c.self.inside.tables events e (shown c.in-Ok.answer) before within c.in-Ok.ensures.answer ∙ ap (λ (x : Tables). answer_to x.plan events e) tables
 
 pub returns-clause-stands : goal.returns-clause-stands
-returns-clause-stands c =
-    let w : Tables = c.args.self.now in
-    let e : Event = c.args.event.now in
-    on_ok_weaker {P = Advances w e c.advance.new.self} {Q = (events : List Event) → Stands w events → Stands c.advance.new.self (events ++ e ∷ [])} c.advance.result
-    (λ advances events stands. stands_on w c.advance.new.self events e stands advances)
-    c.advance.ensures.advances
+returns-clause-stands c = λ events stands.
+    let tables : c.self.inside.tables ≡ c.args.self.now.tables = ap (λ (x : Whole). x.tables) c.self.view_is in
+    let before : Stands c.self.inside.tables events = subst (λ (x : Tables). Stands x events) (sym tables) stands in
+    stands_on c.self.inside.tables c.advance.new.self events c.args.event.now before c.in-Ok.ensures.advances

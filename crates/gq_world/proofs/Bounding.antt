@@ -1,0 +1,232 @@
+-- What is known of a run stays bounded: a reply comes to its session.
+use Rattle.std.proofs.Common.{◌≡◌, ◌∙◌, ℕ, ◌+◌, ◌*◌, ◌<◌, ◌≤◌, Bool, true, false, List, [], ◌∷◌, ◌++◌, length, refl, sym, ap, subst, Option, Some, None, arith, All}
+use Rattle.std.specs.Prelude.{find, unwrap_or, nat_lt}
+use Rattle.std.specs.List.{list_any, last_or}
+use Rattle.std.proofs.lemmas.Bool.{true≢false}
+use Rattle.std.proofs.lemmas.Bool.Decides.{nat_tests}
+use Rattle.std.proofs.lemmas.List.{length_push}
+use Rattle.std.proofs.lemmas.List.Elements.{All-nil, All-cons, All-head, All-tail, All-append, All-weaker, All-map, All-filter, All-from_get_or, filter_map-append}
+use Rattle.std.proofs.lemmas.List.FromFn.{get_or-range_with_len, length-range_with_len}
+use Rattle.gq_grid.specs.Grid.{Grid, Servers, rising, below}
+use Rattle.gq_tag.specs.declared.StoredCopy.{StoredCopy}
+use Rattle.gq_tag.specs.declared.Tag.{Tag}
+use Rattle.gq_tag.specs.declared.Body.{Body}
+use Rattle.gq_tag.specs.declared.Body.TheVariants.{Ask, Copy, Store, Stored}
+use Rattle.gq_tag.specs.Tag.{OwnMessage, greatest, first_copy, is_unexceeded}
+use Rattle.gq_desk.specs.declared.volumes.VolumeRow.{VolumeRow}
+use Rattle.gq_phase.specs.Phase.{Task, Writing, Reading, Listing, Reply, Operation, Heard as Saying, HeardStale, HeardNoted, HeardNext, HeardDone, hear, hear_reply, is_reply, reply_of, heard_copies, with_reply, with_decided, decided_copy, is_current, is_collect, round_file, round_body, round_quorum, round_messages, messages_to, stored_copy, in_round, begin_store, begin_collect, moved, floor_after, collected_after}
+use Rattle.gq_phase.proofs.Saying.{even_is}
+use Rattle.gq_model.specs.Trace.{files_of}
+use Rattle.gq_world.specs.Bounds.{Fits, BodyFits, room, volume_of, TaskFits, OperationFits}
+use Rattle.gq_world.proofs.Hearing.{hear_cases}
+
+-- ---- copies
+
+pub fits_more : (n size : ℕ) (copy : StoredCopy) → Fits n size copy → Fits (n + 1) size copy
+fits_more n size copy h = record { number = let k = h.number in omega arith; long = h.long }
+
+pub first_fits : (n size : ℕ) → Fits n size first_copy
+first_fits n size = record { number = omega arith; long = omega arith }
+
+found_fits : (p : StoredCopy → Bool) (n size : ℕ) (xs : List StoredCopy) → All (Fits n size) xs → Fits n size (unwrap_or (find p xs) first_copy)
+found_fits p n size [] all = first_fits n size
+found_fits p n size (x ∷ xs) all = by (p x) refl (found_fits p n size xs (All-tail (Fits n size) x xs all))
+  where
+    by : (b : Bool) → p x ≡ b → Fits n size (unwrap_or (find p xs) first_copy) → Fits n size (unwrap_or (find p (x ∷ xs)) first_copy)
+    by true is rest = rw is (All-head (Fits n size) x xs all)
+    by false is rest = rw is rest
+
+pub greatest_fits : (n size : ℕ) (xs : List StoredCopy) → All (Fits n size) xs → Fits n size (greatest xs)
+greatest_fits n size xs all = found_fits (is_unexceeded xs) n size xs all
+
+last_push : (o : Option StoredCopy) (copies : List StoredCopy) (c : StoredCopy) → last_or o (copies ++ c ∷ []) ≡ Some c
+last_push o [] c = refl
+last_push o (x ∷ xs) c = last_push (Some x) xs c
+
+pub stored_push : (copies : List StoredCopy) (c : StoredCopy) → stored_copy (copies ++ c ∷ []) ≡ c
+stored_push copies c = ap (λ last. unwrap_or last first_copy) (last_push None copies c)
+
+-- ---- what was heard
+
+one_fits : (n size server : ℕ) (body : Body) → BodyFits n size body → All (Fits n size) (heard_copies (record { server = server; body = body } ∷ []))
+one_fits n size server Ask h = All-nil (Fits n size)
+one_fits n size server (Copy copy) h = All-cons (Fits n size) copy [] h (All-nil (Fits n size))
+one_fits n size server (Store copy) h = All-nil (Fits n size)
+one_fits n size server Stored h = All-nil (Fits n size)
+
+pub heard_fits : (n size : ℕ) (heard : List Reply) (message : OwnMessage) → All (Fits n size) (heard_copies heard) → BodyFits n size message.body → All (Fits n size) (heard_copies (hear_reply heard (reply_of message)))
+heard_fits n size heard message all fits = by (list_any (is_reply (reply_of message)) heard) refl
+  where
+    more : All (Fits n size) (heard_copies (heard ++ reply_of message ∷ []))
+    more = rw filter_map-append (All-append (Fits n size) (heard_copies heard) (heard_copies (reply_of message ∷ [])) all (one_fits n size message.server message.body fits))
+
+    by : (b : Bool) → list_any (is_reply (reply_of message)) heard ≡ b → All (Fits n size) (heard_copies (hear_reply heard (reply_of message)))
+    by true is = rw is all
+    by false is = rw is more
+
+-- ---- the file of a round
+
+volume_is : (task : Task) (round : ℕ) → (round_file task round).volume ≡ volume_of task
+volume_is (Writing file bytes) round = refl
+volume_is (Reading file) round = refl
+volume_is (Listing volume files) round = refl
+
+-- a file's store round is of the file of its collect round
+store_file : (task : Task) (round k : ℕ) → round ≡ 2 * k + 1 → (round_file task (2 * (k + 1))).place ≡ (round_file task round).place
+store_file (Writing file bytes) round k is = refl
+store_file (Reading file) round k is = refl
+store_file (Listing volume files) round k is = omega arith
+
+-- ---- what is decided
+
+decided_fits : (n : ℕ) (volumes : List VolumeRow) (o : Operation) (task : Task) → o.task ≡ task → TaskFits volumes task → o.floor ≤ n → All (Fits n (room volumes (volume_of task))) (heard_copies o.heard) →
+    Fits (n + 1) (room volumes (volume_of task)) (decided_copy o)
+decided_fits n volumes o (Reading file) is fits low all = rw is (fits_more n (room volumes file.volume) (greatest (heard_copies o.heard)) (greatest_fits n (room volumes file.volume) (heard_copies o.heard) all))
+decided_fits n volumes o (Listing volume files) is fits low all = rw is (fits_more n (room volumes volume) (greatest (heard_copies o.heard)) (greatest_fits n (room volumes volume) (heard_copies o.heard) all))
+decided_fits n volumes o (Writing file bytes) is fits low all =
+    let g = greatest_fits n (room volumes file.volume) (heard_copies o.heard) all in
+    let k : (greatest (heard_copies o.heard)).tag.number ≤ n = g.number in
+    rw is (record { number = omega arith; long = fits.1 })
+
+-- ---- the messages of a round
+
+pub record IsOfRound (grid : Grid) (n : ℕ) (volumes : List VolumeRow) (o : Operation) (message : OwnMessage) : Type 0 where
+  pub server : message.server < grid.rows * grid.cols
+  pub session : message.session ≡ o.session
+  pub op : message.op ≡ o.op
+  pub volume : message.file.volume ≡ volume_of o.task
+  pub file : message.file.place < files_of volumes (volume_of o.task)
+  pub body : BodyFits n (room volumes (volume_of o.task)) message.body
+
+below_all : (n : ℕ) → All (λ s. s < n) (below n)
+below_all n = All-from_get_or (λ s. s < n) (below n) 0 (λ i within. let size = length-range_with_len 0 n in let k : i < n = omega arith in let at = get_or-range_with_len 0 n i 0 k in omega arith)
+
+body_fits : (n size round : ℕ) (collected : List StoredCopy) → Fits n size (stored_copy collected) → BodyFits n size (round_body round collected)
+body_fits n size round collected stored = by (is_collect round) refl
+  where
+    by : (b : Bool) → is_collect round ≡ b → BodyFits n size (round_body round collected)
+    by true is = rw is tt
+    by false is = rw is stored
+
+pub sent_to_fits : (grid : Grid) (n : ℕ) (volumes : List VolumeRow) (o : Operation) (set : Servers) → (round_file o.task o.round).place < files_of volumes (volume_of o.task) → Fits n (room volumes (volume_of o.task)) (stored_copy o.collected) →
+    All (IsOfRound grid n volumes o) (messages_to grid o set)
+sent_to_fits grid n volumes o set file stored =
+    let f : ℕ → OwnMessage = λ server. record { session = o.session; op = o.op; round = o.round; server = server; file = round_file o.task o.round; body = round_body o.round o.collected } in
+    let N : ℕ = grid.rows * grid.cols in
+    All-map (IsOfRound grid n volumes o) f (rising grid set)
+    (All-weaker (λ s. s < N) (λ s. IsOfRound grid n volumes o (f s)) (λ s within. record {
+      server = within;
+      session = refl;
+      op = refl;
+      volume = volume_is o.task o.round;
+      file = file;
+      body = body_fits n (room volumes (volume_of o.task)) o.round o.collected stored;
+    }) (rising grid set) (All-filter set (λ s. s < N) (below N) (below_all N)))
+
+pub round_fits : (grid : Grid) (up : Servers) (n : ℕ) (volumes : List VolumeRow) (o : Operation) → (round_file o.task o.round).place < files_of volumes (volume_of o.task) → Fits n (room volumes (volume_of o.task)) (stored_copy o.collected) →
+    All (IsOfRound grid n volumes o) (round_messages grid up o)
+round_fits grid up n volumes o file stored = by (round_quorum grid up o.round) refl
+  where
+    by : (q : Option Servers) → round_quorum grid up o.round ≡ q → All (IsOfRound grid n volumes o) (round_messages grid up o)
+    by None is = rw is (All-nil (IsOfRound grid n volumes o))
+    by (Some set) is = rw is (sent_to_fits grid n volumes o set file stored)
+
+-- ---- what an operation says
+
+abbrev pub HeardFits : Grid → ℕ → List VolumeRow → Operation → OwnMessage → Saying → Type 0
+HeardFits grid n volumes o message HeardStale = Unit {0}
+HeardFits grid n volumes o message HeardNoted = OperationFits (n + 1) volumes (with_reply o message)
+HeardFits grid n volumes o message (HeardNext round tag messages) = OperationFits (n + 1) volumes (moved o message round tag) × All (IsOfRound grid (n + 1) volumes o) messages
+HeardFits grid n volumes o message (HeardDone outcome) = Unit {0}
+
+floor_fits : (task : Task) (tag : Tag) (n floor : ℕ) → floor ≤ n → tag.number ≤ n + 1 → floor_after task (Some tag) floor ≤ n + 1
+floor_fits (Writing file bytes) tag n floor low number = number
+floor_fits (Reading file) tag n floor low number = omega arith
+floor_fits (Listing volume files) tag n floor low number = omega arith
+
+none_floor : (task : Task) (floor : ℕ) → floor_after task None floor ≡ floor
+none_floor (Writing file bytes) floor = refl
+none_floor (Reading file) floor = refl
+none_floor (Listing volume files) floor = refl
+
+-- the store round begins
+stores_fits : (grid : Grid) (up : Servers) (n : ℕ) (volumes : List VolumeRow) (o : Operation) (message : OwnMessage) → OperationFits n volumes o → BodyFits n (room volumes (volume_of o.task)) message.body → is_collect o.round ≡ true →
+    HeardFits grid n volumes o message (begin_store grid up (with_decided (with_reply o message)))
+stores_fits grid up n volumes o message fits body odd =
+    let p : Operation = with_reply o message in
+    let size : ℕ = room volumes (volume_of o.task) in
+    let decided : StoredCopy = decided_copy p in
+    let copies : List StoredCopy = o.collected ++ decided ∷ [] in
+    let all : All (Fits n size) (heard_copies p.heard) = heard_fits n size o.heard message fits.heard body in
+    let good : Fits (n + 1) size decided = decided_fits n volumes p o.task refl fits.task fits.floor all in
+    let stored : Fits (n + 1) size (stored_copy copies) = subst (Fits (n + 1) size) (sym (stored_push o.collected decided)) good in
+    let count : length copies ≡ length o.collected + 1 = length_push o.collected decided in
+    let round : 2 * length copies ≡ 2 * (length o.collected + 1) = omega arith in
+    let file : (round_file o.task (2 * length copies)).place < files_of volumes (volume_of o.task) =
+    subst (λ r. (round_file o.task r).place < files_of volumes (volume_of o.task)) (sym round)
+    (subst (λ q. q < files_of volumes (volume_of o.task)) (sym (store_file o.task o.round (length o.collected) (fits.collects odd))) fits.file) in
+    let after : collected_after o message ≡ copies = rw odd refl in
+    let op : o.op ≤ n + 1 = let h = fits.op in omega arith in
+    let floor : floor_after o.task (Some (stored_copy copies).tag) o.floor ≤ n + 1 = floor_fits o.task (stored_copy copies).tag n o.floor fits.floor stored.number in (
+      record {
+        op = op;
+        floor = floor;
+        task = fits.task;
+        file = file;
+        collects = λ is. absurd (true≢false (sym is ∙ even_is (length copies)));
+        heard = All-nil (Fits (n + 1) size);
+        stored = subst (λ cs. Fits (n + 1) size (stored_copy cs)) (sym after) stored;
+      },
+      All-weaker (IsOfRound grid (n + 1) volumes (in_round (with_decided p) (2 * length copies))) (IsOfRound grid (n + 1) volumes o)
+          (λ l h. record { server = h.server; session = h.session; op = h.op; volume = h.volume; file = h.file; body = h.body })
+          (round_messages grid up (in_round (with_decided p) (2 * length copies)))
+          (round_fits grid up (n + 1) volumes (in_round (with_decided p) (2 * length copies)) file stored),
+    )
+
+-- the collect round of a listing's next file begins
+collects_fits : (grid : Grid) (up : Servers) (n : ℕ) (volumes : List VolumeRow) (o : Operation) (message : OwnMessage) (volume files : ℕ) → OperationFits n volumes o → is_collect o.round ≡ false → o.task ≡ Listing volume files → nat_lt (length o.collected) files ≡ true →
+    HeardFits grid n volumes o message (begin_collect grid up (with_reply o message))
+collects_fits grid up n volumes o message volume files fits even is more =
+    let p : Operation = with_reply o message in
+    let k : ℕ = length o.collected in
+    let size : ℕ = room volumes (volume_of o.task) in
+    let there : files ≤ files_of volumes volume = rw is at fits.task in
+    let low : k < files = grind (arith, nat_tests) in
+    let F : Task → Type 0 = λ task. (round_file task (2 * k + 1)).place < files_of volumes (volume_of task) in
+    let file : F o.task = subst F (sym is) (omega arith) in
+    let stored : Fits (n + 1) size (stored_copy o.collected) = fits_more n size (stored_copy o.collected) fits.stored in
+    let after : collected_after o message ≡ o.collected = rw even refl in
+    let op : o.op ≤ n + 1 = let h = fits.op in omega arith in
+    let floor : floor_after o.task None o.floor ≤ n + 1 = let e = none_floor o.task o.floor in let h = fits.floor in omega arith in (
+      record {
+        op = op;
+        floor = floor;
+        task = fits.task;
+        file = file;
+        collects = λ odd. ap (λ cs. 2 * length cs + 1) (sym after);
+        heard = All-nil (Fits (n + 1) size);
+        stored = subst (λ cs. Fits (n + 1) size (stored_copy cs)) (sym after) stored;
+      },
+      All-weaker (IsOfRound grid (n + 1) volumes (in_round p (2 * k + 1))) (IsOfRound grid (n + 1) volumes o)
+          (λ l h. record { server = h.server; session = h.session; op = h.op; volume = h.volume; file = h.file; body = h.body })
+          (round_messages grid up (in_round p (2 * k + 1)))
+          (round_fits grid up (n + 1) volumes (in_round p (2 * k + 1)) file stored),
+    )
+
+pub hear_fits : (grid : Grid) (up : Servers) (n : ℕ) (volumes : List VolumeRow) (o : Operation) (message : OwnMessage) → OperationFits n volumes o → (is_current o message ≡ true → BodyFits n (room volumes (volume_of o.task)) message.body) →
+    HeardFits grid n volumes o message (hear grid up o message)
+hear_fits grid up n volumes o message fits body =
+    let size : ℕ = room volumes (volume_of o.task) in
+    hear_cases (HeardFits grid n volumes o message) grid up o message tt
+    (λ cur. record {
+      op = let h = fits.op in omega arith;
+      floor = let h = fits.floor in omega arith;
+      task = fits.task;
+      file = fits.file;
+      collects = fits.collects;
+      heard = All-weaker (Fits n size) (Fits (n + 1) size) (fits_more n size) (heard_copies (hear_reply o.heard (reply_of message))) (heard_fits n size o.heard message fits.heard (body cur));
+      stored = fits_more n size (stored_copy o.collected) fits.stored;
+    })
+    (λ cur odd. stores_fits grid up n volumes o message fits (body cur) odd)
+    (λ volume files cur even is more. collects_fits grid up n volumes o message volume files fits even is more)
+    (λ outcome. tt)

@@ -1,0 +1,48 @@
+-- The session gives its operation up, as the model's does.
+use Rattle.std.proofs.Common.{◌≡◌, ◌∙◌, ℕ, ◌-◌, ◌<◌, List, None, length, ap, sym, subst, arith}
+use Rattle.std.specs.Prelude.{slice_set}
+use Rattle.std.proofs.lemmas.List.{get_or_default}
+use Rattle.gq_model.specs.declared.events.Line.TheVariants.{Abandon}
+use Rattle.gq_model.specs.Lone.{first_cause}
+use Rattle.gq_world.specs.declared.sessions.Seat.{Seat}
+use Rattle.gq_world.specs.Tables.{Tables, IsShaped, seats_at, seat_in}
+use Rattle.gq_world.specs.Asking.{idle_causes, rested_seat, rested_tables}
+use Rattle.gq_world.specs.Machine.{Acts}
+use Rattle.gq_world.proofs.Quiet.{refused_acts, refused_tells}
+use Rattle.gq_world.proofs.Again.{at_work, abandon_refused, abandon_tells, abandon_acts}
+use Rattle.gq_world.proofs.tables.Core.abandon.Goals as goal
+
+pub returns-in-Some-clause-answer : goal.returns-in-Some-clause-answer
+returns-in-Some-clause-answer c =
+    refused_tells c.args.self.now c.args.tenant (Abandon c.args.session) c.in-Some.word
+    (abandon_refused c.args.self.now c.args.tenant c.args.session c.in-Some.word (sym c.idle_refusal.ensures ∙ c.in-Some.is))
+
+pub returns-in-Some-clause-acts : goal.returns-in-Some-clause-acts
+returns-in-Some-clause-acts c =
+    refused_acts c.args.self.now c.args.tenant (Abandon c.args.session) c.in-Some.word
+    (abandon_refused c.args.self.now c.args.tenant c.args.session c.in-Some.word (sym c.idle_refusal.ensures ∙ c.in-Some.is))
+
+pub returns-clause-answer : goal.returns-clause-answer
+returns-clause-answer c = abandon_tells c.args.self.now c.args.tenant c.args.session (sym c.in_default.ensures)
+
+pub returns-clause-acts : goal.returns-clause-acts
+returns-clause-acts c =
+    let w : Tables = c.args.self.now in
+    let t : ℕ = c.args.tenant in
+    let k : ℕ = c.args.session in
+    let asked : first_cause (idle_causes w t k) ≡ None = sym c.in_default.ensures in
+    let shaped : IsShaped w = subst IsShaped c.self.view_is c.self.invariant.1 in
+    let s = at_work w t k asked in
+    let count = shaped.seats t c.requires.tenant in
+    let low = s.0 in
+    let high = s.1 in
+    let places : k - 1 < length (seats_at w.seats t) = omega arith in
+    let tenants : t < length w.seats = rw shaped.tenants c.requires.tenant in
+    let seats_now : c.self.inside.seats.items ≡ w.seats = ap (λ (x : Tables). x.seats) c.self.view_is in
+    let seats_is : c.index_mut.result.now ≡ seats_at w.seats t =
+    c.index_mut.ensures.value ∙ get_or_default c.self.inside.seats.items t _ _ (rw seats_now tenants) ∙ ap (λ all. seats_at all t) seats_now in
+    let new : List Seat = slice_set (seats_at w.seats t) (k - 1) (rested_seat (seat_in (seats_at w.seats t) (k - 1))) in
+    let new_is : c.abandon.new.self ≡ new = c.abandon.ensures ∙ ap (λ (all : List Seat). slice_set all (k - 1) (rested_seat (seat_in all (k - 1)))) seats_is in
+    let V : List Seat → Tables = λ seats. record { plan = c.self.inside.plan; up = c.self.inside.up.up; lines = c.self.inside.lines.items; desk = c.self.inside.desk; lanes = c.self.inside.post; stores = c.self.inside.stores.items; seats = slice_set c.self.inside.seats.items t seats } in
+    let now : rested_tables w t (k - 1) ≡ V c.abandon.new.self = ap (λ (x : Tables). record x { seats = slice_set x.seats t new }) (sym c.self.view_is) ∙ ap V (sym new_is) in
+    subst (Acts w t (Abandon k)) now (abandon_acts w t k tenants places asked)

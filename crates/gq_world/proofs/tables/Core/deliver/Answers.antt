@@ -1,0 +1,355 @@
+-- The message's conditions follow from what is ready, and the tables go on as the model does.
+use Rattle.std.proofs.Common.{◌≡◌, ◌∙◌, ◌<◌, ℕ, List, ◌∷◌, [], false, Option, None, Some, length, ap, sym, subst, arith, ◌-◌, ◌≤◌}
+use Rattle.std.specs.Prelude.{slice_set}
+use Rattle.std.proofs.lemmas.Result.{IfOk-weaker, on_ok_weaker}
+use Rattle.std.proofs.lemmas.List.{get_or_default}
+use Rattle.gq_grid.specs.Sets.{servers}
+use Rattle.gq_tag.specs.declared.Message.{Message}
+use Rattle.gq_tag.specs.Tag.{to_server}
+use Rattle.gq_post.specs.Lanes.{Lane, lane_at, message_at}
+use Rattle.gq_phase.specs.declared.Heard.{Heard}
+use Rattle.gq_store.specs.Copies.{StoreCopies, copy_at, store_accounts}
+use Rattle.gq_store.specs.Serving.{server_reply, held_after, serve_fault}
+use Rattle.gq_store.specs.declared.store.ServeRefused.{ServeRefused}
+use Rattle.gq_model.specs.Told.{Replied}
+use Rattle.gq_model.specs.declared.events.Answer.{Answer}
+use Rattle.gq_model.specs.declared.events.Line.TheVariants.{Deliver}
+use Rattle.gq_model.specs.Shown.{shown}
+use Rattle.gq_world.specs.declared.sessions.Seat.{Seat}
+use Rattle.gq_world.specs.Tables.{Tables, IsReady, IsShaped, seats_at, seat_in, store_at}
+use Rattle.gq_world.specs.Saying.{with_sent, messages_of, heard_told}
+use Rattle.gq_world.specs.Seats.{SeatHears, FloorIsBelow}
+use Rattle.gq_world.specs.Machine.{Acts, TellsLine}
+use Rattle.gq_world.proofs.Ready.{says_few, server_below, number_below, seat_floor_below, session_within, message_fits}
+use Rattle.gq_world.proofs.Delivering.{HearsAt, heard_tells, heard_acts}
+use Rattle.gq_world.proofs.Serving.{IsDownAt, down_tells, down_acts, Serves, served_tells, served_acts, never_refused}
+use Rattle.gq_world.proofs.tables.Core.deliver.Goals as goal
+
+pub answer_heard-requires-clause-few : goal.answer_heard-requires-clause-few
+answer_heard-requires-clause-few c =
+    let w : Tables = c.args.self.now in
+    let t : ℕ = c.args.tenant in
+    let n : ℕ = c.args.number in
+    let m : Message = c.in-Some.message.now in
+    let r : IsReady w t = c.requires.ready in
+    let shaped : IsShaped w = subst IsShaped c.self.view_is c.self.invariant.1 in
+    let there : message_at (lane_at w.lanes t) n ≡ Some m =
+    sym (c.in-Some.ensures ∙ ap (λ k. message_at (lane_at c.self.inside.post t) k) c.from.ensures ∙ ap (λ (x : Tables). message_at (lane_at x.lanes t) n) c.self.view_is) in
+    let lanes : t < length w.lanes = rw shaped.lanes c.requires.tenant in
+    let tenants : t < length w.seats = rw shaped.tenants c.requires.tenant in
+    let seats_now : c.self.inside.seats.items ≡ w.seats = ap (λ (x : Tables). x.seats) c.self.view_is in
+    let seats_is : c.index_mut.result.now ≡ seats_at w.seats t =
+    c.index_mut.ensures.value ∙ get_or_default c.self.inside.seats.items t _ _ (rw seats_now tenants) ∙ ap (λ all. seats_at all t) seats_now in
+    let heard : Heard = c.in_ok-heard.heard in
+    let P : List Seat → Type 0 = λ seats. SeatHears (seat_in seats (m.session - 1)) (seat_in c.hear.new.self (m.session - 1)) (servers c.servers.result) m heard in
+    let hears' : SeatHears (seat_in (seats_at w.seats t) (m.session - 1)) (seat_in c.hear.new.self (m.session - 1)) (servers c.servers.result) m heard = subst P seats_is c.in_ok-heard.ensures.hears in
+    let hears : SeatHears (seat_in (seats_at w.seats t) (m.session - 1)) (seat_in c.hear.new.self (m.session - 1)) (servers w.up) m heard =
+    subst (λ up. SeatHears (seat_in (seats_at w.seats t) (m.session - 1)) (seat_in c.hear.new.self (m.session - 1)) (servers up) m heard) (c.servers.ensures ∙ ap (λ (x : Tables). x.up) c.self.view_is) hears' in
+    says_few w t n m (seat_in c.hear.new.self (m.session - 1)) heard r shaped there hears
+
+pub returns-then-not-to_server-clause-answer : goal.returns-then-not-to_server-clause-answer
+returns-then-not-to_server-clause-answer c =
+    let w : Tables = c.args.self.now in
+    let t : ℕ = c.args.tenant in
+    let n : ℕ = c.args.number in
+    let m : Message = c.in-Some.message.now in
+    let r : IsReady w t = c.requires.ready in
+    let shaped : IsShaped w = subst IsShaped c.self.view_is c.self.invariant.1 in
+    let there : message_at (lane_at w.lanes t) n ≡ Some m =
+    sym (c.in-Some.ensures ∙ ap (λ k. message_at (lane_at c.self.inside.post t) k) c.from.ensures ∙ ap (λ (x : Tables). message_at (lane_at x.lanes t) n) c.self.view_is) in
+    let lanes : t < length w.lanes = rw shaped.lanes c.requires.tenant in
+    let tenants : t < length w.seats = rw shaped.tenants c.requires.tenant in
+    let seats_now : c.self.inside.seats.items ≡ w.seats = ap (λ (x : Tables). x.seats) c.self.view_is in
+    let seats_is : c.index_mut.result.now ≡ seats_at w.seats t =
+    c.index_mut.ensures.value ∙ get_or_default c.self.inside.seats.items t _ _ (rw seats_now tenants) ∙ ap (λ all. seats_at all t) seats_now in
+    let heard : Heard = c.in_ok-heard.heard in
+    let P : List Seat → Type 0 = λ seats. SeatHears (seat_in seats (m.session - 1)) (seat_in c.hear.new.self (m.session - 1)) (servers c.servers.result) m heard in
+    let hears' : SeatHears (seat_in (seats_at w.seats t) (m.session - 1)) (seat_in c.hear.new.self (m.session - 1)) (servers c.servers.result) m heard = subst P seats_is c.in_ok-heard.ensures.hears in
+    let hears : SeatHears (seat_in (seats_at w.seats t) (m.session - 1)) (seat_in c.hear.new.self (m.session - 1)) (servers w.up) m heard =
+    subst (λ up. SeatHears (seat_in (seats_at w.seats t) (m.session - 1)) (seat_in c.hear.new.self (m.session - 1)) (servers up) m heard) (c.servers.ensures ∙ ap (λ (x : Tables). x.up) c.self.view_is) hears' in
+    let fits = message_fits w t n m r there in
+    let goes : to_server m.body ≡ false = sym c.to_server.ensures ∙ c.if-not-to_server.true in
+    let at : HearsAt w t n m c.hear.new.self heard = record {
+      there = there;
+      goes = goes;
+      within = c.requires.tenant;
+      lanes = lanes;
+      tenants = tenants;
+      first = fits.first;
+      last = fits.last;
+      hears = hears;
+      others = λ place other. c.hear.ensures.others place other ∙ ap (λ seats. seat_in seats place) seats_is;
+    } in
+    let lanes_now : c.self.inside.post ≡ w.lanes = ap (λ (x : Tables). x.lanes) c.self.view_is in
+    let P : Answer → Type 0 = λ answer. shown answer ≡ heard_told (length (lane_at c.self.inside.post t)) heard in
+    let Q : Answer → Type 0 = λ answer. TellsLine w t (Deliver n) (shown answer) in
+    IfOk-weaker c.answer_heard.result P Q
+    (λ answer told. subst (TellsLine w t (Deliver n)) (sym (told ∙ ap (λ lanes. heard_told (length (lane_at lanes t)) heard) lanes_now)) (heard_tells w t n m c.hear.new.self heard at))
+    c.answer_heard.ensures.answer
+
+pub returns-then-not-to_server-clause-acts : goal.returns-then-not-to_server-clause-acts
+returns-then-not-to_server-clause-acts c =
+    let w : Tables = c.args.self.now in
+    let t : ℕ = c.args.tenant in
+    let n : ℕ = c.args.number in
+    let m : Message = c.in-Some.message.now in
+    let r : IsReady w t = c.requires.ready in
+    let shaped : IsShaped w = subst IsShaped c.self.view_is c.self.invariant.1 in
+    let there : message_at (lane_at w.lanes t) n ≡ Some m =
+    sym (c.in-Some.ensures ∙ ap (λ k. message_at (lane_at c.self.inside.post t) k) c.from.ensures ∙ ap (λ (x : Tables). message_at (lane_at x.lanes t) n) c.self.view_is) in
+    let lanes : t < length w.lanes = rw shaped.lanes c.requires.tenant in
+    let tenants : t < length w.seats = rw shaped.tenants c.requires.tenant in
+    let seats_now : c.self.inside.seats.items ≡ w.seats = ap (λ (x : Tables). x.seats) c.self.view_is in
+    let seats_is : c.index_mut.result.now ≡ seats_at w.seats t =
+    c.index_mut.ensures.value ∙ get_or_default c.self.inside.seats.items t _ _ (rw seats_now tenants) ∙ ap (λ all. seats_at all t) seats_now in
+    let heard : Heard = c.in_ok-heard.heard in
+    let P : List Seat → Type 0 = λ seats. SeatHears (seat_in seats (m.session - 1)) (seat_in c.hear.new.self (m.session - 1)) (servers c.servers.result) m heard in
+    let hears' : SeatHears (seat_in (seats_at w.seats t) (m.session - 1)) (seat_in c.hear.new.self (m.session - 1)) (servers c.servers.result) m heard = subst P seats_is c.in_ok-heard.ensures.hears in
+    let hears : SeatHears (seat_in (seats_at w.seats t) (m.session - 1)) (seat_in c.hear.new.self (m.session - 1)) (servers w.up) m heard =
+    subst (λ up. SeatHears (seat_in (seats_at w.seats t) (m.session - 1)) (seat_in c.hear.new.self (m.session - 1)) (servers up) m heard) (c.servers.ensures ∙ ap (λ (x : Tables). x.up) c.self.view_is) hears' in
+    let fits = message_fits w t n m r there in
+    let goes : to_server m.body ≡ false = sym c.to_server.ensures ∙ c.if-not-to_server.true in
+    let at : HearsAt w t n m c.hear.new.self heard = record {
+      there = there;
+      goes = goes;
+      within = c.requires.tenant;
+      lanes = lanes;
+      tenants = tenants;
+      first = fits.first;
+      last = fits.last;
+      hears = hears;
+      others = λ place other. c.hear.ensures.others place other ∙ ap (λ seats. seat_in seats place) seats_is;
+    } in
+    let now = ap (λ (x : Tables). record x { lanes = with_sent x.lanes t (messages_of heard); seats = slice_set x.seats t c.hear.new.self }) (sym c.self.view_is) in
+    let V : List Lane → Tables = λ lanes. record { plan = c.self.inside.plan; up = c.self.inside.up.up; lines = c.self.inside.lines.items; desk = c.self.inside.desk; lanes = lanes; stores = c.self.inside.stores.items; seats = slice_set c.self.inside.seats.items t c.hear.new.self } in
+    on_ok_weaker {P = c.answer_heard.new.post ≡ with_sent c.self.inside.post t (messages_of heard)} {Q = Acts w t (Deliver n) (V c.answer_heard.new.post)} c.answer_heard.result
+    (λ sent. subst (Acts w t (Deliver n)) (now ∙ ap V (sym sent)) (heard_acts w t n m c.hear.new.self heard at))
+    c.answer_heard.ensures.sent
+
+pub has-requires : goal.has-requires
+has-requires c =
+    let w : Tables = c.args.self.now in
+    let t : ℕ = c.args.tenant in
+    let n : ℕ = c.args.number in
+    let m : Message = c.in-Some.message.now in
+    let r : IsReady w t = c.requires.ready in
+    let shaped : IsShaped w = subst IsShaped c.self.view_is c.self.invariant.1 in
+    let there : message_at (lane_at w.lanes t) n ≡ Some m =
+    sym (c.in-Some.ensures ∙ ap (λ k. message_at (lane_at c.self.inside.post t) k) c.from.ensures ∙ ap (λ (x : Tables). message_at (lane_at x.lanes t) n) c.self.view_is) in
+    server_below w t n m r shaped there
+
+pub returns-then-not-has-clause-answer : goal.returns-then-not-has-clause-answer
+returns-then-not-has-clause-answer c =
+    let w : Tables = c.args.self.now in
+    let t : ℕ = c.args.tenant in
+    let n : ℕ = c.args.number in
+    let m : Message = c.in-Some.message.now in
+    let r : IsReady w t = c.requires.ready in
+    let shaped : IsShaped w = subst IsShaped c.self.view_is c.self.invariant.1 in
+    let there : message_at (lane_at w.lanes t) n ≡ Some m =
+    sym (c.in-Some.ensures ∙ ap (λ k. message_at (lane_at c.self.inside.post t) k) c.from.ensures ∙ ap (λ (x : Tables). message_at (lane_at x.lanes t) n) c.self.view_is) in
+    let fits = message_fits w t n m r there in
+    let at : IsDownAt w t n m = record {
+      there = there;
+      goes = sym c.to_server.ensures ∙ c.if-not-to_server.false;
+      down = ap (λ (x : Tables). servers x.up m.server) (sym c.self.view_is) ∙ sym c.has.ensures ∙ c.if-not-has.true;
+      server = fits.server;
+    } in
+    down_tells w t n m at
+
+pub returns-then-not-has-clause-acts : goal.returns-then-not-has-clause-acts
+returns-then-not-has-clause-acts c =
+    let w : Tables = c.args.self.now in
+    let t : ℕ = c.args.tenant in
+    let n : ℕ = c.args.number in
+    let m : Message = c.in-Some.message.now in
+    let r : IsReady w t = c.requires.ready in
+    let shaped : IsShaped w = subst IsShaped c.self.view_is c.self.invariant.1 in
+    let there : message_at (lane_at w.lanes t) n ≡ Some m =
+    sym (c.in-Some.ensures ∙ ap (λ k. message_at (lane_at c.self.inside.post t) k) c.from.ensures ∙ ap (λ (x : Tables). message_at (lane_at x.lanes t) n) c.self.view_is) in
+    let fits = message_fits w t n m r there in
+    let at : IsDownAt w t n m = record {
+      there = there;
+      goes = sym c.to_server.ensures ∙ c.if-not-to_server.false;
+      down = ap (λ (x : Tables). servers x.up m.server) (sym c.self.view_is) ∙ sym c.has.ensures ∙ c.if-not-has.true;
+      server = fits.server;
+    } in
+    down_acts w t n m at
+
+pub index_mut-requires-2 : goal.index_mut-requires-2
+index_mut-requires-2 c =
+    let w : Tables = c.args.self.now in
+    let t : ℕ = c.args.tenant in
+    let n : ℕ = c.args.number in
+    let m : Message = c.in-Some.message.now in
+    let r : IsReady w t = c.requires.ready in
+    let shaped : IsShaped w = subst IsShaped c.self.view_is c.self.invariant.1 in
+    let there : message_at (lane_at w.lanes t) n ≡ Some m =
+    sym (c.in-Some.ensures ∙ ap (λ k. message_at (lane_at c.self.inside.post t) k) c.from.ensures ∙ ap (λ (x : Tables). message_at (lane_at x.lanes t) n) c.self.view_is) in
+    let server = (message_fits w t n m r there).server in
+    let count : length c.self.inside.stores.items ≡ length w.stores = ap (λ (x : Tables). length x.stores) c.self.view_is in
+    let all = shaped.servers in
+    omega (arith, c.self.inside.stores.ok.0)
+
+pub unreachable-requires : goal.unreachable-requires
+unreachable-requires c =
+    let w : Tables = c.args.self.now in
+    let t : ℕ = c.args.tenant in
+    let n : ℕ = c.args.number in
+    let m : Message = c.in-Some.message.now in
+    let r : IsReady w t = c.requires.ready in
+    let shaped : IsShaped w = subst IsShaped c.self.view_is c.self.invariant.1 in
+    let there : message_at (lane_at w.lanes t) n ≡ Some m =
+    sym (c.in-Some.ensures ∙ ap (λ k. message_at (lane_at c.self.inside.post t) k) c.from.ensures ∙ ap (λ (x : Tables). message_at (lane_at x.lanes t) n) c.self.view_is) in
+    let fits = message_fits w t n m r there in
+    let stores_now : c.self.inside.stores.items ≡ w.stores = ap (λ (x : Tables). x.stores) c.self.view_is in
+    let stores : m.server < length w.stores = let server = fits.server in let all = shaped.servers in omega arith in
+    let store_is : c.index_mut-2.result.now ≡ store_at w.stores m.server =
+    c.index_mut-2.ensures.value ∙ get_or_default c.self.inside.stores.items m.server _ _ (rw stores_now stores) ∙ ap (λ all. store_at all m.server) stores_now in
+    let refused : serve_fault c.index_mut-2.result.now m ≡ Some c.in-Err.fault = c.in-Err.ensures.refused c.in_default-fault.not-Memory in
+    let never : serve_fault c.index_mut-2.result.now m ≡ None = ap (λ (store : StoreCopies). serve_fault store m) store_is ∙ never_refused w t n m r there in
+    let e : ◌≡◌ {A = Option ServeRefused} None (Some c.in-Err.fault) = sym never ∙ refused in
+    cc
+
+pub returns-clause-answer : goal.returns-clause-answer
+returns-clause-answer c =
+    let w : Tables = c.args.self.now in
+    let t : ℕ = c.args.tenant in
+    let n : ℕ = c.args.number in
+    let m : Message = c.in-Some.message.now in
+    let r : IsReady w t = c.requires.ready in
+    let shaped : IsShaped w = subst IsShaped c.self.view_is c.self.invariant.1 in
+    let there : message_at (lane_at w.lanes t) n ≡ Some m =
+    sym (c.in-Some.ensures ∙ ap (λ k. message_at (lane_at c.self.inside.post t) k) c.from.ensures ∙ ap (λ (x : Tables). message_at (lane_at x.lanes t) n) c.self.view_is) in
+    let fits = message_fits w t n m r there in
+    let stores_now : c.self.inside.stores.items ≡ w.stores = ap (λ (x : Tables). x.stores) c.self.view_is in
+    let stores : m.server < length w.stores = let server = fits.server in let all = shaped.servers in omega arith in
+    let store_is : c.index_mut-2.result.now ≡ store_at w.stores m.server =
+    c.index_mut-2.ensures.value ∙ get_or_default c.self.inside.stores.items m.server _ _ (rw stores_now stores) ∙ ap (λ all. store_at all m.server) stores_now in
+    let lanes : t < length w.lanes = rw shaped.lanes c.requires.tenant in
+    let at : Serves w t n m c.in-Ok.reply c.serve.new.self = record {
+      there = there;
+      goes = sym c.to_server.ensures ∙ c.if-not-to_server.false;
+      up = ap (λ (x : Tables). servers x.up m.server) (sym c.self.view_is) ∙ sym c.has.ensures ∙ c.if-not-has.false;
+      lanes = lanes;
+      server = fits.server;
+      stores = stores;
+      reply_is = c.in-Ok.ensures.reply ∙ ap (λ (store : StoreCopies). server_reply (copy_at store m.file) m) store_is;
+      held = c.in-Ok.ensures.held ∙ ap (λ (store : StoreCopies). held_after (copy_at store m.file) m.body) store_is;
+      others = λ other apart. c.in-Ok.ensures.others other apart ∙ ap (λ (store : StoreCopies). copy_at store other) store_is;
+      accounts = c.in-Ok.ensures.accounts ∙ ap store_accounts store_is;
+    } in
+    let number : c.in-Ok-send.number ≡ length (lane_at w.lanes t) = c.in-Ok-send.ensures.number ∙ ap (λ (x : Tables). length (lane_at x.lanes t)) c.self.view_is in
+    subst (λ k. TellsLine w t (Deliver n) (Replied k)) (sym number) (served_tells w t n m c.in-Ok.reply c.serve.new.self at)
+
+pub returns-clause-acts : goal.returns-clause-acts
+returns-clause-acts c =
+    let w : Tables = c.args.self.now in
+    let t : ℕ = c.args.tenant in
+    let n : ℕ = c.args.number in
+    let m : Message = c.in-Some.message.now in
+    let r : IsReady w t = c.requires.ready in
+    let shaped : IsShaped w = subst IsShaped c.self.view_is c.self.invariant.1 in
+    let there : message_at (lane_at w.lanes t) n ≡ Some m =
+    sym (c.in-Some.ensures ∙ ap (λ k. message_at (lane_at c.self.inside.post t) k) c.from.ensures ∙ ap (λ (x : Tables). message_at (lane_at x.lanes t) n) c.self.view_is) in
+    let fits = message_fits w t n m r there in
+    let stores_now : c.self.inside.stores.items ≡ w.stores = ap (λ (x : Tables). x.stores) c.self.view_is in
+    let stores : m.server < length w.stores = let server = fits.server in let all = shaped.servers in omega arith in
+    let store_is : c.index_mut-2.result.now ≡ store_at w.stores m.server =
+    c.index_mut-2.ensures.value ∙ get_or_default c.self.inside.stores.items m.server _ _ (rw stores_now stores) ∙ ap (λ all. store_at all m.server) stores_now in
+    let lanes : t < length w.lanes = rw shaped.lanes c.requires.tenant in
+    let at : Serves w t n m c.in-Ok.reply c.serve.new.self = record {
+      there = there;
+      goes = sym c.to_server.ensures ∙ c.if-not-to_server.false;
+      up = ap (λ (x : Tables). servers x.up m.server) (sym c.self.view_is) ∙ sym c.has.ensures ∙ c.if-not-has.false;
+      lanes = lanes;
+      server = fits.server;
+      stores = stores;
+      reply_is = c.in-Ok.ensures.reply ∙ ap (λ (store : StoreCopies). server_reply (copy_at store m.file) m) store_is;
+      held = c.in-Ok.ensures.held ∙ ap (λ (store : StoreCopies). held_after (copy_at store m.file) m.body) store_is;
+      others = λ other apart. c.in-Ok.ensures.others other apart ∙ ap (λ (store : StoreCopies). copy_at store other) store_is;
+      accounts = c.in-Ok.ensures.accounts ∙ ap store_accounts store_is;
+    } in
+    let now = ap (λ (x : Tables). record x { stores = slice_set x.stores m.server c.serve.new.self; lanes = with_sent x.lanes t (c.in-Ok.reply ∷ []) }) (sym c.self.view_is) in
+    let V : List Lane → Tables = λ lanes. record { plan = c.self.inside.plan; up = c.self.inside.up.up; lines = c.self.inside.lines.items; desk = c.self.inside.desk; lanes = lanes; stores = slice_set c.self.inside.stores.items m.server c.serve.new.self; seats = c.self.inside.seats.items } in
+    subst (Acts w t (Deliver n)) (now ∙ ap V (sym c.in-Ok-send.ensures.sent)) (served_acts w t n m c.in-Ok.reply c.serve.new.self r at)
+
+pub hear-requires-clause-first : goal.hear-requires-clause-first
+hear-requires-clause-first c =
+    let w : Tables = c.args.self.now in
+    let t : ℕ = c.args.tenant in
+    let n : ℕ = c.args.number in
+    let m : Message = c.in-Some.message.now in
+    let r : IsReady w t = c.requires.ready in
+    let shaped : IsShaped w = subst IsShaped c.self.view_is c.self.invariant.1 in
+    let there : message_at (lane_at w.lanes t) n ≡ Some m =
+    sym (c.in-Some.ensures ∙ ap (λ k. message_at (lane_at c.self.inside.post t) k) c.from.ensures ∙ ap (λ (x : Tables). message_at (lane_at x.lanes t) n) c.self.view_is) in
+    let tenants : t < length w.seats = rw shaped.tenants c.requires.tenant in
+    let seats_now : c.self.inside.seats.items ≡ w.seats = ap (λ (x : Tables). x.seats) c.self.view_is in
+    let seats_is : c.index_mut.result.now ≡ seats_at w.seats t =
+    c.index_mut.ensures.value ∙ get_or_default c.self.inside.seats.items t _ _ (rw seats_now tenants) ∙ ap (λ all. seats_at all t) seats_now in
+    (session_within w t n m c.requires.tenant r shaped there).0
+
+pub hear-requires-clause-last : goal.hear-requires-clause-last
+hear-requires-clause-last c =
+    let w : Tables = c.args.self.now in
+    let t : ℕ = c.args.tenant in
+    let n : ℕ = c.args.number in
+    let m : Message = c.in-Some.message.now in
+    let r : IsReady w t = c.requires.ready in
+    let shaped : IsShaped w = subst IsShaped c.self.view_is c.self.invariant.1 in
+    let there : message_at (lane_at w.lanes t) n ≡ Some m =
+    sym (c.in-Some.ensures ∙ ap (λ k. message_at (lane_at c.self.inside.post t) k) c.from.ensures ∙ ap (λ (x : Tables). message_at (lane_at x.lanes t) n) c.self.view_is) in
+    let tenants : t < length w.seats = rw shaped.tenants c.requires.tenant in
+    let seats_now : c.self.inside.seats.items ≡ w.seats = ap (λ (x : Tables). x.seats) c.self.view_is in
+    let seats_is : c.index_mut.result.now ≡ seats_at w.seats t =
+    c.index_mut.ensures.value ∙ get_or_default c.self.inside.seats.items t _ _ (rw seats_now tenants) ∙ ap (λ all. seats_at all t) seats_now in
+    subst (λ (seats : List Seat). m.session ≤ length seats) (sym seats_is) (session_within w t n m c.requires.tenant r shaped there).1
+
+pub hear-requires-clause-server : goal.hear-requires-clause-server
+hear-requires-clause-server c =
+    let w : Tables = c.args.self.now in
+    let t : ℕ = c.args.tenant in
+    let n : ℕ = c.args.number in
+    let m : Message = c.in-Some.message.now in
+    let r : IsReady w t = c.requires.ready in
+    let shaped : IsShaped w = subst IsShaped c.self.view_is c.self.invariant.1 in
+    let there : message_at (lane_at w.lanes t) n ≡ Some m =
+    sym (c.in-Some.ensures ∙ ap (λ k. message_at (lane_at c.self.inside.post t) k) c.from.ensures ∙ ap (λ (x : Tables). message_at (lane_at x.lanes t) n) c.self.view_is) in
+    let tenants : t < length w.seats = rw shaped.tenants c.requires.tenant in
+    let seats_now : c.self.inside.seats.items ≡ w.seats = ap (λ (x : Tables). x.seats) c.self.view_is in
+    let seats_is : c.index_mut.result.now ≡ seats_at w.seats t =
+    c.index_mut.ensures.value ∙ get_or_default c.self.inside.seats.items t _ _ (rw seats_now tenants) ∙ ap (λ all. seats_at all t) seats_now in
+    server_below w t n m r shaped there
+
+pub hear-requires-clause-number : goal.hear-requires-clause-number
+hear-requires-clause-number c =
+    let w : Tables = c.args.self.now in
+    let t : ℕ = c.args.tenant in
+    let n : ℕ = c.args.number in
+    let m : Message = c.in-Some.message.now in
+    let r : IsReady w t = c.requires.ready in
+    let shaped : IsShaped w = subst IsShaped c.self.view_is c.self.invariant.1 in
+    let there : message_at (lane_at w.lanes t) n ≡ Some m =
+    sym (c.in-Some.ensures ∙ ap (λ k. message_at (lane_at c.self.inside.post t) k) c.from.ensures ∙ ap (λ (x : Tables). message_at (lane_at x.lanes t) n) c.self.view_is) in
+    let tenants : t < length w.seats = rw shaped.tenants c.requires.tenant in
+    let seats_now : c.self.inside.seats.items ≡ w.seats = ap (λ (x : Tables). x.seats) c.self.view_is in
+    let seats_is : c.index_mut.result.now ≡ seats_at w.seats t =
+    c.index_mut.ensures.value ∙ get_or_default c.self.inside.seats.items t _ _ (rw seats_now tenants) ∙ ap (λ all. seats_at all t) seats_now in
+    number_below w t n m r there
+
+pub hear-requires-clause-floor : goal.hear-requires-clause-floor
+hear-requires-clause-floor c =
+    let w : Tables = c.args.self.now in
+    let t : ℕ = c.args.tenant in
+    let n : ℕ = c.args.number in
+    let m : Message = c.in-Some.message.now in
+    let r : IsReady w t = c.requires.ready in
+    let shaped : IsShaped w = subst IsShaped c.self.view_is c.self.invariant.1 in
+    let there : message_at (lane_at w.lanes t) n ≡ Some m =
+    sym (c.in-Some.ensures ∙ ap (λ k. message_at (lane_at c.self.inside.post t) k) c.from.ensures ∙ ap (λ (x : Tables). message_at (lane_at x.lanes t) n) c.self.view_is) in
+    let tenants : t < length w.seats = rw shaped.tenants c.requires.tenant in
+    let seats_now : c.self.inside.seats.items ≡ w.seats = ap (λ (x : Tables). x.seats) c.self.view_is in
+    let seats_is : c.index_mut.result.now ≡ seats_at w.seats t =
+    c.index_mut.ensures.value ∙ get_or_default c.self.inside.seats.items t _ _ (rw seats_now tenants) ∙ ap (λ all. seats_at all t) seats_now in
+    subst (λ (seats : List Seat). FloorIsBelow (seat_in seats (m.session - 1)).operation) (sym seats_is) (seat_floor_below w t n m r there)

@@ -1,0 +1,20 @@
+-- The tables of a plan are shaped.
+use Rattle.std.proofs.Common.{refl}
+use Rattle.gq_world.specs.Tables.{Tables}
+use Rattle.gq_world.specs.Whole.{IsFirst}
+use Rattle.gq_world.proofs.Starting.{first_shaped}
+use Rattle.gq_world.proofs.tables.Core.new.Goals as goal
+
+pub invariant_of-result : goal.invariant_of-result
+invariant_of-result c =
+    let w : Tables = record { plan = c.args.plan; up = c.new-up.result.up; lines = c.in_ok-lines.lines.items; desk = c.in_ok-desk.desk; lanes = c.in_ok-post.post; stores = c.in_ok-stores.stores.items; seats = c.in_ok-seats.seats.items } in
+    let first : IsFirst c.args.plan w = record {
+      plan_is = refl;
+      up = rw (← c.grid.ensures) c.new-up.ensures.up;
+      lines = rw (← c.tenants.ensures.value) (c.in_ok-lines.ensures.items_if_clones_equal (λ y same. same));
+      desk = c.in_ok-desk.ensures;
+      lanes = rw (← c.tenants-2.ensures.value) c.in_ok-post.ensures;
+      stores = c.in_ok-stores.ensures.stores;
+      seats = c.in_ok-seats.ensures.seats;
+    } in
+    (rw (← c.grid.ensures) c.new-up.ensures.grid, first_shaped c.args.plan w refl first c.in_ok-seats.ensures.few c.new_stores.ensures.few)

@@ -1,0 +1,62 @@
+-- Why the tables refuse a request, and what they are once it began.
+use Rattle.std.specs.Prelude.{ℕ, ◌+◌, ◌-◌, List, [], ◌∷◌, ◌++◌, Option, Some, None, not, nat_lt, is_some, is_none, unwrap_or, length, slice_set}
+use Rattle.gq_tag.specs.declared.Message.{Message}
+use Rattle.gq_tag.specs.Tag.{file_of}
+use Rattle.gq_desk.specs.CheckedPlan.{row_at}
+use Rattle.gq_desk.specs.Plans.{is_in}
+use Rattle.gq_desk.specs.Volumes.{account_at, limit_of}
+use Rattle.gq_phase.specs.declared.operation.Operation.{Operation as Code}
+use Rattle.gq_phase.specs.Standing.{floor_of}
+use Rattle.gq_model.specs.declared.events.Refusal.TheVariants.{NoSession, Busy, Idle, NoVolume, NoFile, TooLong}
+use Rattle.gq_model.specs.Lone.{Cause}
+use Rattle.gq_world.specs.declared.sessions.Seat.{Seat}
+use Rattle.gq_world.specs.Tables.{Tables, seats_at, seat_in}
+use Rattle.gq_world.specs.Saying.{with_sent}
+
+-- the causes why a line of session k is refused, the choice of a quorum apart, in their order: one that wants no operation
+-- there, and names a volume, or a file, or a content for it; and one that wants an operation there
+abbrev pub volume_causes : Tables → ℕ → ℕ → ℕ → List Cause
+volume_causes w t k v =
+    (not (is_in 1 (row_at w.plan t).sessions k), NoSession)
+    ∷ (is_some (seat_in (seats_at w.seats t) (k - 1)).operation, Busy)
+    ∷ (not (nat_lt v (length (account_at w.desk t).volumes)), NoVolume)
+    ∷ []
+
+abbrev pub limit_at : Tables → ℕ → ℕ → ℕ → Option ℕ
+limit_at w t v f = limit_of w.desk (file_of t (record { volume = v; place = f }))
+
+abbrev pub file_causes : Tables → ℕ → ℕ → ℕ → ℕ → List Cause
+file_causes w t k v f = volume_causes w t k v ++ (is_none (limit_at w t v f), NoFile) ∷ []
+
+abbrev pub write_causes : Tables → ℕ → ℕ → ℕ → ℕ → List ℕ → List Cause
+write_causes w t k v f bytes = file_causes w t k v f ++ (nat_lt (unwrap_or (limit_at w t v f) 0) (length bytes), TooLong) ∷ []
+
+abbrev pub idle_causes : Tables → ℕ → ℕ → List Cause
+idle_causes w t k =
+    (not (is_in 1 (row_at w.plan t).sessions k), NoSession)
+    ∷ (is_none (seat_in (seats_at w.seats t) (k - 1)).operation, Idle)
+    ∷ []
+
+-- the seat with one operation more
+abbrev pub busy_seat : Seat → Code → Seat
+busy_seat seat code = record { op = seat.op + 1; floor = seat.floor; operation = Some code }
+
+-- the session's own last number
+abbrev pub last_number : ℕ → Option Code → ℕ
+last_number floor None = floor
+last_number floor (Some code) = floor_of code
+
+-- the seat without its operation, whose last number it keeps
+abbrev pub rested_seat : Seat → Seat
+rested_seat seat = record { op = seat.op; floor = last_number seat.floor seat.operation; operation = None }
+
+-- the tables in which the session at the place has given its operation up
+abbrev pub rested_tables : Tables → ℕ → ℕ → Tables
+rested_tables w t place = record w { seats = slice_set w.seats t (slice_set (seats_at w.seats t) place (rested_seat (seat_in (seats_at w.seats t) place))) }
+
+-- the tables in which the session at the place has begun the operation, with these messages
+abbrev pub begun_tables : Tables → ℕ → ℕ → Code → List Message → Tables
+begun_tables w t place code messages = record w {
+  lanes = with_sent w.lanes t messages;
+  seats = slice_set w.seats t (slice_set (seats_at w.seats t) place (busy_seat (seat_in (seats_at w.seats t) place) code));
+}

@@ -1,0 +1,63 @@
+-- What a message does in the session that it comes to, whatever is known of the session.
+use Rattle.std.specs.Prelude.{◌≡◌, ℕ, ◌<◌, List, Option, Some, None}
+use Rattle.gq_grid.specs.Grid.{Grid, Servers}
+use Rattle.gq_tag.specs.declared.Message.{Message}
+use Rattle.gq_tag.specs.Tag.{OwnMessage, own_message}
+use Rattle.gq_phase.specs.declared.Heard.{Heard}
+use Rattle.gq_phase.specs.declared.ResendRefused.{ResendRefused}
+use Rattle.gq_phase.specs.declared.operation.Operation.{Operation as Code}
+use Rattle.gq_phase.specs.Phase.{Operation, Heard as Saying, HeardStale, HeardNoted, HeardNext, HeardDone, hear, with_reply, moved}
+use Rattle.gq_phase.specs.Standing.{heard_as, floor_of, IsGoing, ResendsAs, RefusesAs}
+use Rattle.gq_world.specs.declared.sessions.Seat.{Seat}
+use Rattle.gq_world.specs.Tables.{Sits}
+
+-- what a session with this operation, or with none, says to the message
+abbrev pub said_by : Grid → Servers → Option Operation → OwnMessage → Saying
+said_by grid up None message = HeardStale
+said_by grid up (Some o) message = hear grid up o message
+
+-- the operation that it then has
+abbrev pub operation_after : Option Operation → OwnMessage → Saying → Option Operation
+operation_after None message saying = None
+operation_after (Some o) message HeardStale = Some o
+operation_after (Some o) message HeardNoted = Some (with_reply o message)
+operation_after (Some o) message (HeardNext round tag messages) = Some (moved o message round tag)
+operation_after (Some o) message (HeardDone outcome) = None
+
+-- the session's own last number, once it has none
+abbrev pub last_of : ℕ → Option Operation → ℕ
+last_of last None = last
+last_of last (Some o) = o.floor
+
+-- whatever operation the seat stands for, this is what it says, and the seat stands for it afterwards
+pub record SeatHears (old new : Seat) (up : Servers) (message : Message) (heard : Heard) : Type 0 where
+  pub op : new.op ≡ old.op
+  pub says : (grid : Grid) (t last : ℕ) (o : Option Operation) → Sits grid t old.floor old.operation last o → heard ≡ heard_as t (said_by grid up o (own_message message))
+  pub sits : (grid : Grid) (t last : ℕ) (o : Option Operation) → Sits grid t old.floor old.operation last o →
+      Sits grid t new.floor new.operation (last_of last o) (operation_after o (own_message message) (said_by grid up o (own_message message)))
+
+-- the session has an operation, which is not done
+abbrev pub IsAtWork : Option Code → Type 0
+IsAtWork None = ⊥
+IsAtWork (Some code) = IsGoing code
+
+-- whatever operation the seat stands for, there is a quorum for its round, and these messages go out to it
+abbrev pub SeatResends : Seat → Servers → List Message → Type 0
+SeatResends seat up messages = by seat.operation
+  where
+    by : Option Code → Type 0
+    by None = ⊥
+    by (Some code) = ResendsAs code up messages
+
+-- whatever operation the seat stands for, this is why its message is not sent once more
+abbrev pub SeatRefuses : Seat → Servers → ResendRefused → Type 0
+SeatRefuses seat up fault = by seat.operation
+  where
+    by : Option Code → Type 0
+    by None = ⊥
+    by (Some code) = RefusesAs code up fault
+
+-- the number of a session's operation leaves a greater one
+abbrev pub FloorIsBelow : Option Code → Type 0
+FloorIsBelow None = Unit {0}
+FloorIsBelow (Some code) = floor_of code < 18446744073709551615

@@ -1,0 +1,148 @@
+//! The sessions of a tenant.
+
+ghost use Rattle.std.specs.Prelude.{◌≡◌, ◌≢◌, ℕ, ◌+◌, ◌-◌, ◌<◌, ◌≤◌, replicate, length, slice_set, None, IfOk, IfErr};
+ghost use Rattle.gq_grid.specs.Sets.{servers};
+ghost use Rattle.gq_grid.specs.declared.TheConstants.{MOST_SERVERS};
+ghost use Rattle.gq_phase.specs.Best.{copied_number};
+
+use gq_grid::ServerSet;
+use gq_phase::{Heard, Operation, ResendRefused};
+use gq_tag::Message;
+use std::alloc::{AllocError, Global};
+use std::marker::Model;
+
+/// A session: how many operations it began, its operation if it has one, and its own last number while it has none.
+#[derive(Debug, Drop)]
+pub(crate) struct Seat {
+    pub(crate) op: u32,
+    pub(crate) floor: u64,
+    pub(crate) operation: Option<Operation>,
+}
+
+/// The sessions of a tenant. Session `k` has place `k - 1`.
+#[derive(Debug, Drop)]
+pub(crate) struct Seats {
+    pub(crate) items: Vec<Seat>,
+}
+
+impl Model for Seats {
+    ghost use Rattle.std.specs.Prelude.{List};
+    ghost use Rattle.gq_world.specs.declared.sessions.Seat.{Seat};
+
+    ghost Value = { List Seat };
+
+    ghost view = { λ s. s.items.items };
+}
+
+impl Seats {
+    ghost use Rattle.gq_world.specs.Tables.{seat_in};
+    ghost use Rattle.gq_world.specs.Asking.{busy_seat, rested_seat};
+    ghost use Rattle.gq_world.specs.Seats.{SeatHears, SeatResends, SeatRefuses, IsAtWork, FloorIsBelow};
+
+    // So many sessions that began nothing.
+    pub(crate) fn new(alloc: Global, sessions: u32) -> Result<Seats, AllocError>
+        ensures { IfOk result (λ seats. seats ≡ replicate sessions (record { op = 0; floor = 0; operation = None })) }
+    {
+        let mut items = Vec::with_capacity(alloc, sessions as usize)?;
+        for _ in 0..sessions {
+            items.push_reserved(Seat {
+                op: 0,
+                floor: 0,
+                operation: None,
+            });
+        }
+        Ok(Seats { items })
+    }
+
+    // The session at the place has the operation from now on. Answers the operation's number.
+    pub(crate) fn begin(&mut self, place: usize, operation: Operation) -> u32
+        requires place { place < length self.old }
+        requires number { (seat_in self.old place).op < 4294967295 }
+        ensures number { result ≡ (seat_in self.old place).op + 1 }
+        ensures begun { self.new ≡ slice_set self.old place (busy_seat (seat_in self.old place) operation) }
+    {
+        let seat = &mut self.items[place];
+        seat.op += 1;
+        seat.operation = Some(operation);
+        seat.op
+    }
+
+    // The session at the place sends its round's message once more, where the servers of `up` are up.
+    pub(crate) fn resend(
+        &mut self,
+        place: usize,
+        up: ServerSet,
+    ) -> Result<Vec<Message>, ResendRefused>
+        requires place { place < length self.old }
+        requires works { IsAtWork (seat_in self.old place).operation }
+        ensures ok { IfOk result (λ messages. SeatResends (seat_in self.old place) (servers up) messages.items) }
+        ensures err { IfErr result (λ fault. SeatRefuses (seat_in self.old place) (servers up) fault) }
+        ensures same { self.new ≡ self.old }
+    {
+        match &mut self.items[place].operation {
+            Some(operation) => operation.resend(up),
+            None => unreachable!(),
+        }
+    }
+
+    // The session at the place gives its operation up.
+    pub(crate) fn abandon(&mut self, place: usize)
+        requires { place < length self.old }
+        ensures { self.new ≡ slice_set self.old place (rested_seat (seat_in self.old place)) }
+    {
+        let seat = &mut self.items[place];
+        if let Some(operation) = seat.operation.take() {
+            seat.floor = operation.abandon();
+        }
+    }
+
+    // A message comes to its session, where the servers of `up` are up.
+    pub(crate) fn hear(&mut self, message: &Message, up: ServerSet) -> Result<Heard, AllocError>
+        requires first { 1 ≤ message.now.session }
+        requires last { message.now.session ≤ length self.old }
+        requires server { message.now.server < MOST_SERVERS }
+        requires number { copied_number message.now.body < u64.MAX }
+        requires floor { FloorIsBelow (seat_in self.old (message.now.session - 1)).operation }
+        ensures hears { IfOk result (λ heard. SeatHears (seat_in self.old (message.now.session - 1)) (seat_in self.new (message.now.session - 1)) (servers up) message.now heard) }
+        ensures others { (place : ℕ) → place ≢ message.now.session - 1 → seat_in self.new place ≡ seat_in self.old place }
+        ensures count { length self.new ≡ length self.old }
+    {
+        let seat = &mut self.items[message.session as usize - 1];
+        seat.hear(message, up)
+    }
+}
+
+impl Seat {
+    ghost use Rattle.gq_world.specs.Seats.{SeatHears, FloorIsBelow};
+
+    // A message comes to the session.
+    fn hear(&mut self, message: &Message, up: ServerSet) -> Result<Heard, AllocError>
+        requires server { message.now.server < MOST_SERVERS }
+        requires number { copied_number message.now.body < u64.MAX }
+        requires floor { FloorIsBelow self.old.operation }
+        ensures hears { IfOk result (λ heard. SeatHears self.old self.new (servers up) message.now heard) }
+    {
+        let Some(operation) = &mut self.operation else {
+            return Ok(Heard::Stale);
+        };
+        let Ok(heard) = operation.hear(message, up) else {
+            return Err(AllocError);
+        };
+        match heard {
+            Heard::Done(outcome) => {
+                let floor = operation.floor();
+                self.rest(floor);
+                Ok(Heard::Done(outcome))
+            }
+            heard => Ok(heard),
+        }
+    }
+
+    // The session has no operation any more, and this is its own last number.
+    fn rest(&mut self, floor: u64)
+        ensures { self.new ≡ record self.old { floor = floor; operation = None } }
+    {
+        self.floor = floor;
+        self.operation = None;
+    }
+}

@@ -1,0 +1,602 @@
+//! The tables of all tenants, and what a line does to them.
+
+ghost use Rattle.std.specs.Prelude.{◌≡◌, ◌<◌, ◌≤◌, ◌+◌, ◌*◌, length, map, replicate, not, nat_le, slice_set, true, false, IfOk, IfNone, OnOk};
+ghost use Rattle.gq_grid.specs.Grid.{choose};
+ghost use Rattle.gq_grid.specs.declared.TheConstants.{MOST_SERVERS};
+ghost use Rattle.gq_desk.specs.CheckedPlan.{row_at};
+ghost use Rattle.gq_model.specs.declared.events.Event.{Event};
+ghost use Rattle.gq_model.specs.declared.events.Line.{Line};
+ghost use Rattle.gq_model.specs.Events.{IsIn};
+ghost use Rattle.gq_model.specs.Lone.{choice_told, change_refusal, first_cause};
+ghost use Rattle.gq_model.specs.Shown.{shown};
+ghost use Rattle.gq_model.specs.Told.{Began};
+ghost use Rattle.gq_post.specs.Lanes.{lane_at};
+ghost use Rattle.gq_store.specs.Copies.{empty_store, blocks_free};
+ghost use Rattle.gq_world.specs.Tables.{no_seat};
+ghost use Rattle.gq_world.specs.Whole.{FewSessions};
+
+use crate::adding::add_everywhere;
+use crate::chooser::Chooser;
+use crate::sending::{answer_heard, send_all};
+use crate::sessions::Seats;
+use bytes::Bytes;
+use gq_desk::{Desk, OpenRefused, Plan, VolumeRows};
+use gq_model::{Answer, Event, Line, Refusal, ServerLine, ServerRefusal};
+use gq_phase::{BeginRefused, Operation, ResendRefused, Who};
+use gq_post::Post;
+use gq_store::{ServeRefused, ServerStore};
+use gq_tag::{FileId, Message};
+use std::alloc::{AllocError, Global};
+use std::marker::Model;
+
+/// The tables of all tenants. No call undoes anything where memory is wanting: the tables then have their shape, and stand
+/// for nothing.
+#[derive(Debug, Drop)]
+pub(crate) struct Core {
+    alloc: Global,
+    plan: Plan,
+    up: Chooser,
+    // how many steps of each tenant are taken
+    lines: Vec<u32>,
+    desk: Desk,
+    post: Post,
+    // one for each server
+    stores: Vec<ServerStore>,
+    // the sessions of each tenant
+    seats: Vec<Seats>,
+}
+
+impl Model for Core {
+    ghost use Rattle.std.specs.Prelude.{◌≡◌};
+    ghost use Rattle.gq_world.specs.Tables.{Tables, IsShaped};
+
+    ghost Value = { Tables };
+
+    ghost view = { λ w. record { plan = w.plan; up = w.up.up; lines = w.lines.items; desk = w.desk; lanes = w.post; stores = w.stores.items; seats = w.seats.items } };
+
+    ghost invariant = { λ w. (w.up.grid ≡ w.plan.grid) × IsShaped (record { plan = w.plan; up = w.up.up; lines = w.lines.items; desk = w.desk; lanes = w.post; stores = w.stores.items; seats = w.seats.items }) };
+}
+
+// A store for each server of the plan.
+fn new_stores(alloc: Global, plan: &Plan) -> Result<Vec<ServerStore>, AllocError>
+    ensures stores { IfOk result (λ stores. stores.items ≡ replicate (plan.now.grid.rows * plan.now.grid.cols) (empty_store plan.now)) }
+    ensures few { plan.now.grid.rows * plan.now.grid.cols ≤ MOST_SERVERS }
+{
+    let mut stores = Vec::new(alloc);
+    let servers = plan.grid().servers();
+    for _server in 0..servers {
+        stores.push(ServerStore::new(alloc, plan)?)?;
+    }
+    Ok(stores)
+}
+
+// The sessions of each tenant of the plan.
+fn new_seats(alloc: Global, plan: &Plan) -> Result<Vec<Seats>, AllocError>
+    ensures seats { IfOk result (λ seats. seats.items ≡ map (λ row. replicate row.sessions no_seat) plan.now.rows) }
+    ensures few { IfOk result (λ seats. FewSessions plan.now) }
+{
+    let mut seats = Vec::new(alloc);
+    for row in plan.rows() {
+        seats.push(Seats::new(alloc, row.sessions)?)?;
+    }
+    Ok(seats)
+}
+
+impl Core {
+    ghost use Rattle.gq_world.specs.Tables.{IsReady, seats_at, seat_in, store_at, taken_at, up_in};
+    ghost use Rattle.gq_world.specs.Whole.{AllSound, IsFirst};
+    ghost use Rattle.gq_world.specs.Asking.{volume_causes, file_causes, write_causes, idle_causes, begun_tables};
+    ghost use Rattle.gq_world.specs.Machine.{Advances, Acts, Tells, TellsLine};
+
+    // The tables of the plan: all servers are up, no volume is open, and no line came.
+    pub(crate) fn new(alloc: Global, plan: Plan) -> Result<Core, AllocError>
+        ensures { IfOk result (λ w. IsFirst plan w) }
+    {
+        let lines = vec![in alloc; 0u32; plan.tenants()]?;
+        let desk = Desk::new(alloc, &plan)?;
+        let post = Post::new(alloc, plan.tenants())?;
+        let stores = new_stores(alloc, &plan)?;
+        let seats = new_seats(alloc, &plan)?;
+        let up = Chooser::new(*plan.grid());
+        Ok(Core {
+            alloc,
+            plan,
+            up,
+            lines,
+            desk,
+            post,
+            stores,
+            seats,
+        })
+    }
+
+    // The plan.
+    pub(crate) fn plan(&self) -> &Plan
+        ensures { result.now ≡ self.now.plan }
+    {
+        &self.plan
+    }
+
+    // The store of the server.
+    pub(crate) fn store(&self, server: usize) -> &ServerStore
+        requires { server < self.now.plan.grid.rows * self.now.plan.grid.cols }
+        ensures store { result.now ≡ store_at self.now.stores server }
+        ensures blocks { result.now.blocks ≡ self.now.plan.blocks }
+    {
+        &self.stores[server]
+    }
+
+    // One event.
+    pub(crate) fn advance(&mut self, event: &Event) -> Result<Answer, AllocError>
+        requires tenant { IsIn self.old.plan event.now }
+        requires sound { AllSound self.old }
+        ensures answer { IfOk result (λ answer. Tells self.old event.now (shown answer)) }
+        ensures advances { OnOk result (Advances self.old event.now self.new) }
+        ensures plan { self.new.plan ≡ self.old.plan }
+    {
+        match event {
+            Event::Tenant { tenant, line } => self.tenant_line(*tenant, line),
+            Event::Server { line } => Ok(self.server_line(line)),
+            Event::Stray => Ok(Answer::StrayBad),
+        }
+    }
+
+    // ---- lines of a tenant
+
+    // A line of a tenant.
+    fn tenant_line(&mut self, tenant: u8, line: &Line) -> Result<Answer, AllocError>
+        requires tenant { tenant < length self.old.plan.rows }
+        requires sound { AllSound self.old }
+        ensures answer { IfOk result (λ answer. Tells self.old (Event.Tenant tenant line.now) (shown answer)) }
+        ensures advances { OnOk result (Advances self.old (Event.Tenant tenant line.now) self.new) }
+        ensures plan { self.new.plan ≡ self.old.plan }
+    {
+        if !self.take_step(tenant) {
+            return Ok(Answer::Refused(Refusal::Spent));
+        }
+        self.act(tenant, line)
+    }
+
+    // Takes one of the tenant's steps, where one is left.
+    fn take_step(&mut self, tenant: u8) -> bool
+        requires { tenant < length self.old.plan.rows }
+        ensures left { result ≡ not (nat_le (row_at self.old.plan tenant).steps (taken_at self.old tenant)) }
+        ensures none { result ≡ false → self.new ≡ self.old }
+        ensures taken { result ≡ true → self.new ≡ record self.old { lines = slice_set self.old.lines tenant (taken_at self.old tenant + 1) } }
+        ensures few { result ≡ true → taken_at self.old tenant + 1 < 4294967296 }
+        ensures within { tenant < length self.old.lines }
+    {
+        let steps = self.plan.row(tenant).steps;
+        let count = self.lines[tenant as usize];
+        if count >= steps {
+            return false;
+        }
+        self.lines[tenant as usize] = count + 1;
+        true
+    }
+
+    // A line of a tenant, whose step is taken.
+    fn act(&mut self, tenant: u8, line: &Line) -> Result<Answer, AllocError>
+        requires tenant { tenant < length self.old.plan.rows }
+        requires ready { IsReady self.old tenant }
+        ensures answer { IfOk result (λ answer. TellsLine self.old tenant line.now (shown answer)) }
+        ensures acts { OnOk result (Acts self.old tenant line.now self.new) }
+        ensures plan { self.new.plan ≡ self.old.plan }
+    {
+        match line {
+            Line::Bad => Ok(Answer::Refused(Refusal::Bad)),
+            Line::Quorum => Ok(self.quorum()),
+            Line::NewVolume { files, blocks } => self.open(tenant, *files, *blocks),
+            Line::Volumes => self.volumes(tenant),
+            Line::Write {
+                session,
+                volume,
+                file,
+                bytes,
+            } => self.write(tenant, *session, *volume, *file, bytes),
+            Line::Read {
+                session,
+                volume,
+                file,
+            } => self.read(tenant, *session, *volume, *file),
+            Line::List { session, volume } => self.list(tenant, *session, *volume),
+            Line::Deliver { number } => self.deliver(tenant, *number),
+            Line::Lose { number } => Ok(self.lose(tenant, *number)),
+            Line::Retry { session } => self.retry(tenant, *session),
+            Line::Abandon { session } => Ok(self.abandon(tenant, *session)),
+        }
+    }
+
+    // What is told to a quorum line.
+    fn quorum(&self) -> Answer
+        ensures { shown result ≡ choice_told self.now.plan.grid (choose self.now.plan.grid (up_in self.now.plan.grid self.now.up)) }
+    {
+        match self.up.choice() {
+            Some(choice) => Answer::Quorum(choice),
+            None => Answer::Refused(Refusal::NoQuorum),
+        }
+    }
+
+    // A line that opens a volume.
+    fn open(&mut self, tenant: u8, files: u32, blocks: u32) -> Result<Answer, AllocError>
+        requires tenant { tenant < length self.old.plan.rows }
+        requires ready { IsReady self.old tenant }
+        ensures answer { IfOk result (λ answer. TellsLine self.old tenant (Line.NewVolume files blocks) (shown answer)) }
+        ensures acts { OnOk result (Acts self.old tenant (Line.NewVolume files blocks) self.new) }
+        ensures plan { self.new.plan ≡ self.old.plan }
+    {
+        match self.desk.open_volume(tenant, files, blocks) {
+            Ok(number) => {
+                add_everywhere(&mut self.stores, tenant, files, blocks)?;
+                Ok(Answer::Volume { number })
+            }
+            Err(OpenRefused::Size) => Ok(Answer::Refused(Refusal::Size)),
+            Err(OpenRefused::Volumes) => Ok(Answer::Refused(Refusal::Volumes)),
+            Err(OpenRefused::Share { free }) => Ok(Answer::Refused(Refusal::Share { free })),
+            Err(OpenRefused::Memory) => Err(AllocError),
+        }
+    }
+
+    // A line that asks for the volumes.
+    fn volumes(&self, tenant: u8) -> Result<Answer, AllocError>
+        requires { tenant < length self.now.plan.rows }
+        ensures { IfOk result (λ answer. TellsLine self.now tenant Line.Volumes (shown answer)) }
+    {
+        let free = self.desk.free(tenant);
+        let items = Vec::from_slice(self.alloc, self.desk.volumes(tenant))?;
+        Ok(Answer::Volumes {
+            free,
+            rows: VolumeRows { items },
+        })
+    }
+
+    // A line that loses a message.
+    fn lose(&mut self, tenant: u8, number: u32) -> Answer
+        requires { tenant < length self.old.plan.rows }
+        ensures answer { TellsLine self.old tenant (Line.Lose number) (shown result) }
+        ensures acts { Acts self.old tenant (Line.Lose number) self.new }
+        ensures plan { self.new.plan ≡ self.old.plan }
+    {
+        if self.post.lose(tenant, u64::from(number)) {
+            Answer::Lost
+        } else {
+            Answer::Refused(Refusal::NoMessage)
+        }
+    }
+
+    // ---- lines of a session
+
+    // Why a request of the session that names the volume is refused, the choice of a quorum apart.
+    fn volume_refusal(&self, tenant: u8, session: u32, volume: u32) -> Option<Refusal>
+        requires { tenant < length self.now.plan.rows }
+        ensures { result ≡ first_cause (volume_causes self.now tenant session volume) }
+    {
+        let seats = self.seats[tenant as usize].items.as_slice();
+        if session < 1 || session as usize > seats.len() {
+            return Some(Refusal::NoSession);
+        }
+        if seats[session as usize - 1].operation.is_some() {
+            return Some(Refusal::Busy);
+        }
+        if volume as usize >= self.desk.volumes(tenant).len() {
+            return Some(Refusal::NoVolume);
+        }
+        None
+    }
+
+    // Why a request of the session for the file is refused, the choice of a quorum apart.
+    fn file_refusal(&self, tenant: u8, session: u32, volume: u32, file: u32) -> Option<Refusal>
+        requires { tenant < length self.now.plan.rows }
+        ensures { result ≡ first_cause (file_causes self.now tenant session volume file) }
+    {
+        if let Some(word) = self.volume_refusal(tenant, session, volume) {
+            return Some(word);
+        }
+        match self.desk.limit(FileId {
+            tenant,
+            volume,
+            file,
+        }) {
+            None => Some(Refusal::NoFile),
+            Some(_) => None,
+        }
+    }
+
+    // Why a request of the session to write the content to the file is refused, the choice of a quorum apart.
+    fn write_refusal(
+        &self,
+        tenant: u8,
+        session: u32,
+        volume: u32,
+        file: u32,
+        bytes: &Bytes,
+    ) -> Option<Refusal>
+        requires { tenant < length self.now.plan.rows }
+        ensures { result ≡ first_cause (write_causes self.now tenant session volume file bytes.now) }
+    {
+        if let Some(word) = self.file_refusal(tenant, session, volume, file) {
+            return Some(word);
+        }
+        match self.desk.limit(FileId {
+            tenant,
+            volume,
+            file,
+        }) {
+            Some(limit) if bytes.len() > limit as usize => Some(Refusal::TooLong),
+            _ => None,
+        }
+    }
+
+    // The session at the place has the operation from now on, and its first messages are sent.
+    fn begin(
+        &mut self,
+        tenant: u8,
+        place: usize,
+        operation: Operation,
+        messages: Vec<Message>,
+    ) -> Result<Answer, AllocError>
+        requires tenant { tenant < length self.old.plan.rows }
+        requires place { place < (row_at self.old.plan tenant).sessions }
+        requires few { length messages.items ≤ MOST_SERVERS }
+        requires number { (seat_in (seats_at self.old.seats tenant) place).op < 4294967295 }
+        ensures answer { IfOk result (λ answer. shown answer ≡ Began ((seat_in (seats_at self.old.seats tenant) place).op + 1) (length (lane_at self.old.lanes tenant)) (length messages.items)) }
+        ensures begun { OnOk result (self.new ≡ begun_tables self.old tenant place operation messages.items) }
+        ensures plan { self.new.plan ≡ self.old.plan }
+    {
+        let first = self.post.sent(tenant);
+        let count = messages.len() as u32;
+        send_all(&mut self.post, tenant, messages)?;
+        let op = self.seats[tenant as usize].begin(place, operation);
+        Ok(Answer::Began { op, first, count })
+    }
+
+    // A line that begins a write.
+    fn write(
+        &mut self,
+        tenant: u8,
+        session: u32,
+        volume: u32,
+        file: u32,
+        bytes: &Bytes,
+    ) -> Result<Answer, AllocError>
+        requires tenant { tenant < length self.old.plan.rows }
+        requires ready { IsReady self.old tenant }
+        ensures answer { IfOk result (λ answer. TellsLine self.old tenant (Line.Write session volume file bytes.now) (shown answer)) }
+        ensures acts { OnOk result (Acts self.old tenant (Line.Write session volume file bytes.now) self.new) }
+        ensures plan { self.new.plan ≡ self.old.plan }
+    {
+        if let Some(word) = self.write_refusal(tenant, session, volume, file, bytes) {
+            return Ok(Answer::Refused(word));
+        }
+        let place = session as usize - 1;
+        let seat = &self.seats[tenant as usize].items[place];
+        let who = Who {
+            tenant,
+            session: session as u8,
+            op: seat.op + 1,
+        };
+        let id = FileId {
+            tenant,
+            volume,
+            file,
+        };
+        match Operation::write(
+            self.alloc,
+            self.plan.grid(),
+            who,
+            seat.floor,
+            id,
+            bytes,
+            self.up.servers(),
+        ) {
+            Ok((operation, messages)) => self.begin(tenant, place, operation, messages),
+            Err(BeginRefused::NoQuorum) => Ok(Answer::Refused(Refusal::NoQuorum)),
+            Err(BeginRefused::Memory) => Err(AllocError),
+        }
+    }
+
+    // A line that begins a read.
+    fn read(
+        &mut self,
+        tenant: u8,
+        session: u32,
+        volume: u32,
+        file: u32,
+    ) -> Result<Answer, AllocError>
+        requires tenant { tenant < length self.old.plan.rows }
+        requires ready { IsReady self.old tenant }
+        ensures answer { IfOk result (λ answer. TellsLine self.old tenant (Line.Read session volume file) (shown answer)) }
+        ensures acts { OnOk result (Acts self.old tenant (Line.Read session volume file) self.new) }
+        ensures plan { self.new.plan ≡ self.old.plan }
+    {
+        if let Some(word) = self.file_refusal(tenant, session, volume, file) {
+            return Ok(Answer::Refused(word));
+        }
+        let place = session as usize - 1;
+        let seat = &self.seats[tenant as usize].items[place];
+        let who = Who {
+            tenant,
+            session: session as u8,
+            op: seat.op + 1,
+        };
+        let id = FileId {
+            tenant,
+            volume,
+            file,
+        };
+        match Operation::read(
+            self.alloc,
+            self.plan.grid(),
+            who,
+            seat.floor,
+            id,
+            self.up.servers(),
+        ) {
+            Ok((operation, messages)) => self.begin(tenant, place, operation, messages),
+            Err(BeginRefused::NoQuorum) => Ok(Answer::Refused(Refusal::NoQuorum)),
+            Err(BeginRefused::Memory) => Err(AllocError),
+        }
+    }
+
+    // A line that begins a listing.
+    fn list(&mut self, tenant: u8, session: u32, volume: u32) -> Result<Answer, AllocError>
+        requires tenant { tenant < length self.old.plan.rows }
+        requires ready { IsReady self.old tenant }
+        ensures answer { IfOk result (λ answer. TellsLine self.old tenant (Line.List session volume) (shown answer)) }
+        ensures acts { OnOk result (Acts self.old tenant (Line.List session volume) self.new) }
+        ensures plan { self.new.plan ≡ self.old.plan }
+    {
+        if let Some(word) = self.volume_refusal(tenant, session, volume) {
+            return Ok(Answer::Refused(word));
+        }
+        let place = session as usize - 1;
+        let seat = &self.seats[tenant as usize].items[place];
+        let who = Who {
+            tenant,
+            session: session as u8,
+            op: seat.op + 1,
+        };
+        let files = self.desk.volumes(tenant)[volume as usize].files;
+        match Operation::list(
+            self.alloc,
+            self.plan.grid(),
+            who,
+            seat.floor,
+            volume,
+            files,
+            self.up.servers(),
+        ) {
+            Ok((operation, messages)) => self.begin(tenant, place, operation, messages),
+            Err(BeginRefused::NoQuorum) => Ok(Answer::Refused(Refusal::NoQuorum)),
+            Err(BeginRefused::Memory) => Err(AllocError),
+        }
+    }
+
+    // Why a line that wants the session to have an operation is refused.
+    fn idle_refusal(&self, tenant: u8, session: u32) -> Option<Refusal>
+        requires { tenant < length self.now.plan.rows }
+        ensures { result ≡ first_cause (idle_causes self.now tenant session) }
+    {
+        let seats = self.seats[tenant as usize].items.as_slice();
+        if session < 1 || session as usize > seats.len() {
+            return Some(Refusal::NoSession);
+        }
+        if seats[session as usize - 1].operation.is_none() {
+            return Some(Refusal::Idle);
+        }
+        None
+    }
+
+    // A line that sends the round's message once more.
+    fn retry(&mut self, tenant: u8, session: u32) -> Result<Answer, AllocError>
+        requires tenant { tenant < length self.old.plan.rows }
+        requires ready { IsReady self.old tenant }
+        ensures answer { IfOk result (λ answer. TellsLine self.old tenant (Line.Retry session) (shown answer)) }
+        ensures acts { OnOk result (Acts self.old tenant (Line.Retry session) self.new) }
+        ensures plan { self.new.plan ≡ self.old.plan }
+    {
+        if let Some(word) = self.idle_refusal(tenant, session) {
+            return Ok(Answer::Refused(word));
+        }
+        match self.seats[tenant as usize].resend(session as usize - 1, self.up.servers()) {
+            Ok(messages) => {
+                let first = self.post.sent(tenant);
+                let count = messages.len() as u32;
+                send_all(&mut self.post, tenant, messages)?;
+                Ok(Answer::Resent { first, count })
+            }
+            Err(ResendRefused::NoQuorum) => Ok(Answer::Refused(Refusal::NoQuorum)),
+            Err(ResendRefused::Memory) => Err(AllocError),
+        }
+    }
+
+    // A line that gives the session's operation up.
+    fn abandon(&mut self, tenant: u8, session: u32) -> Answer
+        requires tenant { tenant < length self.old.plan.rows }
+        ensures answer { TellsLine self.old tenant (Line.Abandon session) (shown result) }
+        ensures acts { Acts self.old tenant (Line.Abandon session) self.new }
+        ensures plan { self.new.plan ≡ self.old.plan }
+    {
+        if let Some(word) = self.idle_refusal(tenant, session) {
+            return Answer::Refused(word);
+        }
+        self.seats[tenant as usize].abandon(session as usize - 1);
+        Answer::Abandoned
+    }
+
+    // ---- messages
+
+    // A line that delivers a message.
+    fn deliver(&mut self, tenant: u8, number: u32) -> Result<Answer, AllocError>
+        requires tenant { tenant < length self.old.plan.rows }
+        requires ready { IsReady self.old tenant }
+        ensures answer { IfOk result (λ answer. TellsLine self.old tenant (Line.Deliver number) (shown answer)) }
+        ensures acts { OnOk result (Acts self.old tenant (Line.Deliver number) self.new) }
+        ensures plan { self.new.plan ≡ self.old.plan }
+    {
+        let Some(message) = self.post.get(tenant, u64::from(number)) else {
+            return Ok(Answer::Refused(Refusal::NoMessage));
+        };
+        if !message.to_server() {
+            let heard = self.seats[tenant as usize].hear(message, self.up.servers())?;
+            return answer_heard(&mut self.post, tenant, heard);
+        }
+        let server = message.server as usize;
+        if !self.up.has(server) {
+            return Ok(Answer::Down);
+        }
+        let reply = match self.stores[server].serve(message) {
+            Ok(reply) => reply,
+            Err(fault) => match fault {
+                ServeRefused::Memory => return Err(AllocError),
+                _ => unreachable!(),
+            },
+        };
+        let Ok(number) = self.post.send(tenant, reply) else {
+            return Err(AllocError);
+        };
+        Ok(Answer::Reply { number })
+    }
+
+    // ---- server lines
+
+    // Why a line is refused by which the server comes up, or goes down where `up` is false.
+    fn refusal(&self, server: u32, up: bool) -> Option<ServerRefusal>
+        ensures word { result ≡ change_refusal self.now.plan.grid (up_in self.now.plan.grid self.now.up) server up }
+        ensures inside { IfNone result (server < self.now.plan.grid.rows * self.now.plan.grid.cols) }
+        ensures bound { self.now.plan.grid.rows * self.now.plan.grid.cols ≤ MOST_SERVERS }
+    {
+        let servers = self.plan.grid().servers();
+        if server as usize >= servers {
+            Some(ServerRefusal::NoServer)
+        } else if self.up.has(server as usize) == up {
+            Some(ServerRefusal::Same)
+        } else {
+            None
+        }
+    }
+
+    // A server line.
+    fn server_line(&mut self, line: &ServerLine) -> Answer
+        ensures answer { Tells self.old (Event.Server line.now) (shown result) }
+        ensures advances { Advances self.old (Event.Server line.now) self.new }
+    {
+        match line {
+            ServerLine::Bad => Answer::ServerRefused(ServerRefusal::Bad),
+            ServerLine::Down { server } => match self.refusal(*server, false) {
+                Some(word) => Answer::ServerRefused(word),
+                None => {
+                    self.up.remove(*server as usize);
+                    Answer::ServerOk
+                }
+            },
+            ServerLine::Up { server } => match self.refusal(*server, true) {
+                Some(word) => Answer::ServerRefused(word),
+                None => {
+                    self.up.insert(*server as usize);
+                    Answer::ServerOk
+                }
+            },
+        }
+    }
+}
