@@ -45,13 +45,28 @@ The input is a plan, and after its line `go` the lines of tenants and servers:
     NAME quorum                         which quorum is chosen now?
     NAME open FILES BLOCKS              open a volume of 1 to 64 files, each of at most BLOCKS blocks, 1 to 16
     NAME volumes                        which volumes are open, and how many blocks of the share are free?
-    NAME deliver N                      deliver message N of the tenant; refused so far, as no line sends a message
-    NAME lose N                         lose it; refused so far
+    NAME write S V F HEX                session S begins to write the content HEX to file F of volume V
+    NAME read S V F                     session S begins to read file F of volume V
+    NAME list S V                       session S begins to list the files of volume V, one after another: no snapshot
+    NAME deliver N                      deliver message N of the tenant, to its server or to its session
+    NAME lose N                         lose message N
+    NAME retry S                        send the message of session S's round again, to servers that were not heard in it
+    NAME abandon S                      give the operation of session S up
     server N down                       server N stops
     server N up                         server N returns
 
-Words are separated by one space. NAME is 1 to 16 letters a to z, and not `server`. The other words in capitals are numbers:
-0, or digits of which the first is no 0; at most 4294967295.
+Words are separated by one space. NAME is 1 to 16 letters a to z, and not `server`. HEX is two hexadecimal digits for each
+byte, or `-` for the empty content. The other words in capitals are numbers: 0, or digits of which the first is no 0; at most
+4294967295. Sessions are numbered from 1, servers, volumes, files and messages from 0.
+
+A write from its request to its end, on the plan `grid 1 1`, `blocks 1`, `tenant ann 1 1 100`; beside each line its answer:
+
+    ann open 1 1                        ann volume 0
+    ann write 1 0 0 6869                ann op 1 sent 0 to 0                  message 0 asks the server for its copy
+    ann deliver 0                       ann reply 1                           message 1 is the copy
+    ann deliver 1                       ann round 2 tag 1 1 sent 2 to 2       message 2 has the server store `hi`
+    ann deliver 2                       ann reply 3                           message 3 says that it is stored
+    ann deliver 3                       ann done write 1 1 tag 1 1
 
 Each line after `go` is answered by one line on standard output. A fault of the plan is told by one line on standard error,
 with the number of the line, and nothing is written. docs/FORMATS.md has all forms of input and output, the refusals and the

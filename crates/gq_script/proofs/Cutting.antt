@@ -1,7 +1,6 @@
 -- A line cut behind its first word.
-use Rattle.std.proofs.Common.{◌≡◌, ◌∙◌, ℕ, ◌+◌, ◌-◌, ◌<◌, ◌≤◌, List, [], ◌∷◌, ◌++◌, length, get_or, take, drop, refl, sym, ap, arith, suc, zero, inl, inr, ◌⊎◌, append-nil, subst, length-drop}
-use Rattle.std.specs.Prelude.{min}
-use Rattle.std.proofs.Math.Seq.{take-add, take-length}
+use Rattle.std.proofs.Common.{◌≡◌, ◌∙◌, ℕ, ◌+◌, ◌-◌, ◌<◌, ◌≤◌, List, [], ◌∷◌, ◌++◌, length, get_or, take, drop, refl, sym, ap, arith, suc, zero, inl, inr, ◌⊎◌, length-drop}
+use Rattle.std.proofs.Math.Seq.{take-add}
 use Rattle.std.proofs.lemmas.Bool.{cases_lt}
 use Rattle.std.proofs.lemmas.List.{length-take-le, take_rest, drop-take}
 use Rattle.gq_script.specs.Words.{words_of, words_after}

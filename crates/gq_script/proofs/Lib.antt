@@ -13,3 +13,8 @@ pub mod Alone
 pub mod Cutting
 pub mod Marking
 pub mod OneNumber
+pub mod Contents
+pub mod Plain
+pub mod LinesBack
+pub mod EventsBack
+pub mod ScriptBack

@@ -1,7 +1,7 @@
 -- Places of a byte among the first 32.
 use Rattle.std.proofs.Common.{◌≡◌, ◌↔◌, ◌<◌, ◌≤◌, ◌∙◌, ℕ, zero, suc, List, [], ◌∷◌, Bool, true, false, cond, eqb, get_or, take, length, refl, sym, ap, arith, inl, inr, ◌⊎◌}
 use Rattle.std.specs.Int.{bit_at}
-use Rattle.std.proofs.lemmas.Bool.{eqb-true, eqb-false, eq-eqb, cases_lt}
+use Rattle.std.proofs.lemmas.Bool.{eqb-true, eq-eqb, cases_lt}
 use Rattle.memchr.specs.Lanes.{HasLanes}
 
 pub get_or-take-here : (n k : ℕ) (text : List ℕ) → k < n → get_or (take n text) k 0 ≡ get_or text k 0

@@ -1,14 +1,10 @@
 -- Names in the plan of an accepted input.
-use Rattle.std.proofs.Common.{◌≡◌, ◌∙◌, ℕ, zero, suc, ◌+◌, List, [], ◌∷◌, ◌++◌, Option, Some, None, Ok, Err, Bool, true, false, cond, refl, sym, ap, subst, arith}
+use Rattle.std.proofs.Common.{◌≡◌, ◌∙◌, ℕ, zero, suc, ◌+◌, List, [], ◌∷◌, Option, Some, None, Ok, Err, Bool, true, false, cond, refl, sym, ap, subst, arith}
 use Rattle.std.specs.Prelude.{◌&&◌, not, codes, slice_get}
-use Rattle.std.specs.List.{list_any, position_from}
-use Rattle.std.specs.Option.{option_or}
 use Rattle.std.specs.Str.{bytes_eq}
-use Rattle.std.proofs.lemmas.Bool.{or_parts}
-use Rattle.std.proofs.lemmas.List.Folds.{list_any-append}
 use Rattle.std.proofs.lemmas.Slice.Eq.{bytes_eq-Decides}
 use Rattle.gq_desk.specs.Names.{is_name}
-use Rattle.gq_desk.specs.Plans.{is_of, row_fault, rows_fault, table_fault, plan_fault}
+use Rattle.gq_desk.specs.Plans.{is_of, rows_fault, table_fault, plan_fault}
 use Rattle.gq_desk.specs.CheckedPlan.{CheckedPlan}
 use Rattle.gq_desk.specs.declared.plans.TenantRow.{TenantRow}
 use Rattle.gq_desk.specs.declared.plans.PlanFault.{PlanFault}
@@ -140,14 +136,13 @@ not_true : (b : Bool) → not b ≡ true → b ≡ false
 not_true true is = cc
 not_true false is = refl
 
-pub has_place : (lines rest : List (List ℕ)) (plan : CheckedPlan) (t : ℕ) (row : TenantRow) → plan_of lines ≡ Ok (plan, rest) → slice_get plan.rows t ≡ Some row → HasPlace plan t row
-has_place lines rest plan t row is at =
-    let rows = rows_of_plan lines rest plan is in
-    let named : is_name row.name ≡ true = rows_named 3 rows.lines rows.rest plan.rows t row rows.read at in
+-- a row of a name is at the place that its name leads to
+pub place_of_row : (plan : CheckedPlan) → rows_fault [] plan.rows ≡ None → (t : ℕ) (row : TenantRow) → slice_get plan.rows t ≡ Some row → is_name row.name ≡ true → HasPlace plan t row
+place_of_row plan sound t row at named =
     let zero_t : 0 + t ≡ t = omega arith in
     record {
       at = at;
-      found = found [] plan.rows t 0 row rows.sound at ∙ ap Some zero_t;
+      found = found [] plan.rows t 0 row sound at ∙ ap Some zero_t;
       alone = λ word place.
           let found_row = row_found (is_of word) plan.rows 0 t place in
           let here : found_row.1 ≡ t = omega (arith, found_row.2) in
@@ -155,3 +150,8 @@ has_place lines rest plan t row is at =
           (bytes_eq-Decides word found_row.0.name).0 found_row.4 ∙ ap (λ (r : TenantRow). r.name) same;
       not_server = not_true (bytes_eq row.name (codes "server")) (and_true _ _ (and_true _ _ named).1).1;
     }
+
+pub has_place : (lines rest : List (List ℕ)) (plan : CheckedPlan) (t : ℕ) (row : TenantRow) → plan_of lines ≡ Ok (plan, rest) → slice_get plan.rows t ≡ Some row → HasPlace plan t row
+has_place lines rest plan t row is at =
+    let rows = rows_of_plan lines rest plan is in
+    place_of_row plan rows.sound t row at (rows_named 3 rows.lines rows.rest plan.rows t row rows.read at)

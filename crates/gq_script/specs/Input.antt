@@ -7,10 +7,10 @@ use Rattle.gq_desk.specs.CheckedPlan.{CheckedPlan}
 use Rattle.gq_model.specs.declared.events.Event.{Event}
 use Rattle.gq_model.specs.declared.events.Event.TheVariants.{Tenant, Server, Stray}
 use Rattle.gq_model.specs.declared.events.Line.{Line}
-use Rattle.gq_model.specs.declared.events.Line.TheVariants.{Bad, Quorum, NewVolume, Volumes, Deliver, Lose}
+use Rattle.gq_model.specs.declared.events.Line.TheVariants.{Bad, Quorum, NewVolume, Volumes, Write, Read, List as ListFiles, Deliver, Lose, Retry, Abandon}
 use Rattle.gq_model.specs.declared.events.ServerLine.{ServerLine}
 use Rattle.gq_model.specs.declared.events.ServerLine.TheVariants.{Bad as ServerBad, Down, Up}
-use Rattle.gq_script.specs.Words.{Word, words_of, number_of}
+use Rattle.gq_script.specs.Words.{Word, words_of, number_of, content_of}
 
 -- the second value, where the first is there
 infixl 10 ◌>>=◌
@@ -30,6 +30,24 @@ two_numbers_of (a ∷ b ∷ []) = do
   Some (x, y)
 two_numbers_of _ = None
 
+unfoldable pub three_numbers_of : List Word → Option (ℕ × ℕ × ℕ)
+three_numbers_of (a ∷ b ∷ c ∷ []) = do
+  x ← number_of a
+  y ← number_of b
+  z ← number_of c
+  Some (x, y, z)
+three_numbers_of _ = None
+
+-- the words are three numbers and a content, and no more
+unfoldable pub file_content_of : List Word → Option (ℕ × ℕ × ℕ × List ℕ)
+file_content_of (a ∷ b ∷ c ∷ d ∷ []) = do
+  x ← number_of a
+  y ← number_of b
+  z ← number_of c
+  bytes ← content_of d
+  Some (x, y, z, bytes)
+file_content_of _ = None
+
 -- a line of these values, bad where they aren't there
 abbrev pub line_from : {A : Type 0} → Option A → (A → Line) → Line
 line_from (Some x) line = line x
@@ -47,8 +65,13 @@ line_of (verb ∷ words) =
     if bytes_eq verb (codes "quorum") then line_alone words Quorum
     else if bytes_eq verb (codes "open") then line_from (two_numbers_of words) (λ (files, blocks). NewVolume files blocks)
     else if bytes_eq verb (codes "volumes") then line_alone words Volumes
+    else if bytes_eq verb (codes "write") then line_from (file_content_of words) (λ (session, volume, file, bytes). Write session volume file bytes)
+    else if bytes_eq verb (codes "read") then line_from (three_numbers_of words) (λ (session, volume, file). Read session volume file)
+    else if bytes_eq verb (codes "list") then line_from (two_numbers_of words) (λ (session, volume). ListFiles session volume)
     else if bytes_eq verb (codes "deliver") then line_from (one_number_of words) (λ n. Deliver n)
     else if bytes_eq verb (codes "lose") then line_from (one_number_of words) (λ n. Lose n)
+    else if bytes_eq verb (codes "retry") then line_from (one_number_of words) (λ session. Retry session)
+    else if bytes_eq verb (codes "abandon") then line_from (one_number_of words) (λ session. Abandon session)
     else Bad
 
 -- which way a server goes

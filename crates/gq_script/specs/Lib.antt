@@ -10,3 +10,4 @@ pub mod Out
 pub mod Steps
 pub mod Laws
 pub mod Alone
+pub mod Canonical

@@ -1,6 +1,9 @@
--- Words and numbers in a line.
-use Rattle.std.specs.Prelude.{ℕ, ◌+◌, ◌-◌, ◌*◌, List, [], ◌∷◌, ◌==◌, ◌&&◌, nat_le, Bool, if◌then◌else◌, Option, Some, None}
+-- Words, numbers and contents in a line.
+use Rattle.std.specs.Prelude.{ℕ, ◌+◌, ◌-◌, ◌*◌, List, [], ◌∷◌, length, ◌==◌, ◌&&◌, nat_le, Bool, if◌then◌else◌, codes, Option, Some, None, Result, Ok, Err}
 use Rattle.std.specs.List.{slice_split}
+use Rattle.std.specs.Str.{bytes_eq}
+use Rattle.hex.specs.declared.error.FromHexError.{FromHexError}
+use Rattle.hex.specs.Hex.{decode_of}
 use Rattle.gq_script.specs.declared.words.TheConstants.{MOST_NUMBER}
 
 -- a word is its bytes
@@ -29,3 +32,15 @@ unfoldable pub number_of : Word → Option ℕ
 number_of [] = None
 number_of (c ∷ []) = number_after 0 (c ∷ [])
 number_of (c ∷ d ∷ word) = if c == 48 then None else number_after 0 (c ∷ d ∷ word)
+
+-- the bytes, where pairs of hexadecimal digits of either case write them
+abbrev pub bytes_from : Result (List ℕ) FromHexError → Option (List ℕ)
+bytes_from (Ok bytes) = Some bytes
+bytes_from (Err fault) = None
+
+-- `-` for the empty content, or two digits for each byte, at least two in all
+unfoldable pub content_of : Word → Option (List ℕ)
+content_of word =
+    if bytes_eq word (codes "-") then Some []
+    else if length word == 0 then None
+    else bytes_from (decode_of word)

@@ -1,6 +1,7 @@
 //! From the bytes of a script to the bytes of its answers.
 #![tactic(auto)]
 
+mod canonical;
 mod input;
 pub mod laws;
 mod lines;
@@ -13,6 +14,7 @@ mod script;
 mod watched;
 mod words;
 
+pub use canonical::write_script;
 pub use input::read_line;
 pub use output::write_answer;
 pub use plan_text::{PlanText, TextFault, read_plan};

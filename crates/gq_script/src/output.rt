@@ -4,13 +4,14 @@ ghost use Rattle.std.specs.Prelude.{◌≡◌, [], ◌∷◌, ◌++◌, codes, O
 ghost use Rattle.gq_model.specs.Events.{IsIn};
 ghost use Rattle.gq_model.specs.Shown.{shown};
 ghost use Rattle.gq_script.specs.Pieces.{Extends};
-ghost use Rattle.gq_script.specs.Output.{answer_line, told_words, refusal_words, server_refusal_word, ended, who};
+ghost use Rattle.gq_script.specs.Output.{answer_line, told_words, outcome_words, refusal_words, server_refusal_word, ended, who};
 
 use crate::pieces::{Piece, put_words};
 use crate::quorum_text::{QuorumText, put_quorum};
 use gq_desk::{MOST_LETTERS, Name, Plan};
 use gq_grid::{Choice, Grid};
-use gq_world::{Answer, Event, Refusal, ServerRefusal};
+use gq_model::{Answer, Event, Refusal, ServerRefusal};
+use gq_phase::Outcome;
 use std::alloc::AllocError;
 
 // Appends the words of a tenant's refusal, and the newline.
@@ -22,6 +23,12 @@ fn put_refusal(out: &mut Vec<u8>, refusal: Refusal) -> Result<(), AllocError>
     match refusal {
         Refusal::Spent => out.extend_from_slice(b" refused spent\n"),
         Refusal::Bad => out.extend_from_slice(b" refused bad\n"),
+        Refusal::NoSession => out.extend_from_slice(b" refused nosession\n"),
+        Refusal::Busy => out.extend_from_slice(b" refused busy\n"),
+        Refusal::Idle => out.extend_from_slice(b" refused idle\n"),
+        Refusal::NoVolume => out.extend_from_slice(b" refused novolume\n"),
+        Refusal::NoFile => out.extend_from_slice(b" refused nofile\n"),
+        Refusal::TooLong => out.extend_from_slice(b" refused toolong\n"),
         Refusal::NoQuorum => out.extend_from_slice(b" refused noquorum\n"),
         Refusal::NoMessage => out.extend_from_slice(b" refused nomessage\n"),
         Refusal::Size => out.extend_from_slice(b" refused size\n"),
@@ -49,6 +56,44 @@ fn put_server_refusal(out: &mut Vec<u8>, refusal: ServerRefusal) -> Result<(), A
     }
 }
 
+// Appends the words of how an operation ended, and the newline.
+fn put_done(out: &mut Vec<u8>, outcome: &Outcome) -> Result<(), AllocError>
+    ensures ok { OnOk result (out.new.items ≡
+        out.old.items ++ ended (codes "done" ∷ outcome_words outcome.now)) }
+    ensures err { OnErr result (Extends out.old.items out.new.items) }
+{
+    match outcome {
+        Outcome::Wrote { session, op, tag } => put_words(
+            out,
+            &[
+                Piece::Text(b"done write"),
+                Piece::Number(u64::from(*session)),
+                Piece::Number(u64::from(*op)),
+                Piece::OfTag(*tag),
+            ],
+        ),
+        Outcome::Gave { session, op, copy } => put_words(
+            out,
+            &[
+                Piece::Text(b"done read"),
+                Piece::Number(u64::from(*session)),
+                Piece::Number(u64::from(*op)),
+                Piece::OfTag(copy.tag),
+                Piece::Content(copy.bytes.as_slice()),
+            ],
+        ),
+        Outcome::Listed { session, op, rows } => put_words(
+            out,
+            &[
+                Piece::Text(b"done list"),
+                Piece::Number(u64::from(*session)),
+                Piece::Number(u64::from(*op)),
+                Piece::Files(rows.items.as_slice()),
+            ],
+        ),
+    }
+}
+
 // Appends the words of an answer, and the newline.
 #[tactic(auto, unfolding(crate::specs::Output::told_words))]
 fn put_answer(out: &mut Vec<u8>, grid: &Grid, answer: &Answer) -> Result<(), AllocError>
@@ -70,7 +115,56 @@ fn put_answer(out: &mut Vec<u8>, grid: &Grid, answer: &Answer) -> Result<(), All
                 Piece::Volumes(rows.items.as_slice()),
             ],
         ),
+        Answer::Began { op, first, count } => put_words(
+            out,
+            &[
+                Piece::Text(b"op"),
+                Piece::Number(u64::from(*op)),
+                Piece::Text(b"sent"),
+                Piece::Range(*first, *count),
+            ],
+        ),
+        Answer::Reply { number } => {
+            put_words(out, &[Piece::Text(b"reply"), Piece::Number(*number)])
+        }
+        Answer::Down => out.extend_from_slice(b" down\n"),
+        Answer::Stale => out.extend_from_slice(b" stale\n"),
+        Answer::Noted => out.extend_from_slice(b" noted\n"),
+        Answer::Round {
+            round,
+            tag: Some(tag),
+            first,
+            count,
+        } => put_words(
+            out,
+            &[
+                Piece::Text(b"round"),
+                Piece::Number(u64::from(*round)),
+                Piece::OfTag(*tag),
+                Piece::Text(b"sent"),
+                Piece::Range(*first, *count),
+            ],
+        ),
+        Answer::Round {
+            round,
+            tag: None,
+            first,
+            count,
+        } => put_words(
+            out,
+            &[
+                Piece::Text(b"round"),
+                Piece::Number(u64::from(*round)),
+                Piece::Text(b"sent"),
+                Piece::Range(*first, *count),
+            ],
+        ),
+        Answer::Done(outcome) => put_done(out, outcome),
         Answer::Lost => out.extend_from_slice(b" lost\n"),
+        Answer::Resent { first, count } => {
+            put_words(out, &[Piece::Text(b"resent"), Piece::Range(*first, *count)])
+        }
+        Answer::Abandoned => out.extend_from_slice(b" abandoned\n"),
         Answer::Refused(refusal) => put_refusal(out, *refusal),
         Answer::ServerOk => out.extend_from_slice(b" ok\n"),
         Answer::ServerRefused(refusal) => put_server_refusal(out, *refusal),
@@ -140,7 +234,8 @@ pub fn put_quorum_line(
 }
 
 /// Appends the line of the answer to an event, or nothing where memory is refused. The line begins with the tenant's
-/// name, `server` or `?`; a quorum's servers are printed in rising number.
+/// name, `server` or `?`. A quorum's servers are printed in rising number, a content in hexadecimal with small letters, and
+/// messages that were sent by the numbers of the first and the last.
 pub fn write_answer(
     plan: &Plan,
     event: &Event,

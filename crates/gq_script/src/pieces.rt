@@ -1,14 +1,17 @@
 //! Words straight into a buffer.
 
-ghost use Rattle.std.specs.Prelude.{◌≡◌, ◌∷◌, ◌++◌, map, decimal, OnOk, OnErr};
+ghost use Rattle.std.specs.Prelude.{◌≡◌, ◌+◌, ◌≤◌, ◌∷◌, ◌++◌, length, map, decimal, OnOk, OnErr};
 ghost use Rattle.std.specs.List.{flat_map};
+ghost use Rattle.hex.specs.Hex.{encode_lower};
 ghost use Rattle.gq_grid.specs.Grid.{rising};
 ghost use Rattle.gq_grid.specs.Sets.{servers};
-ghost use Rattle.gq_script.specs.Output.{spaced, ended, volume_word};
+ghost use Rattle.gq_script.specs.Output.{spaced, ended, volume_word, file_word, content_word, tag_words, range_words};
 ghost use Rattle.gq_script.specs.Pieces.{words_in, Extends};
 
 use gq_desk::VolumeRow;
 use gq_grid::{Grid, ServerSet};
+use gq_phase::Row;
+use gq_tag::Tag;
 use itoa::Buffer;
 use std::alloc::AllocError;
 
@@ -17,8 +20,13 @@ use std::alloc::AllocError;
 pub enum Piece<'a> {
     Text(&'a [u8]),
     Number(u64),
+    OfTag(Tag),
+    // the first number, and how many there are
+    Range(u64, u32),
+    Content(&'a [u8]),
     Servers(&'a Grid, ServerSet),
     Volumes(&'a [VolumeRow]),
+    Files(&'a [Row]),
 }
 
 // Appends the digits of a number.
@@ -53,6 +61,87 @@ fn put_spaced_number(out: &mut Vec<u8>, n: u64) -> Result<(), AllocError>
 {
     out.push(b' ')?;
     put_number(out, n)
+}
+
+// Appends the digits of a sum, of whatever size.
+fn put_sum(out: &mut Vec<u8>, n: u64, more: u32) -> Result<(), AllocError>
+    ensures ok { OnOk result (out.new.items ≡ out.old.items ++ decimal (n + more)) }
+    ensures err { OnErr result (out.new.items ≡ out.old.items) }
+{
+    match n.checked_add(u64::from(more)) {
+        Some(sum) => put_number(out, sum),
+        None => {
+            let mut buffer = Buffer::new();
+            let sum = u128::from(n) + u128::from(more);
+            out.extend_from_slice(buffer.format(sum).as_bytes())
+        }
+    }
+}
+
+// Appends a tag.
+fn put_tag(out: &mut Vec<u8>, tag: Tag) -> Result<(), AllocError>
+    ensures ok { OnOk result (out.new.items ≡ out.old.items ++ spaced (tag_words tag)) }
+    ensures err { OnErr result (Extends out.old.items out.new.items) }
+{
+    out.extend_from_slice(b" tag ")?;
+    put_number(out, tag.number)?;
+    put_spaced_number(out, u64::from(tag.session))
+}
+
+// Appends the numbers of the first and the last of so many messages.
+fn put_range(out: &mut Vec<u8>, first: u64, count: u32) -> Result<(), AllocError>
+    ensures ok { OnOk result (out.new.items ≡ out.old.items ++ spaced (range_words first count)) }
+    ensures err { OnErr result (Extends out.old.items out.new.items) }
+{
+    if count == 0 {
+        return out.extend_from_slice(b" none");
+    }
+    put_spaced_number(out, first)?;
+    out.extend_from_slice(b" to ")?;
+    put_sum(out, first, count - 1)
+}
+
+// The most bytes of which the digits are written in one piece.
+const MOST_BLOCK: usize = 64;
+
+// Appends two digits for each byte of a block.
+fn put_block(out: &mut Vec<u8>, block: &[u8]) -> Result<(), AllocError>
+    requires { length block.now ≤ MOST_BLOCK }
+    ensures ok { OnOk result (out.new.items ≡ out.old.items ++ encode_lower block.now) }
+    ensures err { OnErr result (out.new.items ≡ out.old.items) }
+{
+    let mut digits = [0u8; 2 * MOST_BLOCK];
+    let end = 2 * block.len();
+    match hex::encode_to_slice(block, &mut digits[..end]) {
+        Ok(()) => out.extend_from_slice(&digits[..end]),
+        Err(_) => unreachable!(),
+    }
+}
+
+// Appends two digits for each byte.
+fn put_digits(out: &mut Vec<u8>, bytes: &[u8]) -> Result<(), AllocError>
+    ensures ok { OnOk result (out.new.items ≡ out.old.items ++ encode_lower bytes.now) }
+    ensures err { OnErr result (Extends out.old.items out.new.items) }
+{
+    let mut rest = bytes;
+    while !rest.is_empty() {
+        let (block, after) = rest.split_at(rest.len().min(MOST_BLOCK));
+        put_block(out, block)?;
+        rest = after;
+    }
+    Ok(())
+}
+
+// Appends a content.
+fn put_content(out: &mut Vec<u8>, bytes: &[u8]) -> Result<(), AllocError>
+    ensures ok { OnOk result (out.new.items ≡ out.old.items ++ 32 ∷ content_word bytes.now) }
+    ensures err { OnErr result (Extends out.old.items out.new.items) }
+{
+    if bytes.is_empty() {
+        return out.extend_from_slice(b" -");
+    }
+    out.push(b' ')?;
+    put_digits(out, bytes)
 }
 
 // Appends the servers of a set, rising.
@@ -90,6 +179,29 @@ fn put_volumes(out: &mut Vec<u8>, volumes: &[VolumeRow]) -> Result<(), AllocErro
     Ok(())
 }
 
+// Appends a file of a listing.
+fn put_file(out: &mut Vec<u8>, file: &Row) -> Result<(), AllocError>
+    ensures ok { OnOk result (out.new.items ≡ out.old.items ++ 32 ∷ file_word file.now) }
+    ensures err { OnErr result (Extends out.old.items out.new.items) }
+{
+    put_spaced_number(out, file.length)?;
+    out.push(b':')?;
+    put_number(out, file.tag.number)?;
+    out.push(b'.')?;
+    put_number(out, u64::from(file.tag.session))
+}
+
+// Appends the files of a listing.
+fn put_files(out: &mut Vec<u8>, files: &[Row]) -> Result<(), AllocError>
+    ensures ok { OnOk result (out.new.items ≡ out.old.items ++ spaced (map file_word files.now)) }
+    ensures err { OnErr result (Extends out.old.items out.new.items) }
+{
+    for file in files {
+        put_file(out, file)?;
+    }
+    Ok(())
+}
+
 // Appends the words of a piece.
 #[inline(always)]
 fn put_piece(out: &mut Vec<u8>, piece: Piece) -> Result<(), AllocError>
@@ -99,8 +211,12 @@ fn put_piece(out: &mut Vec<u8>, piece: Piece) -> Result<(), AllocError>
     match piece {
         Piece::Text(word) => put_text(out, word),
         Piece::Number(n) => put_spaced_number(out, n),
+        Piece::OfTag(tag) => put_tag(out, tag),
+        Piece::Range(first, count) => put_range(out, first, count),
+        Piece::Content(bytes) => put_content(out, bytes),
         Piece::Servers(grid, set) => put_servers(out, grid, set),
         Piece::Volumes(volumes) => put_volumes(out, volumes),
+        Piece::Files(files) => put_files(out, files),
     }
 }
 

@@ -135,14 +135,14 @@ fn answer_line(
     quorum: &mut QuorumText,
     text: &mut Vec<u8>,
 ) -> Result<(), AllocError>
-    requires { quorum.old.grid ≡ world.old.plan.grid }
+    requires { quorum.old.grid ≡ world.old.tables.plan.grid }
     ensures grid { quorum.new.grid ≡ quorum.old.grid }
-    ensures plan { world.new.plan ≡ world.old.plan }
-    ensures stands { OnOk result ((events : List Event) → Stands world.old events →
-        Stands world.new (events ++ event_of_words world.old.plan (first.now ∷ words_after rest.now) ∷ [])) }
-    ensures written { OnOk result ((events : List Event) → Stands world.old events →
-        text.new.items ≡ text.old.items ++ answer_line world.old.plan (event_of_words world.old.plan (first.now ∷ words_after rest.now))
-        (answer_to world.old.plan events (event_of_words world.old.plan (first.now ∷ words_after rest.now)))) }
+    ensures plan { world.new.tables.plan ≡ world.old.tables.plan }
+    ensures stands { OnOk result ((events : List Event) → Stands world.old.tables events →
+        Stands world.new.tables (events ++ event_of_words world.old.tables.plan (first.now ∷ words_after rest.now) ∷ [])) }
+    ensures written { OnOk result ((events : List Event) → Stands world.old.tables events →
+        text.new.items ≡ text.old.items ++ answer_line world.old.tables.plan (event_of_words world.old.tables.plan (first.now ∷ words_after rest.now))
+        (answer_to world.old.tables.plan events (event_of_words world.old.tables.plan (first.now ∷ words_after rest.now)))) }
 {
     let event = read_words(alloc, first, rest, world.plan())?;
     match world.step(&event) {

@@ -1,5 +1,5 @@
 -- Lines that are seen by how they begin.
-use Rattle.std.proofs.Common.{◌≡◌, List, ℕ, ◌++◌, Some, None, refl, arith, rules, sym, ap, ◌∙◌}
+use Rattle.std.proofs.Common.{◌≡◌, ◌++◌, Some, refl, arith, rules, sym, ap, ◌∙◌}
 use Rattle.std.specs.Prelude.{codes}
 use Rattle.std.proofs.lemmas.Bool.Decides.{Decides-eqb}
 use Rattle.std.proofs.lemmas.Slice.Eq.{text_from_reads, strip_prefix_is}

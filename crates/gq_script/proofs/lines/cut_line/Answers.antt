@@ -1,5 +1,5 @@
 -- The line is cut at its first space.
-use Rattle.std.proofs.Common.{◌≡◌, ◌<◌, arith}
+use Rattle.std.proofs.Common.{◌≡◌, arith}
 use Rattle.gq_script.proofs.Cutting.{cut_near}
 use Rattle.gq_script.proofs.lines.cut_line.Goals as goal
 

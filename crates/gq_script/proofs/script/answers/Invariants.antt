@@ -5,8 +5,8 @@ use Rattle.gq_script.proofs.script.answers.Given as goal
 
 abbrev pub invariant-loop-rest : goal.invariant-loop-rest
 invariant-loop-rest l = record {
-  grid : l.quorum.grid ≡ l.world.plan.grid;
-  answers : Answers l.fn.plan l.world l.text.items (lines_of l.rest) (lines_of l.lines);
+  grid : l.quorum.grid ≡ l.world.tables.plan.grid;
+  answers : Answers l.fn.plan l.world.tables l.text.items (lines_of l.rest) (lines_of l.lines);
 }
 
 abbrev pub decreases-loop-rest : goal.decreases-loop-rest
