@@ -1,0 +1,125 @@
+//! Writes a script in its canonical form: reads a script from standard input, and writes the canonical script of its plan
+//! and its lines to standard output, for the comparison of the answers to both.
+//!
+//! The status is 0, 1 where the plan is at fault (and nothing is written) or a stream fails, and 3 where memory was wanting.
+#![tactic(auto)]
+
+ghost use Rattle.std.specs.Prelude.{◌≡◌, ◌∷◌, ◌<◌, length, map, IfOk};
+ghost use Rattle.std.specs.List.{All};
+ghost use Rattle.gq_model.specs.Events.{IsIn};
+ghost use Rattle.gq_script.specs.Lines.{lines_of};
+ghost use Rattle.gq_script.specs.Input.{event_of};
+ghost use Rattle.rewrite_script.specs.Rewriting.{IsRewriting};
+
+use gq_desk::Plan;
+use gq_model::Event;
+use gq_script::{PlanText, read_line, read_plan, write_script};
+use memchr::memchr;
+use std::alloc::{AllocError, Global};
+use std::io;
+use std::io::{Read, Write};
+use std::process::ExitCode;
+use thiserror::Error;
+
+// A fault of the plan, of reading or of writing.
+const FAULT: u8 = 1;
+// Memory is wanting.
+const MEMORY: u8 = 3;
+
+// Why no script was written.
+#[derive(Debug, Drop, Error)]
+enum Fault {
+    // The plan is at fault, or memory is wanting.
+    #[error("{0}")]
+    Plan(PlanText),
+    // A stream failed.
+    #[error("{0}")]
+    Stream(io::Error),
+}
+
+impl From<PlanText> for Fault {
+    fn from(fault: PlanText) -> Fault {
+        Fault::Plan(fault)
+    }
+}
+
+impl From<AllocError> for Fault {
+    fn from(_error: AllocError) -> Fault {
+        Fault::Plan(PlanText::Memory)
+    }
+}
+
+impl From<io::Error> for Fault {
+    fn from(error: io::Error) -> Fault {
+        Fault::Stream(error)
+    }
+}
+
+// The first line of a text without its newline, and what follows it.
+fn first_line(text: &[u8]) -> (&[u8], &[u8])
+    requires { 0 < length text.now }
+    ensures lines { lines_of text.now ≡ result.0.now ∷ lines_of result.1.now }
+    ensures shorter { length result.1.now < length text.now }
+{
+    match memchr(b'\n', text) {
+        Some(end) => (&text[..end], &text[end + 1..]),
+        None => (text, &[]),
+    }
+}
+
+// The events of the lines after a plan.
+fn read_lines(alloc: Global, lines: &[u8], plan: &Plan) -> Result<Vec<Event>, AllocError>
+    ensures events { IfOk result (λ events. events.items ≡ map (event_of plan.now) (lines_of lines.now)) }
+    ensures within { IfOk result (λ events. All (IsIn plan.now) events.items) }
+{
+    let mut events = Vec::new(alloc);
+    let mut rest = lines;
+    while !rest.is_empty() {
+        let (line, after) = first_line(rest);
+        events.push(read_line(alloc, line, plan)?)?;
+        rest = after;
+    }
+    Ok(events)
+}
+
+// The canonical script of what a script tells.
+fn rewritten(alloc: Global, script: &[u8]) -> Result<Vec<u8>, Fault>
+    ensures { IfOk result (λ text. IsRewriting script.now text.items) }
+{
+    let (plan, place) = read_plan(alloc, script)?;
+    let events = read_lines(alloc, &script[place..], &plan)?;
+    let mut text = Vec::new(alloc);
+    write_script(&plan, events.as_slice(), &mut text)?;
+    Ok(text)
+}
+
+// Reads the whole of standard input, and writes its canonical script to standard output.
+fn rewrite(rt: &HostRuntime) -> Result<(), Fault> {
+    let alloc = rt.alloc();
+    let mut script = Vec::new(alloc);
+    rt.reader().read_to_end(&mut script)?;
+    let text = rewritten(alloc, script.as_slice())?;
+    io::writer(rt).write_all(text.as_slice())?;
+    Ok(())
+}
+
+// The status of a fault.
+fn status(fault: &Fault) -> ExitCode {
+    match fault {
+        Fault::Plan(PlanText::Memory) => ExitCode::from(MEMORY),
+        Fault::Stream(error) if error.kind() == io::ErrorKind::OutOfMemory => ExitCode::from(
+            MEMORY,
+        ),
+        _ => ExitCode::from(FAULT),
+    }
+}
+
+fn main(rt: HostRuntime) -> ExitCode {
+    match rewrite(&rt) {
+        Ok(()) => ExitCode::SUCCESS,
+        Err(fault) => {
+            let _ = eprintln!(rt; "rewrite_script: {fault}");
+            status(&fault)
+        }
+    }
+}
