@@ -1,8 +1,18 @@
 //! Worked cases as text, and readers and writers that stutter, fail or stop.
 
-use gq_script::{MOST_INPUT, RunFault, Watched, read_line, read_plan, run, write_answer};
-use gq_world::{Answer, Event, Line, Refusal};
-use std::alloc::Global;
+ghost use Rattle.std.specs.Prelude.{IfOk};
+ghost use Rattle.std.specs.List.{All};
+ghost use Rattle.gq_model.specs.Events.{IsIn};
+
+use bytes::Bytes;
+use gq_desk::Plan;
+use gq_model::{Answer, Event, Line, Refusal};
+use gq_phase::{Outcome, Row, Rows};
+use gq_script::{
+    MOST_INPUT, RunFault, Watched, read_line, read_plan, run, write_answer, write_script,
+};
+use gq_tag::{StoredCopy, Tag};
+use std::alloc::{AllocError, Global};
 use std::io;
 use std::io::{Read, Write};
 use std::process::Abort;
@@ -265,7 +275,30 @@ fn reads_lines(rt: HostRuntime) -> Result<(), Fail> {
             b"ann lose 7",
             b"Tenant { tenant: 0, line: Lose { number: 7 } }",
         ),
-        (b"ann  quorum", b"Tenant { tenant: 0, line: Bad }"),
+        (
+            b"ann write 1 2 3 0aF0",
+            b"Tenant { tenant: 0, line: Write { session: 1, volume: 2, file: 3, bytes: b\"\\n\\xf0\" } }",
+        ),
+        (
+            b"ann write 4294967295 0 0 -",
+            b"Tenant { tenant: 0, line: Write { session: 4294967295, volume: 0, file: 0, bytes: b\"\" } }",
+        ),
+        (
+            b"ann read 1 2 3",
+            b"Tenant { tenant: 0, line: Read { session: 1, volume: 2, file: 3 } }",
+        ),
+        (
+            b"ann list 1 2",
+            b"Tenant { tenant: 0, line: List { session: 1, volume: 2 } }",
+        ),
+        (
+            b"ann retry 9",
+            b"Tenant { tenant: 0, line: Retry { session: 9 } }",
+        ),
+        (
+            b"ann abandon 9",
+            b"Tenant { tenant: 0, line: Abandon { session: 9 } }",
+        ),
         (b"server 3 up", b"Server { line: Up { server: 3 } }"),
         (b"server 03 up", b"Server { line: Bad }"),
         (b"Ann quorum", b"Stray"),
@@ -278,18 +311,241 @@ fn reads_lines(rt: HostRuntime) -> Result<(), Fail> {
 }
 
 #[test]
-fn writes_answers(rt: HostRuntime) -> Result<(), Fail> {
+fn reads_bad_lines(rt: HostRuntime) -> Result<(), Fail> {
     let (plan, _) = read_plan(rt.alloc(), ONE_TENANT).ok().ok_or("plan")?;
+    let cases = [
+        b"ann  quorum".as_slice(),
+        b"ann write 1 2 3",
+        b"ann write 1 2 3 ",
+        b"ann write 1 2 3 0a0",
+        b"ann write 1 2 3 0g",
+        b"ann write 1 2 3 --",
+        b"ann write 1 2 3 0a 0a",
+        b"ann read 1 2",
+        b"ann list 1 2 3",
+        b"ann retry 01",
+        b"ann abandon",
+    ];
+    for text in cases {
+        let event = read_line(rt.alloc(), text, &plan)?;
+        assert!(rt;
+            matches!(
+                event,
+                Event::Tenant {
+                    tenant: 0,
+                    line: Line::Bad
+                }
+            )
+        );
+    }
+    Ok(())
+}
+
+// The line of an answer to a line of the one tenant.
+fn line_of<R: Abort>(rt: &R, alloc: Global, answer: &Answer) -> Result<Vec<u8>, Fail> {
+    let (plan, _) = read_plan(alloc, ONE_TENANT).ok().ok_or("plan")?;
     assert!(rt; 0 < plan.tenants());
     let event = Event::Tenant {
         tenant: 0,
         line: Line::Bad,
     };
+    let mut out = Vec::new(alloc);
+    write_answer(&plan, &event, answer, &mut out)?;
+    Ok(out)
+}
+
+#[test]
+fn writes_answers(rt: HostRuntime) -> Result<(), Fail> {
+    let tag = Tag {
+        number: 10,
+        session: 2,
+    };
+    let cases = [
+        (
+            Answer::Began {
+                op: 7,
+                first: 9,
+                count: 3,
+            },
+            b"ann op 7 sent 9 to 11\n".as_slice(),
+        ),
+        (Answer::Reply { number: 123 }, b"ann reply 123\n"),
+        (Answer::Down, b"ann down\n"),
+        (Answer::Stale, b"ann stale\n"),
+        (Answer::Noted, b"ann noted\n"),
+        (
+            Answer::Round {
+                round: 2,
+                tag: Some(tag),
+                first: 99,
+                count: 2,
+            },
+            b"ann round 2 tag 10 2 sent 99 to 100\n",
+        ),
+        (
+            Answer::Round {
+                round: 3,
+                tag: None,
+                first: 99,
+                count: 0,
+            },
+            b"ann round 3 sent none\n",
+        ),
+        (
+            Answer::Resent {
+                first: u64::MAX,
+                count: 2,
+            },
+            b"ann resent 18446744073709551615 to 18446744073709551616\n",
+        ),
+        (Answer::Abandoned, b"ann abandoned\n"),
+        (Answer::Lost, b"ann lost\n"),
+        (
+            Answer::Done(Outcome::Wrote {
+                session: 2,
+                op: 7,
+                tag,
+            }),
+            b"ann done write 2 7 tag 10 2\n",
+        ),
+        (
+            Answer::Done(Outcome::Gave {
+                session: 1,
+                op: 4,
+                copy: StoredCopy {
+                    tag,
+                    bytes: Bytes::from_static(b"\x00\xff\x0a "),
+                },
+            }),
+            b"ann done read 1 4 tag 10 2 00ff0a20\n",
+        ),
+        (
+            Answer::Done(Outcome::Gave {
+                session: 1,
+                op: 4,
+                copy: StoredCopy {
+                    tag,
+                    bytes: Bytes::new(),
+                },
+            }),
+            b"ann done read 1 4 tag 10 2 -\n",
+        ),
+        (Answer::Refused(Refusal::TooLong), b"ann refused toolong\n"),
+        (
+            Answer::Refused(Refusal::Share { free: 4096 }),
+            b"ann refused share 4096\n",
+        ),
+    ];
+    for (answer, text) in cases {
+        let line = line_of(&rt, rt.alloc(), &answer)?;
+        assert!(rt; line.as_slice() == text);
+    }
+    Ok(())
+}
+
+#[test]
+fn writes_a_listing(rt: HostRuntime) -> Result<(), Fail> {
+    let tag = Tag {
+        number: 10,
+        session: 2,
+    };
+    let mut items = Vec::new(rt.alloc());
+    items.push(Row { length: 64, tag })?;
+    items.push(Row {
+        length: 0,
+        tag: Tag::first(),
+    })?;
+    let answer = Answer::Done(Outcome::Listed {
+        session: 16,
+        op: 1,
+        rows: Rows { items },
+    });
+    let line = line_of(&rt, rt.alloc(), &answer)?;
+    assert!(rt; line.as_slice() == b"ann done list 16 1 64:10.2 0:0.0\n".as_slice());
+    Ok(())
+}
+
+// Contents about as long as the pieces in which they are printed, and longer.
+#[test]
+fn writes_long_contents(rt: HostRuntime) -> Result<(), Fail> {
+    for length in [64, 65, 200] {
+        let mut bytes = Vec::new(rt.alloc());
+        let mut text = Vec::from_slice(rt.alloc(), b"ann done read 1 1 tag 0 0 ")?;
+        for i in 0..length {
+            bytes.push(i)?;
+            text.extend_from_slice(format!(in rt.alloc(); "{i:02x}")?.as_bytes())?;
+        }
+        text.push(b'\n')?;
+        let answer = Answer::Done(Outcome::Gave {
+            session: 1,
+            op: 1,
+            copy: StoredCopy {
+                tag: Tag::first(),
+                bytes: Bytes::from_vec(bytes)?,
+            },
+        });
+        let line = line_of(&rt, rt.alloc(), &answer)?;
+        assert!(rt; line.as_slice() == text.as_slice());
+    }
+    Ok(())
+}
+
+#[test]
+fn answers_a_stray_line(rt: HostRuntime) -> Result<(), Fail> {
+    let (plan, _) = read_plan(rt.alloc(), ONE_TENANT).ok().ok_or("plan")?;
     let mut out = Vec::new(rt.alloc());
-    write_answer(&plan, &event, &Answer::Lost, &mut out)?;
-    let refused = Answer::Refused(Refusal::Share { free: 4096 });
-    write_answer(&plan, &event, &refused, &mut out)?;
     write_answer(&plan, &Event::Stray, &Answer::StrayBad, &mut out)?;
-    assert!(rt; out.as_slice() == b"ann lost\nann refused share 4096\n? refused bad\n".as_slice());
+    assert!(rt; out.as_slice() == b"? refused bad\n".as_slice());
+    Ok(())
+}
+
+// The events of lines.
+fn events_of(alloc: Global, plan: &Plan, lines: &[&[u8]]) -> Result<Vec<Event>, AllocError>
+    ensures { IfOk result (λ events. All (IsIn plan.now) events.items) }
+{
+    let mut events = Vec::new(alloc);
+    for line in lines {
+        events.push(read_line(alloc, line, plan)?)?;
+    }
+    Ok(events)
+}
+
+// The canonical script of the one tenant's plan and the events of lines.
+fn script_of(alloc: Global, lines: &[&[u8]]) -> Result<Vec<u8>, Fail> {
+    let (plan, _) = read_plan(alloc, ONE_TENANT).ok().ok_or("plan")?;
+    let events = events_of(alloc, &plan, lines)?;
+    let mut out = Vec::new(alloc);
+    write_script(&plan, events.as_slice(), &mut out)?;
+    Ok(out)
+}
+
+#[test]
+fn writes_a_script(rt: HostRuntime) -> Result<(), Fail> {
+    let lines = [
+        b"ann quorum\r".as_slice(),
+        b" ann quorum",
+        b"",
+        b"ann quorum",
+    ];
+    let text = script_of(rt.alloc(), &lines)?;
+    assert!(rt;
+        text.as_slice()
+            == b"grid 1 1\nblocks 1\ntenant ann 1 1 10\ngo\nann bad\n\n\nann quorum\n".as_slice()
+    );
+    Ok(())
+}
+
+#[test]
+fn reads_a_written_content_back(rt: HostRuntime) -> Result<(), Fail> {
+    let text = script_of(rt.alloc(), &[b"ann write 1 0 63 0aF0".as_slice()])?;
+    let (plan, place) = read_plan(rt.alloc(), text.as_slice()).ok().ok_or("plan")?;
+    let written = &text.as_slice()[place..];
+    assert!(rt; written == b"ann write 1 0 63 0af0\n".as_slice());
+    let line = written.strip_suffix(b"\n".as_slice()).ok_or("line")?;
+    let event = read_line(rt.alloc(), line, &plan)?;
+    assert!(rt;
+        format!(in rt.alloc(); "{event:?}")?.as_bytes()
+            == b"Tenant { tenant: 0, line: Write { session: 1, volume: 0, file: 63, bytes: b\"\\n\\xf0\" } }".as_slice()
+    );
     Ok(())
 }

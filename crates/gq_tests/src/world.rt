@@ -1,15 +1,21 @@
 //! Two tenants side by side, answer by answer.
 
+use bytes::Bytes;
 use gq_desk::{Name, Plan, TenantRow, VolumeRow};
 use gq_grid::Grid;
 use gq_world::{Answer, Event, Line, Refusal, ServerLine, ServerRefusal, World};
+use std::alloc::Global;
 use std::process::Abort;
 use std::test::Fail;
 
 fn row(rt: &impl Abort, name: &[u8], steps: u32) -> TenantRow {
+    row_of_share(rt, name, 1, steps)
+}
+
+fn row_of_share(rt: &impl Abort, name: &[u8], share: u32, steps: u32) -> TenantRow {
     TenantRow {
         name: Name::new(name).expect(rt, "a name"),
-        share: 1,
+        share,
         sessions: 1,
         steps,
     }
@@ -115,5 +121,107 @@ fn refuses_server_lines_in_order(rt: HostRuntime) -> Result<(), Fail> {
         }
     }
     assert!(rt; matches!(answer(&rt, &mut world, Event::Stray), Answer::StrayBad));
+    Ok(())
+}
+
+// A line by which the session 1 of the tenant writes so many zeros to the first file of its first volume.
+fn write(rt: &impl Abort, alloc: Global, tenant: u8, length: usize) -> Event {
+    let zeros = vec![in alloc; 0u8; length].expect(rt, "memory");
+    own(
+        tenant,
+        Line::Write {
+            session: 1,
+            volume: 0,
+            file: 0,
+            bytes: Bytes::from_vec(zeros).expect(rt, "memory"),
+        },
+    )
+}
+
+// Delivers the tenant's messages from one number to another, and answers whether the last one ended an operation.
+fn deliver(rt: &impl Abort, world: &mut World, tenant: u8, first: u32, last: u32) -> bool {
+    let mut done = false;
+    for number in first..=last {
+        done = matches!(
+            answer(rt, world, own(tenant, Line::Deliver { number })),
+            Answer::Done(_)
+        );
+    }
+    done
+}
+
+// How many blocks of the first server no copy takes.
+fn free(rt: &impl Abort, world: &World) -> usize {
+    assert!(rt; 0 < world.plan().grid().servers());
+    assert_eq!(rt; world.store(0).free(), world.free(0));
+    world.free(0)
+}
+
+#[test]
+fn a_store_frees_the_blocks_of_the_copy_before(rt: HostRuntime) -> Result<(), Fail> {
+    let alloc = rt.alloc();
+    let grid = Grid::new(1, 1).expect(&rt, "a grid");
+    let rows = [row_of_share(&rt, b"ann", 4, 100)];
+    let plan = Plan::check(alloc, grid, 4, &rows).expect(&rt, "a plan");
+    let mut world = World::new(alloc, plan)?;
+    let open = own(
+        0,
+        Line::NewVolume {
+            files: 2,
+            blocks: 2,
+        },
+    );
+    assert!(rt; matches!(answer(&rt, &mut world, open), Answer::Volume { number: 0 }));
+    assert_eq!(rt; free(&rt, &world), 4);
+    assert!(rt;
+        matches!(
+            answer(&rt, &mut world, write(&rt, alloc, 0, 128)),
+            Answer::Began { .. }
+        )
+    );
+    assert!(rt; deliver(&rt, &mut world, 0, 0, 3));
+    assert_eq!(rt; free(&rt, &world), 2);
+    assert!(rt;
+        matches!(
+            answer(&rt, &mut world, write(&rt, alloc, 0, 0)),
+            Answer::Began { .. }
+        )
+    );
+    assert!(rt; deliver(&rt, &mut world, 0, 4, 7));
+    assert_eq!(rt; free(&rt, &world), 4);
+    Ok(())
+}
+
+#[test]
+fn one_store_has_the_copies_of_all_tenants(rt: HostRuntime) -> Result<(), Fail> {
+    let alloc = rt.alloc();
+    let grid = Grid::new(1, 1).expect(&rt, "a grid");
+    let rows = [
+        row_of_share(&rt, b"ann", 2, 100),
+        row_of_share(&rt, b"bob", 1, 100),
+    ];
+    let plan = Plan::check(alloc, grid, 3, &rows).expect(&rt, "a plan");
+    let mut world = World::new(alloc, plan)?;
+    for tenant in 0..2u8 {
+        let blocks = 2 - u32::from(tenant);
+        let open = own(tenant, Line::NewVolume { files: 1, blocks });
+        assert!(rt; matches!(answer(&rt, &mut world, open), Answer::Volume { number: 0 }));
+    }
+    assert!(rt;
+        matches!(
+            answer(&rt, &mut world, write(&rt, alloc, 0, 65)),
+            Answer::Began { .. }
+        )
+    );
+    assert!(rt;
+        matches!(
+            answer(&rt, &mut world, write(&rt, alloc, 1, 1)),
+            Answer::Began { .. }
+        )
+    );
+    assert!(rt; !deliver(&rt, &mut world, 1, 0, 2));
+    assert_eq!(rt; free(&rt, &world), 2);
+    assert!(rt; !deliver(&rt, &mut world, 0, 0, 2));
+    assert_eq!(rt; free(&rt, &world), 0);
     Ok(())
 }
