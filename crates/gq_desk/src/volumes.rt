@@ -1,7 +1,8 @@
 //! Volumes of the tenants, each inside its tenant's share of every server's blocks.
 
-ghost use Rattle.std.specs.Prelude.{◌≡◌, ◌<◌, ◌≤◌, ◌*◌, ◌+◌, [], None, Some, IfOk, IfErr, OnOk, OnErr, IfSome, IfNone, length, map, slice_set};
-ghost use Rattle.gq_desk.specs.Volumes.{Account as Holding, open_fault, IsRefusedFor, with_volume, account_at, blocks_of, reserved, free_of, limit_in, limit_of};
+ghost use Rattle.std.specs.Prelude.{◌≡◌, ◌<◌, ◌≤◌, ◌*◌, ◌+◌, [], None, Some, IfOk, IfErr, OnOk, OnErr, IfSome, IfNone, length, map, slice_set, true};
+ghost use Rattle.gq_desk.specs.Volumes.{Account as Holding, open_fault, IsRefusedFor, with_volume, account_at, blocks_of, reserved, free_of, is_sized, limit_in, limit_of};
+ghost use Rattle.std.specs.List.{list_all};
 
 use crate::limits::{MOST_FILE_BLOCKS, MOST_VOLUMES};
 use crate::plans::Plan;
@@ -173,6 +174,7 @@ impl Desk {
         requires { tenant < length self.now }
         ensures volumes { result.now ≡ (account_at self.now tenant).volumes }
         ensures within { reserved result.now ≤ (account_at self.now tenant).share }
+        ensures sized { list_all is_sized result.now ≡ true }
     {
         let account = &self.accounts[tenant as usize];
         account.volumes.as_slice()

@@ -1,10 +1,13 @@
 //! The lines of the input after `go`, and what is answered to them.
 
+ghost use Rattle.std.specs.Prelude.{◌≡◌};
+
 use bytes::Bytes;
 use gq_desk::VolumeRows;
 use gq_grid::Choice;
 use gq_phase::Outcome;
 use gq_tag::Tag;
+use std::alloc::AllocError;
 
 /// A line of the input after `go`, read.
 #[derive(Debug, Drop)]
@@ -17,7 +20,7 @@ pub enum Event {
     Stray,
 }
 
-/// What a tenant's line asks.
+/// What a tenant's line asks. A clone shares the content.
 #[derive(Debug, PartialEq, Eq, Drop)]
 pub enum Line {
     /// The line has no form that is known.
@@ -66,6 +69,50 @@ pub enum Line {
     Abandon {
         session: u32,
     },
+}
+
+impl Clone for Line {
+    ghost is_clone = { λ a b. b ≡ a };
+
+    fn clone(&self) -> Result<Line, AllocError> {
+        Ok(match self {
+            Line::Bad => Line::Bad,
+            Line::Quorum => Line::Quorum,
+            Line::NewVolume { files, blocks } => Line::NewVolume {
+                files: *files,
+                blocks: *blocks,
+            },
+            Line::Volumes => Line::Volumes,
+            Line::Write {
+                session,
+                volume,
+                file,
+                bytes,
+            } => Line::Write {
+                session: *session,
+                volume: *volume,
+                file: *file,
+                bytes: bytes.clone()?,
+            },
+            Line::Read {
+                session,
+                volume,
+                file,
+            } => Line::Read {
+                session: *session,
+                volume: *volume,
+                file: *file,
+            },
+            Line::List { session, volume } => Line::List {
+                session: *session,
+                volume: *volume,
+            },
+            Line::Deliver { number } => Line::Deliver { number: *number },
+            Line::Lose { number } => Line::Lose { number: *number },
+            Line::Retry { session } => Line::Retry { session: *session },
+            Line::Abandon { session } => Line::Abandon { session: *session },
+        })
+    }
 }
 
 /// What a server line tells.

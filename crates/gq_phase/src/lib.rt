@@ -12,6 +12,8 @@ mod operation;
 mod quorums;
 mod sending;
 
+ghost use Rattle.std.specs.Prelude.{◌≡◌};
+
 use gq_tag::{Message, StoredCopy, Tag};
 pub use operation::Operation;
 use std::alloc::AllocError;
@@ -64,7 +66,17 @@ impl Model for Rows {
     ghost view = { λ r. r.items.items };
 }
 
-/// How an operation ended.
+impl Clone for Rows {
+    ghost is_clone = { λ a b. b ≡ a };
+
+    fn clone(&self) -> Result<Rows, AllocError> {
+        Ok(Rows {
+            items: self.items.clone()?,
+        })
+    }
+}
+
+/// How an operation ended. A clone shares the content that a read gave.
 #[derive(Debug, Drop)]
 pub enum Outcome {
     /// A write is done under the tag.
@@ -85,6 +97,30 @@ pub enum Outcome {
         op: u32,
         rows: Rows,
     },
+}
+
+impl Clone for Outcome {
+    ghost is_clone = { λ a b. b ≡ a };
+
+    fn clone(&self) -> Result<Outcome, AllocError> {
+        match self {
+            Outcome::Wrote { session, op, tag } => Ok(Outcome::Wrote {
+                session: *session,
+                op: *op,
+                tag: *tag,
+            }),
+            Outcome::Gave { session, op, copy } => Ok(Outcome::Gave {
+                session: *session,
+                op: *op,
+                copy: copy.clone()?,
+            }),
+            Outcome::Listed { session, op, rows } => Ok(Outcome::Listed {
+                session: *session,
+                op: *op,
+                rows: rows.clone()?,
+            }),
+        }
+    }
 }
 
 /// What an operation says to a message of its session.

@@ -2,7 +2,7 @@
 use Rattle.std.proofs.Common.{◌≡◌, ℕ, ◌+◌, ◌*◌, ◌<◌, ◌≤◌, List, [], ◌∷◌, ◌++◌, length, map, set, replicate, sym, ap, ◌∙◌, arith, inl, inr}
 use Rattle.std.specs.Prelude.{All}
 use Rattle.std.proofs.lemmas.Bool.{cases_eq, cases_lt}
-use Rattle.std.proofs.lemmas.List.{map-set, map-append, length-map, length-replicate, get_or-set_same, get_or-set_other, get_or_append_left, get_or_push, get_or-replicate, get_or_past}
+use Rattle.std.proofs.lemmas.List.{map-set, map-append, length-replicate, get_or-set_same, get_or-set_other, get_or_append_left, get_or_push, get_or-replicate, get_or_past, length_push}
 use Rattle.std.proofs.lemmas.List.Sums.{sum_by-set, sum_by_push}
 use Rattle.std.proofs.lemmas.List.Folds.{sum_by-replicate}
 use Rattle.std.proofs.lemmas.List.Elements.{All-set, All-push, All-replicate}
@@ -11,9 +11,9 @@ use Rattle.gq_tag.specs.declared.StoredCopy.{StoredCopy}
 use Rattle.gq_tag.specs.Tag.{first_copy}
 use Rattle.gq_desk.specs.declared.volumes.VolumeRow.{VolumeRow}
 use Rattle.gq_desk.specs.Volumes.{Account, account_at, with_volume, reserved, blocks_of, free_of}
-use Rattle.gq_store.specs.Copies.{StoreCopies, TenantCopies, VolumeCopies, no_tenant, no_volume, tenant_in, volume_in, copy_in, copies_account, volume_size, taken, volume_taken, tenant_taken, new_volume}
+use Rattle.gq_store.specs.Copies.{TenantCopies, VolumeCopies, no_tenant, no_volume, tenant_in, volume_in, copy_in, copies_account, volume_size, taken, volume_taken, tenant_taken, new_volume}
 use Rattle.gq_store.specs.Balance.{Balanced, IsWithinFiles}
-use Rattle.gq_store.proofs.There.{IsThere, account_at-store_accounts}
+use Rattle.gq_store.proofs.There.{account_at-store_accounts}
 
 -- the tenant with a new volume
 abbrev pub grown : TenantCopies → ℕ → ℕ → TenantCopies
@@ -53,24 +53,31 @@ new_copy files blocks place =
       | inr past ↦ get_or_past (replicate files first_copy) place first_copy (omega (arith, length-replicate files first_copy))
     ]
 
-pub copy_of-new : (tenants : List TenantCopies) (t files blocks : ℕ) (place : ℕ) → t < length tenants
-    → copy_of (tenants_grown tenants t files blocks) (record { tenant = t; volume = length (account_at (map copies_account tenants) t).volumes; file = place }) ≡ first_copy
-copy_of-new tenants t files blocks place lt =
-    let x = tenant_in tenants t in let n = length (account_at (map copies_account tenants) t).volumes in
-    let many : length x.volumes ≡ n = sym (ap (λ (a : Account). length a.volumes) (account_at-store_accounts tenants t) ∙ length-map x.volumes volume_size) in
-    ap (λ (y : TenantCopies). copy_in (volume_in y n) place) (get_or-set_same tenants t (grown x files blocks) no_tenant lt)
-    ∙ (ap (λ (y : VolumeCopies). copy_in y place) (get_or_push x.volumes (new_volume files blocks) no_volume n many) ∙ new_copy files blocks place)
+no_copy : (place : ℕ) → copy_in no_volume place ≡ first_copy
+no_copy place = get_or_past [] place first_copy (omega arith)
 
-pub copy_of-old : (store : StoreCopies) (t files blocks : ℕ) (id : FileId) (n : ℕ) → IsThere store id n → copy_of (tenants_grown store.tenants t files blocks) id ≡ copy_of store.tenants id
-copy_of-old store t files blocks id n is =
-    let x = tenant_in store.tenants t in let new = grown x files blocks in
+-- a tenant's file has the copy that it had, or is new and has its first
+grown_copy : (x : TenantCopies) (files blocks number place : ℕ) → copy_in (volume_in (grown x files blocks) number) place ≡ copy_in (volume_in x number) place
+grown_copy x files blocks number place =
+    let new = new_volume files blocks in
+    elim (cases_lt number (length x.volumes)) [
+      | inl there ↦ ap (λ (y : VolumeCopies). copy_in y place) (get_or_append_left x.volumes (new ∷ []) no_volume number there)
+      | inr past ↦
+          let before : copy_in (volume_in x number) place ≡ first_copy = ap (λ (y : VolumeCopies). copy_in y place) (get_or_past x.volumes number no_volume past) ∙ no_copy place in
+          elim (cases_eq number (length x.volumes)) [
+            | inl last ↦ ap (λ (y : VolumeCopies). copy_in y place) (get_or_push x.volumes new no_volume number (sym last)) ∙ (new_copy files blocks place ∙ sym before)
+            | inr apart ↦ ap (λ (y : VolumeCopies). copy_in y place) (get_or_past (x.volumes ++ new ∷ []) number no_volume (omega (arith, length_push x.volumes new))) ∙ (no_copy place ∙ sym before)
+          ]
+    ]
+
+pub copy_of-grown : (tenants : List TenantCopies) (t files blocks : ℕ) (id : FileId) → t < length tenants → copy_of (tenants_grown tenants t files blocks) id ≡ copy_of tenants id
+copy_of-grown tenants t files blocks id lt =
+    let x = tenant_in tenants t in let new = grown x files blocks in
     elim (cases_eq id.tenant t) [
       | inl e ↦
-          let there : id.volume < length x.volumes = rw e at is.volume in
-          let within : t < length store.tenants = rw e at is.tenant in
-          rw e (ap (λ (y : TenantCopies). copy_in (volume_in y id.volume) id.file) (get_or-set_same store.tenants t new no_tenant within)
-          ∙ ap (λ (y : VolumeCopies). copy_in y id.file) (get_or_append_left x.volumes (new_volume files blocks ∷ []) no_volume id.volume there))
-      | inr e ↦ ap (λ (y : TenantCopies). copy_in (volume_in y id.volume) id.file) (get_or-set_other store.tenants t id.tenant new no_tenant e)
+          rw e (ap (λ (y : TenantCopies). copy_in (volume_in y id.volume) id.file) (get_or-set_same tenants t new no_tenant lt)
+          ∙ grown_copy x files blocks id.volume id.file)
+      | inr e ↦ ap (λ (y : TenantCopies). copy_in (volume_in y id.volume) id.file) (get_or-set_other tenants t id.tenant new no_tenant e)
     ]
 
 -- ---- the blocks

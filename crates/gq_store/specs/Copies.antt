@@ -63,10 +63,6 @@ store_accounts store = map copies_account store.tenants
 abbrev pub tenant_account : StoreCopies → ℕ → Account
 tenant_account store tenant = account_at (store_accounts store) tenant
 
--- the file at that place of the next volume of the tenant
-abbrev pub file_of_next_volume : StoreCopies → ℕ → ℕ → FileId
-file_of_next_volume store tenant place = record { tenant = tenant; volume = length (tenant_account store tenant).volumes; file = place }
-
 -- how many bytes the file may hold, where it is there
 abbrev pub file_limit : StoreCopies → FileId → Option ℕ
 file_limit store id = limit_of (store_accounts store) id

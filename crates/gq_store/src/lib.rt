@@ -5,4 +5,4 @@ mod entry;
 mod store;
 mod volumes;
 
-pub use store::{Put, ServeRefused, ServerStore};
+pub use store::{Put, ServeRefused, ServerStore, reply};

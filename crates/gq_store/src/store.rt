@@ -4,7 +4,7 @@ ghost use Rattle.std.specs.List.{sum_by};
 ghost use Rattle.gq_tag.specs.declared.FileId.{FileId};
 ghost use Rattle.gq_tag.specs.Tag.{is_less, newer_of, first_copy, to_server};
 ghost use Rattle.gq_desk.specs.Volumes.{with_volume, free_of};
-ghost use Rattle.gq_store.specs.Copies.{TenantCopies, copy_at, store_accounts, tenant_account, file_of_next_volume, file_limit, tenant_taken, blocks_taken, blocks_free, empty_store, new_tenant, tenants_with};
+ghost use Rattle.gq_store.specs.Copies.{TenantCopies, copy_at, store_accounts, tenant_account, file_limit, tenant_taken, blocks_taken, blocks_free, empty_store, new_tenant, tenants_with};
 
 use crate::entry::Entry;
 use crate::volumes::Tenant;
@@ -107,8 +107,8 @@ fn add_tenants(alloc: Global, tenants: &mut Vec<Tenant>, rows: &[TenantRow])
     }
 }
 
-// An answer to the message, in the same round.
-fn reply(message: &Message, body: Body) -> Message
+/// An answer of that body to the message, in the same round of the operation.
+pub fn reply(message: &Message, body: Body) -> Message
     ensures { result ≡ record message.now { body = body } }
 {
     Message {
@@ -152,8 +152,9 @@ impl ServerStore {
     }
 
     /// Adds the next volume of the tenant at that place of the plan: so many files, of at most so many blocks each. Each
-    /// file has its first copy, tag (0,0) and empty. The volume's blocks have to fit in what the volumes before leave of
-    /// the tenant's share, in blocks. It makes as many requests for memory for many files as for one, and takes no block.
+    /// new file has its first copy, tag (0,0) and empty, as every file counts before it is there, and all other files keep
+    /// theirs; so no file's copy changes. The volume's blocks have to fit in what the volumes before leave of the tenant's
+    /// share, in blocks. It makes as many requests for memory for many files as for one, and takes no block.
     ///
     /// `AllocError` is want of memory: the store is then as it was.
     pub fn add_files(&mut self, tenant: u8, files: u32, blocks: u32) -> Result<(), AllocError>
@@ -161,10 +162,7 @@ impl ServerStore {
         requires share { files * blocks ≤ free_of (tenant_account self.old tenant) }
         ensures added { OnOk result (store_accounts self.new ≡ slice_set (store_accounts self.old) tenant
             (with_volume (record { files = files; blocks = blocks }) (tenant_account self.old tenant))) }
-        ensures first { OnOk result ((place : ℕ) → place < files
-            → copy_at self.new (file_of_next_volume self.old tenant place) ≡ first_copy) }
-        ensures others { OnOk result ((file : FileId) → IsSome (file_limit self.old file)
-            → copy_at self.new file ≡ copy_at self.old file) }
+        ensures copies { OnOk result ((file : FileId) → copy_at self.new file ≡ copy_at self.old file) }
         ensures blocks { self.new.blocks ≡ self.old.blocks }
         ensures same { OnErr result (self.new ≡ self.old) }
     {
@@ -190,8 +188,8 @@ impl ServerStore {
         self.tag(file) < tag
     }
 
-    // How many bytes the file may hold, where it is there.
-    fn limit(&self, file: FileId) -> Option<u64>
+    /// How many bytes the file may hold: [`gq_pool::BLOCK_BYTES`] for each of its blocks. None where the file is not there.
+    pub fn limit(&self, file: FileId) -> Option<u64>
         ensures { result ≡ file_limit self.now file }
     {
         self.tenants

@@ -151,7 +151,7 @@ impl Clone for Body {
 }
 
 /// A message between a session and a server, of one round of one operation of the session.
-/// Sessions, operations and rounds are numbered from 1, tenants and servers from 0.
+/// Sessions, operations and rounds are numbered from 1, tenants and servers from 0. A clone shares the content.
 #[derive(Debug, PartialEq, Eq, Drop)]
 pub struct Message {
     pub tenant: u8,
@@ -161,6 +161,22 @@ pub struct Message {
     pub server: u8,
     pub file: FileId,
     pub body: Body,
+}
+
+impl Clone for Message {
+    ghost is_clone = { λ a b. b ≡ a };
+
+    fn clone(&self) -> Result<Message, AllocError> {
+        Ok(Message {
+            tenant: self.tenant,
+            session: self.session,
+            op: self.op,
+            round: self.round,
+            server: self.server,
+            file: self.file,
+            body: self.body.clone()?,
+        })
+    }
 }
 
 impl Message {

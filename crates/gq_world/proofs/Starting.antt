@@ -62,7 +62,7 @@ seats_are (row ∷ rows) (suc t) within = seats_are rows t (omega arith)
 within_few : (sessions : ℕ) → not (is_in 1 MOST_SESSIONS sessions) ≡ false → sessions ≤ MOST_SESSIONS
 within_few sessions is = grind (arith, nat_tests)
 
-row_few : (t : ℕ) (row : TenantRow) → number_fault t row ≡ None → row.sessions ≤ MOST_SESSIONS
+pub row_few : (t : ℕ) (row : TenantRow) → number_fault t row ≡ None → row.sessions ≤ MOST_SESSIONS
 row_few t row none = within_few row.sessions (unless_none _ _ _ (unless_none _ _ _ none).1).0
 
 pub few_sessions : (plan : CheckedPlan) → plan_fault plan.blocks plan.rows ≡ None → FewSessions plan

@@ -3,6 +3,7 @@ pub mod Asking
 pub mod Bounds
 pub mod Machine
 pub mod Running
+pub mod Said
 pub mod Saying
 pub mod Seats
 pub mod Tables

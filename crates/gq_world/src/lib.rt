@@ -3,6 +3,7 @@
 
 mod adding;
 mod chooser;
+mod said;
 mod sending;
 mod sessions;
 mod tables;
@@ -10,4 +11,5 @@ mod world;
 
 pub use gq_laws::laws;
 pub use gq_model::{Answer, Event, Line, Refusal, ServerLine, ServerRefusal};
+pub use said::{Said, said_of};
 pub use world::{Ended, World};

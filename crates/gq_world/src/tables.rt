@@ -1,6 +1,6 @@
 //! The tables of all tenants, and what a line does to them.
 
-ghost use Rattle.std.specs.Prelude.{◌≡◌, ◌<◌, ◌≤◌, ◌+◌, ◌*◌, length, map, replicate, not, nat_le, slice_set, true, false, IfOk, IfNone, OnOk};
+ghost use Rattle.std.specs.Prelude.{◌≡◌, ◌<◌, ◌≤◌, ◌+◌, ◌*◌, length, map, replicate, not, nat_le, slice_set, true, false, IfOk, IfNone, OnOk, option_copied};
 ghost use Rattle.gq_grid.specs.Grid.{choose};
 ghost use Rattle.gq_grid.specs.declared.TheConstants.{MOST_SERVERS};
 ghost use Rattle.gq_desk.specs.CheckedPlan.{row_at};
@@ -10,7 +10,7 @@ ghost use Rattle.gq_model.specs.Events.{IsIn};
 ghost use Rattle.gq_model.specs.Lone.{choice_told, change_refusal, first_cause};
 ghost use Rattle.gq_model.specs.Shown.{shown};
 ghost use Rattle.gq_model.specs.Told.{Began};
-ghost use Rattle.gq_post.specs.Lanes.{lane_at};
+ghost use Rattle.gq_post.specs.Lanes.{lane_at, message_at};
 ghost use Rattle.gq_store.specs.Copies.{empty_store, blocks_free};
 ghost use Rattle.gq_world.specs.Tables.{no_seat};
 ghost use Rattle.gq_world.specs.Whole.{FewSessions};
@@ -124,6 +124,14 @@ impl Core {
         ensures blocks { result.now.blocks ≡ self.now.plan.blocks }
     {
         &self.stores[server]
+    }
+
+    // The tenant's message of this number.
+    pub(crate) fn message(&self, tenant: u8, number: u64) -> Option<&Message>
+        requires { tenant < length self.now.plan.rows }
+        ensures { option_copied result ≡ message_at (lane_at self.now.lanes tenant) number }
+    {
+        self.post.get(tenant, number)
     }
 
     // One event.

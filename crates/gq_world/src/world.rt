@@ -1,11 +1,11 @@
 //! The world: the tenants of a plan and its servers, until memory runs out.
 
-ghost use Rattle.std.specs.Prelude.{◌≡◌, ◌*◌, ◌<◌, ◌≤◌, ◌++◌, ◌∷◌, [], ℕ, List, true, false, length, IfOk, OnOk, OnErr, IsErr};
-ghost use Rattle.gq_tag.specs.Tag.{File, file_of};
+ghost use Rattle.std.specs.Prelude.{◌≡◌, ◌*◌, ◌<◌, ◌≤◌, ◌++◌, ◌∷◌, [], ℕ, List, true, false, length, IfOk, OnOk, OnErr, IsErr, option_map, option_copied};
+ghost use Rattle.gq_tag.specs.Tag.{File, file_of, message_of};
 ghost use Rattle.gq_store.specs.Copies.{copy_at, blocks_free};
 ghost use Rattle.gq_model.specs.declared.events.Event.{Event};
 ghost use Rattle.gq_model.specs.Events.{IsIn, answer_to, past_at};
-ghost use Rattle.gq_model.specs.Trace.{questions, held};
+ghost use Rattle.gq_model.specs.Trace.{questions, held, own_message_at};
 ghost use Rattle.gq_model.specs.Shown.{shown};
 ghost use Rattle.gq_world.specs.Tables.{Stands, store_at};
 
@@ -13,6 +13,7 @@ use crate::tables::Core;
 use gq_desk::Plan;
 use gq_model::{Answer, Event};
 use gq_store::ServerStore;
+use gq_tag::Message;
 use std::alloc::{AllocError, Global};
 use std::marker::Model;
 use thiserror::Error;
@@ -81,6 +82,15 @@ impl World {
         ensures bound { result ≤ self.now.tables.plan.blocks }
     {
         self.tables.store(server).free()
+    }
+
+    /// The tenant's message of this number, none where it is lost or was never sent.
+    pub fn message(&self, tenant: u8, number: u64) -> Option<&Message>
+        requires { tenant < length self.now.tables.plan.rows }
+        ensures { (events : List Event) → Stands self.now.tables events → option_copied result ≡
+            option_map (message_of tenant) (own_message_at (questions (past_at self.now.tables.plan tenant events).trace) number) }
+    {
+        self.tables.message(tenant, number)
     }
 
     /// Answers the next event. A tenant's line is answered as in that tenant's run by itself, over its own lines and the
