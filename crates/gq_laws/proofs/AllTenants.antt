@@ -66,13 +66,13 @@ past_more plan t before event turn is =
 -- ---- the places of what a tenant sees
 
 -- the place of the i-th event that the tenant sees, the first event being at place n; past the last one, some later place
-abbrev place_from : ℕ → Option Turn → (ℕ → ℕ) → ℕ → ℕ
+abbrev pub place_from : ℕ → Option Turn → (ℕ → ℕ) → ℕ → ℕ
 place_from n None later i = later i
 place_from n (Some turn) later zero = n
 place_from n (Some turn) later (suc i) = later i
 
 -- the same over all events from place n on
-abbrev place_in_all : ℕ → ℕ → List Event → ℕ → ℕ
+abbrev pub place_in_all : ℕ → ℕ → List Event → ℕ → ℕ
 place_in_all t n [] = λ i. n + i
 place_in_all t n (event ∷ events) = place_from n (turn_of t event) (place_in_all t (n + 1) events)
 
@@ -85,7 +85,7 @@ place_low t n (event ∷ events) i = go (turn_of t event) i (place_low t (n + 1)
     go (Some turn) zero low = omega arith
     go (Some turn) (suc i) low = omega (arith, low i)
 
-place_rises : (t n : ℕ) (events : List Event) → IsRising (place_in_all t n events)
+pub place_rises : (t n : ℕ) (events : List Event) → IsRising (place_in_all t n events)
 place_rises t n [] i j less = omega arith
 place_rises t n (event ∷ events) i j less = go (turn_of t event) i j less (place_rises t (n + 1) events)
   where

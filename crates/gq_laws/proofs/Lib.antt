@@ -23,6 +23,7 @@ pub mod Sources
 pub mod AllTagged
 pub mod Ordering
 pub mod Sorting
+pub mod OtherOrders
 pub mod OtherPlaces
 pub mod AllTenants
 pub mod Checking

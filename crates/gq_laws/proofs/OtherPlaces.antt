@@ -167,7 +167,7 @@ some_was : (f : ℕ → ℕ) (end : Option ℕ) → IsSome (option_map f end) �
 some_was f None h = h
 some_was f (Some d) h = refl
 
-low_was : (f : ℕ → ℕ) → IsRising f → (i j : ℕ) → f i < f j → i < j
+pub low_was : (f : ℕ → ℕ) → IsRising f → (i j : ℕ) → f i < f j → i < j
 low_was f rises i j low = go (cases_lt i j)
   where
     higher : (cases : (j < i) ⊎ (i ≤ j)) → j ≤ i → i < j
