@@ -1,4 +1,4 @@
--- Only words that ask to run have nothing wrong with them.
+-- Only words that ask to run or for an order have nothing wrong with them.
 use Rattle.std.proofs.Common.{refl, codes, true, false, Bool, ℕ, suc, List, Option, Some, None, ◌≡◌, ◌≢◌, [], ◌∷◌, sym, ap, ap₂, ◌∙◌, inl, inr, ◌⊎◌, ◌++◌}
 use Rattle.std.proofs.lemmas.List.{append-nil, append_assoc}
 use Rattle.std.proofs.lemmas.Slice.Eq.{bytes_eq-Decides}
@@ -12,14 +12,14 @@ use Rattle.clap.specs.Simple.{Shape, built, names_of}
 use Rattle.clap.specs.Walk.{Held, Outcome, Rule, Text, Walk, Names, arg_by_long, arg_by_short, bundle_met, after_flag, idle, long_or_other, nothing_held, plain, reacted, short_or_plain, subcommand_met, takes_values, value, walk, walk_from, walked}
 use Rattle.clap.specs.declared.error.kind.ErrorKind.TheVariants.{DisplayHelp, InvalidSubcommand, MissingSubcommand, TooManyValues}
 use Rattle.clap.proofs.OnLiterals.{clap_on_literals}
-use Rattle.gq_cli.specs.Words.{AsksToRun, faults_in, gridfs}
+use Rattle.gq_cli.specs.Words.{faults_in, gridfs}
 
 both : (a b : Kinds) → or_else a b ≡ [] → (a ≡ []) × (b ≡ [])
 both [] b none = (refl, none)
 both (k ∷ ks) b none = absurd (cc)
 
 -- the command as it is built, and its subcommand
-abbrev top : Shape
+abbrev pub top : Shape
 top = (built gridfs).top
 
 abbrev run_of : List Shape → Shape
@@ -117,7 +117,7 @@ of_long_is_wrong which word (Some p) none =
 
 -- ---- words in turn
 
-abbrev start : Walk
+abbrev pub start : Walk
 start = walk_from nothing_held
 
 -- after `--`
@@ -166,7 +166,7 @@ behind_run (word ∷ words) none = by (bytes_eq word (codes "--")) refl
 
 -- ---- the whole command line
 
-abbrev names : Names
+abbrev pub names : Names
 names = names_of (built gridfs)
 
 -- a first word that is `run`
@@ -174,8 +174,13 @@ run_is_met : (word : Text) → bytes_eq (codes "run") word ≡ true → walked t
 unfolding walked
 run_is_met word is = rw is refl
 
+-- or `order`
+pub order_is_met : walked top.rules names start (codes "order") ≡ record start { stopped = Some (codes "order", []) }
+unfolding walked
+order_is_met = refl
+
 -- the words behind a subcommand are its own
-rest_is_kept : (words : List Text) (name : Text) (own : List Text) (w : Walk) → (fold (walked top.rules names) (record w { stopped = Some (name, own) }) words).stopped ≡ Some (name, own ++ words)
+pub rest_is_kept : (words : List Text) (name : Text) (own : List Text) (w : Walk) → (fold (walked top.rules names) (record w { stopped = Some (name, own) }) words).stopped ≡ Some (name, own ++ words)
 unfolding walked
 rest_is_kept [] name own w = ap (λ ws. Some (name, ws)) (sym (append-nil own))
 rest_is_kept (word ∷ words) name own w = rest_is_kept words name (own ++ word ∷ []) w ∙ ap (λ ws. Some (name, ws)) (append_assoc own (word ∷ []) words)
@@ -188,31 +193,37 @@ at_level s subs h words is_entered under none = let parts = both _ _ none in (pa
 stopped_at : (stop : Option (Text × List Text)) (words : List Text) → stop ≡ Some (codes "run", words) → entered_fault (built gridfs) stop ≡ level_fault (level true) [] nothing_held words false []
 stopped_at stop words is = rw is refl
 
-dashes_alone : (word : Text) → bytes_eq (codes "run") word ≡ false → bytes_eq (codes "help") word ≡ false → bytes_eq word (codes "--") ≡ true → built_fault (built gridfs) nothing_held (word ∷ []) ≡ MissingSubcommand ∷ []
+dashes_alone : (word : Text) → bytes_eq (codes "run") word ≡ false → bytes_eq (codes "order") word ≡ false → bytes_eq (codes "help") word ≡ false → bytes_eq word (codes "--") ≡ true → built_fault (built gridfs) nothing_held (word ∷ []) ≡ MissingSubcommand ∷ []
 unfolding clap_on_literals
-dashes_alone word run help dashes = rw (run, help, dashes) refl
+dashes_alone word run order help dashes = rw (run, order, help, dashes) refl
 
-asks_by : (word : Text) (words : List Text) → built_fault (built gridfs) nothing_held (word ∷ words) ≡ [] → (is_run is_help is_dashes : Bool) → bytes_eq (codes "run") word ≡ is_run → bytes_eq (codes "help") word ≡ is_help → bytes_eq word (codes "--") ≡ is_dashes →
-    (word ∷ words ≡ codes "run" ∷ []) ⊎ (word ∷ words ≡ codes "run" ∷ codes "--" ∷ [])
-asks_by word words none true is_help is_dashes run help dashes =
+-- what the words ask for, that come behind the program's name
+abbrev pub Asks : List Text → Type 0
+Asks words = ((words ≡ codes "run" ∷ []) ⊎ (words ≡ codes "run" ∷ codes "--" ∷ [])) ⊎ ((own : List Text) × (words ≡ codes "order" ∷ own))
+
+asks_by : (word : Text) (words : List Text) → built_fault (built gridfs) nothing_held (word ∷ words) ≡ [] → (is_run is_order is_help is_dashes : Bool) → bytes_eq (codes "run") word ≡ is_run → bytes_eq (codes "order") word ≡ is_order
+    → bytes_eq (codes "help") word ≡ is_help → bytes_eq word (codes "--") ≡ is_dashes → Asks (word ∷ words)
+asks_by word words none true is_order is_help is_dashes run order help dashes =
     let stop = (walk top.rules names nothing_held (word ∷ words)).stopped in
     let stops : stop ≡ Some (codes "run", words) = ap (λ (w : Walk). (fold (walked top.rules names) w words).stopped) (run_is_met word run) ∙ rest_is_kept words (codes "run") [] start in
     let under : level_fault (level true) [] nothing_held words false [] ≡ [] = sym (stopped_at stop words stops) ∙ (at_level _ _ _ _ _ _ none).1 in
     let named : word ≡ codes "run" = sym (same_bytes (codes "run") word run) in
     elim (behind_run words (at_level _ _ _ _ false [] under).0) [
-      | inl no_more ↦ inl (ap₂ (λ w ws. w ∷ ws) named no_more)
-      | inr dashed ↦ inr (ap₂ (λ w ws. w ∷ ws) named dashed)
+      | inl no_more ↦ inl (inl (ap₂ (λ w ws. w ∷ ws) named no_more))
+      | inr dashed ↦ inl (inr (ap₂ (λ w ws. w ∷ ws) named dashed))
     ]
-asks_by word words none false true is_dashes run help dashes =
-    let told : turn_fault top names start word ≡ DisplayHelp ∷ InvalidSubcommand ∷ [] = rw (run, help) refl in
+asks_by word words none false true is_help is_dashes run order help dashes =
+    inr (words, ap (λ (w : Text). w ∷ words) (sym (same_bytes (codes "order") word order)))
+asks_by word words none false false true is_dashes run order help dashes =
+    let told : turn_fault top names start word ≡ DisplayHelp ∷ InvalidSubcommand ∷ [] = rw (run, order, help) refl in
     let nothing = sym told ∙ (turns top names start word words (at_level _ _ _ _ _ _ none).0).0 in
     absurd (cc)
-asks_by word words none false false false run help dashes =
-    absurd (other_is_wrong false names word (rw (run, help) refl) dashes (turns top names start word words (at_level _ _ _ _ _ _ none).0).0)
-asks_by word [] none false false true run help dashes = let nothing = sym (dashes_alone word run help dashes) ∙ none in absurd (cc)
-asks_by word (x ∷ words) none false false true run help dashes =
+asks_by word words none false false false false run order help dashes =
+    absurd (other_is_wrong false names word (rw (run, order, help) refl) dashes (turns top names start word words (at_level _ _ _ _ _ _ none).0).0)
+asks_by word [] none false false false true run order help dashes = let nothing = sym (dashes_alone word run order help dashes) ∙ none in absurd (cc)
+asks_by word (x ∷ words) none false false false true run order help dashes =
     let trail = turns top names start word (x ∷ words) (at_level _ _ _ _ _ _ none).0 in
-    let nothing : x ∷ words ≡ [] = nothing_trails false names (x ∷ words) (ap (λ (w : Walk). walk_fault top names w (x ∷ words)) (sym (dashes_trail false names word (rw (run, help) refl) dashes)) ∙ trail.1) in
+    let nothing : x ∷ words ≡ [] = nothing_trails false names (x ∷ words) (ap (λ (w : Walk). walk_fault top names w (x ∷ words)) (sym (dashes_trail false names word (rw (run, order, help) refl) dashes)) ∙ trail.1) in
     absurd (cc)
 
 -- with no words there is no subcommand
@@ -220,9 +231,9 @@ nothing_is_wrong : built_fault (built gridfs) nothing_held [] ≡ MissingSubcomm
 unfolding clap_on_literals
 nothing_is_wrong = refl
 
-pub asks_to_run : (words : List Text) → faults_in words ≡ [] → AsksToRun words
-asks_to_run words none = by (drop 1 words) none
+pub asks : (words : List Text) → faults_in words ≡ [] → Asks (drop 1 words)
+asks words none = by (drop 1 words) none
   where
-    by : (args : List Text) → built_fault (built gridfs) nothing_held args ≡ [] → (args ≡ codes "run" ∷ []) ⊎ (args ≡ codes "run" ∷ codes "--" ∷ [])
+    by : (args : List Text) → built_fault (built gridfs) nothing_held args ≡ [] → Asks args
     by [] wrong = let nothing = sym nothing_is_wrong ∙ wrong in absurd (cc)
-    by (word ∷ args) right = asks_by word args right (bytes_eq (codes "run") word) (bytes_eq (codes "help") word) (bytes_eq word (codes "--")) refl refl refl
+    by (word ∷ args) right = asks_by word args right (bytes_eq (codes "run") word) (bytes_eq (codes "order") word) (bytes_eq (codes "help") word) (bytes_eq word (codes "--")) refl refl refl refl

@@ -1,2 +1,5 @@
 pub mod Faults
 pub mod Asking
+pub mod Naming
+pub mod Ordering
+pub mod Programming

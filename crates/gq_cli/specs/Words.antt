@@ -1,19 +1,37 @@
 -- What the words of a command line ask for, by the rules that clap states for its commands.
-use Rattle.std.specs.Prelude.{◌≡◌, ◌⊎◌, ◌∷◌, ⊤, List, [], true, codes, drop}
+use Rattle.std.specs.Prelude.{◌≡◌, ◌≢◌, ◌⊎◌, ◌∷◌, ⊤, List, [], Option, Some, true, pos, codes, drop}
 use Rattle.clap.specs.Faults.{fault_of}
 use Rattle.clap.specs.Kinds.{IsAmong, Kinds}
-use Rattle.clap.specs.Simple.{App, new_app, new_shape, on_top, with_subcommand}
+use Rattle.clap.specs.Simple.{App, Shape, new_app, new_rule, new_shape, on_top, with_subcommand}
 use Rattle.clap.specs.Values.{kind_of}
-use Rattle.clap.specs.Walk.{Text}
+use Rattle.clap.specs.Walk.{Rule, Text}
+use Rattle.clap.specs.declared.builder.action.ArgAction.TheVariants.{Set}
+use Rattle.clap.specs.declared.builder.value_parser.ValueParser.TheVariants.{Signed}
 use Rattle.clap.specs.declared.error.kind.ErrorKind.{ErrorKind}
+use Rattle.gq_cli.specs.declared.words.Request.{Request}
+use Rattle.gq_cli.specs.declared.words.Request.TheVariants.{Run, Order}
 use Rattle.gq_cli.specs.declared.words.Usage.{Usage}
 use Rattle.gq_cli.specs.declared.words.Usage.TheVariants.{Shown, Memory}
 
--- the command line: `gridfs`, which has a version and wants its one subcommand `run`
+-- the subcommand `run`, which takes no word
+abbrev pub run_shape : Shape
+run_shape = new_shape (codes "run")
+
+-- the subcommand `order`, which takes a name and two numbers below 2^32, each of which has to be given
+abbrev pub name_rule : Rule
+name_rule = record (new_rule (codes "NAME")) { required = true; action = Some Set }
+
+abbrev pub number_rule : Text → Rule
+number_rule id = record (new_rule id) { required = true; action = Some Set; parser = Some (Signed (pos 0) (pos 4294967295)) }
+
+abbrev pub order_shape : Shape
+order_shape = record (new_shape (codes "order")) { rules = name_rule ∷ number_rule (codes "VOLUME") ∷ number_rule (codes "FILE") ∷ [] }
+
+-- the command line: `gridfs`, which has a version and wants one of its subcommands
 abbrev pub gridfs : App
-gridfs = with_subcommand
+gridfs = with_subcommand (with_subcommand
     (on_top (λ top. record top { has_version = true; subcommand_required = true }) (new_app (codes "gridfs")))
-    (new_shape (codes "run"))
+    run_shape) order_shape
 
 -- what is wrong with the words, the program's name first; a call for help or for the version counts
 abbrev pub faults_in : List Text → Kinds
@@ -22,6 +40,20 @@ faults_in words = fault_of gridfs words
 -- the words behind the program's name ask to run: `run`, behind which `--` may end the options
 abbrev pub AsksToRun : List Text → Type 0
 AsksToRun words = (drop 1 words ≡ codes "run" ∷ []) ⊎ (drop 1 words ≡ codes "run" ∷ codes "--" ∷ [])
+
+-- they ask for the order of a file's operations: `order`, behind which come its own words
+abbrev pub AsksToOrder : List Text → Type 0
+AsksToOrder words = (own : List Text) × (drop 1 words ≡ codes "order" ∷ own)
+
+-- what was asked for is what the words ask for
+abbrev pub IsAskedBy : List Text → Request → Type 0
+IsAskedBy words Run = AsksToRun words
+IsAskedBy words (Order name volume file) = AsksToOrder words
+
+-- what is asked for is that of the subcommand of this name
+abbrev pub IsOf : Option Text → Request → Type 0
+IsOf name Run = name ≢ Some (codes "order")
+IsOf name (Order tenant volume file) = name ≡ Some (codes "order")
 
 -- the text shown is about what is wrong with the words
 abbrev pub ShownFor : List Text → Usage → Type 0

@@ -1,6 +1,10 @@
 //! The command line of the program.
 #![tactic(auto)]
 
+mod order;
+mod programs;
 mod words;
 
+pub use order::{OrderFault, order_run};
+pub use programs::{ProgramFault, read_programs};
 pub use words::{Request, Usage, read_words};

@@ -1,20 +1,28 @@
 //! From the words of a command line to what they ask for.
 
-ghost use Rattle.std.specs.Prelude.{◌≡◌, ◌∷◌, [], codes, IfOk, IfErr, IsErrAnd};
+ghost use Rattle.std.specs.Prelude.{◌≡◌, ◌∷◌, [], false, codes, IfOk, IfErr, IsErrAnd};
+ghost use Rattle.clap.specs.Matches.{subcommand_name_of};
 ghost use Rattle.clap.specs.Simple.{app_of};
+ghost use Rattle.clap.specs.Walk.{rule_of};
 ghost use Rattle.clap.specs.Walk.{Text, texts};
 ghost use Rattle.clap.specs.declared.error.kind.ErrorKind.TheVariants.{DisplayHelp, DisplayVersion};
-ghost use Rattle.gq_cli.specs.Words.{AsksToRun, IsMemory, ShownFor, Shows, gridfs};
+ghost use Rattle.gq_cli.specs.Words.{AsksToRun, IsAskedBy, IsMemory, IsOf, ShownFor, Shows, gridfs, name_rule, number_rule};
 
 use clap::error::ErrorKind;
-use clap::{Command, Error};
+use clap::{Arg, ArgAction, ArgMatches, Command, Error};
 use std::alloc::{AllocError, Global};
 
 /// What a command line asks for.
 #[derive(Clone, Copy, Debug, PartialEq, Eq)]
-pub enum Request {
+pub enum Request<'a> {
     /// Answer the lines of a script.
     Run,
+    /// The same, and tell the order of the operations on a file of the tenant of this name.
+    Order {
+        name: &'a str,
+        volume: u32,
+        file: u32,
+    },
 }
 
 /// Why the words of a command line ask for nothing to be run.
@@ -72,6 +80,43 @@ Each line after `go` is answered by one line on standard output. A fault of the 
 with the number of the line, and nothing is written. docs/FORMATS.md has all forms of input and output, the refusals and the
 limits.";
 
+const ORDER: &str = "\
+Behind the answers of `gridfs run` come a line for each operation on the file, in an order that keeps precedence and in which
+a single register gives the same answers, and the word `legal`: this execution was linearizable.
+
+    write SESSION OP HEX        the session's operation of this number wrote this content
+    read SESSION OP HEX         it read this content
+    row SESSION OP LENGTH       it was a listing, and told that the file has this many bytes
+
+Writes that did not end stand in it where a read or a listing told of them. A file of which nothing was asked has no such
+line. On the script of `gridfs run --help`, `gridfs order ann 0 0` writes behind the answers:
+
+    write 1 1 6869
+    legal";
+
+// A whole number that has to be given.
+fn number<'a>(alloc: Global, id: &'a str, help: &'a str) -> Arg<'a>
+    ensures rule { rule_of result ≡ number_rule id.entry.now }
+    ensures local { result.global ≡ false }
+{
+    Arg::new(alloc, id)
+        .required(true)
+        .action(ArgAction::Set)
+        .value_parser(clap::value_parser!(u32))
+        .help(help)
+}
+
+// The tenant's name, which has to be given.
+fn name<'a>(alloc: Global) -> Arg<'a>
+    ensures rule { rule_of result ≡ name_rule }
+    ensures local { result.global ≡ false }
+{
+    Arg::new(alloc, "NAME")
+        .required(true)
+        .action(ArgAction::Set)
+        .help("The tenant's name")
+}
+
 // The command line.
 fn command<'a>(alloc: Global) -> Result<Command<'a>, AllocError>
     ensures app { IfOk result (λ c. app_of c ≡ gridfs) }
@@ -81,22 +126,45 @@ fn command<'a>(alloc: Global) -> Result<Command<'a>, AllocError>
             "Read a script from standard input, and write one line of answer for each of its lines",
         )
         .after_help(INPUT);
-    Command::new(alloc, "gridfs")
+    let order = Command::new(alloc, "order")
+        .about("The same, and behind it the order of the operations on a file of the tenant")
+        .after_help(ORDER)
+        .arg(name(alloc))?
+        .arg(number(alloc, "VOLUME", "The number of the tenant's volume, from 0"))?
+        .arg(number(alloc, "FILE", "The number of the volume's file, from 0"))?;
+    let gridfs = Command::new(alloc, "gridfs")
         .about(
             "A replicated file service for many tenants: each is told what its run alone would tell",
         )
         .version(VERSION)
         .after_help(INPUT)
         .subcommand_required(true)
-        .subcommand(run)
+        .subcommand(run)?
+        .subcommand(order)?;
+    Ok(gridfs)
+}
+
+// What a parse of the words found. clap has refused words of `order` that leave one of the three out, or that give a number
+// in another form.
+fn request_of<'a>(matches: &ArgMatches<'a>) -> Request<'a>
+    ensures { IsOf (subcommand_name_of matches.now) result }
+{
+    let Some(order) = matches.subcommand_matches("order") else {
+        return Request::Run;
+    };
+    Request::Order {
+        name: order.get_str("NAME").unwrap_or(""),
+        volume: order.get_one::<u32>("VOLUME").unwrap_or(0),
+        file: order.get_one::<u32>("FILE").unwrap_or(0),
+    }
 }
 
 /// Reads the words of a command line, of which the first is the program's name. Words that ask for help or for the version,
 /// or that are no request, give the text to show, whose exit status is its own (0 where it was asked for, else 2); where
 /// memory is wanting, that is told before any text. Behind `run` no word may come but `--`, by which clap ends the options.
-pub fn read_words<'a>(alloc: Global, words: &'a [&'a str]) -> Result<Request, Usage>
-    ensures run { IfOk result (λ _. AsksToRun (texts words.entry.now)) }
-    ensures asked { AsksToRun (texts words.entry.now) → IfErr result IsMemory }
+pub fn read_words<'a>(alloc: Global, words: &'a [&'a str]) -> Result<Request<'a>, Usage>
+    ensures request { IfOk result (IsAskedBy (texts words.entry.now)) }
+    ensures run { AsksToRun (texts words.entry.now) → IfErr result IsMemory }
     ensures shown { IfErr result (ShownFor (texts words.entry.now)) }
     ensures help { (program : Text) → texts words.entry.now ≡ program ∷ codes "--help" ∷ [] → IsErrAnd result (Shows DisplayHelp) }
     ensures version { (program : Text) → texts words.entry.now ≡ program ∷ codes "--version" ∷ [] → IsErrAnd result (Shows DisplayVersion) }
@@ -105,7 +173,7 @@ pub fn read_words<'a>(alloc: Global, words: &'a [&'a str]) -> Result<Request, Us
         return Err(Usage::Memory);
     };
     match command.try_get_matches_from(words) {
-        Ok(_) => Ok(Request::Run),
+        Ok(matches) => Ok(request_of(&matches)),
         Err(error) => {
             if error.kind() == ErrorKind::OutOfMemory {
                 Err(Usage::Memory)

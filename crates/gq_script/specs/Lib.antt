@@ -7,6 +7,7 @@ pub mod Pieces
 pub mod QuorumText
 pub mod Watched
 pub mod Out
+pub mod Seeing
 pub mod Steps
 pub mod Laws
 pub mod Alone

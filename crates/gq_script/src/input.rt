@@ -212,12 +212,12 @@ pub fn read_line(alloc: Global, line: &[u8], plan: &Plan) -> Result<Event, Alloc
     ensures within { IfOk result (λ event. IsIn plan.now event) }
 {
     let (first, rest) = first_word(line);
-    read_words(alloc, first, rest, plan)
+    read_cut_line(alloc, first, rest, plan)
 }
 
-// The event of a line's first word and the text after it.
+/// The event of a line that is cut behind its first word, as [`read_line`] reads it.
 #[tactic(auto, unfolding(crate::specs::Input::event_of_words))]
-pub fn read_words(
+pub fn read_cut_line(
     alloc: Global,
     first: &[u8],
     rest: &[u8],

@@ -16,7 +16,9 @@ mod words;
 
 pub use canonical::write_script;
 pub use input::read_line;
+pub use lines::first_line;
 pub use output::write_answer;
+pub use pieces::{Piece, put_words};
 pub use plan_text::{PlanText, TextFault, read_plan};
-pub use script::{MOST_INPUT, RunFault, run};
+pub use script::{Answered, MOST_INPUT, RunFault, answer_lines, read_whole, run, write_whole};
 pub use watched::Watched;

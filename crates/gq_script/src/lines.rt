@@ -7,7 +7,7 @@ use crate::near::near;
 use crate::words::first_word;
 use memchr::memchr;
 
-// The first line of a text without its newline, and what follows it.
+/// The first line of a text without its newline, and what follows it. The text is not empty.
 pub fn first_line(text: &[u8]) -> (&[u8], &[u8])
     requires { 0 < length text.now }
     ensures lines { lines_of text.now ≡ result.0.now ∷ lines_of result.1.now }
@@ -20,7 +20,7 @@ pub fn first_line(text: &[u8]) -> (&[u8], &[u8])
     }
 }
 
-// The first line of a text, cut behind its first word, and what follows the line.
+/// The first line of a text that is not empty, cut behind its first word, and what follows the line.
 #[inline(always)]
 pub fn cut_line(text: &[u8]) -> (&[u8], &[u8], &[u8])
     requires { 0 < length text.now }

@@ -215,7 +215,7 @@ fn put_line(
 
 // Appends the line of a chosen quorum, whose words are put together only where they are not those of the last one.
 #[tactic(auto, unfolding(crate::specs::Output::told_words))]
-pub fn put_quorum_line(
+fn put_quorum_line(
     out: &mut Vec<u8>,
     plan: &Plan,
     event: &Event,
@@ -253,4 +253,26 @@ pub fn write_answer(
         out.truncate(start);
     }
     done
+}
+
+/// As [`write_answer`], of one answer after another: the words of a quorum are put together only where they are not those of
+/// the last one. After want of memory a part of the line may have been appended.
+#[inline(always)]
+pub fn write_next_answer(
+    plan: &Plan,
+    event: &Event,
+    answer: &Answer,
+    last: &mut QuorumText,
+    out: &mut Vec<u8>,
+) -> Result<(), AllocError>
+    requires event { IsIn plan.now event.now }
+    requires grid { last.old.grid ≡ plan.now.grid }
+    ensures grid { last.new.grid ≡ last.old.grid }
+    ensures ok { OnOk result (out.new.items ≡
+        out.old.items ++ answer_line plan.now event.now (shown answer.now)) }
+{
+    match answer {
+        Answer::Quorum(choice) => put_quorum_line(out, plan, event, *choice, last),
+        _ => put_line(out, plan, event, answer),
+    }
 }

@@ -15,17 +15,24 @@ use gq_tag::Tag;
 use itoa::Buffer;
 use std::alloc::AllocError;
 
-// Words of an answer.
+/// Words of a line of output.
 #[derive(Clone, Copy)]
 pub enum Piece<'a> {
+    /// A word as it is, or several with their spaces.
     Text(&'a [u8]),
+    /// A number in decimal digits.
     Number(u64),
+    /// `tag`, its number and its session.
     OfTag(Tag),
-    // the first number, and how many there are
+    /// The numbers of the first and the last of so many messages, or `none`: the first number, and how many there are.
     Range(u64, u32),
+    /// A content in hexadecimal, `-` where it is empty.
     Content(&'a [u8]),
+    /// The servers of a set in rising number.
     Servers(&'a Grid, ServerSet),
+    /// Each volume as `FILESxBLOCKS`.
     Volumes(&'a [VolumeRow]),
+    /// Each file of a listing as `LENGTH:NUMBER.SESSION`.
     Files(&'a [Row]),
 }
 
@@ -232,7 +239,8 @@ fn put_pieces(out: &mut Vec<u8>, pieces: &[Piece]) -> Result<(), AllocError>
     Ok(())
 }
 
-// Appends the words of pieces, and a newline.
+/// Appends the words of the pieces, each after one space, and a newline. After want of memory a part of them may have been
+/// appended.
 #[inline(always)]
 pub fn put_words(out: &mut Vec<u8>, pieces: &[Piece]) -> Result<(), AllocError>
     ensures ok { OnOk result (out.new.items ≡ out.old.items ++ ended (flat_map words_in pieces.now)) }

@@ -1,16 +1,17 @@
 //! A whole script, from a reader to a writer.
 
-ghost use Rattle.std.specs.Prelude.{◌≡◌, ◌≢◌, ◌↔◌, ◌+◌, ◌<◌, ◌≤◌, ◌++◌, [], ◌∷◌, List, true, false, length, vec_len, IfOk, IfErr, IfSome, OnOk, OnErr, IsOk, IsErrOf};
+ghost use Rattle.std.specs.Prelude.{◌≡◌, ◌≢◌, ◌↔◌, ◌+◌, ◌<◌, ◌≤◌, ◌++◌, [], ◌∷◌, List, true, false, length, vec_len, map, if◌then◌else◌, IfOk, IfErr, IfSome, OnOk, OnErr, IsOk, IsErrOf};
 ghost use Rattle.std.specs.Io.KnownBytes.{Appends, IsAtEnd};
 
-use crate::input::read_words;
+use crate::input::read_cut_line;
 use crate::lines::cut_line;
-use crate::output::{put_quorum_line, write_answer};
+use crate::output::write_next_answer;
 use crate::plan_text::{PlanText, TextFault, read_plan};
 use crate::quorum_text::QuorumText;
 use crate::watched::Watched;
 use gq_desk::Plan;
-use gq_world::{Answer, World};
+use gq_inspect::sees;
+use gq_world::{Answer, Event, World};
 use std::alloc::{AllocError, Global};
 use std::io::{Read, Write};
 use thiserror::Error;
@@ -38,13 +39,11 @@ pub enum RunFault {
 /// The most bytes that an input may have.
 pub const MOST_INPUT: usize = 16_777_216;
 
-ghost use Rattle.gq_model.specs.Events.{answer_to};
 ghost use Rattle.gq_world.specs.Tables.{Stands};
-ghost use Rattle.gq_model.specs.declared.events.Event.{Event};
-ghost use Rattle.gq_script.specs.Input.{event_of_words};
+ghost use Rattle.gq_inspect.specs.Runs.{IsRun};
+ghost use Rattle.gq_script.specs.Input.{event_of};
 ghost use Rattle.gq_script.specs.Lines.{lines_of};
-ghost use Rattle.gq_script.specs.Words.{words_after};
-ghost use Rattle.gq_script.specs.Output.{answer_line};
+ghost use Rattle.gq_script.specs.Seeing.{is_seen, seen_events};
 ghost use Rattle.gq_script.specs.PlanText.{plan_of};
 ghost use Rattle.gq_script.specs.Out.{joined, output_lines, out, IsAccepted, IsPlanFaultOf};
 ghost use Rattle.gq_script.specs.Steps.{IsReadingFault, IsFaultOfLines};
@@ -102,8 +101,9 @@ fn blank(alloc: Global, size: usize) -> Result<Vec<u8>, RunFault>
     }
 }
 
-// Reads all there is.
-fn read_whole<R: Read>(alloc: Global, reader: &mut Watched<R>) -> Result<Vec<u8>, RunFault>
+/// Reads all that the reader has, at most [`MOST_INPUT`] bytes, in at most 16,777,218 turns. The faults are `Read`, after
+/// which the reader has failed, `TooBig` and `Memory`; what was read then is gone.
+pub fn read_whole<R: Read>(alloc: Global, reader: &mut Watched<R>) -> Result<Vec<u8>, RunFault>
     requires { has_failed reader.old ≡ false }
     ensures all { IfOk result (λ v. IfSome (R.remaining (inner_of reader.old)) (λ xs. v.items ≡ xs)) }
     ensures bound { IfOk result (λ v. vec_len v ≤ MOST_INPUT) }
@@ -126,48 +126,81 @@ fn read_whole<R: Read>(alloc: Global, reader: &mut Watched<R>) -> Result<Vec<u8>
     unreachable!()
 }
 
-// Answers one line, cut behind its first word, and appends the answer.
-fn answer_line(
+/// What was answered to lines: the text of the answers, and the events that one tenant saw with their answers.
+#[derive(Drop)]
+pub struct Answered {
+    pub text: Vec<u8>,
+    pub events: Vec<Event>,
+    pub answers: Vec<Answer>,
+}
+
+// Keeps an event and its answer where the tenant, if there is one, sees it.
+#[inline(always)]
+fn keep(
+    tenant: Option<u8>,
+    event: Event,
+    answer: Answer,
+    events: &mut Vec<Event>,
+    answers: &mut Vec<Answer>,
+) -> Result<(), AllocError>
+    ensures events { OnOk result (events.new.items ≡ events.old.items ++ seen_events tenant (event ∷ [])) }
+    ensures answers { OnOk result (answers.new.items ≡
+        (if is_seen tenant event then answers.old.items ++ answer ∷ [] else answers.old.items)) }
+{
+    let Some(tenant) = tenant else {
+        return Ok(());
+    };
+    if sees(tenant, &event) {
+        events.push(event)?;
+        answers.push(answer)?;
+    }
+    Ok(())
+}
+
+/// Answers the lines of a text after the plan, by a new world. Of the events those are kept that the tenant sees, where one
+/// is given: its own lines and the server lines, which are a run by themselves. What is kept takes memory for each of them.
+pub fn answer_lines(
     alloc: Global,
     world: &mut World,
-    first: &[u8],
-    rest: &[u8],
-    quorum: &mut QuorumText,
-    text: &mut Vec<u8>,
-) -> Result<(), AllocError>
-    requires { quorum.old.grid ≡ world.old.tables.plan.grid }
-    ensures grid { quorum.new.grid ≡ quorum.old.grid }
+    lines: &[u8],
+    tenant: Option<u8>,
+) -> Result<Answered, AllocError>
+    requires { Stands world.old.tables [] }
     ensures plan { world.new.tables.plan ≡ world.old.tables.plan }
-    ensures stands { OnOk result ((events : List Event) → Stands world.old.tables events →
-        Stands world.new.tables (events ++ event_of_words world.old.tables.plan (first.now ∷ words_after rest.now) ∷ [])) }
-    ensures written { OnOk result ((events : List Event) → Stands world.old.tables events →
-        text.new.items ≡ text.old.items ++ answer_line world.old.tables.plan (event_of_words world.old.tables.plan (first.now ∷ words_after rest.now))
-        (answer_to world.old.tables.plan events (event_of_words world.old.tables.plan (first.now ∷ words_after rest.now)))) }
+    ensures text { IfOk result (λ told. told.text.items ≡ joined (output_lines world.old.tables.plan (lines_of lines.now))) }
+    ensures events { IfOk result (λ told. told.events.items ≡
+        seen_events tenant (map (event_of world.old.tables.plan) (lines_of lines.now))) }
+    ensures run { IfOk result (λ told. IsRun world.old.tables.plan told.events.items told.answers.items) }
 {
-    let event = read_words(alloc, first, rest, world.plan())?;
-    match world.step(&event) {
-        Ok(Answer::Quorum(choice)) => {
-            put_quorum_line(text, world.plan(), &event, choice, quorum)
-        }
-        Ok(answer) => write_answer(world.plan(), &event, &answer, text),
-        Err(_) => Err(AllocError),
+    let mut events = Vec::new(alloc);
+    let mut answers = Vec::new(alloc);
+    let mut text = Vec::new(alloc);
+    let mut quorum = QuorumText::new(alloc, *world.plan().grid());
+    let mut rest = lines;
+    while !rest.is_empty() {
+        let (first, words, after) = cut_line(rest);
+        let event = read_cut_line(alloc, first, words, world.plan())?;
+        let Ok(answer) = world.step(&event) else {
+            return Err(AllocError);
+        };
+        write_next_answer(world.plan(), &event, &answer, &mut quorum, &mut text)?;
+        keep(tenant, event, answer, &mut events, &mut answers)?;
+        rest = after;
     }
+    Ok(Answered {
+        text,
+        events,
+        answers,
+    })
 }
 
 // The answers to the lines of a text after the plan.
 fn answers(alloc: Global, plan: Plan, lines: &[u8]) -> Result<Vec<u8>, AllocError>
     ensures { IfOk result (λ text. text.items ≡ joined (output_lines plan (lines_of lines.now))) }
 {
-    let mut text = Vec::new(alloc);
-    let mut quorum = QuorumText::new(alloc, *plan.grid());
     let mut world = World::new(alloc, plan)?;
-    let mut rest = lines;
-    while !rest.is_empty() {
-        let (first, words, after) = cut_line(rest);
-        answer_line(alloc, &mut world, first, words, &mut quorum, &mut text)?;
-        rest = after;
-    }
-    Ok(text)
+    let told = answer_lines(alloc, &mut world, lines, None)?;
+    Ok(told.text)
 }
 
 // The output of an input.
@@ -186,8 +219,9 @@ fn output(alloc: Global, input: &[u8]) -> Result<Vec<u8>, RunFault>
     }
 }
 
-// Writes the text by a loop over `write`.
-fn write_whole<W: Write>(writer: &mut Watched<W>, text: &[u8]) -> Result<(), RunFault>
+/// Writes the whole text by a loop over `write`. The fault is `Write`: the writer has failed, and a prefix of the text was
+/// written. A writer that buffers is flushed by the caller.
+pub fn write_whole<W: Write>(writer: &mut Watched<W>, text: &[u8]) -> Result<(), RunFault>
     requires { has_failed writer.old ≡ false }
     ensures ok { OnOk result (Appends (W.contents (inner_of writer.old))
         (W.contents (inner_of writer.new)) text.now) }

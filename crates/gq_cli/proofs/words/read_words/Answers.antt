@@ -1,19 +1,28 @@
-use Rattle.std.proofs.Common.{rules, inl, inr, ap, sym, subst, ◌∙◌, ◌≡◌, []}
-use Rattle.clap.specs.Kinds.{IsAmong, Kinds}
+use Rattle.std.proofs.Common.{rules, inl, inr, ap, sym, subst, ◌∙◌, ◌≡◌, ◌≢◌, []}
+use Rattle.clap.specs.Faults.{fault_of, is_simple_and_free}
+use Rattle.clap.specs.Kinds.{HasKind, IsAmong, Kinds}
+use Rattle.clap.specs.Simple.{App, HasMatchesOf}
 use Rattle.clap.specs.Values.{kind_of}
 use Rattle.clap.specs.Walk.{texts}
+use Rattle.clap.specs.declared.error.kind.ErrorKind.TheVariants.{OutOfMemory}
 use Rattle.gq_cli.specs.Words.{faults_in}
-use Rattle.gq_cli.proofs.Asking.{asks_to_run}
+use Rattle.gq_cli.proofs.Asking.{asks}
+use Rattle.gq_cli.proofs.Naming.{asked_by, found_is_named, rules_are_exact}
 use Rattle.gq_cli.proofs.Faults.{asked_is_right, help_is_shown, version_is_shown}
 use Rattle.gq_cli.proofs.words.read_words.Goals as goal
 
 -- clap found nothing wrong
-right : (c : goal.Joined-try_get_matches_from-2) → faults_in (texts c.args.words.now) ≡ []
-right c = search rules
+right : (c : goal.Joined-matches) → faults_in (texts c.args.words.now) ≡ []
+right c =
+    let is = c.in-Ok.ensures.app in
+    subst (λ (a : App). fault_of a (texts c.args.words.now) ≡ []) is (c.in-Ok-try_get_matches_from.ensures.kinds (ap is_simple_and_free is ∙ rules_are_exact))
 
-pub returns-in-Ok-try_get_matches_from-clause-run :
-    goal.returns-in-Ok-try_get_matches_from-clause-run
-returns-in-Ok-try_get_matches_from-clause-run c = asks_to_run (texts c.args.words.now) (right c)
+pub returns-in-Ok-try_get_matches_from-clause-request :
+    goal.returns-in-Ok-try_get_matches_from-clause-request
+returns-in-Ok-try_get_matches_from-clause-request c =
+    let words = texts c.args.words.now in
+    asked_by words _ c.request_of.result (asks words (right c))
+    (found_is_named words _ (subst (λ (a : App). HasMatchesOf a words c.in-Ok-try_get_matches_from.matches) c.in-Ok.ensures.app c.in-Ok-try_get_matches_from.ensures.matches)) c.request_of.ensures
 
 pub returns-in-Ok-try_get_matches_from-clause-help :
     goal.returns-in-Ok-try_get_matches_from-clause-help
@@ -25,8 +34,14 @@ returns-in-Ok-try_get_matches_from-clause-help c program is =
 among : (c : goal.Else-eq) (kinds : Kinds) → faults_in (texts c.args.words.now) ≡ kinds
     → IsAmong (kind_of c.in-Err.error) kinds
 among c kinds have =
-    let shown : IsAmong (kind_of c.in-Err.error) (faults_in (texts c.args.words.now)) = search rules in
-    subst (IsAmong (kind_of c.in-Err.error)) have shown
+    let is = c.in-Ok.ensures.app in
+    let shown : HasKind (faults_in (texts c.args.words.now)) c.in-Err.error =
+    subst (λ (a : App). HasKind (fault_of a (texts c.args.words.now)) c.in-Err.error) is (c.in-Err.ensures.kinds (ap is_simple_and_free is ∙ rules_are_exact)) in
+    let apart : kind_of c.in-Err.error ≢ OutOfMemory = search rules in
+    elim (subst (λ (k : Kinds). HasKind k c.in-Err.error) have shown) [
+      | inl wanting ↦ absurd (apart wanting)
+      | inr is ↦ is
+    ]
 
 pub returns-in-Ok-try_get_matches_from-clause-version :
     goal.returns-in-Ok-try_get_matches_from-clause-version
@@ -34,8 +49,8 @@ returns-in-Ok-try_get_matches_from-clause-version c program is =
     let wrong = sym (version_is_shown program) ∙ sym (ap faults_in is) ∙ right c in
     absurd (cc)
 
-pub returns-clause-asked : goal.returns-clause-asked
-returns-clause-asked c asked = among c [] (asked_is_right (texts c.args.words.now) asked)
+pub returns-clause-run : goal.returns-clause-run
+returns-clause-run c asked = among c [] (asked_is_right (texts c.args.words.now) asked)
 
 pub returns-clause-help : goal.returns-clause-help
 returns-clause-help c program are = elim (among c _ (ap faults_in are ∙ help_is_shown program)) [

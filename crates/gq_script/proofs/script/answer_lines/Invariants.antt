@@ -1,12 +1,12 @@
 use Rattle.std.proofs.Common.{◌≡◌, length}
 use Rattle.gq_script.specs.Lines.{lines_of}
-use Rattle.gq_script.proofs.Answering.{Answers}
-use Rattle.gq_script.proofs.script.answers.Given as goal
+use Rattle.gq_script.proofs.Answering.{Keeps}
+use Rattle.gq_script.proofs.script.answer_lines.Given as goal
 
 abbrev pub invariant-loop-rest : goal.invariant-loop-rest
 invariant-loop-rest l = record {
   grid : l.quorum.grid ≡ l.world.tables.plan.grid;
-  answers : Answers l.fn.plan l.world.tables l.text.items (lines_of l.rest) (lines_of l.lines);
+  kept : Keeps l.fn.world.tables.plan l.tenant l.world.tables l.events.items l.answers.items l.text.items (lines_of l.rest) (lines_of l.fn.lines);
 }
 
 abbrev pub decreases-loop-rest : goal.decreases-loop-rest

@@ -1,0 +1,60 @@
+-- Which subcommand the words name.
+use Rattle.std.proofs.Common.{refl, codes, true, Option, Some, None, List, ◌≡◌, ◌∙◌, [], ◌∷◌, ap, sym, inl, inr}
+use Rattle.std.specs.Prelude.{drop, fold, option_map}
+use Rattle.clap.specs.Faults.{is_simple_and_free}
+use Rattle.clap.specs.Matches.{subcommand_name_of}
+use Rattle.clap.specs.Simple.{HasMatchesOf, built, entered, subcommand_of}
+use Rattle.clap.specs.declared.parser.matches.ArgMatches.{ArgMatches}
+use Rattle.clap.specs.Walk.{Row, Text, Walk, nothing_held, walk, walked}
+use Rattle.clap.proofs.OnLiterals.{clap_on_literals}
+use Rattle.gq_cli.specs.declared.words.Request.{Request}
+use Rattle.gq_cli.specs.declared.words.Request.TheVariants.{Run, Order}
+use Rattle.gq_cli.specs.Words.{AsksToRun, AsksToOrder, IsAskedBy, IsOf, gridfs}
+use Rattle.gq_cli.proofs.Asking.{Asks, names, order_is_met, rest_is_kept, start, top}
+
+-- the name of a subcommand with its matches
+abbrev first_part : Text × List Row → Text
+first_part p = p.0
+
+-- that of the subcommand that the words name
+abbrev pub named : List Text → Option Text
+named words = option_map first_part (subcommand_of gridfs words)
+
+abbrev named_by : List Text → Option Text
+named_by args = option_map first_part (entered (built gridfs) (walk top.rules names nothing_held args).stopped)
+
+-- the rules that clap states are exact for this command line
+pub rules_are_exact : is_simple_and_free gridfs ≡ true
+rules_are_exact = refl
+
+pub run_is_named : (words : List Text) → AsksToRun words → named words ≡ Some (codes "run")
+unfolding clap_on_literals
+run_is_named words (inl is) = ap named_by is ∙ alone
+  where
+    alone : named_by (codes "run" ∷ []) ≡ Some (codes "run")
+    alone = refl
+run_is_named words (inr is) = ap named_by is ∙ dashed
+  where
+    dashed : named_by (codes "run" ∷ codes "--" ∷ []) ≡ Some (codes "run")
+    dashed = refl
+
+pub order_is_named : (words : List Text) → AsksToOrder words → named words ≡ Some (codes "order")
+order_is_named words (own, is) = ap named_by is ∙ ap (λ stop. option_map first_part (entered (built gridfs) stop)) stops
+  where
+    stops : (walk top.rules names nothing_held (codes "order" ∷ own)).stopped ≡ Some (codes "order", own)
+    stops = ap (λ (w : Walk). (fold (walked top.rules names) w own).stopped) order_is_met ∙ rest_is_kept own (codes "order") [] start
+
+name_of_rows : {X : Type 0} (name : X → Text) (rows : X → List Row) (o : Option X) → option_map name o ≡ option_map first_part (option_map (λ x. (name x, rows x)) o)
+name_of_rows name rows None = refl
+name_of_rows name rows (Some x) = refl
+
+-- what clap found is what the words name
+pub found_is_named : (words : List Text) (m : ArgMatches) → HasMatchesOf gridfs words m → subcommand_name_of m ≡ named words
+found_is_named words m is = name_of_rows _ _ _ ∙ ap (option_map first_part) (is refl).1
+
+-- what is asked for, by what the words name
+pub asked_by : (words : List Text) (name : Option Text) (request : Request) → Asks (drop 1 words) → name ≡ named words → IsOf name request → IsAskedBy words request
+asked_by words name Run (inl run) is other = run
+asked_by words name Run (inr order) is other = absurd (other (is ∙ order_is_named words order))
+asked_by words name (Order tenant volume file) (inl run) is same = let apart : Some (codes "run") ≡ Some (codes "order") = sym (run_is_named words run) ∙ (sym is ∙ same) in absurd (cc)
+asked_by words name (Order tenant volume file) (inr order) is same = order
