@@ -1,0 +1,4 @@
+pub mod Growing
+pub mod Later
+pub mod Beginning
+pub mod Boarding

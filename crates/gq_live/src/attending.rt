@@ -1,0 +1,205 @@
+//! A session's thread.
+ghost use Rattle.gq_session.specs.Faults.{NoGate};
+
+use crate::starts::{Mailboxes, Note, Seat};
+use crossbeam_channel::{Receiver, Sender};
+use gq_cell::Letter;
+use gq_grid::Grid;
+use gq_session::{Agenda, LiveFault, Outbox, Session};
+use std::alloc::Global;
+use std::sync::{Mutex, Wait};
+
+/// What a session's thread gives back: its place among all sessions, with the session.
+#[derive(Drop)]
+pub(crate) struct Attendance {
+    pub place: usize,
+    pub session: Session,
+}
+
+/// How a session's thread ended. Its fault is not the gate's.
+#[derive(Drop)]
+pub(crate) struct SessionEnd {
+    pub result: Result<Attendance, LiveFault>,
+    pub ghost no_gate: { NoGate result },
+}
+
+// Sends the letters of a step. One to a closed mailbox is dropped.
+fn send_all<R: Wait>(rt: &R, servers: &[Sender<Letter>], outbox: Outbox) {
+    let Outbox {
+        stamp,
+        messages,
+        ..
+    } = outbox;
+    for (index, message) in messages.into_iter().enumerate() {
+        let (Some(to), Ok(index)) = (servers.get(message.server as usize), u32::try_from(index))
+        else {
+            break;
+        };
+        let letter = Letter {
+            place: 0,
+            stamp,
+            index,
+            message,
+        };
+        let _ = to.send(rt, letter);
+    }
+}
+
+// One hold of the board's lock, in which a letter is heard.
+fn hear<R: Wait>(
+    rt: &R,
+    agenda: &Mutex<Agenda>,
+    session: &mut Session,
+    letter: Letter,
+) -> Result<Outbox, LiveFault>
+    ensures { NoGate result }
+{
+    let mut board = agenda.lock(rt);
+    let heard = session.hear(&mut *board, letter);
+    drop(board);
+    heard
+}
+
+// One hold, in which the round's message is sent once more.
+fn retry<R: Wait>(
+    rt: &R,
+    agenda: &Mutex<Agenda>,
+    session: &mut Session,
+) -> Result<Outbox, LiveFault>
+    ensures { NoGate result }
+{
+    let mut board = agenda.lock(rt);
+    let sent = session.retry(&mut *board);
+    drop(board);
+    sent
+}
+
+// One hold, in which the operation is given up.
+fn give_up<R: Wait>(
+    rt: &R,
+    agenda: &Mutex<Agenda>,
+    session: &mut Session,
+) -> Result<Outbox, LiveFault>
+    ensures { NoGate result }
+{
+    let mut board = agenda.lock(rt);
+    let ended = session.give_up(&mut *board);
+    drop(board);
+    ended
+}
+
+// One hold, in which the next request is asked. None where none is left.
+fn ask_next<R: Wait>(
+    rt: &R,
+    agenda: &Mutex<Agenda>,
+    session: &mut Session,
+) -> Result<Option<Outbox>, LiveFault>
+    ensures { NoGate result }
+{
+    let mut board = agenda.lock(rt);
+    let asked = session.ask_next(&mut *board);
+    drop(board);
+    asked
+}
+
+// Sends the letters of a step in an operation, which is given up where nothing is waited for.
+fn go_on<R: Wait>(
+    rt: &R,
+    agenda: &Mutex<Agenda>,
+    servers: &[Sender<Letter>],
+    session: &mut Session,
+    outbox: Outbox,
+) -> Result<(), LiveFault>
+    ensures { NoGate result }
+{
+    if outbox.stuck {
+        let ended = give_up(rt, agenda, session)?;
+        send_all(rt, servers, ended);
+    }
+    send_all(rt, servers, outbox);
+    Ok(())
+}
+
+// Goes on until the operation has ended. False where the session has to quit.
+fn end_operation<R: Wait>(
+    rt: &R,
+    agenda: &Mutex<Agenda>,
+    inbox: &Receiver<Note>,
+    servers: &[Sender<Letter>],
+    session: &mut Session,
+) -> Result<bool, LiveFault>
+    ensures { NoGate result }
+{
+    for _ in rt.forever() {
+        if !session.is_busy() {
+            return Ok(true);
+        }
+        match inbox.recv(rt) {
+            Err(_) | Ok(Note::Quit) => return Ok(false),
+            Ok(Note::Returned(letter)) => {
+                if session.is_current(&letter.message) {
+                    let sent = retry(rt, agenda, session)?;
+                    go_on(rt, agenda, servers, session, sent)?;
+                }
+            }
+            Ok(Note::Letter(letter)) => {
+                let heard = hear(rt, agenda, session, letter)?;
+                go_on(rt, agenda, servers, session, heard)?;
+            }
+        }
+    }
+    unreachable!()
+}
+
+// Asks all requests, one after another, unless the session has to quit.
+fn ask_all<R: Wait>(
+    rt: &R,
+    agenda: &Mutex<Agenda>,
+    inbox: &Receiver<Note>,
+    servers: &[Sender<Letter>],
+    session: &mut Session,
+) -> Result<(), LiveFault>
+    ensures { NoGate result }
+{
+    for _ in rt.forever() {
+        let Some(outbox) = ask_next(rt, agenda, session)? else {
+            return Ok(());
+        };
+        send_all(rt, servers, outbox);
+        if !end_operation(rt, agenda, inbox, servers, session)? {
+            return Ok(());
+        }
+    }
+    unreachable!()
+}
+
+/// A session's thread: asks its requests one after another, each when the last has ended, until it has to quit.
+pub(crate) fn attend<R: Wait>(
+    rt: &R,
+    alloc: Global,
+    grid: Grid,
+    agenda: &Mutex<Agenda>,
+    mailboxes: &Mailboxes,
+    seat: Seat,
+) -> SessionEnd {
+    let Seat {
+        place,
+        tenant,
+        number,
+        volumes,
+        lines,
+        inbox,
+        servers,
+        ..
+    } = seat;
+    let mut session = Session::new(alloc, grid, tenant, number, volumes, lines);
+    match ask_all(rt, agenda, &inbox, servers.as_slice(), &mut session) {
+        Ok(()) => SessionEnd {
+            result: Ok(Attendance { place, session }),
+        },
+        Err(fault) => {
+            mailboxes.quit(rt);
+            SessionEnd { result: Err(fault) }
+        }
+    }
+}

@@ -1,0 +1,19 @@
+//! A run of the service in threads: servers with two workers each, sessions, and a steward that stops servers and brings
+//! them back. What was done is recorded under locks. The names of the crates that need no threads are passed on.
+#![tactic(auto)]
+
+mod attending;
+mod ends;
+mod run;
+mod serving;
+mod starts;
+
+pub use gq_cell::{
+    Board, BoardEntry, Cell, CellEntry, CellRefused, ChangeRefused, Letter, Served, Share, laws,
+};
+pub use gq_session::{
+    Did, Entries, Gate, GaveUp, Journal, Lines, LiveFault, MOST_REQUESTS, OpenGate, Opening,
+    Programs, Records, SessionEntry, SessionId, fits, sessions_of,
+};
+pub use gq_world::Said;
+pub use run::live;

@@ -1,0 +1,286 @@
+//! The live run.
+ghost use Rattle.std.specs.Prelude.{◌≡◌, ◌≢◌, ◌*◌, true, IfOk, vec_len};
+ghost use Rattle.std.specs.Option.{ForSome};
+ghost use Rattle.gq_session.specs.Changed.{changes_of, IsSubsequence};
+ghost use Rattle.gq_session.specs.Faults.{NoGate};
+ghost use Rattle.gq_session.specs.Fitting.{FitsPlan};
+ghost use Rattle.gq_session.specs.declared.records.LiveFault.TheVariants as FaultIs;
+ghost use Rattle.gq_live.specs.Runs.{AllLawful, AllAsked};
+
+use crate::attending::{SessionEnd, attend};
+use crate::ends::{CellRecord, GatedEnd, all_or_least, entries, journals, least};
+use crate::serving::serve;
+use crate::starts::{
+    Mailboxes, Order, Seat, Seats, ServerChannels, ServerInbox, Site, all_seats, open_all, sites,
+};
+use crossbeam_channel::Sender;
+use gq_desk::Plan;
+use gq_grid::Grid;
+use gq_session::{Agenda, Gate, LiveFault, Programs, Records};
+use std::alloc::{AllocError, Global};
+use std::sync::{Mutex, Wait};
+use std::thread;
+use std::thread::{JoinHandle, Threads};
+
+// ---- the steward
+
+// Hands out the changes of the list, each when the last is done.
+fn hand_out<R: Wait>(
+    rt: &R,
+    alloc: Global,
+    agenda: &Mutex<Agenda>,
+    orders: Vec<Sender<Order>>,
+    count: usize,
+) -> Option<LiveFault>
+    ensures { ForSome result (λ fault. fault ≢ FaultIs.Gate) }
+{
+    for _ in 0..count {
+        let Some(next) = agenda.lock(rt).next() else {
+            break;
+        };
+        let Some(to) = orders.get(next.server as usize) else {
+            return Some(LiveFault::Letter);
+        };
+        let Ok((done, wait)) = crossbeam_channel::bounded(alloc, 1) else {
+            return Some(LiveFault::Memory);
+        };
+        if to.send(rt, Order { done }).is_err() || wait.recv(rt).is_err() {
+            break;
+        }
+    }
+    None
+}
+
+// How the steward ended. Its fault is not the gate's.
+#[derive(Drop)]
+struct StewardEnd {
+    fault: Option<LiveFault>,
+    ghost no_gate: { ForSome fault (λ fault. fault ≢ FaultIs.Gate) },
+}
+
+// The steward's thread.
+fn steward<R: Wait>(
+    rt: &R,
+    alloc: Global,
+    agenda: &Mutex<Agenda>,
+    mailboxes: &Mailboxes,
+    orders: Vec<Sender<Order>>,
+    count: usize,
+) -> StewardEnd {
+    let fault = hand_out(rt, alloc, agenda, orders, count);
+    if fault.is_some() {
+        mailboxes.quit(rt);
+    }
+    StewardEnd { fault }
+}
+
+// ---- the threads
+
+// What the threads gave back, and the fault of starting or joining them.
+#[derive(Drop)]
+struct AllEnds<G: Gate> {
+    servers: Vec<GatedEnd<CellRecord, G>>,
+    sessions: Vec<SessionEnd>,
+    fault: Option<LiveFault>,
+    ghost no_gate: { ForSome fault (λ fault. fault ≢ FaultIs.Gate) },
+}
+
+// Starts all threads and joins them. A thread that couldn't be started is no end in the lists.
+fn run_threads<'x, G: Gate + Send + Sync, R: Threads + Wait + Sync>(
+    rt: &'x R,
+    alloc: Global,
+    grid: Grid,
+    agenda: &'x Mutex<Agenda>,
+    mailboxes: &'x Mailboxes,
+    sites: &'x [Site<'x, G>],
+    inboxes: Vec<ServerInbox>,
+    seats: Vec<Seat>,
+    orders: Vec<Sender<Order>>,
+    count: usize,
+) -> AllEnds<G> {
+    thread::scope(thread::scope_env(), rt, move |scope| {
+        let mut serving = Vec::new(alloc);
+        let mut attending = Vec::new(alloc);
+        let mut fault = None;
+        for (site, inbox) in sites.iter().zip(inboxes) {
+            match scope.spawn(move || serve(rt, alloc, site, inbox)).ok() {
+                Some(thread) => {
+                    if serving.push(thread).is_err() {
+                        fault = Some(LiveFault::Memory);
+                    }
+                }
+                None => fault = Some(LiveFault::Thread),
+            }
+        }
+        for seat in seats {
+            match scope
+                .spawn(move || attend(rt, alloc, grid, agenda, mailboxes, seat))
+                .ok()
+            {
+                Some(thread) => {
+                    if attending.push(thread).is_err() {
+                        fault = Some(LiveFault::Memory);
+                    }
+                }
+                None => fault = Some(LiveFault::Thread),
+            }
+        }
+        let steward = scope
+            .spawn(move || steward(rt, alloc, agenda, mailboxes, orders, count))
+            .ok();
+        if steward.is_none() {
+            fault = Some(LiveFault::Thread);
+        }
+        if fault.is_some() {
+            mailboxes.quit(rt);
+        }
+        join_threads(rt, alloc, serving, attending, steward, fault)
+    })
+}
+
+// Makes the servers' sites, and starts all threads and joins them.
+fn run_all<'x, G: Gate + Send + Sync, R: Threads + Wait + Sync>(
+    rt: &'x R,
+    alloc: Global,
+    plan: &'x Plan,
+    programs: &'x Programs,
+    gate: &'x G,
+    agenda: &'x Mutex<Agenda>,
+    mailboxes: &'x Mailboxes,
+    inboxes: Vec<ServerInbox>,
+    seats: Vec<Seat>,
+    orders: Vec<Sender<Order>>,
+) -> Result<AllEnds<G>, AllocError> {
+    let volumes = programs.volumes.as_slice();
+    let sites = sites(alloc, plan, volumes, gate, agenda, mailboxes)?;
+    Ok(run_threads(
+        rt,
+        alloc,
+        *plan.grid(),
+        agenda,
+        mailboxes,
+        sites.as_slice(),
+        inboxes,
+        seats,
+        orders,
+        programs.changes.len(),
+    ))
+}
+
+fn join_threads<G: Gate, R: Threads>(
+    rt: &R,
+    alloc: Global,
+    serving: Vec<JoinHandle<GatedEnd<CellRecord, G>>>,
+    attending: Vec<JoinHandle<SessionEnd>>,
+    steward: Option<JoinHandle<StewardEnd>>,
+    fault: Option<LiveFault>,
+) -> AllEnds<G>
+    requires { ForSome fault (λ fault. fault ≢ FaultIs.Gate) }
+{
+    let fault = match steward {
+        None => fault,
+        Some(steward) => {
+            let StewardEnd { fault: met, .. } = steward.join(rt);
+            match met {
+                None => fault,
+                Some(met) => Some(least(fault, met)),
+            }
+        }
+    };
+    let sessions = join_all(rt, alloc, attending);
+    let servers = join_all(rt, alloc, serving);
+    match (servers, sessions) {
+        (Ok(servers), Ok(sessions)) => AllEnds {
+            servers,
+            sessions,
+            fault,
+        },
+        _ => AllEnds {
+            servers: Vec::new(alloc),
+            sessions: Vec::new(alloc),
+            fault: Some(LiveFault::Memory),
+        },
+    }
+}
+
+// Joins each thread, also where there is no memory for what it gives back.
+fn join_all<T: Drop, R: Threads>(
+    rt: &R,
+    alloc: Global,
+    threads: Vec<JoinHandle<T>>,
+) -> Result<Vec<T>, AllocError> {
+    let mut all = Vec::new(alloc);
+    let mut failed = false;
+    for thread in threads {
+        failed = all.push(thread.join(rt)).is_err() || failed;
+    }
+    if failed { Err(AllocError) } else { Ok(all) }
+}
+
+// ---- the run
+
+/// Opens the volumes in order, and then runs the programs in threads: one with two workers for each server, one for each
+/// session, and one steward for the servers' changes. It gives what was recorded under the locks. It may wait for ever.
+///
+/// `Volume` is told before any thread starts. `Gate` comes only where the gate gave up; of several threads' faults the
+/// first in the order of [`LiveFault`] is told.
+#[tactic(auto, using(gq_session::proofs::Requests::all_requests))]
+pub fn live<G: Gate + Send + Sync, R: Threads + Wait + Sync>(
+    rt: &R,
+    alloc: Global,
+    plan: &Plan,
+    programs: &Programs,
+    gate: &G,
+) -> Result<Records, LiveFault>
+    requires fits { FitsPlan plan.now programs.now }
+    ensures volumes { IfOk result (λ r. r.volumes.items ≡ programs.now.volumes.items) }
+    ensures cells { IfOk result (λ r. vec_len r.cells ≡ plan.now.grid.rows * plan.now.grid.cols) }
+    ensures lawful { IfOk result (λ r. AllLawful r.cells.items) }
+    ensures sessions { IfOk result (λ r. vec_len r.sessions ≡ vec_len programs.now.sessions) }
+    ensures asked { IfOk result (λ r. AllAsked programs.now.sessions.items r.sessions.items) }
+    ensures changes { IfOk result (λ r. IsSubsequence (changes_of r.board.items) programs.now.changes.items) }
+    ensures gate { G.never ≡ true → NoGate result }
+{
+    let openings = programs.volumes.as_slice();
+    let programs_asked = programs.sessions.as_slice();
+    let desk = open_all(alloc, plan, openings)?;
+    let volumes = Vec::from_slice(alloc, openings)?;
+    let list = Vec::from_slice(alloc, programs.changes.as_slice())?;
+    let ServerChannels {
+        letters,
+        orders,
+        inboxes,
+    } = ServerChannels::new(alloc, plan.grid().servers())?;
+    let Seats { seats, mailboxes } = all_seats(
+        alloc,
+        plan,
+        &desk,
+        programs_asked,
+        letters.as_slice(),
+    )?;
+    drop(letters);
+    let agenda = Mutex::new(Agenda::new(alloc, plan.grid(), list));
+    let AllEnds {
+        servers,
+        sessions,
+        fault,
+        ..
+    } = run_all(
+        rt, alloc, plan, programs, gate, &agenda, &mailboxes, inboxes, seats, orders,
+    )?;
+    let met = journals(alloc, servers);
+    let kept = entries(alloc, programs_asked, sessions);
+    let (cells, sessions) = all_or_least(met, kept, fault)?;
+    if cells.len() != plan.grid().servers() || sessions.len() != programs.sessions.len() {
+        return Err(LiveFault::Letter);
+    }
+    match agenda.into_inner().close(programs.changes.as_slice()) {
+        Some(board) => Ok(Records {
+            volumes,
+            cells,
+            board,
+            sessions,
+        }),
+        None => Err(LiveFault::Letter),
+    }
+}

@@ -1,0 +1,281 @@
+//! A server's thread and its workers.
+ghost use Rattle.std.specs.Prelude.{◌≡◌, ◌<◌, true, OnOk, IsTrue, length};
+ghost use Rattle.gq_tag.specs.Tag.{to_server};
+ghost use Rattle.gq_store.specs.Copies.{empty_store, store_accounts};
+ghost use Rattle.gq_session.specs.Faults.{NoGate};
+
+use crate::ends::{CellRecord, GatedEnd};
+use crate::starts::{Note, Order, ServerInbox, Site};
+use crossbeam_channel::Receiver;
+use gq_cell::{Cell, CellRefused, Letter, Served, Share};
+use gq_desk::{Desk, OpenRefused, Plan};
+use gq_session::{Agenda, Gate, LiveFault, Opening, change_cell};
+use gq_tag::Message;
+use std::alloc::Global;
+use std::marker::Brand;
+use std::sync::ledger::{Blank, Ledger};
+use std::sync::{Mutex, Wait};
+use std::thread;
+use std::thread::{JoinHandle, Threads};
+
+fn is_for(message: &Message, server: u8) -> bool
+    ensures { result ≡ true → (message.now.server ≡ server) × IsTrue (to_server message.now.body) }
+{
+    message.server == server && message.to_server()
+}
+
+// One hold of the cell's lock, and the note to the letter's session.
+fn serve_one<L: Ledger, G: Gate, R: Wait>(
+    rt: &R,
+    site: &Site<'_, G>,
+    cell: &Mutex<Cell<L>>,
+    share: &mut Share<L>,
+    letter: Letter,
+) -> Result<(), LiveFault>
+    ensures { G.never ≡ true → NoGate result }
+{
+    if site.gate.before(u32::from(site.server)).is_err() {
+        return Err(LiveFault::Gate);
+    }
+    let mut cell = cell.lock(rt);
+    if site.gate.inside(u32::from(site.server)).is_err() {
+        return Err(LiveFault::Gate);
+    }
+    if !is_for(&letter.message, cell.server()) {
+        return Err(LiveFault::Letter);
+    }
+    let served = cell.serve(share, &letter);
+    drop(cell);
+    let tenant = letter.message.tenant;
+    let session = letter.message.session;
+    let note = match served {
+        Ok(Served::Reply(reply)) => Note::Letter(reply),
+        Ok(Served::Down) => Note::Returned(letter),
+        Err(CellRefused::Memory) => return Err(LiveFault::Memory),
+        Err(CellRefused::Stamps) => return Err(LiveFault::Stamps),
+        Err(CellRefused::File | CellRefused::Long) => return Err(LiveFault::Letter),
+    };
+    match site.mailboxes.of(tenant, session) {
+        Some(to) => {
+            // A note to a closed mailbox is dropped.
+            let _ = to.send(rt, note);
+            Ok(())
+        }
+        None => Err(LiveFault::Letter),
+    }
+}
+
+// What a worker did: its share, and its fault, if it met one.
+#[derive(Drop)]
+struct WorkerEnd<L: Ledger, G: Gate> {
+    share: Share<L>,
+    end: GatedEnd<(), G>,
+}
+
+// Serves letters until no one can send any more, or a fault.
+fn work<L: Ledger, G: Gate, R: Wait>(
+    rt: &R,
+    site: &Site<'_, G>,
+    cell: &Mutex<Cell<L>>,
+    letters: &Receiver<Letter>,
+    share: Share<L>,
+) -> WorkerEnd<L, G> {
+    let mut share = share;
+    for _ in rt.forever() {
+        let Ok(letter) = letters.recv(rt) else {
+            break;
+        };
+        let served = serve_one(rt, site, cell, &mut share, letter);
+        if served.is_err() {
+            site.mailboxes.quit(rt);
+            return WorkerEnd {
+                share,
+                end: GatedEnd::of(served),
+            };
+        }
+    }
+    WorkerEnd {
+        share,
+        end: GatedEnd::of(Ok(())),
+    }
+}
+
+// The journal of a cell whose workers have ended.
+fn record<L: Ledger>(cell: Cell<L>, one: Share<L>, two: Share<L>) -> CellRecord
+    requires { L.parts ≡ 2 }
+{
+    let server = cell.server();
+    let journal = cell.close(one, two);
+    CellRecord { server, journal }
+}
+
+// Does the changes that the steward hands out. The board's lock is taken before the cell's.
+fn do_orders<L: Ledger, R: Wait>(
+    rt: &R,
+    agenda: &Mutex<Agenda>,
+    cell: &Mutex<Cell<L>>,
+    orders: &Receiver<Order>,
+) -> Result<(), LiveFault>
+    ensures { NoGate result }
+{
+    for _ in rt.forever() {
+        let Ok(order) = orders.recv(rt) else {
+            break;
+        };
+        let mut agenda = agenda.lock(rt);
+        let mut cell = cell.lock(rt);
+        let changed = change_cell(&mut *agenda, &mut *cell);
+        drop(cell);
+        drop(agenda);
+        changed?;
+        let _ = order.done.send(rt, ());
+    }
+    Ok(())
+}
+
+// Two workers of one cell, until they have ended.
+fn work_both<'x, L: Ledger + Send + Sync, G: Gate + Send + Sync, R: Threads + Wait + Sync>(
+    rt: &'x R,
+    site: &'x Site<'x, G>,
+    cell: &'x Mutex<Cell<L>>,
+    inbox: &'x ServerInbox,
+    one: Share<L>,
+    two: Share<L>,
+) -> Result<(WorkerEnd<L, G>, WorkerEnd<L, G>), LiveFault>
+    ensures { NoGate result }
+{
+    thread::scope(
+        thread::scope_env(),
+        rt,
+        move |scope| -> Result<(WorkerEnd<L, G>, WorkerEnd<L, G>), LiveFault>
+            ensures { NoGate result }
+        {
+            let letters = &inbox.letters;
+            let first = scope.spawn(move || work(rt, site, cell, letters, one)).ok();
+            let second = scope.spawn(move || work(rt, site, cell, letters, two)).ok();
+            if first.is_none() || second.is_none() {
+                site.mailboxes.quit(rt);
+            }
+            let ordered = do_orders(rt, site.agenda, cell, &inbox.orders);
+            if ordered.is_err() {
+                site.mailboxes.quit(rt);
+            }
+            let joined = join_both(rt, first, second);
+            ordered?;
+            joined
+        },
+    )
+}
+
+fn join_both<L: Ledger, G: Gate, R: Threads>(
+    rt: &R,
+    first: Option<JoinHandle<WorkerEnd<L, G>>>,
+    second: Option<JoinHandle<WorkerEnd<L, G>>>,
+) -> Result<(WorkerEnd<L, G>, WorkerEnd<L, G>), LiveFault>
+    ensures { NoGate result }
+{
+    match (first, second) {
+        (Some(first), Some(second)) => Ok((first.join(rt), second.join(rt))),
+        (Some(only), None) | (None, Some(only)) => {
+            drop(only.join(rt));
+            Err(LiveFault::Thread)
+        }
+        (None, None) => Err(LiveFault::Thread),
+    }
+}
+
+// Adds the files of all volumes. A desk tells again that each may be opened.
+fn add_all<L: Ledger>(
+    alloc: Global,
+    plan: &Plan,
+    volumes: &[Opening],
+    cell: &mut Cell<L>,
+) -> Result<(), LiveFault>
+    requires { cell.old.accounts ≡ store_accounts (empty_store plan.now) }
+    ensures { NoGate result }
+{
+    let mut desk = Desk::new(alloc, plan)?;
+    for opening in volumes {
+        if opening.tenant as usize >= plan.tenants() {
+            return Err(LiveFault::Letter);
+        }
+        add_one(&mut desk, cell, *opening)?;
+    }
+    Ok(())
+}
+
+// Adds the files of one volume.
+fn add_one<L: Ledger>(
+    desk: &mut Desk,
+    cell: &mut Cell<L>,
+    opening: Opening,
+) -> Result<(), LiveFault>
+    requires tenant { opening.tenant < length desk.old }
+    requires same { cell.old.accounts ≡ desk.old }
+    ensures same { OnOk result (cell.new.accounts ≡ desk.new) }
+    ensures tenants { OnOk result (length desk.new ≡ length desk.old) }
+    ensures gate { NoGate result }
+{
+    match desk.open_volume(opening.tenant, opening.files, opening.blocks) {
+        Ok(_) => match cell.add_files(opening.tenant, opening.files, opening.blocks) {
+            Ok(()) => Ok(()),
+            Err(_) => Err(LiveFault::Memory),
+        },
+        Err(OpenRefused::Memory) => Err(LiveFault::Memory),
+        Err(_) => Err(LiveFault::Letter),
+    }
+}
+
+// The cell of the site's server with the files of all volumes, and its workers' shares.
+fn make_cell<L: Ledger, G: Gate>(
+    alloc: Global,
+    site: &Site<'_, G>,
+    blank: Blank,
+) -> Result<(Cell<L>, Share<L>, Share<L>), LiveFault>
+    requires name { blank.name ≡ L.name }
+    requires parts { blank.parts ≡ L.parts }
+    requires two { L.parts ≡ 2 }
+    ensures { NoGate result }
+{
+    if site.server as usize >= site.plan.grid().servers() {
+        return Err(LiveFault::Letter);
+    }
+    let (mut cell, one, two) = Cell::<L>::new(alloc, site.plan, site.server, blank)?;
+    add_all(alloc, site.plan, site.volumes, &mut cell)?;
+    Ok((cell, one, two))
+}
+
+// Two workers on one mailbox, until it is closed.
+fn serve_as<'x, L: Ledger + Send + Sync, G: Gate + Send + Sync, R: Threads + Wait + Sync>(
+    rt: &'x R,
+    alloc: Global,
+    site: &'x Site<'x, G>,
+    inbox: ServerInbox,
+    blank: Blank,
+) -> Result<CellRecord, LiveFault>
+    requires name { blank.name ≡ L.name }
+    requires parts { blank.parts ≡ L.parts }
+    requires two { L.parts ≡ 2 }
+    ensures { G.never ≡ true → NoGate result }
+{
+    let made = make_cell::<L, G>(alloc, site, blank);
+    if made.is_err() {
+        site.mailboxes.quit(rt);
+    }
+    let (cell, one, two) = made?;
+    let cell = Mutex::new(cell);
+    let (first, second) = work_both(rt, site, &cell, &inbox, one, two)?;
+    first.end.result?;
+    second.end.result?;
+    Ok(record(cell.into_inner(), first.share, second.share))
+}
+
+/// A server's thread.
+pub(crate) fn serve<'x, G: Gate + Send + Sync, R: Threads + Wait + Sync>(
+    rt: &'x R,
+    alloc: Global,
+    site: &'x Site<'x, G>,
+    inbox: ServerInbox,
+) -> GatedEnd<CellRecord, G> {
+    GatedEnd::of(serve_as::<Brand, G, R>(rt, alloc, site, inbox, Blank::new(2)))
+}

@@ -1,0 +1,274 @@
+//! What the threads of a live run start with.
+ghost use Rattle.std.specs.Prelude.{◌≡◌, ◌<◌, All, IfOk, true, length};
+ghost use Rattle.std.specs.List.{list_all};
+ghost use Rattle.gq_desk.specs.Volumes.{is_sized};
+ghost use Rattle.gq_session.specs.Faults.{NoGate};
+ghost use Rattle.gq_session.specs.Fitting.{IsRequest, IsTenants};
+
+use crossbeam_channel::{Receiver, Sender};
+use gq_cell::Letter;
+use gq_desk::{Desk, OpenRefused, Plan, VolumeRow};
+use gq_model::Line;
+use gq_session::{Agenda, Gate, Lines, LiveFault, Opening};
+use std::alloc::{AllocError, Global};
+use std::sync::{Mutex, Wait};
+
+// ---- servers
+
+/// The next change of the list is to be done. It is done, or given up, once `done` is heard or dropped.
+#[derive(Drop)]
+pub(crate) struct Order {
+    pub done: Sender<()>,
+}
+
+/// The ends of channels that a server owns.
+#[derive(Drop)]
+pub(crate) struct ServerInbox {
+    pub letters: Receiver<Letter>,
+    pub orders: Receiver<Order>,
+}
+
+/// What a server's threads share.
+#[derive(Drop)]
+pub(crate) struct Site<'a, G: Gate> {
+    pub server: u8,
+    pub plan: &'a Plan,
+    pub volumes: &'a [Opening],
+    pub gate: &'a G,
+    pub agenda: &'a Mutex<Agenda>,
+    pub mailboxes: &'a Mailboxes,
+}
+
+/// All ends of the servers' channels: to send letters, to send orders, and what each server owns.
+#[derive(Drop)]
+pub(crate) struct ServerChannels {
+    pub letters: Vec<Sender<Letter>>,
+    pub orders: Vec<Sender<Order>>,
+    pub inboxes: Vec<ServerInbox>,
+}
+
+impl ServerChannels {
+    // The channels of so many servers.
+    pub(crate) fn new(alloc: Global, servers: usize) -> Result<ServerChannels, AllocError> {
+        let mut all = ServerChannels {
+            letters: Vec::new(alloc),
+            orders: Vec::new(alloc),
+            inboxes: Vec::new(alloc),
+        };
+        for _ in 0..servers {
+            let (letter, letters) = crossbeam_channel::unbounded(alloc)?;
+            let (order, orders) = crossbeam_channel::unbounded(alloc)?;
+            all.letters.push(letter)?;
+            all.orders.push(order)?;
+            all.inboxes.push(ServerInbox { letters, orders })?;
+        }
+        Ok(all)
+    }
+}
+
+// A site for each server.
+pub(crate) fn sites<'x, G: Gate>(
+    alloc: Global,
+    plan: &'x Plan,
+    volumes: &'x [Opening],
+    gate: &'x G,
+    agenda: &'x Mutex<Agenda>,
+    mailboxes: &'x Mailboxes,
+) -> Result<Vec<Site<'x, G>>, AllocError> {
+    let mut all = Vec::new(alloc);
+    for server in 0..plan.grid().servers() {
+        all.push(Site {
+            server: server as u8,
+            plan,
+            volumes,
+            gate,
+            agenda,
+            mailboxes,
+        })?;
+    }
+    Ok(all)
+}
+
+// ---- sessions
+
+/// What comes to a session.
+#[derive(Drop)]
+pub(crate) enum Note {
+    /// A reply.
+    Letter(Letter),
+    /// Its own letter, which a server that is down returned.
+    Returned(Letter),
+    /// The run is over.
+    Quit,
+}
+
+/// The mailboxes of the sessions, tenant by tenant.
+#[derive(Drop)]
+pub(crate) struct Mailboxes {
+    pub tenants: Vec<Vec<Sender<Note>>>,
+}
+
+impl Mailboxes {
+    // The mailbox of the tenant's session of that number, from 1.
+    pub(crate) fn of(&self, tenant: u8, session: u8) -> Option<&Sender<Note>> {
+        if session == 0 {
+            return None;
+        }
+        let sessions = self.tenants.get(tenant as usize)?;
+        sessions.get(session as usize - 1)
+    }
+
+    // Tells every session to quit, as far as memory lasts.
+    pub(crate) fn quit<R: Wait>(&self, rt: &R) {
+        for sessions in &self.tenants {
+            for to in sessions {
+                let _ = to.send(rt, Note::Quit);
+            }
+        }
+    }
+}
+
+/// What a session's thread owns: its place among all sessions, its tenant with the tenant's volumes, its number among the
+/// tenant's, its requests, its mailbox, and the servers' mailboxes.
+#[derive(Drop)]
+pub(crate) struct Seat {
+    pub place: usize,
+    pub tenant: u8,
+    pub number: u8,
+    pub volumes: Vec<VolumeRow>,
+    pub lines: Vec<Line>,
+    pub inbox: Receiver<Note>,
+    pub servers: Vec<Sender<Letter>>,
+    pub ghost sized: { list_all is_sized volumes.items ≡ true },
+    pub ghost requests: { All IsRequest lines.items },
+}
+
+/// The seats of all sessions, and their mailboxes.
+#[derive(Drop)]
+pub(crate) struct Seats {
+    pub seats: Vec<Seat>,
+    pub mailboxes: Mailboxes,
+}
+
+// Copies the ends of channels.
+fn copy_senders(alloc: Global, ends: &[Sender<Letter>]) -> Result<Vec<Sender<Letter>>, AllocError> {
+    let mut all = Vec::new(alloc);
+    for end in ends {
+        all.push(end.clone()?)?;
+    }
+    Ok(all)
+}
+
+// Opens all volumes, in order.
+pub(crate) fn open_all(alloc: Global, plan: &Plan, volumes: &[Opening]) -> Result<Desk, LiveFault>
+    requires { IsTenants (length plan.now.rows) volumes.now }
+    ensures tenants { IfOk result (λ desk. length desk ≡ length plan.now.rows) }
+    ensures gate { NoGate result }
+{
+    let mut desk = Desk::new(alloc, plan)?;
+    for place in 0..volumes.len() {
+        let opening = volumes[place];
+        match desk.open_volume(opening.tenant, opening.files, opening.blocks) {
+            Ok(_) => {}
+            Err(OpenRefused::Memory) => return Err(LiveFault::Memory),
+            Err(_) => return Err(LiveFault::Volume(place)),
+        }
+    }
+    Ok(desk)
+}
+
+// A seat for a session of the tenant, and its mailbox.
+fn make_seat(
+    alloc: Global,
+    desk: &Desk,
+    place: usize,
+    tenant: u8,
+    number: u8,
+    program: &Lines,
+    servers: &[Sender<Letter>],
+) -> Result<(Seat, Sender<Note>), AllocError>
+    requires desk { tenant < length desk.now }
+    requires requests { All IsRequest program.now }
+{
+    let (to, inbox) = crossbeam_channel::unbounded(alloc)?;
+    let volumes = Vec::from_slice(alloc, desk.volumes(tenant))?;
+    let lines = program.items.clone()?;
+    let servers = copy_senders(alloc, servers)?;
+    let seat = Seat {
+        place,
+        tenant,
+        number,
+        volumes,
+        lines,
+        inbox,
+        servers,
+    };
+    Ok((seat, to))
+}
+
+// Adds a seat for each session of the tenant, and their mailboxes.
+fn add_seats(
+    alloc: Global,
+    plan: &Plan,
+    desk: &Desk,
+    tenant: u8,
+    programs: &[Lines],
+    servers: &[Sender<Letter>],
+    all: &mut Seats,
+) -> Result<(), LiveFault>
+    requires plan { tenant < length plan.now.rows }
+    requires desk { tenant < length desk.now }
+    requires requests { All (All IsRequest) programs.now }
+    ensures { NoGate result }
+{
+    let mut mailboxes = Vec::new(alloc);
+    for number in 1..=plan.row(tenant).sessions {
+        let place = all.seats.len();
+        let Ok(number) = u8::try_from(number) else {
+            return Err(LiveFault::Letter);
+        };
+        if place >= programs.len() {
+            return Err(LiveFault::Letter);
+        }
+        mailboxes.reserve(1)?;
+        all.seats.reserve(1)?;
+        let (seat, to) = make_seat(
+            alloc,
+            desk,
+            place,
+            tenant,
+            number,
+            &programs[place],
+            servers,
+        )?;
+        mailboxes.push_reserved(to);
+        all.seats.push_reserved(seat);
+    }
+    all.mailboxes.tenants.reserve(1)?;
+    all.mailboxes.tenants.push_reserved(mailboxes);
+    Ok(())
+}
+
+// A seat for each session of the plan, and their mailboxes.
+pub(crate) fn all_seats(
+    alloc: Global,
+    plan: &Plan,
+    desk: &Desk,
+    programs: &[Lines],
+    servers: &[Sender<Letter>],
+) -> Result<Seats, LiveFault>
+    requires desk { length desk.now ≡ length plan.now.rows }
+    requires requests { All (All IsRequest) programs.now }
+    ensures { NoGate result }
+{
+    let mut all = Seats {
+        seats: Vec::new(alloc),
+        mailboxes: Mailboxes {
+            tenants: Vec::new(alloc),
+        },
+    };
+    for tenant in 0..plan.tenants() {
+        add_seats(alloc, plan, desk, tenant as u8, programs, servers, &mut all)?;
+    }
+    Ok(all)
+}

@@ -1,0 +1,4 @@
+pub mod Steps
+pub mod Lists
+pub mod Replay
+pub mod Tapes

@@ -1,0 +1,4 @@
+pub mod Asked
+pub mod Changed
+pub mod Faults
+pub mod Fitting

@@ -1,0 +1,369 @@
+//! One session's operation, and what is said to it.
+ghost use Rattle.std.specs.Prelude.{◌≡◌, ◌<◌, ◌≤◌, IfOk, true};
+ghost use Rattle.std.specs.List.{list_all};
+ghost use Rattle.std.specs.Option.{ForSome};
+ghost use Rattle.gq_grid.specs.declared.TheConstants.{MOST_SERVERS};
+ghost use Rattle.gq_tag.specs.declared.TheConstants.{MOST_FILES};
+ghost use Rattle.gq_desk.specs.Volumes.{is_sized};
+ghost use Rattle.gq_phase.specs.Best.{copied_number};
+ghost use Rattle.gq_phase.specs.Standing.{IsGoing};
+ghost use Rattle.gq_session.specs.Faults.{NoGate};
+ghost use Rattle.gq_session.specs.Fitting.{IsRequest};
+
+use crate::records::LiveFault;
+use bytes::Bytes;
+use gq_desk::VolumeRow;
+use gq_grid::{Grid, ServerSet};
+use gq_model::{Line, Refusal};
+use gq_phase::{BeginRefused, Heard, Messages, Operation, ResendRefused, Who};
+use gq_pool::BLOCK_BYTES;
+use gq_tag::{Body, FileId, Message};
+use gq_world::Said;
+use std::alloc::Global;
+
+/// What was said in a step, and the messages that it sent.
+#[derive(Drop)]
+pub(crate) struct Step {
+    pub said: Said,
+    pub messages: Vec<Message>,
+}
+
+/// A session of a tenant, with the tenant's volumes. Its operation, if it has one, is not done.
+#[derive(Drop)]
+pub(crate) struct Client {
+    alloc: Global,
+    grid: Grid,
+    tenant: u8,
+    session: u8,
+    volumes: Vec<VolumeRow>,
+    // how many operations were accepted, and the round of the last
+    op: u32,
+    round: u32,
+    // the session's own last number
+    floor: u64,
+    current: Option<Operation>,
+    ghost sized: { list_all is_sized volumes.items ≡ true },
+    ghost going: { ForSome current (λ o. IsGoing o) },
+}
+
+// A step that sends nothing.
+fn quiet(alloc: Global, said: Said) -> Step {
+    Step {
+        said,
+        messages: Vec::new(alloc),
+    }
+}
+
+// How many messages these are.
+fn count_of(messages: &[Message]) -> u32 {
+    u32::try_from(messages.len()).unwrap_or(u32::MAX)
+}
+
+// The number of the copy that a reply tells.
+fn copied_number(body: &Body) -> u64
+    ensures { result ≡ copied_number body.now }
+{
+    match body {
+        Body::Copy(copy) => copy.tag.number,
+        _ => 0,
+    }
+}
+
+// Whether a reply's body fits its round: a copy an odd one, a stored an even one.
+fn fits_round(message: &Message) -> bool {
+    match &message.body {
+        Body::Copy(_) => message.round % 2 == 1,
+        Body::Stored => message.round % 2 == 0,
+        Body::Ask | Body::Store(_) => false,
+    }
+}
+
+// Why a request began no operation.
+#[derive(Clone, Copy, Debug, PartialEq, Eq)]
+enum NotBegun {
+    // It is refused.
+    Refused(Refusal),
+    // Memory is wanting.
+    Memory,
+}
+
+impl From<Refusal> for NotBegun {
+    fn from(refusal: Refusal) -> NotBegun {
+        NotBegun::Refused(refusal)
+    }
+}
+
+impl From<BeginRefused> for NotBegun {
+    fn from(refused: BeginRefused) -> NotBegun {
+        match refused {
+            BeginRefused::NoQuorum => NotBegun::Refused(Refusal::NoQuorum),
+            BeginRefused::Memory => NotBegun::Memory,
+        }
+    }
+}
+
+impl Client {
+    // The session has no operation, and had none.
+    pub(crate) fn new(
+        alloc: Global,
+        grid: Grid,
+        tenant: u8,
+        session: u8,
+        volumes: Vec<VolumeRow>,
+    ) -> Client
+        requires { list_all is_sized volumes.items ≡ true }
+    {
+        Client {
+            alloc,
+            grid,
+            tenant,
+            session,
+            volumes,
+            op: 0,
+            round: 0,
+            floor: 0,
+            current: None,
+        }
+    }
+
+    // Whether it has an operation.
+    pub(crate) fn is_busy(&self) -> bool {
+        self.current.is_some()
+    }
+
+    // Whether the message is of its operation and round.
+    pub(crate) fn is_current(&self, message: &Message) -> bool {
+        self.current.is_some() && message.op == self.op && message.round == self.round
+    }
+
+    // The next operation.
+    fn who(&self) -> Result<Who, LiveFault>
+        ensures { NoGate result }
+    {
+        if self.op == u32::MAX {
+            return Err(LiveFault::Stamps);
+        }
+        Ok(Who {
+            tenant: self.tenant,
+            session: self.session,
+            op: self.op + 1,
+        })
+    }
+
+    // The volume of that number.
+    fn volume(&self, number: u32) -> Result<VolumeRow, Refusal>
+        ensures { IfOk result (λ row. is_sized row ≡ true) }
+    {
+        match self.volumes.get(number as usize) {
+            Some(row) => Ok(*row),
+            None => Err(Refusal::NoVolume),
+        }
+    }
+
+    // The volume of that number, which has a file of that number.
+    fn volume_with(&self, number: u32, file: u32) -> Result<VolumeRow, Refusal> {
+        let row = self.volume(number)?;
+        if file >= row.files {
+            return Err(Refusal::NoFile);
+        }
+        Ok(row)
+    }
+
+    // A write begins.
+    fn write(
+        &self,
+        who: Who,
+        volume: u32,
+        file: u32,
+        bytes: &Bytes,
+        up: ServerSet,
+    ) -> Result<(Operation, Vec<Message>), NotBegun>
+        ensures { IfOk result (λ began. IsGoing began.0) }
+    {
+        let row = self.volume_with(volume, file)?;
+        if bytes.len() as u64 > BLOCK_BYTES as u64 * u64::from(row.blocks) {
+            return Err(NotBegun::Refused(Refusal::TooLong));
+        }
+        let file = FileId {
+            tenant: who.tenant,
+            volume,
+            file,
+        };
+        let began = Operation::write(self.alloc, &self.grid, who, self.floor, file, bytes, up)?;
+        Ok(began)
+    }
+
+    // A read begins.
+    fn read(
+        &self,
+        who: Who,
+        volume: u32,
+        file: u32,
+        up: ServerSet,
+    ) -> Result<(Operation, Vec<Message>), NotBegun>
+        ensures { IfOk result (λ began. IsGoing began.0) }
+    {
+        let _row = self.volume_with(volume, file)?;
+        let file = FileId {
+            tenant: who.tenant,
+            volume,
+            file,
+        };
+        let began = Operation::read(self.alloc, &self.grid, who, self.floor, file, up)?;
+        Ok(began)
+    }
+
+    // A listing begins.
+    fn list(
+        &self,
+        who: Who,
+        volume: u32,
+        up: ServerSet,
+    ) -> Result<(Operation, Vec<Message>), NotBegun>
+        ensures { IfOk result (λ began. IsGoing began.0) }
+    {
+        let row = self.volume(volume)?;
+        let began = Operation::list(
+            self.alloc, &self.grid, who, self.floor, volume, row.files, up,
+        )?;
+        Ok(began)
+    }
+
+    // The request's operation begins.
+    fn begin(
+        &self,
+        who: Who,
+        line: &Line,
+        up: ServerSet,
+    ) -> Result<(Operation, Vec<Message>), NotBegun>
+        requires { IsRequest line.now }
+        ensures { IfOk result (λ began. IsGoing began.0) }
+    {
+        match line {
+            Line::Write {
+                volume,
+                file,
+                bytes,
+                ..
+            } => self.write(who, *volume, *file, bytes, up),
+            Line::Read { volume, file, .. } => self.read(who, *volume, *file, up),
+            Line::List { volume, .. } => self.list(who, *volume, up),
+            _ => unreachable!(),
+        }
+    }
+
+    // Asks the request, where the servers of `up` are up. The session has no operation.
+    pub(crate) fn ask(&mut self, line: &Line, up: ServerSet) -> Result<Step, LiveFault>
+        requires { IsRequest line.now }
+        ensures { NoGate result }
+    {
+        let who = self.who()?;
+        match self.begin(who, line, up) {
+            Ok((operation, messages)) => {
+                self.op = who.op;
+                self.round = 1;
+                self.current = Some(operation);
+                Ok(Step {
+                    said: Said::Began {
+                        op: who.op,
+                        sent: count_of(messages.as_slice()),
+                    },
+                    messages,
+                })
+            }
+            Err(NotBegun::Refused(refusal)) => Ok(quiet(self.alloc, Said::Refused(refusal))),
+            Err(NotBegun::Memory) => Err(LiveFault::Memory),
+        }
+    }
+
+    // Whether the message is a reply to the session.
+    fn is_reply(&self, message: &Message) -> bool
+        ensures { result ≡ true → message.now.server < MOST_SERVERS }
+    {
+        message.tenant == self.tenant
+            && message.session == self.session
+            && (message.server as usize) < self.grid.servers()
+            && fits_round(message)
+    }
+
+    // Hears the message, where the servers of `up` are up.
+    pub(crate) fn hear(&mut self, message: &Message, up: ServerSet) -> Result<Step, LiveFault>
+        ensures { NoGate result }
+    {
+        if !self.is_reply(message) {
+            return Err(LiveFault::Letter);
+        }
+        let Some(mut operation) = self.current.take() else {
+            return Ok(quiet(self.alloc, Said::Stale));
+        };
+        if copied_number(&message.body) == u64::MAX || operation.floor() == u64::MAX {
+            return Err(LiveFault::Stamps);
+        }
+        match operation.hear(message, up) {
+            Err(_) => Err(LiveFault::Memory),
+            Ok(Heard::Stale) => {
+                self.current = Some(operation);
+                Ok(quiet(self.alloc, Said::Stale))
+            }
+            Ok(Heard::Noted) => {
+                self.current = Some(operation);
+                Ok(quiet(self.alloc, Said::Noted))
+            }
+            Ok(
+                Heard::Next {
+                    round,
+                    tag,
+                    messages,
+                },
+            ) => {
+                self.current = Some(operation);
+                self.round = round;
+                let Messages { items } = messages;
+                Ok(Step {
+                    said: Said::Round {
+                        round,
+                        tag,
+                        sent: count_of(items.as_slice()),
+                    },
+                    messages: items,
+                })
+            }
+            Ok(Heard::Done(outcome)) => {
+                self.floor = operation.floor();
+                Ok(quiet(self.alloc, Said::Done(outcome)))
+            }
+        }
+    }
+
+    // Sends the round's message once more, where the servers of `up` are up.
+    pub(crate) fn retry(&mut self, up: ServerSet) -> Result<Step, LiveFault>
+        ensures { NoGate result }
+    {
+        let Some(mut operation) = self.current.take() else {
+            return Ok(quiet(self.alloc, Said::Refused(Refusal::Idle)));
+        };
+        let resent = operation.resend(up);
+        self.current = Some(operation);
+        match resent {
+            Ok(messages) => Ok(Step {
+                said: Said::Resent {
+                    sent: count_of(messages.as_slice()),
+                },
+                messages,
+            }),
+            Err(ResendRefused::NoQuorum) => {
+                Ok(quiet(self.alloc, Said::Refused(Refusal::NoQuorum)))
+            }
+            Err(ResendRefused::Memory) => Err(LiveFault::Memory),
+        }
+    }
+
+    // Gives the operation up.
+    pub(crate) fn give_up(&mut self) -> Step {
+        let Some(operation) = self.current.take() else {
+            return quiet(self.alloc, Said::Refused(Refusal::Idle));
+        };
+        self.floor = operation.abandon();
+        quiet(self.alloc, Said::Abandoned)
+    }
+}
