@@ -1,16 +1,11 @@
-"""Lines of sessions that write, read and list files on a grid of 4 by 4 servers, and the deliveries of what they send.
+"""Lines of sessions that write, read and list files on a grid of servers, and the deliveries of what they send.
 
 The lines follow the answers that they will get, as far as these give numbers: how many messages each tenant has sent, which
 of them are under way, and for each session its round and the servers heard in it. So few of them are refused.
 """
 
-SIDE = 4
-SERVERS = range(SIDE * SIDE)
-ROWS = [0b1111 << SIDE * row for row in range(SIDE)]
-COLS = [0b0001_0001_0001_0001 << col for col in range(SIDE)]
 FILES = 4
 BLOCKS = 16
-MOST_BYTES = 64 * BLOCKS
 MOST_DOWN = 4
 REPEATED = 0.02
 
@@ -20,10 +15,16 @@ def least_whole(parts, servers):
     return next((part for part in parts if part & servers == part), 0)
 
 
-def quorum(servers):
-    """The least row and the least column that are whole, or none."""
-    row, col = least_whole(ROWS, servers), least_whole(COLS, servers)
-    return row | col if row and col else 0
+class Grid:
+    def __init__(self, rows, cols):
+        self.servers = range(rows * cols)
+        self.rows = [sum(1 << cols * row + col for col in range(cols)) for row in range(rows)]
+        self.cols = [sum(1 << cols * row + col for row in range(rows)) for col in range(cols)]
+
+    def quorum(self, servers):
+        """The least row and the least column that are whole, or none."""
+        row, col = least_whole(self.rows, servers), least_whole(self.cols, servers)
+        return row | col if row and col else 0
 
 
 class Session:
@@ -42,14 +43,17 @@ class Tenant:
 
 
 class Lines:
-    """An iterator with no end. `lost` and `changed`: how often a message is lost, and a server goes down or comes up."""
+    """An iterator with no end. `lost`, `changed` and `listed`: how often a message is lost, a server goes down or comes up,
+    and an operation is a listing. Each tenant has one volume of so many files and blocks."""
 
-    def __init__(self, draw, names, sessions, lost=0.001, changed=0.0003):
-        self.draw, self.lost, self.changed = draw, lost, changed
+    def __init__(self, draw, names, sessions, lost=0.001, changed=0.0003, listed=0.01, rows=4, cols=4, files=FILES, blocks=BLOCKS):
+        self.draw, self.lost, self.changed, self.listed = draw, lost, changed, listed
+        self.files, self.most_bytes = files, 64 * blocks
         self.tenants = [Tenant(name, sessions) for name in names]
-        self.up = sum(ROWS)
-        self.quorum = quorum(self.up)
-        self.opens = [f"{name} open {FILES} {BLOCKS}\n" for name in reversed(names)]
+        self.grid = Grid(rows, cols)
+        self.up = sum(self.grid.rows)
+        self.quorum = self.grid.quorum(self.up)
+        self.opens = [f"{name} open {files} {blocks}\n" for name in reversed(names)]
 
     def __iter__(self):
         return self
@@ -65,11 +69,11 @@ class Lines:
 
     def change(self):
         # (the more are down, the likelier one comes up: so there is a quorum most of the time)
-        down = [server for server in SERVERS if not self.up >> server & 1]
-        comes_up = self.draw.randrange(MOST_DOWN) < len(down)
-        server = self.draw.choice(down if comes_up else [server for server in SERVERS if server not in down])
+        down = [server for server in self.grid.servers if not self.up >> server & 1]
+        comes_up = self.draw.randrange(MOST_DOWN) < len(down) or len(down) == len(self.grid.servers)
+        server = self.draw.choice(down if comes_up else [server for server in self.grid.servers if server not in down])
         self.up ^= 1 << server
-        self.quorum = quorum(self.up)
+        self.quorum = self.grid.quorum(self.up)
         return f"server {server} {'up' if self.up >> server & 1 else 'down'}\n"
 
     def ask(self, session):
@@ -86,7 +90,7 @@ class Lines:
 
     def send(self, session, servers):
         tenant = session.tenant
-        for server in SERVERS:
+        for server in self.grid.servers:
             if servers >> server & 1:
                 session.under_way.append((tenant.sent, server, session.op, session.round, False))
                 tenant.sent += 1
@@ -99,17 +103,17 @@ class Lines:
             self.send(session, self.quorum)
 
     def begin(self, session):
-        file = self.draw.randrange(FILES)
+        file = self.draw.randrange(self.files)
         kind = self.draw.random()
         if self.quorum:
             session.op += 1
-            session.last_round = 2 if kind < 0.99 else 2 * FILES
+            session.last_round = 2 if kind < 1 - self.listed else 2 * self.files
             self.begin_round(session, 1)
         if kind < 0.70:
             # (short contents are more common than long ones: the logarithm of the length is drawn)
-            length = int((MOST_BYTES + 1) ** self.draw.random()) - 1 if kind < 0.69 else MOST_BYTES
+            length = int((self.most_bytes + 1) ** self.draw.random()) - 1 if kind < 0.69 else self.most_bytes
             return f"write {session.number} 0 {file} {self.draw.randbytes(length).hex() or '-'}"
-        if kind < 0.99:
+        if kind < 1 - self.listed:
             return f"read {session.number} 0 {file}"
         return f"list {session.number} 0"
 
@@ -139,6 +143,6 @@ class Lines:
                 session.tenant.sent += 1
         elif (op, round_number) == (session.op, session.round):
             session.heard |= 1 << server
-            if quorum(session.heard):
+            if self.grid.quorum(session.heard):
                 self.begin_round(session, (session.round + 1) % (session.last_round + 1))
         return f"deliver {number}"

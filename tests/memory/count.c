@@ -1,6 +1,7 @@
 /* Counts a program's requests for memory, and refuses one of them: it is loaded before the C library, by LD_PRELOAD.
 
-   With REFUSE=N in the environment the Nth request, from 1, is refused. At the end of the program a line
+   With REFUSE=N in the environment the Nth request, from 1, is refused; with REFUSE=N+ all from there on. At the end of the
+   program a line
    "ASKED HELD" is put at the end of the file that COUNT names: how many requests there were, and how many of the blocks
    that they gave were not given back. */
 #define _GNU_SOURCE
@@ -9,6 +10,7 @@
 #include <stddef.h>
 #include <stdio.h>
 #include <stdlib.h>
+#include <string.h>
 #include <unistd.h>
 
 extern void *__libc_malloc(size_t);
@@ -19,14 +21,17 @@ extern void __libc_free(void *);
 static unsigned long asked;
 static long held;
 static long refused = -1; /* the number of the request to be refused, 0 for none */
+static int onwards;       /* whether all that follow it are refused too */
 
 static int is_refused(void) {
     if (refused < 0) {
         const char *text = getenv("REFUSE");
         refused = text ? atol(text) : 0;
+        onwards = text && strchr(text, '+');
     }
     asked++;
-    if (refused > 0 && asked == (unsigned long)refused) {
+    unsigned long first = (unsigned long)refused;
+    if (refused > 0 && (asked == first || (onwards && asked > first))) {
         errno = ENOMEM;
         return 1;
     }

@@ -1,37 +1,15 @@
-//! Makes the calls of a store one by one, so that the requests for memory of each can be counted and refused.
-//!
-//! `new BLOCKS` makes a store of so many blocks; `add FILES` adds a volume of so many files to one; `put TIMES` puts a
-//! content so many times; `serve 1` has a store and an ask answered. Each prints how many blocks are free at the end.
-//! `new` and `put` close the store, the others let it go. The status is 0, 2 where the words are none of these, and 3
-//! where memory was wanting.
-#![tactic(auto)]
+//! The calls of a store.
 
 ghost use Rattle.std.specs.Prelude.{◌≡◌, ◌≤◌, [], ◌∷◌, IfOk};
 ghost use Rattle.gq_store.specs.Copies.{store_accounts};
 
+use crate::Fault;
 use bytes::Bytes;
 use gq_desk::{MOST_BLOCKS, Name, Plan, PlanFault, TenantRow};
 use gq_grid::Grid;
 use gq_store::{ServeRefused, ServerStore};
 use gq_tag::{Body, FileId, MOST_FILES, Message, StoredCopy, Tag};
-use std::alloc::{AllocError, Global};
-use std::process::ExitCode;
-use std::{env, io};
-
-// Why a store wasn't used to its end.
-#[derive(Drop)]
-enum Fault {
-    // The words name no way.
-    Usage,
-    // Memory is wanting.
-    Memory,
-}
-
-impl From<AllocError> for Fault {
-    fn from(_error: AllocError) -> Fault {
-        Fault::Memory
-    }
-}
+use std::alloc::Global;
 
 const FILE: FileId = FileId {
     tenant: 0,
@@ -144,44 +122,25 @@ fn serve(alloc: Global) -> Result<usize, Fault> {
     Ok(store.free())
 }
 
-// Takes the way that the words name.
-fn free_at_the_end(alloc: Global, words: &[String]) -> Result<usize, Fault> {
-    let [_, way, number] = words else {
-        return Err(Fault::Usage);
-    };
-    let Ok(number) = number.as_str().parse::<u32>() else {
-        return Err(Fault::Usage);
-    };
-    match way.as_str() {
-        "new" => Ok(free_then_closed(new_store(alloc, number)?)),
-        "add" => add_files(alloc, number),
-        "put" => put(alloc, number),
+// The number of free blocks at the end of the way of that name.
+fn free_at_the_end(alloc: Global, way: &str, most: u32) -> Result<usize, Fault> {
+    match way {
+        "new" => Ok(free_then_closed(new_store(alloc, most)?)),
+        "add" => add_files(alloc, most),
+        "put" => put(alloc, most),
         "serve" => serve(alloc),
         _ => Err(Fault::Usage),
     }
 }
 
-// Whether memory was wanting.
-fn wants_memory(error: &io::Error) -> bool {
-    error.kind() == io::ErrorKind::OutOfMemory
-}
-
-fn main(rt: HostRuntime) -> ExitCode {
-    let memory = ExitCode::from(3);
-    let usage = ExitCode::from(2);
-    let words: Vec<String> = match env::args(&rt) {
-        Ok(words) => match words.collect(rt.alloc()) {
-            Ok(words) => words,
-            Err(_) => return memory,
-        },
-        Err(error) => return if wants_memory(&error) { memory } else { usage },
+/// Goes the way of that name, and appends how many blocks are free at its end.
+pub fn make(alloc: Global, way: &str, most: usize, out: &mut Vec<u8>) -> Result<(), Fault> {
+    let Ok(most) = u32::try_from(most) else {
+        return Err(Fault::Usage);
     };
-    match free_at_the_end(rt.alloc(), words.as_slice()) {
-        Ok(free) => match println!(rt; "free {free}") {
-            Ok(()) => ExitCode::SUCCESS,
-            Err(error) => if wants_memory(&error) { memory } else { usage },
-        },
-        Err(Fault::Memory) => memory,
-        Err(Fault::Usage) => usage,
-    }
+    let free = free_at_the_end(alloc, way, most)?;
+    out.extend_from_slice(b"free ")?;
+    out.extend_from_slice(itoa::Buffer::new().format(free).as_bytes())?;
+    out.push(b'\n')?;
+    Ok(())
 }

@@ -1,0 +1,225 @@
+//! Makes public calls one by one, for tests in which memory or a stream is refused to them.
+//!
+//! Of a store: `new BLOCKS` makes one of so many blocks; `add FILES` adds a volume of so many files to one; `put TIMES`
+//! puts a content so many times; `serve 1` has a store and an ask answered. Each prints how many blocks are free at the
+//! end. `new` and `put` close the store, the others let it go.
+//!
+//! `calls PART` makes the calls of one part that take memory, one kind after another, and prints what can be seen of each
+//! value before its call and what the call gave; those on texts with the script that it reads. A call to which memory is
+//! refused is told, what can be seen of the value after it too, and then the call is made once more.
+//!
+//! `play` reads a script, has a world answer its lines one by one, and prints each answer, `ended` for each line after want
+//! of memory, and at the end how many blocks of each server are free.
+//!
+//! `stream READ_EACH READ_ALL WRITE_EACH WRITE_ALL END run` runs a script between a reader that gives at most so many bytes
+//! a call and fails after so many in all, and a writer that takes at most so many; where END is `fails` it fails after
+//! these, where it is `none` it takes none. It prints what the writer took. With `order NAME VOLUME FILE` in place of `run`
+//! it asks for the order of the operations on a file too.
+//!
+//! The status is 0, 1 after a fault of the input, of reading or of writing, 2 where the words are none of these, and 3
+//! where memory was wanting.
+#![tactic(auto)]
+
+mod calls;
+mod operations;
+mod play;
+mod store;
+mod streams;
+mod texts;
+
+use gq_cli::OrderFault;
+use gq_script::{PlanText, RunFault};
+use std::alloc::{AllocError, AllocFailed};
+use std::io::{Read, Write};
+use std::process::ExitCode;
+use std::{env, io};
+use streams::{Sink, Source};
+use thiserror::Error;
+
+// A fault of the input, of reading or of writing.
+const FAULT: u8 = 1;
+// Words that name no way.
+const USAGE: u8 = 2;
+// Memory is wanting.
+const MEMORY: u8 = 3;
+
+// Why the calls were not made to their end.
+#[derive(Debug, Drop, Error)]
+enum Fault {
+    // The words name no way.
+    #[error("the words name no way")]
+    Usage,
+    // The plan is at fault.
+    #[error("{0}")]
+    Plan(PlanText),
+    // The run ended early.
+    #[error("{0}")]
+    Run(OrderFault),
+    // A standard stream failed.
+    #[error("{0}")]
+    Stream(io::Error),
+    // Memory is wanting.
+    #[error("out of memory")]
+    Memory,
+}
+
+impl From<AllocError> for Fault {
+    fn from(_error: AllocError) -> Fault {
+        Fault::Memory
+    }
+}
+
+impl<T: Drop> From<AllocFailed<T>> for Fault {
+    fn from(_error: AllocFailed<T>) -> Fault {
+        Fault::Memory
+    }
+}
+
+impl From<PlanText> for Fault {
+    fn from(fault: PlanText) -> Fault {
+        Fault::Plan(fault)
+    }
+}
+
+impl From<RunFault> for Fault {
+    fn from(fault: RunFault) -> Fault {
+        Fault::Run(OrderFault::Run(fault))
+    }
+}
+
+impl From<OrderFault> for Fault {
+    fn from(fault: OrderFault) -> Fault {
+        Fault::Run(fault)
+    }
+}
+
+impl From<io::Error> for Fault {
+    fn from(error: io::Error) -> Fault {
+        Fault::Stream(error)
+    }
+}
+
+// The number that a word tells.
+fn number(word: &String) -> Result<usize, Fault> {
+    match word.as_str().parse::<usize>() {
+        Ok(number) => Ok(number),
+        Err(_) => Err(Fault::Usage),
+    }
+}
+
+// The number of a volume or a file that a word tells.
+fn place(word: &String) -> Result<u32, Fault> {
+    match word.as_str().parse::<u32>() {
+        Ok(place) => Ok(place),
+        Err(_) => Err(Fault::Usage),
+    }
+}
+
+// All of standard input.
+fn input(rt: &HostRuntime) -> Result<Vec<u8>, Fault> {
+    let mut text = Vec::new(rt.alloc());
+    rt.reader().read_to_end(&mut text)?;
+    Ok(text)
+}
+
+// Does what is asked for between the reader and the writer. What the writer took comes into `out`.
+fn between(
+    rt: &HostRuntime,
+    source: Source,
+    sink: Sink,
+    request: &[String],
+    out: &mut Vec<u8>,
+) -> Result<(), Fault> {
+    match request {
+        [run] if run.as_str() == "run" => {
+            let (bytes, ended) = streams::run_between(rt.alloc(), source, sink);
+            *out = bytes;
+            Ok(ended?)
+        }
+        [order, name, volume, file] if order.as_str() == "order" => {
+            let volume = place(volume)?;
+            let file = place(file)?;
+            let (bytes, ended) = streams::order_between(
+                rt.alloc(),
+                source,
+                sink,
+                name.as_str(),
+                volume,
+                file,
+            );
+            *out = bytes;
+            Ok(ended?)
+        }
+        _ => Err(Fault::Usage),
+    }
+}
+
+// The same with the reader and the writer that the words name; the reader gives standard input.
+fn stream(rt: &HostRuntime, words: &[String], out: &mut Vec<u8>) -> Result<(), Fault> {
+    let [
+        read_each,
+        read_all,
+        write_each,
+        write_all,
+        end,
+        request @ ..,
+    ] = words
+    else {
+        return Err(Fault::Usage);
+    };
+    let script = input(rt)?;
+    let source = Source::new(script.as_slice(), number(read_each)?, number(read_all)?);
+    let fails = end.as_str() == "fails";
+    let sink = Sink::new(rt.alloc(), number(write_each)?, number(write_all)?, fails);
+    between(rt, source, sink, request, out)
+}
+
+// Goes the way that the words name, and gives what is printed.
+fn go(rt: &HostRuntime, words: &[String], out: &mut Vec<u8>) -> Result<(), Fault> {
+    let [_, way, rest @ ..] = words else {
+        return Err(Fault::Usage);
+    };
+    match (way.as_str(), rest) {
+        ("play", []) => {
+            *out = play::play(rt.alloc(), input(rt)?.as_slice())?;
+            Ok(())
+        }
+        ("calls", [part]) => calls::make(rt.alloc(), part.as_str(), input(rt)?.as_slice(), out),
+        ("stream", words) => stream(rt, words, out),
+        (way, [most]) => store::make(rt.alloc(), way, number(most)?, out),
+        _ => Err(Fault::Usage),
+    }
+}
+
+// The status of a fault.
+fn status(fault: &Fault) -> ExitCode {
+    match fault {
+        Fault::Usage => ExitCode::from(USAGE),
+        Fault::Memory
+        | Fault::Plan(PlanText::Memory)
+        | Fault::Run(OrderFault::Run(RunFault::Memory)) => ExitCode::from(MEMORY),
+        Fault::Stream(error) if error.kind() == io::ErrorKind::OutOfMemory => ExitCode::from(
+            MEMORY,
+        ),
+        _ => ExitCode::from(FAULT),
+    }
+}
+
+// Goes the way that the words name, and prints what comes of it, also before a fault.
+fn print(rt: &HostRuntime) -> Result<(), Fault> {
+    let words: Vec<String> = env::args(rt)?.collect(rt.alloc())?;
+    let mut out = Vec::new(rt.alloc());
+    let outcome = go(rt, words.as_slice(), &mut out);
+    io::writer(rt).write_all(out.as_slice())?;
+    outcome
+}
+
+fn main(rt: HostRuntime) -> ExitCode {
+    match print(&rt) {
+        Ok(()) => ExitCode::SUCCESS,
+        Err(fault) => {
+            let _ = eprintln!(rt; "try_calls: {fault}");
+            status(&fault)
+        }
+    }
+}

@@ -1,0 +1,75 @@
+//! A world that answers the lines of a script one by one, also after want of memory.
+
+ghost use Rattle.std.specs.Prelude.{◌≡◌, ◌<◌, length, IfOk};
+ghost use Rattle.gq_model.specs.Events.{IsIn};
+
+use crate::Fault;
+use gq_desk::Plan;
+use gq_script::{read_line, read_plan, write_answer};
+use gq_world::{Event, World};
+use memchr::memchr;
+use std::alloc::{AllocError, Global};
+
+/// The first line of a text without its newline, and what follows it.
+pub fn first_line(text: &[u8]) -> (&[u8], &[u8])
+    requires { 0 < length text.now }
+    ensures { length result.1.now < length text.now }
+{
+    match memchr(b'\n', text) {
+        Some(end) => (&text[..end], &text[end + 1..]),
+        None => (text, &[]),
+    }
+}
+
+// The event of a line. Where memory is refused, the line is read once more.
+fn event_of(alloc: Global, line: &[u8], plan: &Plan) -> Result<Event, AllocError>
+    ensures { IfOk result (λ event. IsIn plan.now event) }
+{
+    match read_line(alloc, line, plan) {
+        Ok(event) => Ok(event),
+        Err(AllocError) => read_line(alloc, line, plan),
+    }
+}
+
+// Steps the world by a line, and appends the answer. Where memory is refused to its text, that is written once more.
+fn answer(
+    alloc: Global,
+    world: &mut World,
+    line: &[u8],
+    out: &mut Vec<u8>,
+) -> Result<(), AllocError> {
+    let event = event_of(alloc, line, world.plan())?;
+    let Ok(answer) = world.step(&event) else {
+        return out.extend_from_slice(b"ended\n");
+    };
+    match write_answer(world.plan(), &event, &answer, out) {
+        Ok(()) => Ok(()),
+        Err(AllocError) => write_answer(world.plan(), &event, &answer, out),
+    }
+}
+
+// Appends how many blocks of each server are free.
+fn put_free(world: &World, out: &mut Vec<u8>) -> Result<(), AllocError> {
+    out.extend_from_slice(b"free")?;
+    for server in 0..world.plan().grid().servers() {
+        out.push(b' ')?;
+        out.extend_from_slice(itoa::Buffer::new().format(world.free(server)).as_bytes())?;
+    }
+    out.push(b'\n')?;
+    Ok(())
+}
+
+/// The answers to the lines of a script, and then a line of how many blocks of each server are free.
+pub fn play(alloc: Global, script: &[u8]) -> Result<Vec<u8>, Fault> {
+    let (plan, place) = read_plan(alloc, script)?;
+    let mut world = World::new(alloc, plan)?;
+    let mut out = Vec::new(alloc);
+    let mut rest = &script[place..];
+    while !rest.is_empty() {
+        let (line, after) = first_line(rest);
+        answer(alloc, &mut world, line, &mut out)?;
+        rest = after;
+    }
+    put_free(&world, &mut out)?;
+    Ok(out)
+}
