@@ -1,6 +1,7 @@
 //! Words that are a request, ask for help or for the version, or are none of these.
 
 use gq_cli::{Request, Usage, read_words};
+use std::alloc::Global;
 use std::process::Abort;
 
 fn status(rt: &impl Abort, told: Result<Request, Usage>) -> (i32, bool) {
@@ -33,6 +34,33 @@ fn reads_the_words(rt: HostRuntime) {
     let more = ["gridfs", "run", "now"];
     assert_eq!(rt;
         status(&rt, read_words(rt.alloc(), more.as_slice())),
+        (2, true)
+    );
+}
+
+// Words of `order` are read as a name and two numbers.
+fn order_is_read(rt: &impl Abort, alloc: Global, words: &[&str], tenant: &str) {
+    match read_words(alloc, words) {
+        Ok(Request::Order { name, volume, file }) => {
+            assert!(rt; name == tenant);
+            assert!(rt; volume == 4294967295 && file == 1);
+        }
+        _ => panic!(rt; "no order"),
+    }
+}
+
+#[test]
+fn reads_the_words_of_an_order(rt: HostRuntime) {
+    let order = ["gridfs", "order", "ann", "4294967295", "1"];
+    order_is_read(&rt, rt.alloc(), order.as_slice(), "ann");
+    let large = ["gridfs", "order", "ann", "4294967296", "1"];
+    assert_eq!(rt;
+        status(&rt, read_words(rt.alloc(), large.as_slice())),
+        (2, true)
+    );
+    let few = ["gridfs", "order", "ann", "0"];
+    assert_eq!(rt;
+        status(&rt, read_words(rt.alloc(), few.as_slice())),
         (2, true)
     );
 }

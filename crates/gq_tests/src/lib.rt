@@ -3,15 +3,27 @@
 #![tactic(auto)]
 
 #[cfg(test)]
+mod cell;
+#[cfg(test)]
 mod cli;
 #[cfg(test)]
 mod desk;
 #[cfg(test)]
 mod grid;
 #[cfg(test)]
+mod inspect;
+#[cfg(test)]
+mod live;
+#[cfg(test)]
+mod order;
+#[cfg(test)]
 mod phase;
 #[cfg(test)]
 mod post;
+#[cfg(test)]
+mod programs;
+#[cfg(test)]
+mod replay;
 #[cfg(test)]
 mod script;
 #[cfg(test)]
