@@ -1,10 +1,5 @@
-pub mod Rests
-pub mod Counting
 pub mod Rising
-pub mod Walking
-pub mod Standing
-pub mod Unique
-pub mod Agreeing
-pub mod Backwards
-pub mod Running
-pub mod Growing
+pub mod InOrder
+pub mod Sessions
+pub mod Within
+pub mod Picking

@@ -1,4 +1,4 @@
-pub mod Walk
-pub mod Keys
-pub mod Passes
-pub mod Runs
+pub mod Steps
+pub mod Lists
+pub mod Replay
+pub mod Tapes

@@ -1,21 +1,18 @@
-//! What a run shows of each file: the operations on it, their order, and whether an order is legal.
+//! Whether the records of a live run are a run of the core: all steps in order of their stamps are played in a world, and
+//! what it answers is compared with what was recorded. What a run shows of each file, the operations and their order, is passed
+//! on from the crate below.
 #![tactic(auto)]
 
-mod checking;
-mod endings;
-mod history;
-mod keys;
-mod ops;
-mod ordering;
-mod run;
-mod sessions;
+mod alike;
+mod lists;
+mod mismatch;
+mod playing;
+mod replay;
+mod steps;
+mod tape;
 
-pub use checking::check_order;
-pub use gq_laws::{Kind, Op};
-pub use history::operations;
-pub use ordering::order;
-pub use run::{FileOrder, file_order, runs_grow};
-pub use sessions::sees;
-
-/// A place in a list of operations.
-pub type OpRef = usize;
+pub use gq_order::{
+    FileOrder, Kind, Op, OpRef, check_order, file_order, operations, order, runs_grow,
+};
+pub use mismatch::Mismatch;
+pub use replay::inspect;

@@ -13,8 +13,8 @@ use Rattle.gq_model.specs.Lone.{said, past_of}
 use Rattle.gq_model.specs.Shown.{shown}
 use Rattle.gq_model.specs.Events.{turn_of, own, server_lines, answer_to}
 use Rattle.gq_world.specs.Tables.{Tables, Stands}
-use Rattle.gq_inspect.specs.Runs.{IsRun}
-use Rattle.gq_inspect.proofs.Growing.{runs-grow}
+use Rattle.gq_order.specs.Runs.{IsRun}
+use Rattle.gq_order.proofs.Growing.{runs-grow}
 use Rattle.gq_script.specs.Lines.{lines_of}
 use Rattle.gq_script.specs.Input.{event_of}
 use Rattle.gq_script.specs.Output.{answer_line}

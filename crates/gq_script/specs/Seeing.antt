@@ -1,7 +1,7 @@
 -- The events that one tenant sees.
 use Rattle.std.specs.Prelude.{ℕ, List, Bool, false, Option, Some, None, filter}
 use Rattle.gq_model.specs.declared.events.Event.{Event}
-use Rattle.gq_inspect.specs.Passes.{sees}
+use Rattle.gq_order.specs.Passes.{sees}
 
 -- the tenant, where there is one, sees the event
 abbrev pub is_seen : Option ℕ → Event → Bool

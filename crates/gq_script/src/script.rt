@@ -10,7 +10,7 @@ use crate::plan_text::{PlanText, TextFault, read_plan};
 use crate::quorum_text::QuorumText;
 use crate::watched::Watched;
 use gq_desk::Plan;
-use gq_inspect::sees;
+use gq_order::sees;
 use gq_world::{Answer, Event, World};
 use std::alloc::{AllocError, Global};
 use std::io::{Read, Write};
@@ -40,7 +40,7 @@ pub enum RunFault {
 pub const MOST_INPUT: usize = 16_777_216;
 
 ghost use Rattle.gq_world.specs.Tables.{Stands};
-ghost use Rattle.gq_inspect.specs.Runs.{IsRun};
+ghost use Rattle.gq_order.specs.Runs.{IsRun};
 ghost use Rattle.gq_script.specs.Input.{event_of};
 ghost use Rattle.gq_script.specs.Lines.{lines_of};
 ghost use Rattle.gq_script.specs.Seeing.{is_seen, seen_events};

@@ -1,0 +1,7 @@
+use Rattle.std.proofs.Common.{◌≡◌, None, drop, map}
+use Rattle.gq_cell.specs.declared.board.BoardEntry.{BoardEntry}
+use Rattle.gq_inspect.specs.Lists.{climb_after}
+use Rattle.gq_inspect.proofs.lists.board_climbs.Given as goal
+
+abbrev pub invariant-loop-entry : goal.invariant-loop-entry
+invariant-loop-entry l = climb_after l.last (map (λ (e : BoardEntry). e.stamp) (drop l.entry-index l.entries)) ≡ climb_after None (map (λ (e : BoardEntry). e.stamp) l.entries)

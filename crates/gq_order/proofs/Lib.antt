@@ -1,0 +1,10 @@
+pub mod Rests
+pub mod Counting
+pub mod Rising
+pub mod Walking
+pub mod Standing
+pub mod Unique
+pub mod Agreeing
+pub mod Backwards
+pub mod Running
+pub mod Growing

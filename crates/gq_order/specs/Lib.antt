@@ -1,0 +1,4 @@
+pub mod Walk
+pub mod Keys
+pub mod Passes
+pub mod Runs

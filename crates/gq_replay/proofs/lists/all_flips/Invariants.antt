@@ -1,6 +1,0 @@
-use Rattle.std.proofs.Common.{ℕ, ◌<◌}
-use Rattle.gq_replay.specs.Lists.{HasFlips}
-use Rattle.gq_replay.proofs.lists.all_flips.Given as goal
-
-abbrev pub invariant-loop-server : goal.invariant-loop-server
-invariant-loop-server l = (k : ℕ) → k < l.server → HasFlips l.records.board.items l.records.cells.items k

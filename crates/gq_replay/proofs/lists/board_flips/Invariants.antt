@@ -1,6 +1,0 @@
-use Rattle.std.proofs.Common.{◌≡◌, ◌++◌, drop}
-use Rattle.gq_replay.specs.Lists.{board_flips}
-use Rattle.gq_replay.proofs.lists.board_flips.Given as goal
-
-abbrev pub invariant-loop-entry : goal.invariant-loop-entry
-invariant-loop-entry l = l.all.items ++ board_flips l.server (drop l.entry-index l.entries) ≡ board_flips l.server l.entries

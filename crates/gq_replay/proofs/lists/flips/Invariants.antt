@@ -1,6 +1,0 @@
-use Rattle.std.proofs.Common.{◌≡◌, ◌++◌, drop}
-use Rattle.gq_replay.specs.Lists.{flips}
-use Rattle.gq_replay.proofs.lists.flips.Given as goal
-
-abbrev pub invariant-loop-entry : goal.invariant-loop-entry
-invariant-loop-entry l = l.all.items ++ flips (drop l.entry-index l.entries) ≡ flips l.entries

@@ -1,6 +1,0 @@
-use Rattle.std.proofs.Common.{◌≡◌, ◌++◌, drop}
-use Rattle.gq_replay.specs.Steps.{board_steps}
-use Rattle.gq_replay.proofs.steps.add_board.Given as goal
-
-abbrev pub invariant-loop-at : goal.invariant-loop-at
-invariant-loop-at l = l.all.items ++ board_steps l.at (drop l.at l.entries) ≡ l.initial.all.items ++ board_steps 0 l.entries

@@ -1,6 +1,0 @@
-use Rattle.std.proofs.Common.{◌≡◌, ◌++◌, drop}
-use Rattle.gq_replay.specs.Steps.{served_steps}
-use Rattle.gq_replay.proofs.steps.add_cell.Given as goal
-
-abbrev pub invariant-loop-at : goal.invariant-loop-at
-invariant-loop-at l = l.all.items ++ served_steps l.place l.server l.at (drop l.at l.entries) ≡ l.initial.all.items ++ served_steps l.place l.server 0 l.entries

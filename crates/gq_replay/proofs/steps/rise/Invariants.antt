@@ -1,6 +1,0 @@
-use Rattle.std.proofs.Common.{◌≡◌, None, drop}
-use Rattle.gq_replay.specs.Steps.{rise_after}
-use Rattle.gq_replay.proofs.steps.rise.Given as goal
-
-abbrev pub invariant-loop-step : goal.invariant-loop-step
-invariant-loop-step l = rise_after l.last (drop l.step-index l.steps) ≡ rise_after None l.steps

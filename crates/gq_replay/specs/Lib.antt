@@ -1,4 +1,0 @@
-pub mod Steps
-pub mod Lists
-pub mod Replay
-pub mod Tapes
