@@ -2,7 +2,7 @@
 ghost use Rattle.gq_session.specs.Faults.{NoGate};
 
 use crate::starts::{Mailboxes, Note, Seat};
-use crossbeam_channel::{Receiver, Sender};
+use crossbeam_channel::{Receiver, SendError, Sender};
 use gq_cell::Letter;
 use gq_grid::Grid;
 use gq_session::{Agenda, LiveFault, Outbox, Session};
@@ -24,7 +24,9 @@ pub(crate) struct SessionEnd {
 }
 
 // Sends the letters of a step. One to a closed mailbox is dropped.
-fn send_all<R: Wait>(rt: &R, servers: &[Sender<Letter>], outbox: Outbox) {
+fn send_all<R: Wait>(rt: &R, servers: &[Sender<Letter>], outbox: Outbox) -> Result<(), LiveFault>
+    ensures { NoGate result }
+{
     let Outbox {
         stamp,
         messages,
@@ -33,7 +35,7 @@ fn send_all<R: Wait>(rt: &R, servers: &[Sender<Letter>], outbox: Outbox) {
     for (index, message) in messages.into_iter().enumerate() {
         let (Some(to), Ok(index)) = (servers.get(message.server as usize), u32::try_from(index))
         else {
-            break;
+            return Err(LiveFault::Letter);
         };
         let letter = Letter {
             place: 0,
@@ -41,8 +43,11 @@ fn send_all<R: Wait>(rt: &R, servers: &[Sender<Letter>], outbox: Outbox) {
             index,
             message,
         };
-        let _ = to.send(rt, letter);
+        if let Err(SendError::OutOfMemory(_)) = to.send(rt, letter) {
+            return Err(LiveFault::Memory);
+        }
     }
+    Ok(())
 }
 
 // One hold of the board's lock, in which a letter is heard.
@@ -114,10 +119,9 @@ fn go_on<R: Wait>(
 {
     if outbox.stuck {
         let ended = give_up(rt, agenda, session)?;
-        send_all(rt, servers, ended);
+        send_all(rt, servers, ended)?;
     }
-    send_all(rt, servers, outbox);
-    Ok(())
+    send_all(rt, servers, outbox)
 }
 
 // Goes on until the operation has ended. False where the session has to quit.
@@ -165,7 +169,7 @@ fn ask_all<R: Wait>(
         let Some(outbox) = ask_next(rt, agenda, session)? else {
             return Ok(());
         };
-        send_all(rt, servers, outbox);
+        send_all(rt, servers, outbox)?;
         if !end_operation(rt, agenda, inbox, servers, session)? {
             return Ok(());
         }

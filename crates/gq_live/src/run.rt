@@ -1,10 +1,11 @@
 //! The live run.
-ghost use Rattle.std.specs.Prelude.{◌≡◌, ◌≢◌, ◌*◌, true, IfOk, vec_len};
+ghost use Rattle.std.specs.Prelude.{◌≡◌, ◌≢◌, ◌*◌, true, length, IfErr, IfOk, None, OnOk, vec_len};
 ghost use Rattle.std.specs.Option.{ForSome};
 ghost use Rattle.gq_session.specs.Changed.{changes_of, IsSubsequence};
 ghost use Rattle.gq_session.specs.Faults.{NoGate};
 ghost use Rattle.gq_session.specs.Fitting.{FitsPlan};
 ghost use Rattle.gq_session.specs.declared.records.LiveFault.TheVariants as FaultIs;
+ghost use Rattle.gq_live.specs.Openings.{TellsOfNoVolume, TellsOfVolume, refused_volume};
 ghost use Rattle.gq_live.specs.Runs.{AllLawful, AllAsked};
 
 use crate::attending::{SessionEnd, attend};
@@ -14,7 +15,7 @@ use crate::starts::{
     Mailboxes, Order, Seat, Seats, ServerChannels, ServerInbox, Site, all_seats, open_all, sites,
 };
 use crossbeam_channel::Sender;
-use gq_desk::Plan;
+use gq_desk::{Desk, Plan};
 use gq_grid::Grid;
 use gq_session::{Agenda, Gate, LiveFault, Programs, Records};
 use std::alloc::{AllocError, Global};
@@ -219,20 +220,29 @@ fn join_all<T: Drop, R: Threads>(
 
 // ---- the run
 
-/// Opens the volumes in order, and then runs the programs in threads: one with two workers for each server, one for each
-/// session, and one steward for the servers' changes. It gives what was recorded under the locks. It may wait for ever.
-///
-/// `Volume` is told before any thread starts. `Gate` comes only where the gate gave up; of several threads' faults the
-/// first in the order of [`LiveFault`] is told.
+// What a thread met, which is no refusal of a volume: these are tested before.
+fn met_by_threads(fault: LiveFault) -> LiveFault
+    ensures volume { TellsOfNoVolume result }
+    ensures gate { fault ≢ FaultIs.Gate → result ≢ FaultIs.Gate }
+{
+    match fault {
+        LiveFault::Volume(_) => LiveFault::Letter,
+        fault => fault,
+    }
+}
+
+// Runs the programs in threads, where the desk has their volumes.
 #[tactic(auto, using(gq_session::proofs::Requests::all_requests))]
-pub fn live<G: Gate + Send + Sync, R: Threads + Wait + Sync>(
+fn run_opened<G: Gate + Send + Sync, R: Threads + Wait + Sync>(
     rt: &R,
     alloc: Global,
     plan: &Plan,
     programs: &Programs,
+    desk: &Desk,
     gate: &G,
 ) -> Result<Records, LiveFault>
     requires fits { FitsPlan plan.now programs.now }
+    requires desk { length desk.now ≡ length plan.now.rows }
     ensures volumes { IfOk result (λ r. r.volumes.items ≡ programs.now.volumes.items) }
     ensures cells { IfOk result (λ r. vec_len r.cells ≡ plan.now.grid.rows * plan.now.grid.cols) }
     ensures lawful { IfOk result (λ r. AllLawful r.cells.items) }
@@ -243,7 +253,6 @@ pub fn live<G: Gate + Send + Sync, R: Threads + Wait + Sync>(
 {
     let openings = programs.volumes.as_slice();
     let programs_asked = programs.sessions.as_slice();
-    let desk = open_all(alloc, plan, openings)?;
     let volumes = Vec::from_slice(alloc, openings)?;
     let list = Vec::from_slice(alloc, programs.changes.as_slice())?;
     let ServerChannels {
@@ -252,9 +261,10 @@ pub fn live<G: Gate + Send + Sync, R: Threads + Wait + Sync>(
         inboxes,
     } = ServerChannels::new(alloc, plan.grid().servers())?;
     let Seats { seats, mailboxes } = all_seats(
+        rt,
         alloc,
         plan,
-        &desk,
+        desk,
         programs_asked,
         letters.as_slice(),
     )?;
@@ -282,5 +292,35 @@ pub fn live<G: Gate + Send + Sync, R: Threads + Wait + Sync>(
             sessions,
         }),
         None => Err(LiveFault::Letter),
+    }
+}
+
+/// Opens the volumes in order, and then runs the programs in threads: one with two workers for each server, one for each
+/// session, and one steward for the servers' changes. It gives what was recorded under the locks. It may wait for ever.
+///
+/// `Volume` tells the first volume that is refused, before any thread starts, and comes only then. `Gate` comes only where
+/// the gate gave up; of several threads' faults the first in the order of [`LiveFault`] is told.
+pub fn live<G: Gate + Send + Sync, R: Threads + Wait + Sync>(
+    rt: &R,
+    alloc: Global,
+    plan: &Plan,
+    programs: &Programs,
+    gate: &G,
+) -> Result<Records, LiveFault>
+    requires fits { FitsPlan plan.now programs.now }
+    ensures volumes { IfOk result (λ r. r.volumes.items ≡ programs.now.volumes.items) }
+    ensures cells { IfOk result (λ r. vec_len r.cells ≡ plan.now.grid.rows * plan.now.grid.cols) }
+    ensures lawful { IfOk result (λ r. AllLawful r.cells.items) }
+    ensures sessions { IfOk result (λ r. vec_len r.sessions ≡ vec_len programs.now.sessions) }
+    ensures asked { IfOk result (λ r. AllAsked programs.now.sessions.items r.sessions.items) }
+    ensures changes { IfOk result (λ r. IsSubsequence (changes_of r.board.items) programs.now.changes.items) }
+    ensures opens { OnOk result (refused_volume plan.now programs.now.volumes.items ≡ None) }
+    ensures volume { IfErr result (TellsOfVolume plan.now programs.now.volumes.items) }
+    ensures gate { G.never ≡ true → NoGate result }
+{
+    let desk = open_all(alloc, plan, programs.volumes.as_slice())?;
+    match run_opened(rt, alloc, plan, programs, &desk, gate) {
+        Ok(records) => Ok(records),
+        Err(fault) => Err(met_by_threads(fault)),
     }
 }

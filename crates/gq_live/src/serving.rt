@@ -6,7 +6,7 @@ ghost use Rattle.gq_session.specs.Faults.{NoGate};
 
 use crate::ends::{CellRecord, GatedEnd};
 use crate::starts::{Note, Order, ServerInbox, Site};
-use crossbeam_channel::Receiver;
+use crossbeam_channel::{Receiver, SendError};
 use gq_cell::{Cell, CellRefused, Letter, Served, Share};
 use gq_desk::{Desk, OpenRefused, Plan};
 use gq_session::{Agenda, Gate, LiveFault, Opening, change_cell};
@@ -56,11 +56,11 @@ fn serve_one<L: Ledger, G: Gate, R: Wait>(
         Err(CellRefused::File | CellRefused::Long) => return Err(LiveFault::Letter),
     };
     match site.mailboxes.of(tenant, session) {
-        Some(to) => {
+        Some(to) => match to.send(rt, note) {
+            Err(SendError::OutOfMemory(_)) => Err(LiveFault::Memory),
             // A note to a closed mailbox is dropped.
-            let _ = to.send(rt, note);
-            Ok(())
-        }
+            _ => Ok(()),
+        },
         None => Err(LiveFault::Letter),
     }
 }

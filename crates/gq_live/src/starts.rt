@@ -1,9 +1,10 @@
 //! What the threads of a live run start with.
-ghost use Rattle.std.specs.Prelude.{◌≡◌, ◌<◌, All, IfOk, true, length};
+ghost use Rattle.std.specs.Prelude.{◌≡◌, ◌≢◌, ◌<◌, All, IfOk, IfErr, OnOk, Some, None, true, length};
 ghost use Rattle.std.specs.List.{list_all};
 ghost use Rattle.gq_desk.specs.Volumes.{is_sized};
 ghost use Rattle.gq_session.specs.Faults.{NoGate};
 ghost use Rattle.gq_session.specs.Fitting.{IsRequest, IsTenants};
+ghost use Rattle.gq_live.specs.Openings.{TellsOfVolume, desk_with, opening_fault, place_if, refused_volume};
 
 use crossbeam_channel::{Receiver, Sender};
 use gq_cell::Letter;
@@ -118,7 +119,7 @@ impl Mailboxes {
         sessions.get(session as usize - 1)
     }
 
-    // Tells every session to quit, as far as memory lasts.
+    // Tells every session to quit. A mailbox with notes in it takes one more as far as memory lasts.
     pub(crate) fn quit<R: Wait>(&self, rt: &R) {
         for sessions in &self.tenants {
             for to in sessions {
@@ -159,26 +160,47 @@ fn copy_senders(alloc: Global, ends: &[Sender<Letter>]) -> Result<Vec<Sender<Let
     Ok(all)
 }
 
+// Opens the volume at that place.
+fn open_one(desk: &mut Desk, opening: Opening, place: usize) -> Result<(), LiveFault>
+    requires { opening.tenant < length desk.old }
+    ensures ok { OnOk result (opening_fault desk.old opening ≡ None) }
+    ensures desk { OnOk result (desk.new ≡ desk_with desk.old opening) }
+    ensures fault { IfErr result (λ fault. fault ≢ LiveFault.Memory → place_if place (opening_fault desk.old opening) ≡ Some place) }
+    ensures volume { IfErr result (λ fault. fault ≢ LiveFault.Memory → fault ≡ LiveFault.Volume place) }
+{
+    match desk.open_volume(opening.tenant, opening.files, opening.blocks) {
+        Ok(_) => Ok(()),
+        Err(OpenRefused::Memory) => Err(LiveFault::Memory),
+        Err(_) => Err(LiveFault::Volume(place)),
+    }
+}
+
 // Opens all volumes, in order.
 pub(crate) fn open_all(alloc: Global, plan: &Plan, volumes: &[Opening]) -> Result<Desk, LiveFault>
     requires { IsTenants (length plan.now.rows) volumes.now }
     ensures tenants { IfOk result (λ desk. length desk ≡ length plan.now.rows) }
+    ensures opens { OnOk result (refused_volume plan.now volumes.now ≡ None) }
+    ensures volume { IfErr result (TellsOfVolume plan.now volumes.now) }
     ensures gate { NoGate result }
 {
     let mut desk = Desk::new(alloc, plan)?;
     for place in 0..volumes.len() {
-        let opening = volumes[place];
-        match desk.open_volume(opening.tenant, opening.files, opening.blocks) {
-            Ok(_) => {}
-            Err(OpenRefused::Memory) => return Err(LiveFault::Memory),
-            Err(_) => return Err(LiveFault::Volume(place)),
-        }
+        open_one(&mut desk, volumes[place], place)?;
     }
     Ok(desk)
 }
 
+// A mailbox that had a note keeps room for one: a session that waits can be told to quit where memory is wanting.
+fn make_room<R: Wait>(rt: &R, to: &Sender<Note>, inbox: &Receiver<Note>) -> Result<(), AllocError> {
+    if to.send(rt, Note::Quit).is_err() || inbox.recv(rt).is_err() {
+        return Err(AllocError);
+    }
+    Ok(())
+}
+
 // A seat for a session of the tenant, and its mailbox.
-fn make_seat(
+fn make_seat<R: Wait>(
+    rt: &R,
     alloc: Global,
     desk: &Desk,
     place: usize,
@@ -191,6 +213,7 @@ fn make_seat(
     requires requests { All IsRequest program.now }
 {
     let (to, inbox) = crossbeam_channel::unbounded(alloc)?;
+    make_room(rt, &to, &inbox)?;
     let volumes = Vec::from_slice(alloc, desk.volumes(tenant))?;
     let lines = program.items.clone()?;
     let servers = copy_senders(alloc, servers)?;
@@ -207,7 +230,8 @@ fn make_seat(
 }
 
 // Adds a seat for each session of the tenant, and their mailboxes.
-fn add_seats(
+fn add_seats<R: Wait>(
+    rt: &R,
     alloc: Global,
     plan: &Plan,
     desk: &Desk,
@@ -233,6 +257,7 @@ fn add_seats(
         mailboxes.reserve(1)?;
         all.seats.reserve(1)?;
         let (seat, to) = make_seat(
+            rt,
             alloc,
             desk,
             place,
@@ -250,7 +275,8 @@ fn add_seats(
 }
 
 // A seat for each session of the plan, and their mailboxes.
-pub(crate) fn all_seats(
+pub(crate) fn all_seats<R: Wait>(
+    rt: &R,
     alloc: Global,
     plan: &Plan,
     desk: &Desk,
@@ -268,7 +294,16 @@ pub(crate) fn all_seats(
         },
     };
     for tenant in 0..plan.tenants() {
-        add_seats(alloc, plan, desk, tenant as u8, programs, servers, &mut all)?;
+        add_seats(
+            rt,
+            alloc,
+            plan,
+            desk,
+            tenant as u8,
+            programs,
+            servers,
+            &mut all,
+        )?;
     }
     Ok(all)
 }

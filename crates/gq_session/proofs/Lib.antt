@@ -1,3 +1,5 @@
 pub mod Asking
 pub mod Changing
+pub mod Hearings
 pub mod Requests
+pub mod Stepping

@@ -1,4 +1,10 @@
+pub mod Agendas
 pub mod Asked
+pub mod Began
 pub mod Changed
+pub mod Clients
+pub mod Diaries
 pub mod Faults
 pub mod Fitting
+pub mod Sessions
+pub mod Works

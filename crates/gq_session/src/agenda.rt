@@ -1,16 +1,17 @@
 //! The board, with the list of the servers' changes and the place reached.
-ghost use Rattle.std.specs.Prelude.{◌≡◌, ◌<◌, ◌≤◌, ◌*◌, All, IfOk, IfSome, Some, true, length, slice_get};
-ghost use Rattle.std.specs.Option.{ForSome};
+ghost use Rattle.std.specs.Prelude.{◌≡◌, ◌≢◌, ◌↔◌, ◌<◌, ◌≤◌, ◌*◌, ◌^◌, [], All, IfOk, IfErr, IfSome, IfNone, OnOk, OnErr, OnSome, IsTrue, Some, length, slice_get};
+ghost use Rattle.std.specs.Option.{ForSome, ForNone};
+ghost use Rattle.gq_grid.specs.Grid.{all_servers};
+ghost use Rattle.gq_grid.specs.Sets.{servers};
+ghost use Rattle.gq_cell.specs.Stamps.{stamp_after};
 ghost use Rattle.gq_session.specs.Changed.{line_of, picked, changes_of, IsSubsequence};
-ghost use Rattle.gq_session.specs.Faults.{NoGate};
 ghost use Rattle.gq_session.specs.Fitting.{IsChange};
 
 use crate::records::LiveFault;
-use gq_cell::{Board, BoardEntry, Cell, ChangeRefused};
+use gq_cell::{Board, BoardEntry, ChangeRefused};
 use gq_grid::{Grid, ServerSet};
 use gq_model::ServerLine;
 use std::alloc::{AllocError, Global};
-use std::sync::ledger::Ledger;
 
 /// The board, the list of changes, and which of the first of them were done: the board's entries are these, in order.
 #[derive(Drop)]
@@ -45,7 +46,7 @@ fn change_in(grid: &Grid, line: ServerLine) -> Change
 
 // Whether the lists have the same changes.
 fn same_changes(one: &[ServerLine], two: &[ServerLine]) -> bool
-    ensures { result ≡ true → one.now ≡ two.now }
+    ensures { IsTrue result ↔ (one.now ≡ two.now) }
 {
     if one.len() != two.len() {
         return false;
@@ -59,9 +60,15 @@ fn same_changes(one: &[ServerLine], two: &[ServerLine]) -> bool
 }
 
 impl Agenda {
+    ghost use Rattle.gq_session.specs.Agendas.{servers_up, IsStamped, IsSameAgenda, PassesBy, Changes, IsStampFault};
+
     /// All servers of the grid are up, and no change of the list was done. Each is of a server of the grid.
     pub fn new(alloc: Global, grid: &Grid, list: Vec<ServerLine>) -> Agenda
         requires { All (IsChange grid.now) list.items }
+        ensures board { result.board ≡ record { grid = grid.now; last = 0; entries = [] } }
+        ensures list { result.list.items ≡ list.items }
+        ensures done { result.done.items ≡ [] }
+        ensures up { servers_up result ≡ all_servers grid.now }
     {
         Agenda {
             board: Board::new(alloc, grid),
@@ -72,7 +79,10 @@ impl Agenda {
 
     // The next stamp, above the last one and one that was seen.
     pub(crate) fn stamp(&mut self, seen: u64) -> Result<u64, LiveFault>
-        ensures { NoGate result }
+        ensures stamp { IfOk result (λ stamp. IsStamped self.old self.new seen stamp) }
+        ensures fault { IfErr result (λ fault. fault ≡ LiveFault.Stamps) }
+        ensures spent { OnErr result (2 ^ 64 ≤ stamp_after self.old.board.last seen) }
+        ensures same { OnErr result (IsSameAgenda self.old self.new) }
     {
         match self.board.stamp(seen) {
             Some(stamp) => Ok(stamp),
@@ -81,7 +91,9 @@ impl Agenda {
     }
 
     // The servers that are up.
-    pub(crate) fn up(&self) -> ServerSet {
+    pub(crate) fn up(&self) -> ServerSet
+        ensures { servers result ≡ servers_up self.now }
+    {
         self.board.up()
     }
 
@@ -89,27 +101,34 @@ impl Agenda {
     pub fn next(&self) -> Option<Change>
         ensures line { IfSome result (λ change. slice_get self.now.list.items (length self.now.done.items) ≡ Some (line_of change)) }
         ensures server { IfSome result (λ change. change.server < self.now.board.grid.rows * self.now.board.grid.cols) }
+        ensures none { IfNone result (length self.now.list.items ≤ length self.now.done.items) }
     {
         let line = self.list.get(self.done.len())?;
         Some(change_in(self.board.grid(), *line))
     }
 
     // The next change is passed by.
-    fn pass_by(&mut self) -> Result<(), AllocError> {
+    pub(crate) fn pass_by(&mut self) -> Result<(), AllocError>
+        ensures ok { OnOk result (PassesBy self.old self.new) }
+        ensures same { OnErr result (IsSameAgenda self.old self.new) }
+    {
         let done = &mut self.done;
         done.reserve(1)?;
         done.push_reserved(false);
         Ok(())
     }
 
-    // Does the next change at the board, and gives its stamp. None where it is already so.
-    fn change(&mut self, seen: u64) -> Result<Option<u64>, LiveFault>
+    // Does the change, which is the next, at the board, and gives its stamp. None where it is already so.
+    pub(crate) fn change(&mut self, change: Change, seen: u64) -> Result<Option<u64>, LiveFault>
+        requires next { slice_get self.old.list.items (length self.old.done.items) ≡ Some (line_of change) }
+        requires server { change.server < self.old.board.grid.rows * self.old.board.grid.cols }
         ensures above { IfOk result (λ o. ForSome o (λ n. seen < n)) }
-        ensures gate { NoGate result }
+        ensures changed { IfOk result (λ o. ForSome o (λ stamp. Changes self.old self.new change seen stamp)) }
+        ensures passed { IfOk result (λ o. ForNone o (PassesBy self.old self.new)) }
+        ensures so { IfOk result (λ o. ForNone o (servers_up self.old change.server ≡ change.up)) }
+        ensures fault { IfErr result (λ fault. IsStampFault self.old seen fault) }
+        ensures same { OnErr result (IsSameAgenda self.old self.new) }
     {
-        let Some(change) = self.next() else {
-            return Ok(None);
-        };
         let Agenda { board, done, .. } = self;
         done.reserve(1)?;
         match board.change(change.server as usize, change.up, seen) {
@@ -128,7 +147,10 @@ impl Agenda {
 
     /// The board's entries, whose changes are some of the list's, in order. None where that is another list.
     pub fn close(self, list: &[ServerLine]) -> Option<Vec<BoardEntry>>
-        ensures { IfSome result (λ entries. IsSubsequence (changes_of entries.items) list.now) }
+        ensures changes { IfSome result (λ entries. IsSubsequence (changes_of entries.items) list.now) }
+        ensures entries { IfSome result (λ entries. entries.items ≡ self.board.entries) }
+        ensures list { OnSome result (self.list.items ≡ list.now) }
+        ensures none { IfNone result (self.list.items ≢ list.now) }
     {
         let Agenda {
             board,
@@ -140,27 +162,4 @@ impl Agenda {
         }
         Some(board.close())
     }
-}
-
-/// Does the next change of the list, at the board and then at the cell, which has to be its server's. One that is already
-/// so at the cell or at the board is passed by. What the board is told as seen is the cell's last stamp.
-///
-/// The faults are those of [`LiveFault`]: `Memory`, `Stamps`, and `Letter` where the change is of another server.
-pub fn change_cell<L: Ledger>(agenda: &mut Agenda, cell: &mut Cell<L>) -> Result<(), LiveFault>
-    ensures { NoGate result }
-{
-    let Some(next) = agenda.next() else {
-        return Ok(());
-    };
-    if next.server != u32::from(cell.server()) {
-        return Err(LiveFault::Letter);
-    }
-    if next.up == cell.up() {
-        agenda.pass_by()?;
-        return Ok(());
-    }
-    if let Some(stamp) = agenda.change(cell.last())? {
-        cell.set_up(next.up, stamp)?;
-    }
-    Ok(())
 }

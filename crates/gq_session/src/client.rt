@@ -1,14 +1,18 @@
 //! One session's operation, and what is said to it.
-ghost use Rattle.std.specs.Prelude.{◌≡◌, ◌<◌, ◌≤◌, IfOk, true};
+ghost use Rattle.std.specs.Prelude.{◌≡◌, ◌+◌, ◌*◌, ◌<◌, ◌≤◌, [], ◌∷◌, IfOk, IfErr, OnErr, OnOk, Some, None, slice_get, length, is_some, true, false};
 ghost use Rattle.std.specs.List.{list_all};
 ghost use Rattle.std.specs.Option.{ForSome};
+ghost use Rattle.gq_grid.specs.Grid.{Servers};
+ghost use Rattle.gq_grid.specs.Sets.{servers};
 ghost use Rattle.gq_grid.specs.declared.TheConstants.{MOST_SERVERS};
 ghost use Rattle.gq_tag.specs.declared.TheConstants.{MOST_FILES};
 ghost use Rattle.gq_desk.specs.Volumes.{is_sized};
 ghost use Rattle.gq_phase.specs.Best.{copied_number};
-ghost use Rattle.gq_phase.specs.Standing.{IsGoing};
-ghost use Rattle.gq_session.specs.Faults.{NoGate};
+ghost use Rattle.gq_phase.specs.Standing.{IsGoing, Begins};
+ghost use Rattle.gq_model.specs.Lone.{first_cause};
+ghost use Rattle.gq_session.specs.Began.{IsNotBegun, BeginsRequest};
 ghost use Rattle.gq_session.specs.Fitting.{IsRequest};
+ghost use Rattle.gq_session.specs.Works.{no_work, count_of, no_volume, no_file, AsksAs, fits_round, is_reply, is_current, HearsIn, RetriesIn, said_ending, ended, IsAskFault, IsHearFault};
 
 use crate::records::LiveFault;
 use bytes::Bytes;
@@ -47,7 +51,10 @@ pub(crate) struct Client {
 }
 
 // A step that sends nothing.
-fn quiet(alloc: Global, said: Said) -> Step {
+fn quiet(alloc: Global, said: Said) -> Step
+    ensures said { result.said ≡ said }
+    ensures messages { result.messages.items ≡ [] }
+{
     Step {
         said,
         messages: Vec::new(alloc),
@@ -55,7 +62,9 @@ fn quiet(alloc: Global, said: Said) -> Step {
 }
 
 // How many messages these are.
-fn count_of(messages: &[Message]) -> u32 {
+fn count_of(messages: &[Message]) -> u32
+    ensures { result ≡ count_of messages.now }
+{
     u32::try_from(messages.len()).unwrap_or(u32::MAX)
 }
 
@@ -70,7 +79,9 @@ fn copied_number(body: &Body) -> u64
 }
 
 // Whether a reply's body fits its round: a copy an odd one, a stored an even one.
-fn fits_round(message: &Message) -> bool {
+fn fits_round(message: &Message) -> bool
+    ensures { result ≡ fits_round message.now.body message.now.round }
+{
     match &message.body {
         Body::Copy(_) => message.round % 2 == 1,
         Body::Stored => message.round % 2 == 0,
@@ -88,12 +99,22 @@ enum NotBegun {
 }
 
 impl From<Refusal> for NotBegun {
+    ghost use Rattle.std.specs.Prelude.{◌≡◌};
+    ghost use Rattle.gq_session.specs.declared.client.NotBegun.TheVariants.{Refused};
+
+    ghost from_gives = { λ refusal e. e ≡ Refused refusal };
+
     fn from(refusal: Refusal) -> NotBegun {
         NotBegun::Refused(refusal)
     }
 }
 
 impl From<BeginRefused> for NotBegun {
+    ghost use Rattle.std.specs.Prelude.{◌≡◌};
+    ghost use Rattle.gq_session.specs.Began.{not_begun};
+
+    ghost from_gives = { λ refused e. e ≡ not_begun refused };
+
     fn from(refused: BeginRefused) -> NotBegun {
         match refused {
             BeginRefused::NoQuorum => NotBegun::Refused(Refusal::NoQuorum),
@@ -103,6 +124,8 @@ impl From<BeginRefused> for NotBegun {
 }
 
 impl Client {
+    ghost use Rattle.gq_session.specs.Clients.{home_of, work_of};
+
     // The session has no operation, and had none.
     pub(crate) fn new(
         alloc: Global,
@@ -112,6 +135,8 @@ impl Client {
         volumes: Vec<VolumeRow>,
     ) -> Client
         requires { list_all is_sized volumes.items ≡ true }
+        ensures home { home_of result ≡ record { grid = grid; tenant = tenant; number = session; volumes = volumes.items } }
+        ensures work { work_of result ≡ no_work }
     {
         Client {
             alloc,
@@ -127,18 +152,25 @@ impl Client {
     }
 
     // Whether it has an operation.
-    pub(crate) fn is_busy(&self) -> bool {
+    pub(crate) fn is_busy(&self) -> bool
+        ensures { result ≡ is_some self.now.current }
+    {
         self.current.is_some()
     }
 
     // Whether the message is of its operation and round.
-    pub(crate) fn is_current(&self, message: &Message) -> bool {
+    pub(crate) fn is_current(&self, message: &Message) -> bool
+        ensures { result ≡ is_current (work_of self.now) message.now }
+    {
         self.current.is_some() && message.op == self.op && message.round == self.round
     }
 
     // The next operation.
     fn who(&self) -> Result<Who, LiveFault>
-        ensures { NoGate result }
+        ensures who { IfOk result (λ who. who
+            ≡ record { tenant = self.now.tenant; session = self.now.session; op = self.now.op + 1 }) }
+        ensures fault { IfErr result (λ fault. fault ≡ LiveFault.Stamps) }
+        ensures spent { OnErr result (self.now.op ≡ u32.MAX) }
     {
         if self.op == u32::MAX {
             return Err(LiveFault::Stamps);
@@ -152,7 +184,9 @@ impl Client {
 
     // The volume of that number.
     fn volume(&self, number: u32) -> Result<VolumeRow, Refusal>
-        ensures { IfOk result (λ row. is_sized row ≡ true) }
+        ensures sized { IfOk result (λ row. is_sized row ≡ true) }
+        ensures row { IfOk result (λ row. slice_get self.now.volumes.items number ≡ Some row) }
+        ensures refusal { IfErr result (λ refusal. first_cause (no_volume self.now.volumes.items number ∷ []) ≡ Some refusal) }
     {
         match self.volumes.get(number as usize) {
             Some(row) => Ok(*row),
@@ -161,7 +195,12 @@ impl Client {
     }
 
     // The volume of that number, which has a file of that number.
-    fn volume_with(&self, number: u32, file: u32) -> Result<VolumeRow, Refusal> {
+    fn volume_with(&self, number: u32, file: u32) -> Result<VolumeRow, Refusal>
+        ensures row { IfOk result (λ row. slice_get self.now.volumes.items number ≡ Some row) }
+        ensures file { IfOk result (λ row. file < row.files) }
+        ensures refusal { IfErr result (λ refusal.
+            first_cause (no_volume self.now.volumes.items number ∷ no_file self.now.volumes.items number file ∷ []) ≡ Some refusal) }
+    {
         let row = self.volume(number)?;
         if file >= row.files {
             return Err(Refusal::NoFile);
@@ -178,7 +217,9 @@ impl Client {
         bytes: &Bytes,
         up: ServerSet,
     ) -> Result<(Operation, Vec<Message>), NotBegun>
-        ensures { IfOk result (λ began. IsGoing began.0) }
+        ensures going { IfOk result (λ began. IsGoing began.0) }
+        ensures ok { IfOk result (λ began. BeginsRequest (home_of self.now) who self.now.floor (servers up) (Line.Write who.session volume file bytes.now) began.0 began.1.items) }
+        ensures err { IfErr result (λ e. IsNotBegun (home_of self.now) (servers up) (Line.Write who.session volume file bytes.now) e) }
     {
         let row = self.volume_with(volume, file)?;
         if bytes.len() as u64 > BLOCK_BYTES as u64 * u64::from(row.blocks) {
@@ -201,7 +242,9 @@ impl Client {
         file: u32,
         up: ServerSet,
     ) -> Result<(Operation, Vec<Message>), NotBegun>
-        ensures { IfOk result (λ began. IsGoing began.0) }
+        ensures going { IfOk result (λ began. IsGoing began.0) }
+        ensures ok { IfOk result (λ began. BeginsRequest (home_of self.now) who self.now.floor (servers up) (Line.Read who.session volume file) began.0 began.1.items) }
+        ensures err { IfErr result (λ e. IsNotBegun (home_of self.now) (servers up) (Line.Read who.session volume file) e) }
     {
         let _row = self.volume_with(volume, file)?;
         let file = FileId {
@@ -220,7 +263,9 @@ impl Client {
         volume: u32,
         up: ServerSet,
     ) -> Result<(Operation, Vec<Message>), NotBegun>
-        ensures { IfOk result (λ began. IsGoing began.0) }
+        ensures going { IfOk result (λ began. IsGoing began.0) }
+        ensures ok { IfOk result (λ began. BeginsRequest (home_of self.now) who self.now.floor (servers up) (Line.List who.session volume) began.0 began.1.items) }
+        ensures err { IfErr result (λ e. IsNotBegun (home_of self.now) (servers up) (Line.List who.session volume) e) }
     {
         let row = self.volume(volume)?;
         let began = Operation::list(
@@ -237,7 +282,9 @@ impl Client {
         up: ServerSet,
     ) -> Result<(Operation, Vec<Message>), NotBegun>
         requires { IsRequest line.now }
-        ensures { IfOk result (λ began. IsGoing began.0) }
+        ensures going { IfOk result (λ began. IsGoing began.0) }
+        ensures ok { IfOk result (λ began. BeginsRequest (home_of self.now) who self.now.floor (servers up) (line.now) began.0 began.1.items) }
+        ensures err { IfErr result (λ e. IsNotBegun (home_of self.now) (servers up) (line.now) e) }
     {
         match line {
             Line::Write {
@@ -252,11 +299,18 @@ impl Client {
         }
     }
 
-    // Asks the request, where the servers of `up` are up. The session has no operation.
+    // Asks the request, where the servers of `up` are up.
     pub(crate) fn ask(&mut self, line: &Line, up: ServerSet) -> Result<Step, LiveFault>
         requires { IsRequest line.now }
-        ensures { NoGate result }
+        ensures asks { IfOk result (λ step. AsksAs (home_of self.old) (work_of self.old) (work_of self.new)
+            (servers up) line.now step.said step.messages.items) }
+        ensures home { home_of self.new ≡ home_of self.old }
+        ensures fault { IfErr result (λ fault. IsAskFault (work_of self.old) fault) }
+        ensures same { OnErr result (work_of self.new ≡ work_of self.old) }
     {
+        if self.current.is_some() {
+            return Ok(quiet(self.alloc, Said::Refused(Refusal::Busy)));
+        }
         let who = self.who()?;
         match self.begin(who, line, up) {
             Ok((operation, messages)) => {
@@ -278,7 +332,8 @@ impl Client {
 
     // Whether the message is a reply to the session.
     fn is_reply(&self, message: &Message) -> bool
-        ensures { result ≡ true → message.now.server < MOST_SERVERS }
+        ensures reply { result ≡ is_reply (home_of self.now) message.now }
+        ensures server { result ≡ true → message.now.server < MOST_SERVERS }
     {
         message.tenant == self.tenant
             && message.session == self.session
@@ -288,7 +343,12 @@ impl Client {
 
     // Hears the message, where the servers of `up` are up.
     pub(crate) fn hear(&mut self, message: &Message, up: ServerSet) -> Result<Step, LiveFault>
-        ensures { NoGate result }
+        ensures hears { IfOk result (λ step. HearsIn self.old.current (work_of self.old) (work_of self.new)
+            (servers up) message.now step.said step.messages.items) }
+        ensures reply { OnOk result (is_reply (home_of self.old) message.now ≡ true) }
+        ensures home { home_of self.new ≡ home_of self.old }
+        ensures fault { IfErr result (λ fault. IsHearFault (home_of self.old) (work_of self.old) message.now fault) }
+        ensures same { OnErr result (work_of self.new ≡ work_of self.old) }
     {
         if !self.is_reply(message) {
             return Err(LiveFault::Letter);
@@ -297,10 +357,14 @@ impl Client {
             return Ok(quiet(self.alloc, Said::Stale));
         };
         if copied_number(&message.body) == u64::MAX || operation.floor() == u64::MAX {
+            self.current = Some(operation);
             return Err(LiveFault::Stamps);
         }
         match operation.hear(message, up) {
-            Err(_) => Err(LiveFault::Memory),
+            Err(_) => {
+                self.current = Some(operation);
+                Err(LiveFault::Memory)
+            }
             Ok(Heard::Stale) => {
                 self.current = Some(operation);
                 Ok(quiet(self.alloc, Said::Stale))
@@ -337,7 +401,10 @@ impl Client {
 
     // Sends the round's message once more, where the servers of `up` are up.
     pub(crate) fn retry(&mut self, up: ServerSet) -> Result<Step, LiveFault>
-        ensures { NoGate result }
+        ensures retries { IfOk result (λ step. RetriesIn self.old.current (servers up) step.said step.messages.items) }
+        ensures home { home_of self.new ≡ home_of self.old }
+        ensures work { work_of self.new ≡ work_of self.old }
+        ensures fault { IfErr result (λ fault. fault ≡ LiveFault.Memory) }
     {
         let Some(mut operation) = self.current.take() else {
             return Ok(quiet(self.alloc, Said::Refused(Refusal::Idle)));
@@ -359,7 +426,12 @@ impl Client {
     }
 
     // Gives the operation up.
-    pub(crate) fn give_up(&mut self) -> Step {
+    pub(crate) fn give_up(&mut self) -> Step
+        ensures said { result.said ≡ said_ending self.old.current }
+        ensures messages { result.messages.items ≡ [] }
+        ensures home { home_of self.new ≡ home_of self.old }
+        ensures work { work_of self.new ≡ ended (work_of self.old) }
+    {
         let Some(operation) = self.current.take() else {
             return quiet(self.alloc, Said::Refused(Refusal::Idle));
         };

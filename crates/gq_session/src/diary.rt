@@ -1,5 +1,5 @@
 //! What a session did so far.
-ghost use Rattle.std.specs.Prelude.{◌≡◌, ◌≤◌, [], All, IfSome, take, length, true};
+ghost use Rattle.std.specs.Prelude.{◌≡◌, ◌≢◌, ◌↔◌, ◌+◌, ◌<◌, ◌≤◌, [], ◌∷◌, ◌++◌, All, Some, IfSome, IfNone, IsTrue, OnErr, OnOk, take, drop, length, slice_get, true, vec_len, vec_capacity};
 ghost use Rattle.gq_session.specs.Asked.{asked_of, asks};
 ghost use Rattle.gq_session.specs.Fitting.{IsRequest};
 
@@ -21,7 +21,8 @@ pub(crate) struct Diary {
 
 // Whether these are one request.
 fn same_line(one: &Line, two: &Line) -> bool
-    ensures { result ≡ true → one.now ≡ two.now }
+    requires { IsRequest one.now }
+    ensures { IsTrue result ↔ (one.now ≡ two.now) }
 {
     match (one, two) {
         (
@@ -66,7 +67,8 @@ fn same_line(one: &Line, two: &Line) -> bool
 
 // Whether the lists have the same requests.
 fn same_lines(one: &[Line], two: &[Line]) -> bool
-    ensures { result ≡ true → one.now ≡ two.now }
+    requires { All IsRequest one.now }
+    ensures { IsTrue result ↔ (one.now ≡ two.now) }
 {
     if one.len() != two.len() {
         return false;
@@ -80,9 +82,14 @@ fn same_lines(one: &[Line], two: &[Line]) -> bool
 }
 
 impl Diary {
+    ghost use Rattle.gq_session.specs.Diaries.{HasRoom, IsSameDiary, left_in};
+
     // Nothing was done.
     pub(crate) fn new(alloc: Global, lines: Vec<Line>) -> Diary
         requires { All IsRequest lines.items }
+        ensures lines { result.lines.items ≡ lines.items }
+        ensures asked { result.asked ≡ 0 }
+        ensures entries { result.entries.items ≡ [] }
     {
         Diary {
             lines,
@@ -91,43 +98,56 @@ impl Diary {
         }
     }
 
+    // Makes room for one entry.
+    pub(crate) fn reserve(&mut self) -> Result<(), AllocError>
+        ensures room { OnOk result (HasRoom self.new) }
+        ensures same { IsSameDiary self.old self.new }
+    {
+        self.entries.reserve(1)
+    }
+
     // The next request, if one is left.
     pub(crate) fn next(&self) -> Option<&Line>
-        ensures { IfSome result (λ line. IsRequest line.now) }
+        ensures request { IfSome result (λ line. IsRequest line.now) }
+        ensures next { IfSome result (λ line. left_in self.now ≡ line.now ∷ drop (self.now.asked + 1) self.now.lines.items) }
+        ensures none { IfNone result (left_in self.now ≡ []) }
     {
         self.lines.get(self.asked)
     }
 
-    // The next request was asked.
-    pub(crate) fn ask(&mut self, stamp: u64, said: Said) -> Result<(), AllocError> {
-        if self.asked >= self.lines.len() {
-            return Ok(());
-        }
-        let line = self.lines[self.asked].clone()?;
+    // The next request was asked, a copy of which this is.
+    pub(crate) fn ask(&mut self, stamp: u64, line: Line, said: Said)
+        requires room { HasRoom self.old }
+        requires next { left_in self.old ≡ line ∷ drop (self.old.asked + 1) self.old.lines.items }
+        ensures left { left_in self.old ≡ line ∷ left_in self.new }
+        ensures entry { self.new.entries.items ≡ self.old.entries.items ++ record { stamp = stamp; did = Did.Asked line; said = said } ∷ [] }
+    {
         let Diary { asked, entries, .. } = self;
-        entries.reserve(1)?;
         *asked += 1;
         entries.push_reserved(SessionEntry {
             stamp,
             did: Did::Asked(line),
             said,
         });
-        Ok(())
     }
 
     // Something else was done.
-    pub(crate) fn note(&mut self, stamp: u64, did: Did, said: Said) -> Result<(), AllocError>
-        requires { asks did ≡ [] }
+    pub(crate) fn note(&mut self, stamp: u64, did: Did, said: Said)
+        requires room { HasRoom self.old }
+        requires asks { asks did ≡ [] }
+        ensures left { left_in self.new ≡ left_in self.old }
+        ensures entry { self.new.entries.items ≡ self.old.entries.items ++ record { stamp = stamp; did = did; said = said } ∷ [] }
     {
         let entries = &mut self.entries;
-        entries.reserve(1)?;
         entries.push_reserved(SessionEntry { stamp, did, said });
-        Ok(())
     }
 
     // The steps, where they asked the whole program.
     pub(crate) fn close(self, program: &[Line]) -> Option<Vec<SessionEntry>>
-        ensures { IfSome result (λ entries. asked_of entries.items ≡ program.now) }
+        ensures entries { IfSome result (λ entries. entries.items ≡ self.entries.items) }
+        ensures asked { IfSome result (λ entries. asked_of entries.items ≡ program.now) }
+        ensures whole { IfSome result (λ entries. left_in self ≡ []) }
+        ensures none { IfNone result (left_in self ≡ [] → asked_of self.entries.items ≢ program.now) }
     {
         let Diary {
             lines,

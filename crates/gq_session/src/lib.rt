@@ -3,6 +3,7 @@
 #![tactic(auto)]
 
 mod agenda;
+mod cells;
 mod client;
 mod diary;
 mod fitting;
@@ -10,7 +11,8 @@ mod gate;
 mod records;
 mod session;
 
-pub use agenda::{Agenda, Change, change_cell};
+pub use agenda::{Agenda, Change};
+pub use cells::change_cell;
 pub use fitting::{SessionId, fits, is_request_of, sessions_of};
 pub use gate::{Gate, GaveUp, OpenGate};
 pub use records::{

@@ -1,10 +1,14 @@
 //! A session: its operation and its diary, step by step at the board.
-ghost use Rattle.std.specs.Prelude.{◌≡◌, [], All, IfSome, true};
+ghost use Rattle.std.specs.Prelude.{◌≡◌, ◌≢◌, [], All, IfOk, IfErr, IfSome, IfNone, OnOk, OnErr, OnSome, is_some, is_none, Ok, None, true, false};
 ghost use Rattle.std.specs.List.{list_all};
+ghost use Rattle.std.specs.Option.{ForSome, ForNone};
 ghost use Rattle.gq_desk.specs.Volumes.{is_sized};
-ghost use Rattle.gq_session.specs.Asked.{asked_of, asks};
+ghost use Rattle.gq_session.specs.Agendas.{servers_up, IsStamped, IsSameAgenda, KeepsChanges, IsStampFault};
+ghost use Rattle.gq_session.specs.Asked.{asked_of};
 ghost use Rattle.gq_session.specs.Faults.{NoGate};
 ghost use Rattle.gq_session.specs.Fitting.{IsRequest};
+ghost use Rattle.gq_session.specs.Sessions.{Sitting, AsksNext, HearsLetter, Retries, with_step, is_stuck, IsAskNextFault, IsHearLetterFault};
+ghost use Rattle.gq_session.specs.Works.{no_work, is_reply, is_current, said_ending, ended};
 
 use crate::agenda::Agenda;
 use crate::client::{Client, Step};
@@ -17,6 +21,7 @@ use gq_model::Line;
 use gq_tag::Message;
 use gq_world::Said;
 use std::alloc::Global;
+use std::marker::Model;
 
 /// What a step at the board is to send.
 #[derive(Drop)]
@@ -31,15 +36,32 @@ pub struct Outbox {
 }
 
 /// A session of a tenant in a live run: its operation, if it has one, its requests, and what it did so far, which asked
-/// the first of these requests, in order.
+/// the first of these requests, in order. Contracts see it as a `Sitting`.
 #[derive(Drop)]
 pub struct Session {
     client: Client,
     diary: Diary,
 }
 
+impl Model for Session {
+    ghost use Rattle.gq_session.specs.Diaries.{left_in};
+    ghost use Rattle.gq_session.specs.Sessions.{Sitting};
+    ghost use Rattle.gq_session.specs.Clients.{home_of, work_of};
+
+    ghost Value = { Sitting };
+
+    ghost view = { λ s. record {
+      home = home_of s.client;
+      work = work_of s.client;
+      left = left_in s.diary;
+      entries = s.diary.entries.items;
+    } };
+}
+
 // Whether a session to which this is said in its operation waits for nothing.
-fn is_stuck(said: &Said) -> bool {
+fn is_stuck(said: &Said) -> bool
+    ensures { result ≡ is_stuck said.now }
+{
     matches!(said, Said::Round { sent: 0, .. } | Said::Refused(_))
 }
 
@@ -55,6 +77,10 @@ impl Session {
     ) -> Session
         requires sized { list_all is_sized volumes.items ≡ true }
         requires requests { All IsRequest lines.items }
+        ensures home { result.home ≡ record { grid = grid; tenant = tenant; number = number; volumes = volumes.items } }
+        ensures work { result.work ≡ no_work }
+        ensures left { result.left ≡ lines.items }
+        ensures entries { result.entries ≡ [] }
     {
         Session {
             client: Client::new(alloc, grid, tenant, number, volumes),
@@ -63,27 +89,45 @@ impl Session {
     }
 
     /// Whether it has an operation.
-    pub fn is_busy(&self) -> bool {
+    pub fn is_busy(&self) -> bool
+        ensures { result ≡ is_some self.now.work.operation }
+    {
         self.client.is_busy()
     }
 
     /// Whether the message is of its operation and its round.
-    pub fn is_current(&self, message: &Message) -> bool {
+    pub fn is_current(&self, message: &Message) -> bool
+        ensures { result ≡ is_current self.now.work message.now }
+    {
         self.client.is_current(message)
     }
 
-    /// Asks the next request. None where none is left.
+    /// Asks the next request, at the board's next stamp. None where none is left.
     ///
-    /// The faults are `Memory`, and `Stamps` where no greater stamp, or number of an operation, is left.
+    /// The faults are `Memory`, and `Stamps` where no greater stamp, or number of an operation, is left. After a fault the
+    /// session is as it was.
     pub fn ask_next(&mut self, agenda: &mut Agenda) -> Result<Option<Outbox>, LiveFault>
-        ensures { NoGate result }
+        ensures asks { IfOk result (λ o. IfSome o (λ outbox. AsksNext self.old self.new (servers_up agenda.old)
+            outbox.stamp outbox.messages.items)) }
+        ensures stamp { IfOk result (λ o. ForSome o (λ outbox. IsStamped agenda.old agenda.new 0 outbox.stamp)) }
+        ensures goes_on { IfOk result (λ o. ForSome o (λ outbox. outbox.stuck ≡ false)) }
+        ensures none { self.old.left ≡ [] → result ≡ Ok None }
+        ensures quiet { IfOk result (λ o. ForNone o (IsSameAgenda agenda.old agenda.new)) }
+        ensures idle { IfOk result (λ o. ForNone o (self.new ≡ self.old)) }
+        ensures ended { IfOk result (λ o. ForNone o (self.old.left ≡ [])) }
+        ensures fault { IfErr result (λ fault. IsAskNextFault self.old agenda.old.board.last fault) }
+        ensures same { OnErr result (self.new ≡ self.old) }
+        ensures keeps { KeepsChanges agenda.old agenda.new }
+        ensures gate { NoGate result }
     {
-        let Some(line) = self.diary.next() else {
+        let Some(next) = self.diary.next() else {
             return Ok(None);
         };
+        let line = next.clone()?;
+        self.diary.reserve()?;
         let stamp = agenda.stamp(0)?;
-        let Step { said, messages } = self.client.ask(line, agenda.up())?;
-        self.diary.ask(stamp, said)?;
+        let Step { said, messages } = self.client.ask(&line, agenda.up())?;
+        self.diary.ask(stamp, line, said);
         Ok(Some(Outbox {
             stamp,
             messages,
@@ -91,53 +135,75 @@ impl Session {
         }))
     }
 
-    /// Hears a letter.
+    /// Hears a letter, at the board's next stamp, which is above the letter's.
     ///
     /// The faults are `Memory`, `Stamps` where no greater stamp, or number of a tag, is left, and `Letter` where the letter
-    /// is no reply to this session.
+    /// is no reply to this session. After a fault the session is as it was.
     pub fn hear(&mut self, agenda: &mut Agenda, letter: Letter) -> Result<Outbox, LiveFault>
-        ensures { NoGate result }
+        ensures hears { IfOk result (λ outbox. HearsLetter self.old self.new (servers_up agenda.old) letter
+            outbox.stamp outbox.messages.items outbox.stuck) }
+        ensures stamp { IfOk result (λ outbox. IsStamped agenda.old agenda.new letter.stamp outbox.stamp) }
+        ensures reply { OnOk result (is_reply self.old.home letter.message ≡ true) }
+        ensures fault { IfErr result (λ fault. IsHearLetterFault self.old letter agenda.old.board.last fault) }
+        ensures same { OnErr result (self.new ≡ self.old) }
+        ensures keeps { KeepsChanges agenda.old agenda.new }
+        ensures gate { NoGate result }
     {
+        self.diary.reserve()?;
         let stamp = agenda.stamp(letter.stamp)?;
         let Step { said, messages } = self.client.hear(&letter.message, agenda.up())?;
-        self.note(stamp, Did::Heard(letter), said, messages)
+        let stuck = is_stuck(&said);
+        self.diary.note(stamp, Did::Heard(letter), said);
+        Ok(Outbox {
+            stamp,
+            messages,
+            stuck,
+        })
     }
 
-    /// Sends the round's message once more.
+    /// Sends the round's message once more, at the board's next stamp.
     ///
-    /// The faults are `Memory`, and `Stamps` where no greater stamp is left.
+    /// The faults are `Memory`, and `Stamps` where no greater stamp is left. After a fault the session is as it was.
     pub fn retry(&mut self, agenda: &mut Agenda) -> Result<Outbox, LiveFault>
-        ensures { NoGate result }
+        ensures retries { IfOk result (λ outbox. Retries self.old self.new (servers_up agenda.old)
+            outbox.stamp outbox.messages.items outbox.stuck) }
+        ensures stamp { IfOk result (λ outbox. IsStamped agenda.old agenda.new 0 outbox.stamp) }
+        ensures fault { IfErr result (λ fault. IsStampFault agenda.old 0 fault) }
+        ensures same { OnErr result (self.new ≡ self.old) }
+        ensures keeps { KeepsChanges agenda.old agenda.new }
+        ensures gate { NoGate result }
     {
+        self.diary.reserve()?;
         let stamp = agenda.stamp(0)?;
         let Step { said, messages } = self.client.retry(agenda.up())?;
-        self.note(stamp, Did::Retried, said, messages)
+        let stuck = is_stuck(&said);
+        self.diary.note(stamp, Did::Retried, said);
+        Ok(Outbox {
+            stamp,
+            messages,
+            stuck,
+        })
     }
 
-    /// Gives the operation up.
+    /// Gives the operation up, at the board's next stamp: none is left.
     ///
-    /// The faults are `Memory`, and `Stamps` where no greater stamp is left.
+    /// The faults are `Memory`, and `Stamps` where no greater stamp is left. After a fault the session is as it was.
     pub fn give_up(&mut self, agenda: &mut Agenda) -> Result<Outbox, LiveFault>
-        ensures { NoGate result }
+        ensures ends { IfOk result (λ outbox. self.new
+            ≡ with_step self.old outbox.stamp Did.GaveUp (said_ending self.old.work.operation) (ended self.old.work)) }
+        ensures quiet { IfOk result (λ outbox. outbox.messages.items ≡ []) }
+        ensures waits { IfOk result (λ outbox. outbox.stuck ≡ is_none self.old.work.operation) }
+        ensures stamp { IfOk result (λ outbox. IsStamped agenda.old agenda.new 0 outbox.stamp) }
+        ensures fault { IfErr result (λ fault. IsStampFault agenda.old 0 fault) }
+        ensures same { OnErr result (self.new ≡ self.old) }
+        ensures keeps { KeepsChanges agenda.old agenda.new }
+        ensures gate { NoGate result }
     {
+        self.diary.reserve()?;
         let stamp = agenda.stamp(0)?;
         let Step { said, messages } = self.client.give_up();
-        self.note(stamp, Did::GaveUp, said, messages)
-    }
-
-    // The entry of a step that asked nothing.
-    fn note(
-        &mut self,
-        stamp: u64,
-        did: Did,
-        said: Said,
-        messages: Vec<Message>,
-    ) -> Result<Outbox, LiveFault>
-        requires { asks did ≡ [] }
-        ensures { NoGate result }
-    {
         let stuck = is_stuck(&said);
-        self.diary.note(stamp, did, said)?;
+        self.diary.note(stamp, Did::GaveUp, said);
         Ok(Outbox {
             stamp,
             messages,
@@ -147,7 +213,10 @@ impl Session {
 
     /// What it did, where that asked the whole program, in order. None where it did not.
     pub fn close(self, program: &[Line]) -> Option<Vec<SessionEntry>>
-        ensures { IfSome result (λ entries. asked_of entries.items ≡ program.now) }
+        ensures entries { IfSome result (λ entries. entries.items ≡ self.entries) }
+        ensures asked { IfSome result (λ entries. asked_of entries.items ≡ program.now) }
+        ensures whole { OnSome result (self.left ≡ []) }
+        ensures none { IfNone result (self.left ≡ [] → asked_of self.entries ≢ program.now) }
     {
         let Session { diary, .. } = self;
         diary.close(program)

@@ -13,11 +13,11 @@ use Rattle.gq_session.proofs.agenda.Agenda.change.Goals as goal
 pub invariant_of-self-in-Ok : goal.invariant_of-self-in-Ok
 invariant_of-self-in-Ok c =
     let old = c.args.self.now in
-    let line : ServerLine = line_of c.in-Some.change in
+    let line : ServerLine = line_of c.args.change in
     let fits : All (IsChange c.change.new.self.grid) old.list.items = subst (λ (g : Grid). All (IsChange g) old.list.items) (sym (ap (λ (b : Posted). b.grid) c.in-Ok.ensures.changed)) old.fits in
-    let e : BoardEntry = record { stamp = c.in-Ok.stamp; server = c.in-Some.change.server; up = c.in-Some.change.up } in
+    let e : BoardEntry = record { stamp = c.in-Ok.stamp; server = c.args.change.server; up = c.args.change.up } in
     let is : c.push_reserved.new.self.items ≡ old.done.items ++ true ∷ [] = search rules in
-    let here : slice_get old.list.items (length old.done.items) ≡ Some line = c.in-Some.ensures.line in
+    let here : slice_get old.list.items (length old.done.items) ≡ Some line = c.requires.next in
     let low : length old.done.items < length old.list.items = slice_get_within old.list.items (length old.done.items) line here in
     let at : line ≡ get_or old.list.items (length old.done.items) line = sym (get_or_from_slice_get old.list.items (length old.done.items) line line here) in
     let more : c.change.new.self.entries ≡ old.board.entries ++ e ∷ [] = ap (λ (b : Posted). b.entries) c.in-Ok.ensures.changed in
