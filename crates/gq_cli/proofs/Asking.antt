@@ -1,8 +1,8 @@
--- Only words that ask to run or for an order have nothing wrong with them.
+-- Only words that ask to run, for an order or for a live run have nothing wrong with them.
 use Rattle.std.proofs.Common.{refl, codes, true, false, Bool, ℕ, suc, List, Option, Some, None, ◌≡◌, ◌≢◌, [], ◌∷◌, sym, ap, ap₂, ◌∙◌, inl, inr, ◌⊎◌, ◌++◌}
 use Rattle.std.proofs.lemmas.List.{append-nil, append_assoc}
 use Rattle.std.proofs.lemmas.Slice.Eq.{bytes_eq-Decides}
-use Rattle.std.specs.Prelude.{IfSome, cond, drop, find, fold, length, slice_get, ⊤}
+use Rattle.std.specs.Prelude.{IfSome, cond, drop, find, fold, length, slice_get, slice_index_or, ⊤}
 use Rattle.std.specs.Option.{option_map_or}
 use Rattle.std.specs.Str.{bytes_eq, chars}
 use Rattle.clap.specs.Faults.{built_fault, bundle_fault, bundle_step_fault, entered_fault, flag_word_fault, flags_fault, level_fault, long_fault, react_fault, short_fault, step_fault, turn_fault, walk_fault}
@@ -18,22 +18,25 @@ both : (a b : Kinds) → or_else a b ≡ [] → (a ≡ []) × (b ≡ [])
 both [] b none = (refl, none)
 both (k ∷ ks) b none = absurd (cc)
 
--- the command as it is built, and its subcommand
+-- the command as it is built, and its subcommands that take no word
 abbrev pub top : Shape
 top = (built gridfs).top
 
-abbrev run_of : List Shape → Shape
-run_of [] = top
-run_of (s ∷ rest) = s
+abbrev run_built : Shape
+run_built = slice_index_or (built gridfs).subs 0 top
 
--- whose words are read: those of the subcommand, or of the command
-abbrev level : Bool → Shape
-level true = run_of (built gridfs).subs
-level false = top
+abbrev live_built : Shape
+live_built = slice_index_or (built gridfs).subs 2 top
+
+-- whose words are read: those of `run`, of `live`, or of the command
+abbrev level : Option Bool → Shape
+level (Some true) = run_built
+level (Some false) = live_built
+level None = top
 
 -- ---- flags: each asks for help or for the version, so each use of one is wrong
 
-abbrev rules : Bool → List Rule
+abbrev rules : Option Bool → List Rule
 rules which = (level which).rules
 
 -- the flag takes no value, and its use is wrong
@@ -44,9 +47,10 @@ abbrev EachIsWrong : List Rule → List Rule → Type 0
 EachIsWrong flags [] = ⊤
 EachIsWrong flags (flag ∷ rest) = IsWrong flags flag × EachIsWrong flags rest
 
-each_is_wrong : (which : Bool) → EachIsWrong (rules which) (rules which)
-each_is_wrong true = ((refl, λ none. cc), tt)
-each_is_wrong false = ((refl, λ none. cc), ((refl, λ none. cc), tt))
+each_is_wrong : (which : Option Bool) → EachIsWrong (rules which) (rules which)
+each_is_wrong (Some true) = ((refl, λ none. cc), tt)
+each_is_wrong (Some false) = ((refl, λ none. cc), tt)
+each_is_wrong None = ((refl, λ none. cc), ((refl, λ none. cc), tt))
 
 found_is_wrong : (flags : List Rule) (test : Rule → Bool) (rest : List Rule) → EachIsWrong flags rest → IfSome (find test rest) (IsWrong flags)
 found_is_wrong flags test [] each = tt
@@ -56,7 +60,7 @@ found_is_wrong flags test (flag ∷ rest) each = by (test flag) (found_is_wrong 
     by true later = each.0
     by false later = later
 
-flag_is_wrong : (which : Bool) (test : Rule → Bool) → IfSome (find test (rules which)) (IsWrong (rules which))
+flag_is_wrong : (which : Option Bool) (test : Rule → Bool) → IfSome (find test (rules which)) (IsWrong (rules which))
 flag_is_wrong which test = found_is_wrong (rules which) test (rules which) (each_is_wrong which)
 
 -- what `--name` comes to
@@ -78,29 +82,30 @@ short_is_wrong flags (Some flag) rest next wrong none =
     wrong.1 (both _ _ (sym told ∙ none)).0
 
 -- flags with nothing wrong have no first character
-no_character : (which : Bool) (first : Option ℕ) (flags : Text) (next : Text → ℕ → Held → Kinds) → bundle_step_fault (rules which) false first flags 0 nothing_held next ≡ [] → first ≡ None
+no_character : (which : Option Bool) (first : Option ℕ) (flags : Text) (next : Text → ℕ → Held → Kinds) → bundle_step_fault (rules which) false first flags 0 nothing_held next ≡ [] → first ≡ None
 no_character which None flags next none = refl
 no_character which (Some x) flags next none = absurd (short_is_wrong (rules which) (arg_by_short (rules which) x) _ _ (flag_is_wrong which _) none)
 
-no_flag : (which : Bool) (k : ℕ) (flags : Text) → slice_get (chars flags) 0 ≡ None → bundle_met (rules which) (suc k) flags 0 plain nothing_held ≡ (nothing_held, plain)
+no_flag : (which : Option Bool) (k : ℕ) (flags : Text) → slice_get (chars flags) 0 ≡ None → bundle_met (rules which) (suc k) flags 0 plain nothing_held ≡ (nothing_held, plain)
 unfolding bundle_met
 no_flag which k flags is = rw is refl
 
 -- a word that no positional takes is wrong
-stray_is_wrong : (which : Bool) → step_fault (level which) 1 nothing_held value ≢ []
-stray_is_wrong true none = cc
-stray_is_wrong false none = cc
+stray_is_wrong : (which : Option Bool) → step_fault (level which) 1 nothing_held value ≢ []
+stray_is_wrong (Some true) none = cc
+stray_is_wrong (Some false) none = cc
+stray_is_wrong None none = cc
 
 -- what a word comes to that names no subcommand and is not `--`, by how it is taken apart
-abbrev of_short : Bool → Text → Option Text → Kinds
+abbrev of_short : Option Bool → Text → Option Text → Kinds
 of_short which word flags = or_else (option_map_or (λ f. bundle_fault (rules which) false f nothing_held) flags [])
     (step_fault (level which) 1 (short_or_plain (rules which) idle word flags nothing_held).0 (short_or_plain (rules which) idle word flags nothing_held).1)
 
-abbrev of_long : Bool → Text → Option (Text × Option Text) → Kinds
+abbrev of_long : Option Bool → Text → Option (Text × Option Text) → Kinds
 of_long which word found = or_else (flag_word_fault (rules which) false found word nothing_held)
     (step_fault (level which) 1 (long_or_other (rules which) idle word found nothing_held).0 (long_or_other (rules which) idle word found nothing_held).1)
 
-of_short_is_wrong : (which : Bool) (word : Text) (flags : Option Text) → of_short which word flags ≢ []
+of_short_is_wrong : (which : Option Bool) (word : Text) (flags : Option Text) → of_short which word flags ≢ []
 unfolding flags_fault bundle_met
 of_short_is_wrong which word None none = stray_is_wrong which none
 of_short_is_wrong which word (Some []) none = stray_is_wrong which none
@@ -110,7 +115,7 @@ of_short_is_wrong which word (Some (x ∷ xs)) none =
     stray_is_wrong which (sym (ap (λ (met : Held × Outcome). step_fault (level which) 1 (after_flag (rules which) idle word met.0 met.1).0 (after_flag (rules which) idle word met.0 met.1).1)
     (no_flag which (length xs) (x ∷ xs) first)) ∙ parts.1)
 
-of_long_is_wrong : (which : Bool) (word : Text) (found : Option (Text × Option Text)) → of_long which word found ≢ []
+of_long_is_wrong : (which : Option Bool) (word : Text) (found : Option (Text × Option Text)) → of_long which word found ≢ []
 of_long_is_wrong which word None none = of_short_is_wrong which word (short_of word) none
 of_long_is_wrong which word (Some p) none =
     long_is_wrong (rules which) (arg_by_long (rules which) p.0) p.1 (flag_is_wrong which _) (both _ _ none).0
@@ -125,18 +130,22 @@ abbrev trailing_walk : Walk
 trailing_walk = record start { is_trailing = true }
 
 -- a word that names no subcommand and is not `--` is wrong
-other_is_wrong : (which : Bool) (names : Names) (word : Text) → subcommand_met names idle word ≡ None → bytes_eq word (codes "--") ≡ false → turn_fault (level which) names start word ≢ []
-other_is_wrong true names word no_name no_dashes none = of_long_is_wrong true word (long_of word) (sym same ∙ none)
+other_is_wrong : (which : Option Bool) (names : Names) (word : Text) → subcommand_met names idle word ≡ None → bytes_eq word (codes "--") ≡ false → turn_fault (level which) names start word ≢ []
+other_is_wrong (Some true) names word no_name no_dashes none = of_long_is_wrong (Some true) word (long_of word) (sym same ∙ none)
   where
-    same : turn_fault (level true) names start word ≡ of_long true word (long_of word)
+    same : turn_fault (level (Some true)) names start word ≡ of_long (Some true) word (long_of word)
     same = rw (no_name, no_dashes) refl
-other_is_wrong false names word no_name no_dashes none = of_long_is_wrong false word (long_of word) (sym same ∙ none)
+other_is_wrong (Some false) names word no_name no_dashes none = of_long_is_wrong (Some false) word (long_of word) (sym same ∙ none)
   where
-    same : turn_fault (level false) names start word ≡ of_long false word (long_of word)
+    same : turn_fault (level (Some false)) names start word ≡ of_long (Some false) word (long_of word)
+    same = rw (no_name, no_dashes) refl
+other_is_wrong None names word no_name no_dashes none = of_long_is_wrong None word (long_of word) (sym same ∙ none)
+  where
+    same : turn_fault (level None) names start word ≡ of_long None word (long_of word)
     same = rw (no_name, no_dashes) refl
 
 -- `--` makes the words behind it values
-dashes_trail : (which : Bool) (names : Names) (word : Text) → subcommand_met names idle word ≡ None → bytes_eq word (codes "--") ≡ true → walked (rules which) names start word ≡ trailing_walk
+dashes_trail : (which : Option Bool) (names : Names) (word : Text) → subcommand_met names idle word ≡ None → bytes_eq word (codes "--") ≡ true → walked (rules which) names start word ≡ trailing_walk
 unfolding walked
 dashes_trail which names word no_name dashes = rw (no_name, dashes) refl
 
@@ -145,23 +154,24 @@ unfolding walk_fault
 turns s names w word words none = both (turn_fault s names w word) (walk_fault s names (walked s.rules names w word) words) none
 
 -- of which there may be none
-nothing_trails : (which : Bool) (names : Names) (words : List Text) → walk_fault (level which) names trailing_walk words ≡ [] → words ≡ []
+nothing_trails : (which : Option Bool) (names : Names) (words : List Text) → walk_fault (level which) names trailing_walk words ≡ [] → words ≡ []
 nothing_trails which names [] none = refl
-nothing_trails true names (word ∷ words) none = absurd (stray_is_wrong true (turns (level true) names trailing_walk word words none).0)
-nothing_trails false names (word ∷ words) none = absurd (stray_is_wrong false (turns (level false) names trailing_walk word words none).0)
+nothing_trails (Some true) names (word ∷ words) none = absurd (stray_is_wrong (Some true) (turns (level (Some true)) names trailing_walk word words none).0)
+nothing_trails (Some false) names (word ∷ words) none = absurd (stray_is_wrong (Some false) (turns (level (Some false)) names trailing_walk word words none).0)
+nothing_trails None names (word ∷ words) none = absurd (stray_is_wrong None (turns (level None) names trailing_walk word words none).0)
 
 same_bytes : (a b : Text) → bytes_eq a b ≡ true → a ≡ b
 same_bytes a b is = (bytes_eq-Decides a b).0 is
 
--- the words behind `run`: none, or `--` alone
-behind_run : (words : List Text) → walk_fault (level true) [] start words ≡ [] → (words ≡ []) ⊎ (words ≡ codes "--" ∷ [])
-behind_run [] none = inl refl
-behind_run (word ∷ words) none = by (bytes_eq word (codes "--")) refl
+-- the words behind `run` and behind `live`: none, or `--` alone
+behind_word : (is_run : Bool) (words : List Text) → walk_fault (level (Some is_run)) [] start words ≡ [] → (words ≡ []) ⊎ (words ≡ codes "--" ∷ [])
+behind_word is_run [] none = inl refl
+behind_word is_run (word ∷ words) none = by (bytes_eq word (codes "--")) refl
   where
     by : (t : Bool) → bytes_eq word (codes "--") ≡ t → (word ∷ words ≡ []) ⊎ (word ∷ words ≡ codes "--" ∷ [])
-    by false is = absurd (other_is_wrong true [] word refl is (turns (level true) [] start word words none).0)
+    by false is = absurd (other_is_wrong (Some is_run) [] word refl is (turns (level (Some is_run)) [] start word words none).0)
     by true is =
-        let rest : words ≡ [] = nothing_trails true [] words (ap (λ (w : Walk). walk_fault (level true) [] w words) (sym (dashes_trail true [] word refl is)) ∙ (turns (level true) [] start word words none).1) in
+        let rest : words ≡ [] = nothing_trails (Some is_run) [] words (ap (λ (w : Walk). walk_fault (level (Some is_run)) [] w words) (sym (dashes_trail (Some is_run) [] word refl is)) ∙ (turns (level (Some is_run)) [] start word words none).1) in
         inr (ap (λ ws. word ∷ ws) rest ∙ ap (λ (w : Text). w ∷ []) (same_bytes word (codes "--") is))
 
 -- ---- the whole command line
@@ -173,6 +183,11 @@ names = names_of (built gridfs)
 run_is_met : (word : Text) → bytes_eq (codes "run") word ≡ true → walked top.rules names start word ≡ record start { stopped = Some (codes "run", []) }
 unfolding walked
 run_is_met word is = rw is refl
+
+-- or `live`
+live_is_met : (word : Text) → bytes_eq (codes "run") word ≡ false → bytes_eq (codes "order") word ≡ false → bytes_eq (codes "live") word ≡ true → walked top.rules names start word ≡ record start { stopped = Some (codes "live", []) }
+unfolding walked
+live_is_met word run order is = rw (run, order, is) refl
 
 -- or `order`
 pub order_is_met : walked top.rules names start (codes "order") ≡ record start { stopped = Some (codes "order", []) }
@@ -189,41 +204,58 @@ rest_is_kept (word ∷ words) name own w = rest_is_kept words name (own ++ word 
 at_level : (s : Shape) (subs : Names) (h : Held) (words : List Text) (is_entered : Bool) (under : Kinds) → level_fault s subs h words is_entered under ≡ [] → (walk_fault s subs (walk_from h) words ≡ []) × (under ≡ [])
 at_level s subs h words is_entered under none = let parts = both _ _ none in (parts.0, (both _ _ parts.1).0)
 
--- what is wrong behind the place where the walk stopped
-stopped_at : (stop : Option (Text × List Text)) (words : List Text) → stop ≡ Some (codes "run", words) → entered_fault (built gridfs) stop ≡ level_fault (level true) [] nothing_held words false []
-stopped_at stop words is = rw is refl
+-- the word of a subcommand that takes none
+abbrev name_of : Bool → Text
+name_of true = codes "run"
+name_of false = codes "live"
 
-dashes_alone : (word : Text) → bytes_eq (codes "run") word ≡ false → bytes_eq (codes "order") word ≡ false → bytes_eq (codes "help") word ≡ false → bytes_eq word (codes "--") ≡ true → built_fault (built gridfs) nothing_held (word ∷ []) ≡ MissingSubcommand ∷ []
+-- what is wrong behind the place where the walk stopped
+stopped_at : (is_run : Bool) (stop : Option (Text × List Text)) (words : List Text) → stop ≡ Some (name_of is_run, words) → entered_fault (built gridfs) stop ≡ level_fault (level (Some is_run)) [] nothing_held words false []
+stopped_at true stop words is = rw is refl
+stopped_at false stop words is = rw is refl
+
+dashes_alone : (word : Text) → bytes_eq (codes "run") word ≡ false → bytes_eq (codes "order") word ≡ false → bytes_eq (codes "live") word ≡ false → bytes_eq (codes "help") word ≡ false → bytes_eq word (codes "--") ≡ true → built_fault (built gridfs) nothing_held (word ∷ []) ≡ MissingSubcommand ∷ []
 unfolding clap_on_literals
-dashes_alone word run order help dashes = rw (run, order, help, dashes) refl
+dashes_alone word run order live help dashes = rw (run, order, live, help, dashes) refl
+
+-- the words are that word, behind which `--` may stand
+abbrev pub Alone : Text → List Text → Type 0
+Alone word words = (words ≡ word ∷ []) ⊎ (words ≡ word ∷ codes "--" ∷ [])
 
 -- what the words ask for, that come behind the program's name
 abbrev pub Asks : List Text → Type 0
-Asks words = ((words ≡ codes "run" ∷ []) ⊎ (words ≡ codes "run" ∷ codes "--" ∷ [])) ⊎ ((own : List Text) × (words ≡ codes "order" ∷ own))
+Asks words = Alone (codes "run") words ⊎ (Alone (codes "live") words ⊎ ((own : List Text) × (words ≡ codes "order" ∷ own)))
 
-asks_by : (word : Text) (words : List Text) → built_fault (built gridfs) nothing_held (word ∷ words) ≡ [] → (is_run is_order is_help is_dashes : Bool) → bytes_eq (codes "run") word ≡ is_run → bytes_eq (codes "order") word ≡ is_order
-    → bytes_eq (codes "help") word ≡ is_help → bytes_eq word (codes "--") ≡ is_dashes → Asks (word ∷ words)
-asks_by word words none true is_order is_help is_dashes run order help dashes =
+-- behind a word that names a subcommand which takes none
+alone_by : (is_run : Bool) (word : Text) (words : List Text) → built_fault (built gridfs) nothing_held (word ∷ words) ≡ [] → bytes_eq (name_of is_run) word ≡ true → walked top.rules names start word ≡ record start { stopped = Some (name_of is_run, []) } → Alone (name_of is_run) (word ∷ words)
+alone_by is_run word words none same met =
     let stop = (walk top.rules names nothing_held (word ∷ words)).stopped in
-    let stops : stop ≡ Some (codes "run", words) = ap (λ (w : Walk). (fold (walked top.rules names) w words).stopped) (run_is_met word run) ∙ rest_is_kept words (codes "run") [] start in
-    let under : level_fault (level true) [] nothing_held words false [] ≡ [] = sym (stopped_at stop words stops) ∙ (at_level _ _ _ _ _ _ none).1 in
-    let named : word ≡ codes "run" = sym (same_bytes (codes "run") word run) in
-    elim (behind_run words (at_level _ _ _ _ false [] under).0) [
-      | inl no_more ↦ inl (inl (ap₂ (λ w ws. w ∷ ws) named no_more))
-      | inr dashed ↦ inl (inr (ap₂ (λ w ws. w ∷ ws) named dashed))
+    let stops : stop ≡ Some (name_of is_run, words) = ap (λ (w : Walk). (fold (walked top.rules names) w words).stopped) met ∙ rest_is_kept words (name_of is_run) [] start in
+    let under : level_fault (level (Some is_run)) [] nothing_held words false [] ≡ [] = sym (stopped_at is_run stop words stops) ∙ (at_level _ _ _ _ _ _ none).1 in
+    let named : word ≡ name_of is_run = sym (same_bytes (name_of is_run) word same) in
+    elim (behind_word is_run words (at_level _ _ _ _ false [] under).0) [
+      | inl no_more ↦ inl (ap₂ (λ w ws. w ∷ ws) named no_more)
+      | inr dashed ↦ inr (ap₂ (λ w ws. w ∷ ws) named dashed)
     ]
-asks_by word words none false true is_help is_dashes run order help dashes =
-    inr (words, ap (λ (w : Text). w ∷ words) (sym (same_bytes (codes "order") word order)))
-asks_by word words none false false true is_dashes run order help dashes =
-    let told : turn_fault top names start word ≡ DisplayHelp ∷ InvalidSubcommand ∷ [] = rw (run, order, help) refl in
+
+asks_by : (word : Text) (words : List Text) → built_fault (built gridfs) nothing_held (word ∷ words) ≡ [] → (is_run is_order is_live is_help is_dashes : Bool) → bytes_eq (codes "run") word ≡ is_run → bytes_eq (codes "order") word ≡ is_order
+    → bytes_eq (codes "live") word ≡ is_live → bytes_eq (codes "help") word ≡ is_help → bytes_eq word (codes "--") ≡ is_dashes → Asks (word ∷ words)
+asks_by word words none true is_order is_live is_help is_dashes run order live help dashes =
+    inl (alone_by true word words none run (run_is_met word run))
+asks_by word words none false true is_live is_help is_dashes run order live help dashes =
+    inr (inr (words, ap (λ (w : Text). w ∷ words) (sym (same_bytes (codes "order") word order))))
+asks_by word words none false false true is_help is_dashes run order live help dashes =
+    inr (inl (alone_by false word words none live (live_is_met word run order live)))
+asks_by word words none false false false true is_dashes run order live help dashes =
+    let told : turn_fault top names start word ≡ DisplayHelp ∷ InvalidSubcommand ∷ [] = rw (run, order, live, help) refl in
     let nothing = sym told ∙ (turns top names start word words (at_level _ _ _ _ _ _ none).0).0 in
     absurd (cc)
-asks_by word words none false false false false run order help dashes =
-    absurd (other_is_wrong false names word (rw (run, order, help) refl) dashes (turns top names start word words (at_level _ _ _ _ _ _ none).0).0)
-asks_by word [] none false false false true run order help dashes = let nothing = sym (dashes_alone word run order help dashes) ∙ none in absurd (cc)
-asks_by word (x ∷ words) none false false false true run order help dashes =
+asks_by word words none false false false false false run order live help dashes =
+    absurd (other_is_wrong None names word (rw (run, order, live, help) refl) dashes (turns top names start word words (at_level _ _ _ _ _ _ none).0).0)
+asks_by word [] none false false false false true run order live help dashes = let nothing = sym (dashes_alone word run order live help dashes) ∙ none in absurd (cc)
+asks_by word (x ∷ words) none false false false false true run order live help dashes =
     let trail = turns top names start word (x ∷ words) (at_level _ _ _ _ _ _ none).0 in
-    let nothing : x ∷ words ≡ [] = nothing_trails false names (x ∷ words) (ap (λ (w : Walk). walk_fault top names w (x ∷ words)) (sym (dashes_trail false names word (rw (run, order, help) refl) dashes)) ∙ trail.1) in
+    let nothing : x ∷ words ≡ [] = nothing_trails None names (x ∷ words) (ap (λ (w : Walk). walk_fault top names w (x ∷ words)) (sym (dashes_trail None names word (rw (run, order, live, help) refl) dashes)) ∙ trail.1) in
     absurd (cc)
 
 -- with no words there is no subcommand
@@ -236,4 +268,4 @@ asks words none = by (drop 1 words) none
   where
     by : (args : List Text) → built_fault (built gridfs) nothing_held args ≡ [] → Asks args
     by [] wrong = let nothing = sym nothing_is_wrong ∙ wrong in absurd (cc)
-    by (word ∷ args) right = asks_by word args right (bytes_eq (codes "run") word) (bytes_eq (codes "order") word) (bytes_eq (codes "help") word) (bytes_eq word (codes "--")) refl refl refl refl
+    by (word ∷ args) right = asks_by word args right (bytes_eq (codes "run") word) (bytes_eq (codes "order") word) (bytes_eq (codes "live") word) (bytes_eq (codes "help") word) (bytes_eq word (codes "--")) refl refl refl refl refl

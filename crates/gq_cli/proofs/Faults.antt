@@ -5,7 +5,7 @@ use Rattle.clap.specs.Simple.{built}
 use Rattle.clap.specs.Walk.{Text, nothing_held}
 use Rattle.clap.specs.declared.error.kind.ErrorKind.TheVariants.{DisplayHelp, DisplayVersion}
 use Rattle.clap.proofs.OnLiterals.{clap_on_literals}
-use Rattle.gq_cli.specs.Words.{AsksToRun, faults_in, gridfs}
+use Rattle.gq_cli.specs.Words.{AsksForLive, AsksToRun, faults_in, gridfs}
 
 pub asked_is_right : (words : List Text) → AsksToRun words → faults_in words ≡ []
 unfolding clap_on_literals
@@ -16,6 +16,17 @@ asked_is_right words (inl run) = ap (built_fault (built gridfs) nothing_held) ru
 asked_is_right words (inr run) = ap (built_fault (built gridfs) nothing_held) run ∙ dashed
   where
     dashed : built_fault (built gridfs) nothing_held (codes "run" ∷ codes "--" ∷ []) ≡ []
+    dashed = refl
+
+pub live_is_right : (words : List Text) → AsksForLive words → faults_in words ≡ []
+unfolding clap_on_literals
+live_is_right words (inl live) = ap (built_fault (built gridfs) nothing_held) live ∙ alone
+  where
+    alone : built_fault (built gridfs) nothing_held (codes "live" ∷ []) ≡ []
+    alone = refl
+live_is_right words (inr live) = ap (built_fault (built gridfs) nothing_held) live ∙ dashed
+  where
+    dashed : built_fault (built gridfs) nothing_held (codes "live" ∷ codes "--" ∷ []) ≡ []
     dashed = refl
 
 pub help_is_shown : (program : Text) → faults_in (program ∷ codes "--help" ∷ []) ≡ DisplayHelp ∷ []

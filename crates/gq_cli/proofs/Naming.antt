@@ -8,8 +8,8 @@ use Rattle.clap.specs.declared.parser.matches.ArgMatches.{ArgMatches}
 use Rattle.clap.specs.Walk.{Row, Text, Walk, nothing_held, walk, walked}
 use Rattle.clap.proofs.OnLiterals.{clap_on_literals}
 use Rattle.gq_cli.specs.declared.words.Request.{Request}
-use Rattle.gq_cli.specs.declared.words.Request.TheVariants.{Run, Order}
-use Rattle.gq_cli.specs.Words.{AsksToRun, AsksToOrder, IsAskedBy, IsOf, gridfs}
+use Rattle.gq_cli.specs.declared.words.Request.TheVariants.{Run, Order, Live}
+use Rattle.gq_cli.specs.Words.{AsksForLive, AsksToRun, AsksToOrder, IsAskedBy, IsOf, gridfs}
 use Rattle.gq_cli.proofs.Asking.{Asks, names, order_is_met, rest_is_kept, start, top}
 
 -- the name of a subcommand with its matches
@@ -38,6 +38,17 @@ run_is_named words (inr is) = ap named_by is ∙ dashed
     dashed : named_by (codes "run" ∷ codes "--" ∷ []) ≡ Some (codes "run")
     dashed = refl
 
+pub live_is_named : (words : List Text) → AsksForLive words → named words ≡ Some (codes "live")
+unfolding clap_on_literals
+live_is_named words (inl is) = ap named_by is ∙ alone
+  where
+    alone : named_by (codes "live" ∷ []) ≡ Some (codes "live")
+    alone = refl
+live_is_named words (inr is) = ap named_by is ∙ dashed
+  where
+    dashed : named_by (codes "live" ∷ codes "--" ∷ []) ≡ Some (codes "live")
+    dashed = refl
+
 pub order_is_named : (words : List Text) → AsksToOrder words → named words ≡ Some (codes "order")
 order_is_named words (own, is) = ap named_by is ∙ ap (λ stop. option_map first_part (entered (built gridfs) stop)) stops
   where
@@ -55,6 +66,11 @@ found_is_named words m is = name_of_rows _ _ _ ∙ ap (option_map first_part) (i
 -- what is asked for, by what the words name
 pub asked_by : (words : List Text) (name : Option Text) (request : Request) → Asks (drop 1 words) → name ≡ named words → IsOf name request → IsAskedBy words request
 asked_by words name Run (inl run) is other = run
-asked_by words name Run (inr order) is other = absurd (other (is ∙ order_is_named words order))
+asked_by words name Run (inr (inl live)) is other = absurd (other.1 (is ∙ live_is_named words live))
+asked_by words name Run (inr (inr order)) is other = absurd (other.0 (is ∙ order_is_named words order))
 asked_by words name (Order tenant volume file) (inl run) is same = let apart : Some (codes "run") ≡ Some (codes "order") = sym (run_is_named words run) ∙ (sym is ∙ same) in absurd (cc)
-asked_by words name (Order tenant volume file) (inr order) is same = order
+asked_by words name (Order tenant volume file) (inr (inl live)) is same = let apart : Some (codes "live") ≡ Some (codes "order") = sym (live_is_named words live) ∙ (sym is ∙ same) in absurd (cc)
+asked_by words name (Order tenant volume file) (inr (inr order)) is same = order
+asked_by words name Live (inl run) is same = let apart : Some (codes "run") ≡ Some (codes "live") = sym (run_is_named words run) ∙ (sym is ∙ same) in absurd (cc)
+asked_by words name Live (inr (inl live)) is same = live
+asked_by words name Live (inr (inr order)) is same = let apart : Some (codes "order") ≡ Some (codes "live") = sym (order_is_named words order) ∙ (sym is ∙ same) in absurd (cc)

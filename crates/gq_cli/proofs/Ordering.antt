@@ -1,18 +1,11 @@
 -- The lines of an order, which are those of the tenant's run by itself.
-use Rattle.std.proofs.Common.{◌≡◌, ◌≢◌, ◌⊎◌, ◌∙◌, ℕ, Bool, true, false, List, [], ◌∷◌, ◌++◌, Option, Some, None, map, length, append_assoc, append-nil, refl, sym, ap, subst, inl, inr, arith, codes}
-use Rattle.std.specs.Prelude.{slice_get, ◌==◌, if◌then◌else◌}
-use Rattle.std.proofs.lemmas.Bool.{cases_eq, ne_eqb}
-use Rattle.std.proofs.lemmas.List.Elements.{filter-append}
+use Rattle.std.proofs.Common.{◌≡◌, ◌∙◌, ℕ, List, [], ◌∷◌, ◌++◌, Option, Some, None, map, refl, sym, ap, codes}
+use Rattle.std.specs.Prelude.{slice_get}
 use Rattle.gq_tag.specs.Tag.{File}
-use Rattle.std.specs.List.{flat_map, cons_option}
-use Rattle.gq_desk.specs.CheckedPlan.{CheckedPlan, nobody, row_at}
+use Rattle.std.specs.List.{flat_map}
+use Rattle.gq_desk.specs.CheckedPlan.{CheckedPlan, row_at}
 use Rattle.gq_model.specs.declared.events.Event.{Event}
-use Rattle.gq_model.specs.declared.events.Answer.{Answer}
-use Rattle.gq_model.specs.declared.events.Event.TheVariants.{Tenant, Server, Stray}
-use Rattle.gq_model.specs.Trace.{Turn, Own, Serving}
-use Rattle.gq_model.specs.Lone.{said, past_of}
-use Rattle.gq_model.specs.Shown.{shown}
-use Rattle.gq_model.specs.Events.{turn_of, own, server_lines, answer_to}
+use Rattle.gq_model.specs.Events.{own}
 use Rattle.gq_laws.specs.declared.ops.Op.{Op}
 use Rattle.gq_laws.specs.Operations.{ops_at}
 use Rattle.gq_laws.specs.Orders.{order}
@@ -21,14 +14,8 @@ use Rattle.gq_laws.specs.Tenants.{tenant_operations}
 use Rattle.gq_laws.proofs.OtherPlaces.{moved_op}
 use Rattle.gq_laws.proofs.OtherOrders.{order_same, ops_at_same}
 use Rattle.gq_laws.proofs.AllTenants.{operations_alone, place_in_all, place_rises}
-use Rattle.gq_world.specs.Tables.{Tables, Stands}
-use Rattle.gq_script.specs.Lines.{lines_of}
 use Rattle.gq_script.specs.Input.{event_of}
-use Rattle.gq_script.specs.Output.{answer_line}
-use Rattle.gq_script.specs.Out.{answer_lines, output_lines, joined}
-use Rattle.gq_inspect.specs.Passes.{sees}
-use Rattle.gq_inspect.specs.Runs.{IsRun}
-use Rattle.gq_inspect.proofs.Growing.{runs-grow}
+use Rattle.gq_script.specs.Out.{output_lines, joined}
 use Rattle.gq_cli.specs.Orders.{line_at, op_line, op_lines, ordered, operations_of}
 use Rattle.gq_script.specs.Seeing.{seen_events}
 use Rattle.gq_script.proofs.Answering.{own_seen}

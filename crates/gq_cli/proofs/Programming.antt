@@ -80,7 +80,7 @@ tenants_fit plan events all = picked_all (λ (opening : Opening). opening.tenant
     each Stray low = tt
 
 -- each request is of its session
-requests_named : (id : SessionId) (line : Line) → names_session id.number line ≡ true → IsRequestOf id.number line
+pub requests_named : (id : SessionId) (line : Line) → names_session id.number line ≡ true → IsRequestOf id.number line
 requests_named id (Write session volume file bytes) is = eqb-true session id.number is
 requests_named id (Read session volume file) is = eqb-true session id.number is
 requests_named id (ListFiles session volume) is = eqb-true session id.number is

@@ -1,3 +1,6 @@
+pub mod Gathering
+pub mod Live
+pub mod LiveRuns
 pub mod Orders
 pub mod Programs
 pub mod Words

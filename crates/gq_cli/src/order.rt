@@ -10,13 +10,13 @@ ghost use Rattle.gq_script.specs.Out.{joined, output_lines, IsAccepted, IsPlanFa
 ghost use Rattle.gq_script.specs.PlanText.{plan_of};
 ghost use Rattle.gq_script.specs.Pieces.{words_in};
 ghost use Rattle.gq_script.specs.Watched.{inner_of, has_failed, AppendsPrefix};
-ghost use Rattle.gq_inspect.specs.Runs.{IsRun};
+ghost use Rattle.gq_order.specs.Runs.{IsRun};
 ghost use Rattle.gq_cli.specs.Orders.{line_at, op_line, op_lines, ordered, operations_of, NamesTenant, order_out, IsPlanFault, IsFaultOfOutput};
 
 use gq_desk::Plan;
-use gq_inspect::{FileOrder, OpRef, file_order};
 use gq_laws::{Kind, Op};
 use gq_model::{Answer, Event};
+use gq_order::{FileOrder, OpRef, file_order};
 use gq_script::{
     Answered, MOST_INPUT, Piece, PlanText, RunFault, Watched, answer_lines, put_words, read_plan,
     read_whole, write_whole,

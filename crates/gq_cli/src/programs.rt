@@ -1,6 +1,6 @@
 //! The programs of a live run, read from the text of an input.
 
-ghost use Rattle.std.specs.Prelude.{◌≡◌, ◌≢◌, ◌≤◌, ◌<◌, ◌++◌, [], None, Some, map, length, slice_set, IfOk, IfErr, IfSome, IfNone, OnOk};
+ghost use Rattle.std.specs.Prelude.{◌≡◌, ◌≢◌, ◌≤◌, ◌<◌, ◌++◌, [], None, Some, map, length, slice_set, IfOk, IfErr, IfSome, IfNone, OnOk, replicate, ℕ};
 ghost use Rattle.std.specs.List.{All, cons_option, filter_map};
 ghost use Rattle.gq_desk.specs.CheckedPlan.{row_at};
 ghost use Rattle.gq_desk.specs.Plans.{is_in};
@@ -11,7 +11,9 @@ ghost use Rattle.gq_script.specs.Input.{event_of};
 ghost use Rattle.gq_script.specs.Lines.{lines_of};
 ghost use Rattle.gq_script.specs.PlanText.{plan_of};
 ghost use Rattle.gq_session.specs.Fitting.{FitsPlan, is_change};
-ghost use Rattle.gq_cli.specs.Programs.{AreOf, IsProgramsOf, change_of, desk_after, desk_with, events_fault, fault_of, first_fault, line_fault, names_session, new_desk, opening_of, refused_at, request_for, requests_for, steps_fault, tenant_fault, unless};
+ghost use Rattle.gq_session.specs.declared.fitting.SessionId.{SessionId};
+ghost use Rattle.gq_cli.specs.Gathering.{AreByTenant, line_for, list_at, request_in, requests_at};
+ghost use Rattle.gq_cli.specs.Programs.{AreOf, IsProgramsOf, change_of, desk_after, desk_with, events_fault, fault_of, first_fault, line_fault, names_session, new_desk, opening_of, refused_at, steps_fault, tenant_fault, unless};
 
 use gq_desk::{Desk, MOST_STEPS, OpenRefused, Plan, TenantRow};
 use gq_model::{Event, Line, ServerLine};
@@ -261,35 +263,84 @@ fn names_session(number: u8, line: &Line) -> bool
     }
 }
 
-// The request of the session that the event is, if it is one.
-fn request_for(id: SessionId, event: &Event) -> Result<Option<Line>, AllocError>
-    ensures { IfOk result (λ line. line ≡ request_for id event.now) }
+// So many empty lists.
+fn empty_lists(alloc: Global, count: usize) -> Result<Vec<Lines>, AllocError>
+    ensures { IfOk result (λ lists. lists.items ≡ replicate count []) }
 {
-    match event {
-        Event::Tenant { tenant, line } if *tenant == id.tenant && names_session(id.number, line) =>
-            { Ok(Some(line.clone()?)) }
-        _ => Ok(None),
+    let mut lists = Vec::new(alloc);
+    for _ in 0..count {
+        lists.push(Lines {
+            items: Vec::new(alloc),
+        })?;
+    }
+    Ok(lists)
+}
+
+// Adds the line of a tenant's event to the list of its tenant.
+fn add_line(lists: &mut Vec<Lines>, event: &Event) -> Result<(), AllocError>
+    ensures count { OnOk result (length lists.new.items ≡ length lists.old.items) }
+    ensures lines { OnOk result ((tenant : ℕ) → tenant < length lists.old.items →
+        list_at lists.new.items tenant ≡ list_at lists.old.items tenant ++ cons_option (line_for tenant event.now) []) }
+{
+    if let Event::Tenant { tenant, line } = event {
+        if let Some(lines) = lists.get_mut(*tenant as usize) {
+            lines.items.push(line.clone()?)?;
+        }
+    }
+    Ok(())
+}
+
+// The lines of each of so many tenants, in order.
+fn lines_of_tenants(
+    alloc: Global,
+    tenants: usize,
+    events: &[Event],
+) -> Result<Vec<Lines>, AllocError>
+    ensures { IfOk result (λ lists. AreByTenant tenants events.now lists.items) }
+{
+    let mut lists = empty_lists(alloc, tenants)?;
+    for event in events {
+        add_line(&mut lists, event)?;
+    }
+    Ok(lists)
+}
+
+// The request of the session that the line is, if it is one.
+fn request_in(number: u8, line: &Line) -> Result<Option<Line>, AllocError>
+    ensures { IfOk result (λ request. request ≡ request_in number line.now) }
+{
+    if names_session(number, line) {
+        Ok(Some(line.clone()?))
+    } else {
+        Ok(None)
     }
 }
 
-// The requests of the session among the events, in order.
-fn requests_for(alloc: Global, id: SessionId, events: &[Event]) -> Result<Lines, AllocError>
-    ensures { IfOk result (λ lines. lines ≡ requests_for events.now id) }
+// The requests of the session among its tenant's lines, in order.
+fn requests_in(alloc: Global, number: u8, lines: &[Line]) -> Result<Lines, AllocError>
+    ensures { IfOk result (λ requests. requests ≡ filter_map (request_in number) lines.now) }
 {
     let mut items = Vec::new(alloc);
-    for event in events {
-        keep(&mut items, request_for(id, event)?)?;
+    for line in lines {
+        keep(&mut items, request_in(number, line)?)?;
     }
     Ok(Lines { items })
 }
 
-// The requests of each of the sessions.
-fn requests_of(alloc: Global, ids: &[SessionId], events: &[Event]) -> Result<Vec<Lines>, AllocError>
-    ensures { IfOk result (λ lists. lists.items ≡ map (requests_for events.now) ids.now) }
+// The requests of each of the sessions, of which each is of one of the tenants.
+fn requests_of(
+    alloc: Global,
+    ids: &[SessionId],
+    tenants: &[Lines],
+) -> Result<Vec<Lines>, AllocError>
+    requires { All (λ (id : SessionId). id.tenant < length tenants.now) ids.now }
+    ensures { IfOk result (λ lists. lists.items ≡ map (requests_at tenants.now) ids.now) }
 {
     let mut lists = Vec::new(alloc);
-    for id in ids {
-        lists.push(requests_for(alloc, *id, events)?)?;
+    for place in 0..ids.len() {
+        let id = ids[place];
+        let lines = &tenants[id.tenant as usize];
+        lists.push(requests_in(alloc, id.number, lines.items.as_slice())?)?;
     }
     Ok(lists)
 }
@@ -299,9 +350,10 @@ fn programs_of(alloc: Global, plan: &Plan, events: &[Event]) -> Result<Programs,
     ensures { IfOk result (AreOf plan.now events.now) }
 {
     let ids = sessions_of(alloc, plan)?;
+    let tenants = lines_of_tenants(alloc, plan.tenants(), events)?;
     Ok(Programs {
         volumes: volumes_of(alloc, events)?,
-        sessions: requests_of(alloc, ids.as_slice(), events)?,
+        sessions: requests_of(alloc, ids.as_slice(), tenants.as_slice())?,
         changes: changes_of(alloc, events)?,
     })
 }

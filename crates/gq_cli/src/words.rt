@@ -6,7 +6,7 @@ ghost use Rattle.clap.specs.Simple.{app_of};
 ghost use Rattle.clap.specs.Walk.{rule_of};
 ghost use Rattle.clap.specs.Walk.{Text, texts};
 ghost use Rattle.clap.specs.declared.error.kind.ErrorKind.TheVariants.{DisplayHelp, DisplayVersion};
-ghost use Rattle.gq_cli.specs.Words.{AsksToRun, IsAskedBy, IsMemory, IsOf, ShownFor, Shows, gridfs, name_rule, number_rule};
+ghost use Rattle.gq_cli.specs.Words.{AsksForLive, AsksToRun, IsAskedBy, IsMemory, IsOf, ShownFor, Shows, gridfs, name_rule, number_rule};
 
 use clap::error::ErrorKind;
 use clap::{Arg, ArgAction, ArgMatches, Command, Error};
@@ -23,6 +23,8 @@ pub enum Request<'a> {
         volume: u32,
         file: u32,
     },
+    /// Run the programs of an input in threads, and write the run as a script.
+    Live,
 }
 
 /// Why the words of a command line ask for nothing to be run.
@@ -94,6 +96,26 @@ line. On the script of `gridfs run --help`, `gridfs order ann 0 0` writes behind
     write 1 1 6869
     legal";
 
+const LIVE: &str = "\
+The input is a plan whose tenants all have 1000000 steps, and after its line `go` lines of these kinds:
+
+    NAME open FILES BLOCKS              open a volume, before the run
+    NAME write S V F HEX                session S writes the content HEX to file F of volume V
+    NAME read S V F                     session S reads file F of volume V
+    NAME list S V                       session S lists the files of volume V
+    server N down                       server N stops
+    server N up                         server N returns
+
+Each session does its own lines in their order, in a thread of its own, and beside it run two threads for each server and one
+for the servers' stops and returns. What was done is recorded and inspected: it is a run of the service. That run is written
+as a script: the plan, the opens, and each request, delivery, retry and abandonment and each stop and return of a server, in
+the order in which they took place. `gridfs run` reads the script and gives the answers that the sessions were told, and
+`gridfs order` the order of a file's operations, if it has at most 16777216 bytes.
+
+A fault of the input is told by one line on standard error, with the number of the line: `livesteps` where a tenant has not
+all steps, `live` where the line is of another kind, names a session that its tenant has not or a server that the grid has
+not, `open` where the volume can't be opened. Nothing is written then.";
+
 // A whole number that has to be given.
 fn number<'a>(alloc: Global, id: &'a str, help: &'a str) -> Arg<'a>
     ensures rule { rule_of result ≡ number_rule id.entry.now }
@@ -132,6 +154,9 @@ fn command<'a>(alloc: Global) -> Result<Command<'a>, AllocError>
         .arg(name(alloc))?
         .arg(number(alloc, "VOLUME", "The number of the tenant's volume, from 0"))?
         .arg(number(alloc, "FILE", "The number of the volume's file, from 0"))?;
+    let live = Command::new(alloc, "live")
+        .about("Run the programs of an input in threads, and write the run as a script")
+        .after_help(LIVE);
     let gridfs = Command::new(alloc, "gridfs")
         .about(
             "A replicated file service for many tenants: each is told what its run alone would tell",
@@ -140,7 +165,8 @@ fn command<'a>(alloc: Global) -> Result<Command<'a>, AllocError>
         .after_help(INPUT)
         .subcommand_required(true)
         .subcommand(run)?
-        .subcommand(order)?;
+        .subcommand(order)?
+        .subcommand(live)?;
     Ok(gridfs)
 }
 
@@ -149,6 +175,9 @@ fn command<'a>(alloc: Global) -> Result<Command<'a>, AllocError>
 fn request_of<'a>(matches: &ArgMatches<'a>) -> Request<'a>
     ensures { IsOf (subcommand_name_of matches.now) result }
 {
+    if matches.subcommand_matches("live").is_some() {
+        return Request::Live;
+    }
     let Some(order) = matches.subcommand_matches("order") else {
         return Request::Run;
     };
@@ -161,10 +190,11 @@ fn request_of<'a>(matches: &ArgMatches<'a>) -> Request<'a>
 
 /// Reads the words of a command line, of which the first is the program's name. Words that ask for help or for the version,
 /// or that are no request, give the text to show, whose exit status is its own (0 where it was asked for, else 2); where
-/// memory is wanting, that is told before any text. Behind `run` no word may come but `--`, by which clap ends the options.
+/// memory is wanting, that is told before any text. Behind `run` and `live` no word may come but `--`, by which clap ends the options.
 pub fn read_words<'a>(alloc: Global, words: &'a [&'a str]) -> Result<Request<'a>, Usage>
     ensures request { IfOk result (IsAskedBy (texts words.entry.now)) }
     ensures run { AsksToRun (texts words.entry.now) → IfErr result IsMemory }
+    ensures live { AsksForLive (texts words.entry.now) → IfErr result IsMemory }
     ensures shown { IfErr result (ShownFor (texts words.entry.now)) }
     ensures help { (program : Text) → texts words.entry.now ≡ program ∷ codes "--help" ∷ [] → IsErrAnd result (Shows DisplayHelp) }
     ensures version { (program : Text) → texts words.entry.now ≡ program ∷ codes "--version" ∷ [] → IsErrAnd result (Shows DisplayVersion) }

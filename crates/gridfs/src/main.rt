@@ -1,26 +1,52 @@
 //! The program: the words, the standard streams and the runtime go down, and a status comes back.
 #![tactic(auto)]
 
-use gq_cli::{OrderFault, Request, Usage, order_run, read_words};
+use gq_cli::{LiveRunFault, OrderFault, Request, Usage, live_run, order_run, read_words};
+use gq_live::{LiveFault, OpenGate};
 use gq_script::{RunFault, Watched, run};
 use std::alloc::{AllocError, Global};
+use std::fmt::Display;
 use std::process::ExitCode;
+use std::sync::Wait;
+use std::thread::Threads;
 use std::{env, io};
 
 // A fault of the input, of reading or of writing.
 const FAULT: u8 = 1;
 // Words that are no request.
 const USAGE: u8 = 2;
-// Memory is wanting.
+// Memory is wanting, or a thread could not be started.
 const MEMORY: u8 = 3;
+// What a live run recorded, or the run itself, is not what it should be.
+const REFUSED: u8 = 4;
 
-// The fault on standard error, where that takes it, and the status.
-fn told(rt: &impl Eprint, fault: &OrderFault) -> ExitCode {
-    let _ = eprintln!(rt; "gridfs: {fault}");
+fn run_status(fault: &RunFault) -> u8 {
     match fault {
-        OrderFault::Run(RunFault::Memory) => ExitCode::from(MEMORY),
-        _ => ExitCode::from(FAULT),
+        RunFault::Memory => MEMORY,
+        _ => FAULT,
     }
+}
+
+fn order_status(fault: &OrderFault) -> u8 {
+    match fault {
+        OrderFault::Run(fault) => run_status(fault),
+        OrderFault::Name => FAULT,
+    }
+}
+
+fn live_status(fault: &LiveRunFault) -> u8 {
+    match fault {
+        LiveRunFault::Memory | LiveRunFault::Live(LiveFault::Memory | LiveFault::Thread) => MEMORY,
+        LiveRunFault::Live(LiveFault::Gate | LiveFault::Stamps | LiveFault::Letter)
+        | LiveRunFault::Mismatch(_) => REFUSED,
+        _ => FAULT,
+    }
+}
+
+// The status, with the fault on standard error, where that takes it.
+fn told(rt: &impl Eprint, fault: &(impl Display + Drop), status: u8) -> ExitCode {
+    let _ = eprintln!(rt; "gridfs: {fault}");
+    ExitCode::from(status)
 }
 
 // The words, each as a text.
@@ -29,18 +55,28 @@ fn words_of<'a>(alloc: Global, given: &'a Vec<String>) -> Result<Vec<&'a str>, A
 }
 
 // Does what was asked for, on the standard streams.
-fn answered(rt: &HostRuntime, request: Request) -> Result<(), OrderFault> {
-    let alloc = rt.alloc();
+fn answered<R: Input + Print + Eprint + Threads + Wait + Sync>(
+    rt: &R,
+    alloc: Global,
+    request: Request,
+) -> ExitCode {
     let mut reader = Watched::new(rt.reader());
     let mut writer = Watched::new(io::writer(rt));
     match request {
         Request::Run => match run(alloc, &mut reader, &mut writer) {
-            Ok(()) => Ok(()),
-            Err(fault) => Err(OrderFault::Run(fault)),
+            Ok(()) => ExitCode::SUCCESS,
+            Err(fault) => told(rt, &fault, run_status(&fault)),
         },
         Request::Order { name, volume, file } => {
-            order_run(alloc, &mut reader, &mut writer, name, volume, file)
+            match order_run(alloc, &mut reader, &mut writer, name, volume, file) {
+                Ok(()) => ExitCode::SUCCESS,
+                Err(fault) => told(rt, &fault, order_status(&fault)),
+            }
         }
+        Request::Live => match live_run(rt, alloc, &mut reader, &mut writer, &OpenGate) {
+            Ok(()) => ExitCode::SUCCESS,
+            Err(fault) => told(rt, &fault, live_status(&fault)),
+        },
     }
 }
 
@@ -55,20 +91,17 @@ fn main(rt: HostRuntime) -> ExitCode {
         }
     };
     let Ok(given) = given else {
-        return told(&rt, &OrderFault::Run(RunFault::Memory));
+        return told(&rt, &RunFault::Memory, MEMORY);
     };
     let Ok(words) = words_of(alloc, &given) else {
-        return told(&rt, &OrderFault::Run(RunFault::Memory));
+        return told(&rt, &RunFault::Memory, MEMORY);
     };
     match read_words(alloc, words.as_slice()) {
-        Ok(request) => match answered(&rt, request) {
-            Ok(()) => ExitCode::SUCCESS,
-            Err(fault) => told(&rt, &fault),
-        },
+        Ok(request) => answered(&rt, alloc, request),
         Err(Usage::Shown(error)) => {
             let _ = error.print(&rt);
             ExitCode::from(error.exit_code() as u8)
         }
-        Err(Usage::Memory) => told(&rt, &OrderFault::Run(RunFault::Memory)),
+        Err(Usage::Memory) => told(&rt, &RunFault::Memory, MEMORY),
     }
 }

@@ -1,6 +1,6 @@
 use Rattle.std.proofs.Common.{◌≡◌, take, map}
-use Rattle.gq_cli.specs.Programs.{requests_for}
+use Rattle.gq_cli.specs.Gathering.{requests_at}
 use Rattle.gq_cli.proofs.programs.requests_of.Given as goal
 
-abbrev pub invariant-loop-id : goal.invariant-loop-id
-invariant-loop-id l = l.lists.items ≡ map (requests_for l.events) (take l.id-index l.ids)
+abbrev pub invariant-loop-place : goal.invariant-loop-place
+invariant-loop-place l = l.lists.items ≡ map (requests_at l.tenants) (take l.place l.ids)

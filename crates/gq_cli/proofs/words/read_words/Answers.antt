@@ -8,7 +8,7 @@ use Rattle.clap.specs.declared.error.kind.ErrorKind.TheVariants.{OutOfMemory}
 use Rattle.gq_cli.specs.Words.{faults_in}
 use Rattle.gq_cli.proofs.Asking.{asks}
 use Rattle.gq_cli.proofs.Naming.{asked_by, found_is_named, rules_are_exact}
-use Rattle.gq_cli.proofs.Faults.{asked_is_right, help_is_shown, version_is_shown}
+use Rattle.gq_cli.proofs.Faults.{asked_is_right, help_is_shown, live_is_right, version_is_shown}
 use Rattle.gq_cli.proofs.words.read_words.Goals as goal
 
 -- clap found nothing wrong
@@ -51,6 +51,9 @@ returns-in-Ok-try_get_matches_from-clause-version c program is =
 
 pub returns-clause-run : goal.returns-clause-run
 returns-clause-run c asked = among c [] (asked_is_right (texts c.args.words.now) asked)
+
+pub returns-clause-live : goal.returns-clause-live
+returns-clause-live c asked = among c [] (live_is_right (texts c.args.words.now) asked)
 
 pub returns-clause-help : goal.returns-clause-help
 returns-clause-help c program are = elim (among c _ (ap faults_in are ∙ help_is_shown program)) [
