@@ -1,9 +1,8 @@
 /* Counts a program's requests for memory, and refuses one of them: it is loaded before the C library, by LD_PRELOAD.
 
    With REFUSE=N in the environment the Nth request, from 1, is refused; with REFUSE=N+ all from there on. At the end of the
-   program a line
-   "ASKED HELD" is put at the end of the file that COUNT names: how many requests there were, and how many of the blocks
-   that they gave were not given back. */
+   program, also where it ends by _exit, a line "ASKED HELD" is put at the end of the file that COUNT names: how many requests
+   there were, and how many of the blocks that they gave were not given back. Threads may ask at once. */
 #define _GNU_SOURCE
 #include <errno.h>
 #include <fcntl.h>
@@ -11,6 +10,7 @@
 #include <stdio.h>
 #include <stdlib.h>
 #include <string.h>
+#include <sys/syscall.h>
 #include <unistd.h>
 
 extern void *__libc_malloc(size_t);
@@ -29,35 +29,37 @@ static int is_refused(void) {
         refused = text ? atol(text) : 0;
         onwards = text && strchr(text, '+');
     }
-    asked++;
+    unsigned long number = __atomic_add_fetch(&asked, 1, __ATOMIC_SEQ_CST);
     unsigned long first = (unsigned long)refused;
-    if (refused > 0 && (asked == first || (onwards && asked > first))) {
+    if (refused > 0 && (number == first || (onwards && number > first))) {
         errno = ENOMEM;
         return 1;
     }
     return 0;
 }
 
+static void hold(long blocks) { __atomic_add_fetch(&held, blocks, __ATOMIC_SEQ_CST); }
+
 void *malloc(size_t size) {
     void *block = is_refused() ? NULL : __libc_malloc(size);
-    if (block) held++;
+    if (block) hold(1);
     return block;
 }
 
 void *calloc(size_t count, size_t size) {
     void *block = is_refused() ? NULL : __libc_calloc(count, size);
-    if (block) held++;
+    if (block) hold(1);
     return block;
 }
 
 void *realloc(void *old, size_t size) {
     void *block = is_refused() ? NULL : __libc_realloc(old, size);
-    if (block && !old) held++;
+    if (block && !old) hold(1);
     return block;
 }
 
 void free(void *block) {
-    if (block) held--;
+    if (block) hold(-1);
     __libc_free(block);
 }
 
@@ -68,6 +70,12 @@ __attribute__((destructor)) static void tell(void) {
     int length = snprintf(line, sizeof line, "%lu %ld\n", asked, held);
     int file = open(name, O_WRONLY | O_CREAT | O_APPEND, 0644);
     if (file < 0) return;
-    if (write(file, line, length) != length) _exit(99);
+    if (write(file, line, length) != length) abort();
     close(file);
+}
+
+/* (a program that may start threads ends in this way) */
+void _exit(int status) {
+    tell();
+    for (;;) syscall(SYS_exit_group, status);
 }

@@ -4,7 +4,7 @@
 ghost use Rattle.std.specs.Prelude.{◌≡◌, ◌<◌, [], ◌∷◌, length, IfOk};
 ghost use Rattle.gq_store.specs.Copies.{store_accounts};
 
-use crate::{Fault, operations, texts};
+use crate::{Fault, cells, histories, operations, records, texts};
 use gq_desk::{Desk, Name, Plan, TenantRow};
 use gq_grid::Grid;
 use gq_pool::Pool;
@@ -36,20 +36,36 @@ pub fn tell_refused(out: &mut Vec<u8>, call: &str) -> io::Result<()> {
     writeln!(out, "refused {call}")
 }
 
-// What a call gives. Where memory is refused to it, that is told, and then the call is made once more.
+// What a call gives that is made once more, after memory was refused to it, which is told.
+macro_rules! again {
+    ($out:ident, $call:literal, $seen:expr, $make:expr) => {{
+        tell_refused($out, $call)?;
+        tell($out, $seen)?;
+        match $make {
+            Ok(value) => value,
+            Err(_) => return Err(Fault::Memory),
+        }
+    }};
+}
+
+pub(crate) use again;
+
+// What a call gives. Where memory is refused to it, it is made again. Of a call that has other faults, the one that tells
+// so is named.
 macro_rules! retry {
     ($out:ident, $call:literal, $seen:expr, $make:expr) => {{
         tell($out, $seen)?;
         match $make {
             Ok(value) => value,
-            Err(_) => {
-                tell_refused($out, $call)?;
-                tell($out, $seen)?;
-                match $make {
-                    Ok(value) => value,
-                    Err(_) => return Err(Fault::Memory),
-                }
-            }
+            Err(_) => $crate::calls::again!($out, $call, $seen, $make),
+        }
+    }};
+    ($out:ident, $call:literal, $seen:expr, $make:expr, $wanting:pat) => {{
+        tell($out, $seen)?;
+        match $make {
+            Ok(value) => value,
+            Err($wanting) => $crate::calls::again!($out, $call, $seen, $make),
+            Err(_) => return Err(Fault::Other),
         }
     }};
 }
@@ -247,6 +263,11 @@ pub fn make(alloc: Global, part: &str, script: &[u8], out: &mut Vec<u8>) -> Resu
         "read" => operations::read(alloc, out),
         "list" => operations::list(alloc, out),
         "world" => world(alloc, out),
+        "cell" => cells::cell(alloc, out),
+        "board" => cells::board(alloc, out),
+        "records" => records::make(alloc, out),
+        "programs" => texts::programs(alloc, script, out),
+        "history" => histories::make(alloc, script, out),
         "texts" => texts::make(alloc, script, out),
         _ => Err(Fault::Usage),
     }

@@ -11,6 +11,10 @@
 //! `play` reads a script, has a world answer its lines one by one, and prints each answer, `ended` for each line after want
 //! of memory, and at the end how many blocks of each server are free.
 //!
+//! `live` reads the programs of a live run, runs them in threads, and prints the script of that run, then a line `answers`, and
+//! then for each session a line `session TENANT SESSION` (the tenant's place in the plan) and what it was told; in each answer
+//! the messages are numbered from 0.
+//!
 //! `stream READ_EACH READ_ALL WRITE_EACH WRITE_ALL END run` runs a script between a reader that gives at most so many bytes
 //! a call and fails after so many in all, and a writer that takes at most so many; where END is `fails` it fails after
 //! these, where it is `none` it takes none. It prints what the writer took. With `order NAME VOLUME FILE` in place of `run`
@@ -21,17 +25,25 @@
 #![tactic(auto)]
 
 mod calls;
+mod cells;
+mod histories;
+mod live;
 mod operations;
 mod play;
+mod records;
 mod store;
 mod streams;
 mod texts;
 
-use gq_cli::OrderFault;
+use gq_cli::{OrderFault, ProgramFault};
+use gq_inspect::Mismatch;
+use gq_live::LiveFault;
 use gq_script::{PlanText, RunFault};
 use std::alloc::{AllocError, AllocFailed};
 use std::io::{Read, Write};
 use std::process::ExitCode;
+use std::sync::Wait;
+use std::thread::Threads;
 use std::{env, io};
 use streams::{Sink, Source};
 use thiserror::Error;
@@ -49,9 +61,21 @@ enum Fault {
     // The words name no way.
     #[error("the words name no way")]
     Usage,
+    // A call has a fault that it should not have.
+    #[error("another fault than want of memory")]
+    Other,
     // The plan is at fault.
     #[error("{0}")]
     Plan(PlanText),
+    // The programs are at fault.
+    #[error("{0}")]
+    Programs(ProgramFault),
+    // The live run gave no records.
+    #[error("{0}")]
+    Live(LiveFault),
+    // The records are no run.
+    #[error("{0}")]
+    Records(Mismatch),
     // The run ended early.
     #[error("{0}")]
     Run(OrderFault),
@@ -78,6 +102,24 @@ impl<T: Drop> From<AllocFailed<T>> for Fault {
 impl From<PlanText> for Fault {
     fn from(fault: PlanText) -> Fault {
         Fault::Plan(fault)
+    }
+}
+
+impl From<ProgramFault> for Fault {
+    fn from(fault: ProgramFault) -> Fault {
+        Fault::Programs(fault)
+    }
+}
+
+impl From<LiveFault> for Fault {
+    fn from(fault: LiveFault) -> Fault {
+        Fault::Live(fault)
+    }
+}
+
+impl From<Mismatch> for Fault {
+    fn from(fault: Mismatch) -> Fault {
+        Fault::Records(fault)
     }
 }
 
@@ -175,13 +217,22 @@ fn stream(rt: &HostRuntime, words: &[String], out: &mut Vec<u8>) -> Result<(), F
 }
 
 // Goes the way that the words name, and gives what is printed.
-fn go(rt: &HostRuntime, words: &[String], out: &mut Vec<u8>) -> Result<(), Fault> {
+fn go<R: Threads + Wait + Sync>(
+    rt: &HostRuntime,
+    threads: &R,
+    words: &[String],
+    out: &mut Vec<u8>,
+) -> Result<(), Fault> {
     let [_, way, rest @ ..] = words else {
         return Err(Fault::Usage);
     };
     match (way.as_str(), rest) {
         ("play", []) => {
             *out = play::play(rt.alloc(), input(rt)?.as_slice())?;
+            Ok(())
+        }
+        ("live", []) => {
+            *out = live::run(threads, rt.alloc(), input(rt)?.as_slice())?;
             Ok(())
         }
         ("calls", [part]) => calls::make(rt.alloc(), part.as_str(), input(rt)?.as_slice(), out),
@@ -197,6 +248,9 @@ fn status(fault: &Fault) -> ExitCode {
         Fault::Usage => ExitCode::from(USAGE),
         Fault::Memory
         | Fault::Plan(PlanText::Memory)
+        | Fault::Programs(ProgramFault::Memory)
+        | Fault::Live(LiveFault::Memory)
+        | Fault::Records(Mismatch::Memory)
         | Fault::Run(OrderFault::Run(RunFault::Memory)) => ExitCode::from(MEMORY),
         Fault::Stream(error) if error.kind() == io::ErrorKind::OutOfMemory => ExitCode::from(
             MEMORY,
@@ -206,16 +260,16 @@ fn status(fault: &Fault) -> ExitCode {
 }
 
 // Goes the way that the words name, and prints what comes of it, also before a fault.
-fn print(rt: &HostRuntime) -> Result<(), Fault> {
+fn print<R: Threads + Wait + Sync>(rt: &HostRuntime, threads: &R) -> Result<(), Fault> {
     let words: Vec<String> = env::args(rt)?.collect(rt.alloc())?;
     let mut out = Vec::new(rt.alloc());
-    let outcome = go(rt, words.as_slice(), &mut out);
+    let outcome = go(rt, threads, words.as_slice(), &mut out);
     io::writer(rt).write_all(out.as_slice())?;
     outcome
 }
 
 fn main(rt: HostRuntime) -> ExitCode {
-    match print(&rt) {
+    match print(&rt, &rt) {
         Ok(()) => ExitCode::SUCCESS,
         Err(fault) => {
             let _ = eprintln!(rt; "try_calls: {fault}");

@@ -8,15 +8,17 @@ use crate::Fault;
 use crate::calls::{retry, tell, tell_refused};
 use crate::play::first_line;
 use bytes::Bytes;
+use gq_cli::{ProgramFault, read_programs};
 use gq_desk::Plan;
 use gq_phase::Outcome;
-use gq_script::{read_line, read_plan, write_answer, write_script};
+use gq_script::{MOST_INPUT, read_line, read_plan, write_answer, write_script};
+use gq_session::{fits, sessions_of};
 use gq_tag::{StoredCopy, Tag};
 use gq_world::{Answer, Event};
 use std::alloc::Global;
 
-// The plan of a script, and where its lines begin. Where memory is refused, that is told, and the plan is read once more.
-fn plan(alloc: Global, script: &[u8], out: &mut Vec<u8>) -> Result<(Plan, usize), Fault>
+/// The plan of a script, and where its lines begin. Where memory is refused, that is told, and the plan is read once more.
+pub fn plan(alloc: Global, script: &[u8], out: &mut Vec<u8>) -> Result<(Plan, usize), Fault>
     ensures { IfOk result (λ read. read.1 ≤ length script.now) }
 {
     tell(out, &())?;
@@ -29,8 +31,13 @@ fn plan(alloc: Global, script: &[u8], out: &mut Vec<u8>) -> Result<(Plan, usize)
     Ok(read)
 }
 
-// The events of lines.
-fn events(alloc: Global, plan: &Plan, lines: &[u8], out: &mut Vec<u8>) -> Result<Vec<Event>, Fault>
+/// The events of lines.
+pub fn events(
+    alloc: Global,
+    plan: &Plan,
+    lines: &[u8],
+    out: &mut Vec<u8>,
+) -> Result<Vec<Event>, Fault>
     ensures { IfOk result (λ events. All (IsIn plan.now) events.items) }
 {
     let mut events = Vec::new(alloc);
@@ -83,6 +90,24 @@ fn put_script(alloc: Global, plan: &Plan, events: &[Event], out: &mut Vec<u8>) -
         write_script(plan, events, &mut text)
     );
     tell(out, &text)?;
+    Ok(())
+}
+
+/// Reads the programs of a live run, and asks whether they fit the plan.
+pub fn programs(alloc: Global, input: &[u8], out: &mut Vec<u8>) -> Result<(), Fault> {
+    if input.len() > MOST_INPUT {
+        return Err(Fault::Usage);
+    }
+    let (plan, programs) = retry!(
+        out,
+        "read_programs",
+        &(),
+        read_programs(alloc, input),
+        ProgramFault::Memory
+    );
+    let ids = retry!(out, "sessions_of", &(), sessions_of(alloc, &plan));
+    let fit = retry!(out, "fits", &(), fits(alloc, &plan, &programs));
+    tell(out, &(plan, programs, ids, fit))?;
     Ok(())
 }
 

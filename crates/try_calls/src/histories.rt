@@ -1,0 +1,53 @@
+//! The calls on the events of a run and what was answered to them.
+
+ghost use Rattle.std.specs.Prelude.{All};
+ghost use Rattle.gq_model.specs.Events.{IsIn};
+
+use crate::calls::{retry, tell, tell_refused};
+use crate::{Fault, texts};
+use gq_desk::Plan;
+use gq_order::{check_order, operations, order};
+use gq_tag::FileId;
+use gq_world::{Answer, Event, World, said_of};
+use std::alloc::Global;
+
+const FILE: FileId = FileId {
+    tenant: 0,
+    volume: 0,
+    file: 0,
+};
+
+// What a world of the plan answers to the events.
+fn answers(alloc: Global, plan: &Plan, events: &[Event]) -> Result<Vec<Answer>, Fault>
+    requires { All (IsIn plan.now) events.now }
+{
+    let mut world = World::new(alloc, plan.copy()?)?;
+    let mut answers = Vec::new(alloc);
+    for event in events {
+        match world.step(event) {
+            Ok(answer) => answers.push(answer)?,
+            Err(_) => return Err(Fault::Memory),
+        }
+    }
+    Ok(answers)
+}
+
+/// Runs a script, and tells what each session was told, and the operations on the first file in their order.
+pub fn make(alloc: Global, script: &[u8], out: &mut Vec<u8>) -> Result<(), Fault> {
+    let (plan, place) = texts::plan(alloc, script, out)?;
+    let events = texts::events(alloc, &plan, &script[place..], out)?;
+    let answers = answers(alloc, &plan, &events)?;
+    for answer in &answers {
+        let said = retry!(out, "said_of", answer, said_of(answer));
+        tell(out, &said)?;
+    }
+    let ops = retry!(
+        out,
+        "operations",
+        &(),
+        operations(alloc, &plan, &events, &answers, FILE)
+    );
+    let places = retry!(out, "order", &ops, order(alloc, &ops));
+    tell(out, &(places.as_slice(), check_order(&ops, &places)))?;
+    Ok(())
+}

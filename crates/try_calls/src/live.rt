@@ -1,0 +1,118 @@
+//! A live run, and what it recorded of its sessions.
+
+ghost use Rattle.std.specs.Prelude.{◌≡◌, All, true};
+ghost use Rattle.gq_model.specs.Events.{IsIn};
+
+use crate::Fault;
+use gq_cli::read_programs;
+use gq_desk::Plan;
+use gq_inspect::inspect;
+use gq_live::{OpenGate, Records, Said, SessionEntry, live, sessions_of};
+use gq_model::{Answer, Event, Line};
+use gq_script::{MOST_INPUT, write_answer, write_script};
+use std::alloc::{AllocError, Global};
+use std::io::Write;
+use std::sync::Wait;
+use std::thread::Threads;
+
+// Whether the event's tenant is in the plan.
+fn is_in(plan: &Plan, event: &Event) -> bool
+    ensures { result ≡ true → IsIn plan.now event.now }
+{
+    match event {
+        Event::Tenant { tenant, .. } => (*tenant as usize) < plan.tenants(),
+        Event::Server { .. } | Event::Stray => true,
+    }
+}
+
+// Whether the tenants of all the events are.
+fn are_in(plan: &Plan, events: &[Event]) -> bool
+    ensures { result ≡ true → All (IsIn plan.now) events.now }
+{
+    events.iter().all(|event| is_in(plan, event))
+}
+
+// The answer in which that was said; the messages that were sent are numbered from 0.
+fn answer_of(said: &Said) -> Result<Answer, AllocError> {
+    Ok(match said {
+        Said::Began { op, sent } => Answer::Began {
+            op: *op,
+            first: 0,
+            count: *sent,
+        },
+        Said::Stale => Answer::Stale,
+        Said::Noted => Answer::Noted,
+        Said::Round { round, tag, sent } => Answer::Round {
+            round: *round,
+            tag: *tag,
+            first: 0,
+            count: *sent,
+        },
+        Said::Done(outcome) => Answer::Done(outcome.clone()?),
+        Said::Resent { sent } => Answer::Resent {
+            first: 0,
+            count: *sent,
+        },
+        Said::Abandoned => Answer::Abandoned,
+        Said::Refused(refusal) => Answer::Refused(*refusal),
+    })
+}
+
+// Appends what was said to a session of the tenant.
+fn put_answers(
+    plan: &Plan,
+    tenant: u8,
+    entries: &[SessionEntry],
+    out: &mut Vec<u8>,
+) -> Result<(), Fault> {
+    let event = Event::Tenant {
+        tenant,
+        line: Line::Bad,
+    };
+    if !is_in(plan, &event) {
+        return Err(Fault::Other);
+    }
+    for entry in entries {
+        write_answer(plan, &event, &answer_of(&entry.said)?, out)?;
+    }
+    Ok(())
+}
+
+// Appends what was said to each session, in the order of the plan, behind a line that names it.
+fn put_sessions(
+    alloc: Global,
+    plan: &Plan,
+    records: &Records,
+    out: &mut Vec<u8>,
+) -> Result<(), Fault> {
+    let ids = sessions_of(alloc, plan)?;
+    for (id, entries) in ids.iter().zip(records.sessions.iter()) {
+        writeln!(out, "session {} {}", id.tenant, id.number)?;
+        put_answers(plan, id.tenant, entries.items.as_slice(), out)?;
+    }
+    Ok(())
+}
+
+/// Runs the programs of an input in threads, and has the records inspected. It gives the run's script, a line `answers`, and
+/// then for each session a line `session TENANT SESSION`, the tenant by its place in the plan, and what the session was told,
+/// the messages of each answer being numbered from 0.
+pub fn run<R: Threads + Wait + Sync>(
+    rt: &R,
+    alloc: Global,
+    input: &[u8],
+) -> Result<Vec<u8>, Fault> {
+    if input.len() > MOST_INPUT {
+        return Err(Fault::Usage);
+    }
+    let (plan, programs) = read_programs(alloc, input)?;
+    let records = live(rt, alloc, &plan, &programs, &OpenGate)?;
+    let events = inspect(alloc, &plan, &records)?;
+    if !are_in(&plan, events.as_slice()) {
+        return Err(Fault::Other);
+    }
+    let mut out = Vec::new(alloc);
+    write_script(&plan, events.as_slice(), &mut out)?;
+    out.extend_from_slice(b"answers\n")?;
+    put_sessions(alloc, &plan, &records, &mut out)?;
+    Ok(out)
+}
