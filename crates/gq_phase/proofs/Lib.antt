@@ -1,5 +1,4 @@
 pub mod Meeting
-pub mod Lists
 pub mod Hearing
 pub mod Retrying
 pub mod Saying

@@ -4,9 +4,10 @@ use Rattle.std.specs.Prelude.{filter}
 use Rattle.std.specs.List.{range_with_len}
 use Rattle.std.proofs.lemmas.Bool.{cases_Bool, cases_eq, true≢false}
 use Rattle.gq_grid.specs.Grid.{Grid, Servers, rising}
+use Rattle.gq_round.specs.Round.{apart}
 use Rattle.gq_phase.specs.declared.operation.Operation.{Operation as Code}
 use Rattle.gq_phase.specs.Phase.{ends_round, is_collect}
-use Rattle.gq_phase.specs.Standing.{apart, quorum_as, ends_as}
+use Rattle.gq_phase.specs.Standing.{quorum_as, ends_as}
 use Rattle.gq_phase.proofs.Meeting.{collect_quorums_end, store_quorums_end, nobody_ends, more_still_end}
 
 -- a round goes on as it begins

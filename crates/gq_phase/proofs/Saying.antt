@@ -12,20 +12,21 @@ use Rattle.gq_tag.specs.declared.FileId.{FileId}
 use Rattle.gq_tag.specs.declared.Body.TheVariants.{Ask, Store}
 use Rattle.gq_tag.specs.declared.Message.{Message}
 use Rattle.gq_tag.specs.Tag.{latest, first_copy, OwnMessage, own_message, message_of, file_of}
-use Rattle.gq_phase.specs.declared.sending.RoundMessage.{RoundMessage}
+use Rattle.gq_round.specs.declared.RoundMessage.{RoundMessage}
+use Rattle.gq_round.specs.declared.Who.{Who}
+use Rattle.gq_round.specs.Round.{addressed, apart, sent_to}
 use Rattle.gq_phase.specs.Quorums.{collect_quorum, store_quorum}
 use Rattle.std.specs.List.{last_or}
 use Rattle.gq_phase.specs.declared.Row.{Row}
 use Rattle.gq_phase.specs.declared.Heard.{Heard}
 use Rattle.gq_phase.specs.declared.Heard.TheVariants.{Noted, Next, Done}
-use Rattle.gq_phase.specs.declared.Who.{Who}
 use Rattle.gq_phase.specs.declared.operation.Operation.{Operation as Code}
 use Rattle.gq_phase.specs.declared.operation.Task.{Task as CodeTask}
 use Rattle.gq_phase.specs.declared.operation.Task.TheVariants.{Write, Read, List as ListFiles}
 use Rattle.gq_phase.specs.Course.{Course, round_of}
 use Rattle.gq_phase.specs.Best.{best_with}
 use Rattle.gq_phase.specs.Phase.{Task, Reply, Operation, HeardNoted, HeardNext, HeardDone, heard_servers, heard_copies, reply_of, stored_copy, round_file, round_body, round_messages, messages_to, round_quorum, is_collect, is_current, ends_round, hear, with_reply, with_decided, decided_copy, begin_store, begin_collect, file_done, listed_row, moved, begun, floor_after}
-use Rattle.gq_phase.specs.Standing.{addressed, sent_to, task_of, StandsFor, HearsAs, Begins, BeginsStore, decided_as, floor_with, outcome_as, IsFresh, apart, ResendsAs, rows_of, rows_with, is_list, next_file, BeginsCollect, first_ask, is_current_as, quorum_as, ends_as, message_as, store_message, next_ask}
+use Rattle.gq_phase.specs.Standing.{task_of, StandsFor, HearsAs, Begins, BeginsStore, decided_as, floor_with, outcome_as, IsFresh, ResendsAs, rows_of, rows_with, is_list, next_file, BeginsCollect, first_ask, is_current_as, quorum_as, ends_as, message_as, store_message, next_ask}
 use Rattle.gq_phase.proofs.Hearing.{heard_servers-hear, latest-hear}
 use Rattle.gq_phase.proofs.Retrying.{nothing_heard, one_unheard}
 
@@ -376,14 +377,6 @@ on_hears old new up m set best heard op round adds betters over storing lists mo
     let said = said_on grid tenant old o up m set best s op round adds betters over storing new lists more b in
     let news = sent_on grid tenant old o up m set best s op round adds betters over storing new lists more b in
     rw said (is ∙ ap (Next (2 * old.course.collected + 1) None) (sym news), on_stands grid tenant old o up m set best s op round adds betters over storing new lists more b)
-
-pub on_result : {E : Type 0} (old new : Code) (up : Servers) (m : Message) (set : ServerSet) (best : Option StoredCopy) (r : Result Heard E) → m.op ≡ old.who.op → m.round ≡ round_of old.course →
-    servers set ≡ with_server m.server (servers old.heard) → best ≡ best_with old.best m.body → ends_as old (servers set) ≡ true → old.course.collecting ≡ false →
-    is_list old.task ≡ true → nat_lt old.course.collected old.course.files ≡ true → OnOk r (BeginsCollect old new) →
-    IfOk r (λ heard. heard ≡ Next (2 * old.course.collected + 1) None (sent_to old.grid (collect_quorum old.grid up) (next_ask old))) →
-    IfOk r (HearsAs old new up m)
-on_result old new up m set best (Ok heard) op round adds betters over storing lists more b is = on_hears old new up m set best heard op round adds betters over storing lists more b is
-on_result old new up m set best (Err e) op round adds betters over storing lists more b is = tt
 
 no_rows : (t : CodeTask) → [] ≡ rows_of t []
 no_rows (Write bytes) = refl

@@ -1,6 +1,6 @@
 -- Which of the model's operations a value of the code stands for, and what its calls do to them.
 use Rattle.std.specs.Prelude.{ℕ, ◌≡◌, ◌+◌, ◌*◌, ◌<◌, List, [], ◌∷◌, ◌++◌, Bool, true, false, Option, Some, None, map, length, max, IsSome, ◌&&◌, ◌==◌, not, if◌then◌else◌}
-use Rattle.gq_grid.specs.Grid.{Grid, Servers, rising, no_servers}
+use Rattle.gq_grid.specs.Grid.{Grid, Servers, no_servers}
 use Rattle.gq_grid.specs.Sets.{servers}
 use Rattle.gq_tag.specs.declared.Tag.{Tag}
 use Rattle.gq_tag.specs.declared.StoredCopy.{StoredCopy}
@@ -8,13 +8,13 @@ use Rattle.gq_tag.specs.declared.FileId.{FileId}
 use Rattle.gq_tag.specs.declared.Body.TheVariants.{Ask, Store}
 use Rattle.gq_tag.specs.declared.Message.{Message}
 use Rattle.gq_tag.specs.Tag.{first_copy, latest, OwnMessage, file_place, file_of, message_of, own_message}
+use Rattle.gq_round.specs.declared.Who.{Who}
+use Rattle.gq_round.specs.declared.RoundMessage.{RoundMessage}
 use Rattle.gq_phase.specs.declared.Row.{Row}
 use Rattle.gq_phase.specs.declared.Outcome.{Outcome}
 use Rattle.gq_phase.specs.declared.Outcome.TheVariants.{Wrote, Gave, Listed}
 use Rattle.gq_phase.specs.declared.Heard.{Heard}
 use Rattle.gq_phase.specs.declared.Heard.TheVariants.{Stale, Noted, Next, Done}
-use Rattle.gq_phase.specs.declared.Who.{Who}
-use Rattle.gq_phase.specs.declared.sending.RoundMessage.{RoundMessage}
 use Rattle.gq_phase.specs.declared.operation.Operation.{Operation as Code}
 use Rattle.gq_phase.specs.declared.operation.Task.{Task as CodeTask}
 use Rattle.gq_phase.specs.declared.operation.Task.TheVariants.{Write, Read, List as ListFiles}
@@ -25,16 +25,6 @@ use Rattle.gq_phase.specs.Course.{round_of}
 use Rattle.gq_phase.specs.Phase.{Task, Writing, Reading, Listing, Operation, Heard as Saying, HeardStale, HeardNoted, HeardNext, HeardDone, heard_servers, heard_copies, stored_copy, round_file, round_messages, round_quorum, ends_round, resent, hear, with_reply, moved, begun, listed_row}
 
 -- ---- what is sent and said, with the tenant in its messages
-
--- the round's message to a server
-abbrev pub addressed : RoundMessage → ℕ → Message
-addressed m server =
-    record { tenant = m.who.tenant; session = m.who.session; op = m.who.op; round = m.round; server = server; file = m.file; body = m.body }
-
--- the message to each server of the quorum, rising; none where there is no quorum
-abbrev pub sent_to : Grid → Option Servers → RoundMessage → List Message
-sent_to grid None message = []
-sent_to grid (Some quorum) message = map (addressed message) (rising grid quorum)
 
 abbrev pub heard_as : ℕ → Saying → Heard
 heard_as tenant HeardStale = Stale
@@ -131,10 +121,6 @@ RefusesAs code up NoQuorum = (grid : Grid) (tenant : ℕ) (o : Operation) → St
 RefusesAs code up Memory = (grid : Grid) (tenant : ℕ) (o : Operation) → StandsFor grid tenant code o → IsSome (round_quorum grid up o.round)
 
 -- ---- steps inside the crate
-
--- the servers of the one set that the other has not
-abbrev pub apart : Servers → Servers → Servers
-apart set but server = set server && not (but server)
 
 -- an operation in its first round
 pub record IsFresh (code : Code) (grid : Grid) (who : Who) (task : CodeTask) (files : ℕ) (file : FileId) (floor : ℕ) : Type 0 where

@@ -2,9 +2,10 @@
 
 ghost use Rattle.std.specs.Prelude.{◌≡◌, ◌<◌, None, OnOk, OnErr};
 ghost use Rattle.std.specs.Option.{option_copied};
+ghost use Rattle.gq_tag.specs.View.{body_of};
 ghost use Rattle.gq_phase.specs.Best.{best_with, exceeds, copied_number, IsBelow};
 
-use gq_tag::{Body, StoredCopy, newer};
+use gq_tag::{BodyView, StoredCopy, newer};
 use std::alloc::AllocError;
 use std::marker::Model;
 
@@ -35,25 +36,25 @@ impl Best {
     }
 
     /// The greatest copy with what one more reply says.
-    pub fn with<'a>(&'a self, body: &'a Body) -> Option<&'a StoredCopy>
-        requires { copied_number body.now < u64.MAX }
-        ensures value { option_copied result ≡ best_with self.now body.now }
+    pub fn with<'a>(&'a self, body: BodyView<'a>) -> Option<&'a StoredCopy>
+        requires { copied_number (body_of body) < u64.MAX }
+        ensures value { option_copied result ≡ best_with self.now (body_of body.entry) }
         ensures bound { IsBelow (option_copied result) }
     {
         match (body, &self.copy) {
-            (Body::Copy(copy), Some(best)) => Some(if newer(copy, best) { copy } else { best }),
-            (Body::Copy(copy), None) => Some(copy),
+            (BodyView::Copy(copy), Some(best)) => Some(if newer(copy, best) { copy } else { best }),
+            (BodyView::Copy(copy), None) => Some(copy),
             (_, best) => best.as_ref(),
         }
     }
 
     /// Notes what one more reply says. A copy that is not kept is not cloned.
-    pub fn note(&mut self, body: &Body) -> Result<(), AllocError>
-        requires { copied_number body.now < u64.MAX }
-        ensures ok { OnOk result (self.new ≡ best_with self.old body.now) }
+    pub fn note(&mut self, body: BodyView<'_>) -> Result<(), AllocError>
+        requires { copied_number (body_of body) < u64.MAX }
+        ensures ok { OnOk result (self.new ≡ best_with self.old (body_of body.entry)) }
         ensures err { OnErr result (self.new ≡ self.old) }
     {
-        if let Body::Copy(copy) = body {
+        if let BodyView::Copy(copy) = body {
             if self.is_exceeded_by(copy) {
                 self.copy = Some(copy.clone()?);
             }

@@ -10,39 +10,15 @@ mod course;
 pub mod laws;
 mod operation;
 mod quorums;
-mod sending;
 
 ghost use Rattle.std.specs.Prelude.{◌≡◌};
 
-use gq_tag::{Message, StoredCopy, Tag};
+pub use gq_round::{Messages, Who};
+use gq_tag::{StoredCopy, Tag};
 pub use operation::Operation;
 use std::alloc::AllocError;
 use std::marker::Model;
 use thiserror::Error;
-
-/// Whose operation it is: the tenant's place in the plan (from 0), the number of the tenant's session (from 1), and
-/// the number of the session's operation (from 1).
-#[derive(Clone, Copy, Debug, PartialEq, Eq)]
-pub struct Who {
-    pub tenant: u8,
-    pub session: u8,
-    pub op: u32,
-}
-
-/// Messages in the order in which they are sent.
-#[derive(Debug, Drop)]
-pub struct Messages {
-    pub items: Vec<Message>,
-}
-
-impl Model for Messages {
-    ghost use Rattle.std.specs.Prelude.{List};
-    ghost use Rattle.gq_tag.specs.declared.Message.{Message};
-
-    ghost Value = { List Message };
-
-    ghost view = { λ m. m.items.items };
-}
 
 /// What a listing gives of a file: the length of its content in bytes, and the tag of its copy.
 #[derive(Clone, Copy, Debug, PartialEq, Eq)]

@@ -6,19 +6,21 @@ ghost use Rattle.gq_grid.specs.Grid.{rising};
 ghost use Rattle.gq_grid.specs.Sets.{servers};
 ghost use Rattle.gq_tag.specs.declared.TheConstants.{MOST_FILES};
 ghost use Rattle.gq_tag.specs.Tag.{first_copy, file_place};
+ghost use Rattle.gq_tag.specs.View.{body_of};
+ghost use Rattle.gq_round.specs.Round.{addressed, apart, sent_to};
 ghost use Rattle.gq_phase.specs.Best.{copied_number, best_with};
 ghost use Rattle.gq_phase.specs.Quorums.{collect_quorum, store_quorum};
 ghost use Rattle.gq_phase.specs.Phase.{Writing, Reading, Listing};
-ghost use Rattle.gq_phase.specs.Standing.{addressed, apart, first_ask, rows_with};
+ghost use Rattle.gq_phase.specs.Standing.{first_ask, rows_with};
 
 use crate::best::Best;
 use crate::course::Course;
 use crate::quorums::{collect_quorum, ends_collect, ends_store, store_quorum};
-use crate::sending::RoundMessage;
-use crate::{BeginRefused, Heard, Messages, Outcome, ResendRefused, Row, Rows, Who};
+use crate::{BeginRefused, Heard, Outcome, ResendRefused, Row, Rows};
 use bytes::Bytes;
 use gq_grid::{Grid, ServerSet};
-use gq_tag::{Body, FileId, Message, StoredCopy, Tag};
+use gq_round::{Messages, RoundMessage, Who};
+use gq_tag::{Body, BodyView, FileId, Message, MessageView, StoredCopy, Tag};
 use std::alloc::{AllocError, Global};
 use std::mem;
 
@@ -65,7 +67,7 @@ fn keep_row(task: &Task, rows: &mut Rows, row: Row) -> Result<(), AllocError>
 }
 
 impl Operation {
-    ghost use Rattle.gq_phase.specs.Standing.{floor_of, IsGoing, IsDone, Begins, HearsAs, RaisesFloor, EndsAs, ResendsAs, RefusesAs, IsFresh, is_current_as, quorum_as, ends_as, message_as, decided_as, floor_with, outcome_as, is_list, next_file, sent_to, store_message, next_ask, BeginsStore, BeginsCollect};
+    ghost use Rattle.gq_phase.specs.Standing.{floor_of, IsGoing, IsDone, Begins, HearsAs, RaisesFloor, EndsAs, ResendsAs, RefusesAs, IsFresh, is_current_as, quorum_as, ends_as, message_as, decided_as, floor_with, outcome_as, is_list, next_file, store_message, next_ask, BeginsStore, BeginsCollect};
 
     /// Begins a write of the content: round 1, which asks a quorum of the servers of `up` for their copies. `floor` is
     /// the session's own last number. Answers the operation and the asks in rising server number.
@@ -77,18 +79,17 @@ impl Operation {
         file: FileId,
         bytes: &Bytes,
         up: ServerSet,
-    ) -> Result<(Operation, Vec<Message>), BeginRefused>
+    ) -> Result<(Operation, Messages), BeginRefused>
         requires own { file.tenant ≡ who.tenant }
         ensures ok { IfOk result (λ began. Begins grid.now who (Writing (file_place file) bytes.now) floor
-            (servers up) began.0 began.1.items) }
+            (servers up) began.0 began.1) }
         ensures going { IfOk result (λ began. IsGoing began.0) }
         ensures floor { IfOk result (λ began. floor_of began.0 ≡ floor) }
         ensures none { IsErrOf result BeginRefused.NoQuorum ↔ (collect_quorum grid.now (servers up) ≡ None) }
     {
         let quorum = collect_quorum(grid, up).ok_or(BeginRefused::NoQuorum)?;
         let task = Task::Write(bytes.clone()?);
-        let began = Operation::begin(alloc, grid, who, task, 1, file, floor, quorum)?;
-        Ok(began)
+        Ok(Operation::begin(alloc, grid, who, task, 1, file, floor, quorum))
     }
 
     /// Begins a read: round 1, which asks a quorum of the servers of `up` for their copies. `floor` is the session's
@@ -100,17 +101,16 @@ impl Operation {
         floor: u64,
         file: FileId,
         up: ServerSet,
-    ) -> Result<(Operation, Vec<Message>), BeginRefused>
+    ) -> Result<(Operation, Messages), BeginRefused>
         requires own { file.tenant ≡ who.tenant }
         ensures ok { IfOk result (λ began. Begins grid.now who (Reading (file_place file)) floor
-            (servers up) began.0 began.1.items) }
+            (servers up) began.0 began.1) }
         ensures going { IfOk result (λ began. IsGoing began.0) }
         ensures floor { IfOk result (λ began. floor_of began.0 ≡ floor) }
         ensures none { IsErrOf result BeginRefused.NoQuorum ↔ (collect_quorum grid.now (servers up) ≡ None) }
     {
         let quorum = collect_quorum(grid, up).ok_or(BeginRefused::NoQuorum)?;
-        let began = Operation::begin(alloc, grid, who, Task::Read, 1, file, floor, quorum)?;
-        Ok(began)
+        Ok(Operation::begin(alloc, grid, who, Task::Read, 1, file, floor, quorum))
     }
 
     /// Begins a listing of a volume of so many files: round 1, which asks a quorum of the servers of `up` for their
@@ -124,11 +124,11 @@ impl Operation {
         volume: u32,
         files: u32,
         up: ServerSet,
-    ) -> Result<(Operation, Vec<Message>), BeginRefused>
+    ) -> Result<(Operation, Messages), BeginRefused>
         requires some { 0 < files }
         requires bound { files ≤ MOST_FILES }
         ensures ok { IfOk result (λ began. Begins grid.now who (Listing volume files) floor
-            (servers up) began.0 began.1.items) }
+            (servers up) began.0 began.1) }
         ensures going { IfOk result (λ began. IsGoing began.0) }
         ensures floor { IfOk result (λ began. floor_of began.0 ≡ floor) }
         ensures none { IsErrOf result BeginRefused.NoQuorum ↔ (collect_quorum grid.now (servers up) ≡ None) }
@@ -139,8 +139,7 @@ impl Operation {
             volume,
             file: 0,
         };
-        let began = Operation::begin(alloc, grid, who, Task::List, files, file, floor, quorum)?;
-        Ok(began)
+        Ok(Operation::begin(alloc, grid, who, Task::List, files, file, floor, quorum))
     }
 
     // The operation in its first round, and its asks.
@@ -153,12 +152,11 @@ impl Operation {
         file: FileId,
         floor: u64,
         quorum: ServerSet,
-    ) -> Result<(Operation, Vec<Message>), AllocError>
+    ) -> (Operation, Messages)
         requires some { 0 < files }
         requires bound { files ≤ MOST_FILES }
-        ensures fresh { IfOk result (λ began. IsFresh began.0 grid.now who task files file floor) }
-        ensures asks { IfOk result (λ began. began.1.items
-            ≡ sent_to grid.now (Some (servers quorum)) (first_ask who file)) }
+        ensures fresh { IsFresh result.0 grid.now who task files file floor }
+        ensures asks { result.1 ≡ sent_to grid.now (Some (servers quorum)) (first_ask who file) }
     {
         prove!(0 < grid.servers());
         let ask = RoundMessage {
@@ -167,7 +165,7 @@ impl Operation {
             file,
             body: Body::Ask,
         };
-        let messages = ask.to_quorum(alloc, grid, Some(quorum))?;
+        let messages = Messages::to_quorum(ask, grid, Some(quorum));
         let operation = Operation {
             alloc,
             grid: *grid,
@@ -184,7 +182,7 @@ impl Operation {
             floor,
             done: false,
         };
-        Ok((operation, messages))
+        (operation, messages)
     }
 
     /// What the operation says to a message of its session, where the servers of `up` are up. A reply of its round is
@@ -202,20 +200,40 @@ impl Operation {
         ensures stays { IsDone self.old → self.new ≡ self.old }
         ensures err { OnErr result (self.new ≡ self.old) }
     {
+        self.hear_view(&MessageView::of(message), up)
+    }
+
+    /// What the operation says to a message whose copy is lent, as [`Operation::hear`]. The copy is cloned where it
+    /// becomes the greatest that was heard.
+    pub fn hear_view(
+        &mut self,
+        message: &MessageView<'_>,
+        up: ServerSet,
+    ) -> Result<Heard, AllocError>
+        requires server { message.now.server < MOST_SERVERS }
+        requires number { copied_number message.now.body < u64.MAX }
+        requires floor { floor_of self.old < u64.MAX }
+        ensures hears { IfOk result (λ heard. HearsAs self.old self.new (servers up) message.now heard) }
+        ensures floor { IfOk result (λ heard. RaisesFloor self.old self.new heard) }
+        ensures ends { IfOk result (λ heard. EndsAs self.old self.new heard) }
+        ensures done { IsDone self.old → IfOk result (λ heard. heard ≡ Heard.Stale) }
+        ensures stays { IsDone self.old → self.new ≡ self.old }
+        ensures err { OnErr result (self.new ≡ self.old) }
+    {
         if !self.is_current(message) {
             return Ok(Heard::Stale);
         }
         let mut heard = self.heard;
         heard.insert(message.server as usize);
         if !self.ends(heard) {
-            self.note(message, heard)?;
+            self.note(message.body, heard)?;
             return Ok(Heard::Noted);
         }
         if self.course.collects() {
-            let copy = self.decided(&message.body)?;
+            let copy = self.decided(message.body)?;
             self.begin_store(copy, up)
         } else if self.goes_on() {
-            self.begin_collect(up)
+            Ok(self.begin_collect(up))
         } else {
             self.finish()
         }
@@ -223,9 +241,9 @@ impl Operation {
 
     /// Sends the round's message once more, to the servers of a quorum chosen anew that were not heard in the round,
     /// in rising number: one at least, since the servers heard do not end the round. The operation stays as it is.
-    pub fn resend(&mut self, up: ServerSet) -> Result<Vec<Message>, ResendRefused>
+    pub fn resend(&mut self, up: ServerSet) -> Result<Messages, ResendRefused>
         requires going { IsGoing self.old }
-        ensures ok { IfOk result (λ messages. ResendsAs self.old (servers up) messages.items) }
+        ensures ok { IfOk result (λ messages. ResendsAs self.old (servers up) messages) }
         ensures err { IfErr result (λ e. RefusesAs self.old (servers up) e) }
         ensures same { self.new ≡ self.old }
     {
@@ -261,20 +279,20 @@ impl Operation {
     }
 
     // Whether the message is of the operation's round, and the operation is not done.
-    fn is_current(&self, message: &Message) -> bool
+    fn is_current(&self, message: &MessageView<'_>) -> bool
         ensures { result ≡ is_current_as self.now message.now }
     {
         !self.done && message.op == self.who.op && message.round == self.course.round()
     }
 
     // Notes the reply: these servers are heard now.
-    fn note(&mut self, message: &Message, heard: ServerSet) -> Result<(), AllocError>
-        requires { copied_number message.now.body < u64.MAX }
+    fn note(&mut self, body: BodyView<'_>, heard: ServerSet) -> Result<(), AllocError>
+        requires { copied_number (body_of body) < u64.MAX }
         ensures ok { OnOk result (self.new
-            ≡ record self.old { heard = heard; best = best_with self.old.best message.now.body }) }
+            ≡ record self.old { heard = heard; best = best_with self.old.best (body_of body.entry) }) }
         ensures err { OnErr result (self.new ≡ self.old) }
     {
-        self.best.note(&message.body)?;
+        self.best.note(body)?;
         self.heard = heard;
         Ok(())
     }
@@ -307,20 +325,24 @@ impl Operation {
     }
 
     // The round's message to each server of the set that was not heard in the round.
-    fn messages_to(&self, set: ServerSet) -> Result<Vec<Message>, AllocError>
-        ensures { IfOk result (λ messages. messages.items ≡ map (addressed (message_as self.now))
+    fn messages_to(&self, set: ServerSet) -> Result<Messages, AllocError>
+        ensures { IfOk result (λ messages. messages ≡ map (addressed (message_as self.now))
             (rising self.now.grid (apart (servers set) (servers self.now.heard)))) }
     {
-        self.message()?
-            .to_each(self.alloc, &self.grid, set, self.heard)
+        Ok(Messages {
+            message: self.message()?,
+            grid: self.grid,
+            to: set,
+            except: self.heard,
+        })
     }
 
     // The copy with which the collect round ends at this reply.
-    fn decided(&self, body: &Body) -> Result<StoredCopy, AllocError>
-        requires number { copied_number body.now < u64.MAX }
+    fn decided(&self, body: BodyView<'_>) -> Result<StoredCopy, AllocError>
+        requires number { copied_number (body_of body) < u64.MAX }
         requires floor { self.now.floor < u64.MAX }
         ensures { IfOk result (λ decided. decided ≡ decided_as self.now.task self.now.who.session
-            self.now.floor (unwrap_or (best_with self.now.best body.now) first_copy)) }
+            self.now.floor (unwrap_or (best_with self.now.best (body_of body.entry)) first_copy)) }
     {
         let best = self.best.with(body);
         match &self.task {
@@ -354,7 +376,7 @@ impl Operation {
             body: Body::Store(copy.clone()?),
         };
         let quorum = store_quorum(&self.grid, up);
-        let items = message.to_quorum(self.alloc, &self.grid, quorum)?;
+        let messages = Messages::to_quorum(message, &self.grid, quorum);
         let tag = copy.tag;
         let floor = self.next_floor(tag);
         let row = Row {
@@ -370,7 +392,7 @@ impl Operation {
         Ok(Heard::Next {
             round,
             tag: Some(tag),
-            messages: Messages { items },
+            messages,
         })
     }
 
@@ -395,12 +417,11 @@ impl Operation {
     }
 
     // The collect round of a listing's next file begins.
-    fn begin_collect(&mut self, up: ServerSet) -> Result<Heard, AllocError>
+    fn begin_collect(&mut self, up: ServerSet) -> Heard
         requires more { self.old.course.collected < self.old.course.files }
-        ensures ok { IfOk result (λ heard. heard ≡ Heard.Next (2 * self.old.course.collected + 1) None
-            (sent_to self.old.grid (collect_quorum self.old.grid (servers up)) (next_ask self.old))) }
-        ensures new { OnOk result (BeginsCollect self.old self.new) }
-        ensures err { OnErr result (self.new ≡ self.old) }
+        ensures value { result ≡ Heard.Next (2 * self.old.course.collected + 1) None
+            (sent_to self.old.grid (collect_quorum self.old.grid (servers up)) (next_ask self.old)) }
+        ensures new { BeginsCollect self.old self.new }
     {
         let place = self.course.collected();
         let round = 2 * place + 1;
@@ -416,16 +437,16 @@ impl Operation {
             body: Body::Ask,
         };
         let quorum = collect_quorum(&self.grid, up);
-        let items = ask.to_quorum(self.alloc, &self.grid, quorum)?;
+        let messages = Messages::to_quorum(ask, &self.grid, quorum);
         self.course.collect();
         self.file = file;
         self.heard = ServerSet::empty();
         self.best = Best::none();
-        Ok(Heard::Next {
+        Heard::Next {
             round,
             tag: None,
-            messages: Messages { items },
-        })
+            messages,
+        }
     }
 
     // The operation is done with the copy stored.

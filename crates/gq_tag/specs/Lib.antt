@@ -1,2 +1,3 @@
 pub mod Tag
 pub mod Laws
+pub mod View

@@ -3,10 +3,12 @@
 
 ghost use Rattle.std.specs.Prelude.{◌≡◌, ◌↔◌, ℕ, ◌+◌, ◌<◌, ◌≤◌, IsTrue};
 ghost use Rattle.gq_tag.specs.Tag.{is_less, first_tag, first_copy, to_server};
+ghost use Rattle.gq_tag.specs.View.{body_of};
 
 use bytes::Bytes;
 use std::alloc::AllocError;
 use std::cmp::Ordering;
+use std::marker::Model;
 
 /// When a content was written: a number, and the session that wrote it, so that two sessions never
 /// write under one tag. Tags are ordered by number, and those of one number by session. (The tags
@@ -185,6 +187,79 @@ impl Message {
         ensures { result ≡ to_server self.now.body }
     {
         matches!(&self.body, Body::Ask | Body::Store(_))
+    }
+}
+
+/// What a message says, its copy lent.
+#[derive(Clone, Copy, Debug)]
+pub enum BodyView<'a> {
+    /// Asks for the file's copy.
+    Ask,
+    /// The server's copy of the file.
+    Copy(&'a StoredCopy),
+    /// Stores the copy, where its tag is greater than that of the server's.
+    Store(&'a StoredCopy),
+    /// A store came to the server.
+    Stored,
+}
+
+impl<'a> BodyView<'a> {
+    /// What the message says, its copy lent.
+    pub fn of(body: &'a Body) -> BodyView<'a>
+        ensures { body_of result ≡ body.now }
+    {
+        match body {
+            Body::Ask => BodyView::Ask,
+            Body::Copy(copy) => BodyView::Copy(copy),
+            Body::Store(copy) => BodyView::Store(copy),
+            Body::Stored => BodyView::Stored,
+        }
+    }
+}
+
+/// A message whose copy is lent by whoever has it, as the post has the copies of many messages once. Contracts see the
+/// message.
+#[derive(Debug, Drop)]
+pub struct MessageView<'a> {
+    pub tenant: u8,
+    pub session: u8,
+    pub op: u32,
+    pub round: u32,
+    pub server: u8,
+    pub file: FileId,
+    pub body: BodyView<'a>,
+}
+
+impl<'a> Model for MessageView<'a> {
+    ghost use Rattle.gq_tag.specs.declared.Message.{Message};
+    ghost use Rattle.gq_tag.specs.View.{body_of};
+
+    ghost Value = { Message };
+
+    ghost view = { λ m. record { tenant = m.tenant; session = m.session; op = m.op; round = m.round; server = m.server; file = m.file; body = body_of m.body } };
+}
+
+impl<'a> MessageView<'a> {
+    /// The message, its copy lent.
+    pub fn of(message: &'a Message) -> MessageView<'a>
+        ensures { result ≡ message.now }
+    {
+        MessageView {
+            tenant: message.tenant,
+            session: message.session,
+            op: message.op,
+            round: message.round,
+            server: message.server,
+            file: message.file,
+            body: BodyView::of(&message.body),
+        }
+    }
+
+    /// Whether the message goes to a server, as asks and stores do, and not to a session.
+    pub fn to_server(&self) -> bool
+        ensures { result ≡ to_server self.now.body }
+    {
+        matches!(self.body, BodyView::Ask | BodyView::Store(_))
     }
 }
 

@@ -10,6 +10,6 @@ use Rattle.gq_phase.proofs.operation.Operation.list.Goals as goal
 pub returns-clause-ok : goal.returns-clause-ok
 returns-clause-ok c =
     fresh_begins c.args.grid.now (servers c.args.up) c.args.who ListFiles (Listing c.args.volume c.args.files) c.args.files (record { tenant = c.args.who.tenant; volume = c.args.volume; file = 0 }) c.args.floor
-    c.in_ok-began.began.0 (servers c.in_ok-quorum.quorum) c.in_ok-began.began.1.items
-    refl refl (λ lists. refl) c.in_ok-began.ensures.fresh
-    (sym c.collect_quorum.ensures ∙ ap (option_map servers) c.in_ok-quorum.ensures.ok_part) c.in_ok-began.ensures.asks
+    c.begin.result.0 (servers c.in_ok-quorum.quorum) c.begin.result.1
+    refl refl (λ lists. refl) c.begin.ensures.fresh
+    (sym c.collect_quorum.ensures ∙ ap (option_map servers) c.in_ok-quorum.ensures.ok_part) c.begin.ensures.asks

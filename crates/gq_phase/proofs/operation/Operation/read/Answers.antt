@@ -12,6 +12,6 @@ use Rattle.gq_phase.proofs.operation.Operation.read.Goals as goal
 pub returns-clause-ok : goal.returns-clause-ok
 returns-clause-ok c =
     fresh_begins c.args.grid.now (servers c.args.up) c.args.who Read (Reading (file_place c.args.file)) 1 c.args.file c.args.floor
-    c.in_ok-began.began.0 (servers c.in_ok-quorum.quorum) c.in_ok-began.began.1.items
-    refl c.requires.own (λ lists. absurd (true≢false (sym lists))) c.in_ok-began.ensures.fresh
-    (sym c.collect_quorum.ensures ∙ ap (option_map servers) c.in_ok-quorum.ensures.ok_part) c.in_ok-began.ensures.asks
+    c.begin.result.0 (servers c.in_ok-quorum.quorum) c.begin.result.1
+    refl c.requires.own (λ lists. absurd (true≢false (sym lists))) c.begin.ensures.fresh
+    (sym c.collect_quorum.ensures ∙ ap (option_map servers) c.in_ok-quorum.ensures.ok_part) c.begin.ensures.asks
