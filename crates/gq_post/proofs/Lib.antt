@@ -1,1 +1,3 @@
-pub mod Holding
+pub mod Counting
+pub mod Reading
+pub mod Sending

@@ -1,2 +1,3 @@
-pub mod Keys
+pub mod Copies
 pub mod Lanes
+pub mod Envelopes

@@ -1,6 +1,8 @@
 //! The messages of all tenants.
 #![tactic(auto)]
 
+mod copies;
+mod envelopes;
 mod post;
 
-pub use post::{Post, Unsent};
+pub use post::{CopySent, Post, Unsent};

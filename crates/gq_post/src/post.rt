@@ -1,64 +1,19 @@
-//! Messages in lanes, one lane for each tenant, over one slab for all.
+//! Messages in lanes, one lane for each tenant, and their copies in one slab for all.
 
-ghost use Rattle.std.specs.Prelude.{◌≡◌, ◌<◌, ◌++◌, ◌∷◌, [], Some, None, false, is_some, length, replicate, slice_set, option_copied, slice_index_or, IfOk, IfErr, OnOk, OnErr};
+ghost use Rattle.std.specs.Prelude.{◌≡◌, ◌<◌, ◌++◌, ◌∷◌, [], Some, None, false, is_some, length, map, replicate, slice_set, slice_index_or, IsSome, IfOk, IfErr, OnOk, OnErr};
+ghost use Rattle.gq_tag.specs.declared.Message.{Message};
+ghost use Rattle.gq_tag.specs.declared.Body.TheVariants as Body;
 ghost use Rattle.gq_post.specs.Lanes.{lane_at, message_at};
 
-use gq_tag::Message;
+use crate::copies::{self, SharedCopy};
+use crate::envelopes::{self, Envelope, Envelopes, Says};
+use bytes::Bytes;
+use gq_round::{Messages, RoundMessage};
+use gq_tag::{Body, Message, MessageView, StoredCopy, Tag};
 use slab::Slab;
 use std::alloc::{AllocError, Global};
 use std::marker::Model;
 use thiserror::Error;
-
-// The key of each message of a tenant, none where it is lost.
-#[derive(Debug, Drop)]
-struct Keys {
-    keys: Vec<Option<usize>>,
-}
-
-impl Model for Keys {
-    ghost use Rattle.std.specs.Prelude.{ℕ, List, Option};
-
-    ghost Value = { List (Option ℕ) };
-
-    ghost view = { λ k. k.keys.items };
-}
-
-impl Keys {
-    fn new(alloc: Global) -> Keys
-        ensures { result ≡ [] }
-    {
-        Keys {
-            keys: Vec::new(alloc),
-        }
-    }
-
-    fn count(&self) -> usize
-        ensures { result ≡ length self.now }
-    {
-        self.keys.len()
-    }
-
-    fn key(&self, number: u64) -> Option<usize>
-        ensures { result ≡ slice_index_or self.now number None }
-    {
-        self.keys.get(number as usize).copied()?
-    }
-
-    fn push(&mut self, key: usize) -> Result<(), AllocError>
-        ensures ok { OnOk result (self.new ≡ self.old ++ Some key ∷ []) }
-        ensures err { OnErr result (self.new ≡ self.old) }
-    {
-        self.keys.push(Some(key))?;
-        Ok(())
-    }
-
-    fn forget(&mut self, number: u64)
-        requires { number < length self.old }
-        ensures { self.new ≡ slice_set self.old number None }
-    {
-        self.keys[number as usize] = None;
-    }
-}
 
 /// Memory is wanting, and the message was not sent. It comes back.
 #[derive(Debug, Drop, Error)]
@@ -67,24 +22,32 @@ pub struct Unsent {
     pub message: Message,
 }
 
+/// A reply that was sent: its number, and a hint at where its copy lies.
+#[derive(Clone, Copy, Debug)]
+pub struct CopySent {
+    pub number: u64,
+    pub hint: usize,
+}
+
 /// The messages of all tenants: for each tenant a lane of its messages in order of sending, numbered from 0. A message stays
 /// until it is lost; its number is then nobody's, and its place in memory serves the next message of any tenant.
 #[derive(Debug, Drop)]
 pub struct Post {
-    messages: Slab<Message>,
-    lanes: Vec<Keys>,
+    copies: Slab<SharedCopy>,
+    lanes: Vec<Envelopes>,
+    alloc: Global,
 }
 
 impl Model for Post {
     ghost use Rattle.std.specs.Prelude.{List, map};
     ghost use Rattle.gq_post.specs.Lanes.{Lane};
-    ghost use Rattle.gq_post.specs.Keys.{Keyed, lane_of};
+    ghost use Rattle.gq_post.specs.Copies.{Counted, lane_of};
 
     ghost Value = { List Lane };
 
-    ghost view = { λ p. map (lane_of p.messages) p.lanes.items };
+    ghost view = { λ p. map (lane_of p.copies.slots) p.lanes.items };
 
-    ghost invariant = { λ p. Keyed p.messages p.lanes.items };
+    ghost invariant = { λ p. Counted p.copies.slots p.lanes.items };
 }
 
 impl Post {
@@ -92,12 +55,16 @@ impl Post {
     pub fn new(alloc: Global, tenants: usize) -> Result<Post, AllocError>
         ensures { IfOk result (λ post. post ≡ replicate tenants []) }
     {
-        let messages = Slab::new(alloc);
+        let copies = Slab::new(alloc);
         let mut lanes = Vec::new(alloc);
         for _tenant in 0..tenants {
-            lanes.push(Keys::new(alloc))?;
+            lanes.push(Envelopes::new(alloc))?;
         }
-        Ok(Post { messages, lanes })
+        Ok(Post {
+            copies,
+            lanes,
+            alloc,
+        })
     }
 
     /// Sends a message of the tenant, and answers its number, which is how many the tenant sent before. Where memory is
@@ -109,26 +76,166 @@ impl Post {
         ensures back { IfErr result (λ unsent. unsent.message ≡ message) }
         ensures same { OnErr result (self.new ≡ self.old) }
     {
-        if self.messages.reserve(1).is_err() {
+        if self.copies.reserve(1).is_err() {
             return Err(Unsent { message });
         }
-        let lane = &mut self.lanes[tenant as usize];
-        let number = lane.count();
-        let key = self.messages.vacant_key();
-        let Ok(()) = lane.push(key) else {
+        let envelope = Envelope::of(&message, self.copies.vacant_key());
+        let Ok(number) = envelopes::push(&mut self.lanes, tenant, envelope) else {
             return Err(Unsent { message });
         };
-        self.messages.insert_reserved(message);
-        Ok(number as u64)
+        copies::keep(&mut self.copies, message.body, 1);
+        Ok(number)
     }
 
-    /// The tenant's message of this number, or none where it was never sent or is lost.
-    pub fn get(&self, tenant: u8, number: u64) -> Option<&Message>
-        requires { tenant < length self.now }
-        ensures { option_copied result ≡ message_at (lane_at self.now tenant) number }
+    /// Sends a round's messages of the tenant in order, and answers the number of the first. Their copy is there once.
+    /// Where memory is wanting nothing changes.
+    pub fn send_all(&mut self, tenant: u8, messages: Messages) -> Result<u64, AllocError>
+        requires { tenant < length self.old }
+        ensures first { IfOk result (λ first. first ≡ length (lane_at self.old tenant)) }
+        ensures sent { OnOk result (self.new ≡ slice_set self.old tenant (lane_at self.old tenant ++ map Some messages)) }
+        ensures same { OnErr result (self.new ≡ self.old) }
     {
-        let key = self.lanes[tenant as usize].key(number)?;
-        self.messages.get(key)
+        let Messages {
+            message,
+            grid,
+            to,
+            except,
+        } = messages;
+        let RoundMessage {
+            who,
+            round,
+            file,
+            body,
+        } = message;
+        self.copies.reserve(1)?;
+        let envelope = Envelope {
+            op: who.op,
+            round,
+            volume: file.volume,
+            file: file.file,
+            place: self.copies.vacant_key(),
+            tenant: who.tenant,
+            file_tenant: file.tenant,
+            session: who.session,
+            server: 0,
+            says: Says::of(&body),
+        };
+        let first = self.lanes[tenant as usize].count();
+        let users = envelopes::push_round(&mut self.lanes, tenant, envelope, &grid, to, except)?;
+        copies::keep(&mut self.copies, body, users);
+        Ok(first as u64)
+    }
+
+    /// Sends the answer `stored` to the tenant's message of this number, in the same round, and answers the number of
+    /// the answer. Where memory is wanting nothing changes.
+    pub fn reply_stored(&mut self, tenant: u8, number: u64) -> Result<u64, AllocError>
+        requires tenant { tenant < length self.old }
+        requires there { IsSome (message_at (lane_at self.old tenant) number) }
+        ensures number { IfOk result (λ sent. sent ≡ length (lane_at self.old tenant)) }
+        ensures sent { OnOk result ((message : Message) → message_at (lane_at self.old tenant) number ≡ Some message → self.new ≡ slice_set self.old tenant (lane_at self.old tenant ++ Some (record message { body = Body.Stored }) ∷ [])) }
+        ensures same { OnErr result (self.new ≡ self.old) }
+    {
+        let Some(asked) = self.lanes[tenant as usize].envelope(number) else {
+            unreachable!();
+        };
+        let envelope = Envelope {
+            says: Says::Stored,
+            ..asked
+        };
+        let number = envelopes::push(&mut self.lanes, tenant, envelope)?;
+        Ok(number)
+    }
+
+    /// Sends the tenant's message of this number the answer with a copy of that tag and content, in the same round.
+    /// `hint` is where an equal copy may lie: it is looked at, and shared where it is equal. Where memory is wanting
+    /// nothing changes.
+    pub fn reply_copy(
+        &mut self,
+        tenant: u8,
+        number: u64,
+        tag: Tag,
+        bytes: &[u8],
+        hint: usize,
+    ) -> Result<CopySent, AllocError>
+        requires tenant { tenant < length self.old }
+        requires there { IsSome (message_at (lane_at self.old tenant) number) }
+        ensures number { IfOk result (λ sent. sent.number ≡ length (lane_at self.old tenant)) }
+        ensures sent { OnOk result ((message : Message) → message_at (lane_at self.old tenant) number ≡ Some message → self.new ≡ slice_set self.old tenant (lane_at self.old tenant ++ Some (record message { body = Body.Copy (record { tag = tag; bytes = bytes.now }) }) ∷ [])) }
+        ensures same { OnErr result (self.new ≡ self.old) }
+    {
+        if copies::can_share(&self.copies, hint, tag, bytes) {
+            let Some(asked) = self.lanes[tenant as usize].envelope(number) else {
+                unreachable!();
+            };
+            let envelope = Envelope {
+                place: hint,
+                says: Says::Copy,
+                ..asked
+            };
+            let number = envelopes::push(&mut self.lanes, tenant, envelope)?;
+            copies::add_user(&mut self.copies, hint);
+            return Ok(CopySent { number, hint });
+        }
+        let bytes = Bytes::copy_from_slice(self.alloc, bytes)?;
+        let hint = self.copies.vacant_key();
+        let number = self.reply(tenant, number, Body::Copy(StoredCopy { tag, bytes }))?;
+        Ok(CopySent { number, hint })
+    }
+
+    // Sends the tenant's message of this number an answer that says `body`.
+    fn reply(&mut self, tenant: u8, number: u64, body: Body) -> Result<u64, AllocError>
+        requires tenant { tenant < length self.old }
+        requires there { IsSome (message_at (lane_at self.old tenant) number) }
+        ensures number { IfOk result (λ sent. sent ≡ length (lane_at self.old tenant)) }
+        ensures sent { OnOk result ((message : Message) → message_at (lane_at self.old tenant) number ≡ Some message → self.new ≡ slice_set self.old tenant (lane_at self.old tenant ++ Some (record message { body = body }) ∷ [])) }
+        ensures same { OnErr result (self.new ≡ self.old) }
+    {
+        let Some(asked) = self.get(tenant, number) else {
+            unreachable!();
+        };
+        let MessageView {
+            tenant: of,
+            session,
+            op,
+            round,
+            server,
+            file,
+            body: _,
+        } = asked;
+        let message = Message {
+            tenant: of,
+            session,
+            op,
+            round,
+            server,
+            file,
+            body,
+        };
+        match self.send(tenant, message) {
+            Ok(sent) => Ok(sent),
+            Err(_) => Err(AllocError),
+        }
+    }
+
+    /// The tenant's message of this number, or none where it was never sent or is lost. Its copy is lent.
+    #[inline]
+    pub fn get(&self, tenant: u8, number: u64) -> Option<MessageView<'_>>
+        requires { tenant < length self.now }
+        ensures { result ≡ message_at (lane_at self.now tenant) number }
+    {
+        let envelope = self.lanes[tenant as usize].envelope(number)?;
+        let body = copies::body_said(&self.copies, envelope)?;
+        Some(envelope.with_body(body))
+    }
+
+    /// A hint at where the message's copy lies, for `reply_copy`; any number where it has none.
+    pub fn hint(&self, tenant: u8, number: u64) -> usize
+        requires { tenant < length self.now }
+    {
+        match self.lanes[tenant as usize].envelope(number) {
+            Some(envelope) => envelope.place,
+            None => 0,
+        }
     }
 
     /// Loses the tenant's message of this number, and answers whether there was one to lose.
@@ -138,12 +245,13 @@ impl Post {
         ensures lost { self.new ≡ slice_set self.old tenant (slice_set (lane_at self.old tenant) number None) }
         ensures none { result ≡ false → self.new ≡ self.old }
     {
-        let lane = &mut self.lanes[tenant as usize];
-        let Some(key) = lane.key(number) else {
+        let Some(envelope) = envelopes::lose(&mut self.lanes, tenant, number) else {
             return false;
         };
-        lane.forget(number);
-        self.messages.try_remove(key).is_some()
+        if envelope.says.names_copy() {
+            copies::remove_user(&mut self.copies, envelope.place);
+        }
+        true
     }
 
     /// How many messages the tenant sent, lost ones included: the number of its next one.

@@ -8,10 +8,11 @@ use gq_tag::Tag;
 use std::marker::Model;
 use std::mem;
 
-/// A file's copy. An empty content has no chain.
+/// A file's copy. An empty content has no chain. The hint is a number that was left with the file, which no contract sees.
 pub(crate) struct Entry {
     tag: Tag,
     chain: Option<Chain>,
+    hint: usize,
 }
 
 impl Model for Entry {
@@ -34,6 +35,7 @@ impl Entry {
         Entry {
             tag: Tag::first(),
             chain: None,
+            hint: 0,
         }
     }
 
@@ -41,6 +43,18 @@ impl Entry {
         ensures { result ≡ self.now.tag }
     {
         self.tag
+    }
+
+    #[inline]
+    pub(crate) fn hint(&self) -> usize {
+        self.hint
+    }
+
+    #[inline]
+    pub(crate) fn leave_hint(&mut self, hint: usize)
+        ensures { self.new ≡ self.old }
+    {
+        self.hint = hint;
     }
 
     pub(crate) fn len(&self) -> usize
@@ -81,7 +95,11 @@ impl Entry {
         requires { pool.old + taken self < 2 ^ 64 }
         ensures { pool.new ≡ pool.old + taken self }
     {
-        let Entry { tag: _, chain } = self;
+        let Entry {
+            tag: _,
+            chain,
+            hint: _,
+        } = self;
         drain(pool, chain);
     }
 }

@@ -222,6 +222,40 @@ impl ServerStore {
         self.entry(file).read(out);
     }
 
+    /// Reads the content of the file's copy into `out`, in place of what was there, and answers its tag.
+    ///
+    /// `AllocError` is want of memory, for a content that is longer than what `out` has room for: `out` may then have
+    /// anything.
+    pub fn read(&self, file: FileId, out: &mut Vec<u8>) -> Result<Tag, AllocError>
+        requires { IsSome (file_limit self.now file) }
+        ensures content { OnOk result (out.new.items ≡ (copy_at self.now file).bytes) }
+        ensures tag { IfOk result (λ tag. tag ≡ (copy_at self.now file).tag) }
+    {
+        let entry = self.entry(file);
+        out.resize(entry.len(), 0)?;
+        entry.read(out.as_mut_slice());
+        Ok(entry.tag())
+    }
+
+    /// A number that was left with the file, 0 at first: where somebody else keeps an equal copy, perhaps. It is a guess,
+    /// which no contract sees.
+    #[inline]
+    pub fn hint(&self, file: FileId) -> usize
+        requires { IsSome (file_limit self.now file) }
+    {
+        self.entry(file).hint()
+    }
+
+    /// Leaves that number with the file. Nothing else changes.
+    #[inline]
+    pub fn leave_hint(&mut self, file: FileId, hint: usize)
+        requires { IsSome (file_limit self.old file) }
+        ensures { self.new ≡ self.old }
+    {
+        let _blocks = self.blocks;
+        self.tenants[file.tenant as usize].leave_hint(file.volume, file.file, hint);
+    }
+
     /// The number of blocks that no copy of any tenant takes.
     pub fn free(&self) -> usize
         ensures free { result ≡ blocks_free self.now }

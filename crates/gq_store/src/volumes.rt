@@ -85,6 +85,15 @@ impl Volume {
         self.files[file as usize].put(pool, tag, bytes);
     }
 
+    // Leaves a hint with the file.
+    #[inline]
+    fn leave_hint(&mut self, file: u32, hint: usize)
+        requires { file < length self.old.copies }
+        ensures { self.new ≡ self.old }
+    {
+        self.files[file as usize].leave_hint(hint);
+    }
+
     // Gives the blocks of all files back.
     fn spend(self, pool: &mut Pool)
         requires { pool.old + volume_taken self < 2 ^ 64 }
@@ -149,6 +158,16 @@ impl Tenant {
         ensures free { pool.new + blocks_for (length bytes.now) ≡ pool.old + taken (copy_in (volume_in self.old volume) file) }
     {
         self.volumes[volume as usize].put(pool, file, tag, bytes);
+    }
+
+    // Leaves a hint with the file.
+    #[inline]
+    pub(crate) fn leave_hint(&mut self, volume: u32, file: u32, hint: usize)
+        requires volume { volume < length self.old.volumes }
+        requires file { file < length (volume_in self.old volume).copies }
+        ensures { self.new ≡ self.old }
+    {
+        self.volumes[volume as usize].leave_hint(file, hint);
     }
 
     // Gives the blocks of all volumes back.

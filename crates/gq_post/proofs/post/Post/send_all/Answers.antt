@@ -1,0 +1,33 @@
+-- A round is sent.
+use Rattle.std.proofs.Common.{◌≡◌, ◌∙◌, ◌<◌, ◌++◌, Some, length, map, set, ap}
+use Rattle.slab.specs.Slab.{Slab}
+use Rattle.gq_grid.specs.Grid.{rising}
+use Rattle.gq_grid.specs.Sets.{servers}
+use Rattle.gq_round.specs.Round.{apart, addressed}
+use Rattle.gq_post.specs.declared.copies.SharedCopy.{SharedCopy}
+use Rattle.gq_post.specs.Lanes.{lane_at}
+use Rattle.gq_post.specs.Envelopes.{copy_in, envelope_of}
+use Rattle.gq_post.specs.Copies.{lane_of}
+use Rattle.gq_post.proofs.Reading.{within_lanes}
+use Rattle.gq_post.proofs.Sending.{Keeps, sent_counted, sent_view}
+use Rattle.gq_post.proofs.post.Post.send_all.Goals as goal
+
+pub invariant_of-self-2 : goal.invariant_of-self-2
+invariant_of-self-2 c =
+    let within : c.args.tenant < length c.self.inside.lanes.items = within_lanes c.self.inside.copies.slots c.self.inside.lanes.items c.args.self.now c.args.tenant c.self.view_is c.requires in
+    let room : c.reserve.new.self.slots ≡ c.self.inside.copies.slots = ap (λ (s : Slab SharedCopy). s.slots) c.reserve.ensures.rest_kept in
+    let keeps : Keeps c.reserve.new.self c.keep.new.copies c.vacant_key.result (copy_in c.messages.inside.message.body) (length (rising c.messages.inside.grid (apart (servers c.messages.inside.to) (servers c.messages.inside.except)))) =
+    rw (c.vacant_key.ensures.value, ← c.in_ok-users.ensures.count) record { none = c.keep.ensures.none; nobody = c.keep.ensures.nobody; vacant = c.keep.ensures.vacant; kept = c.keep.ensures.kept } in
+    rw c.in_ok-users.ensures.ok
+    (sent_counted c.self.inside.copies c.reserve.new.self c.keep.new.copies c.self.inside.lanes.items c.args.tenant (record (envelope_of (addressed c.messages.inside.message 0) c.vacant_key.result) { says = c.of.result }) c.messages.inside.message.body (rising c.messages.inside.grid (apart (servers c.messages.inside.to) (servers c.messages.inside.except))) within room c.of.ensures keeps c.self.invariant)
+
+pub returns-clause-sent : goal.returns-clause-sent
+returns-clause-sent c =
+    let within : c.args.tenant < length c.self.inside.lanes.items = within_lanes c.self.inside.copies.slots c.self.inside.lanes.items c.args.self.now c.args.tenant c.self.view_is c.requires in
+    let room : c.reserve.new.self.slots ≡ c.self.inside.copies.slots = ap (λ (s : Slab SharedCopy). s.slots) c.reserve.ensures.rest_kept in
+    let keeps : Keeps c.reserve.new.self c.keep.new.copies c.vacant_key.result (copy_in c.messages.inside.message.body) (length (rising c.messages.inside.grid (apart (servers c.messages.inside.to) (servers c.messages.inside.except)))) =
+    rw (c.vacant_key.ensures.value, ← c.in_ok-users.ensures.count) record { none = c.keep.ensures.none; nobody = c.keep.ensures.nobody; vacant = c.keep.ensures.vacant; kept = c.keep.ensures.kept } in
+    ap (map (lane_of c.keep.new.copies.slots)) c.in_ok-users.ensures.ok
+    ∙ sent_view c.self.inside.copies c.reserve.new.self c.keep.new.copies c.self.inside.lanes.items c.args.tenant (record (envelope_of (addressed c.messages.inside.message 0) c.vacant_key.result) { says = c.of.result }) c.messages.inside.message.body (rising c.messages.inside.grid (apart (servers c.messages.inside.to) (servers c.messages.inside.except))) within room c.of.ensures keeps c.self.invariant
+    c.args.self.now c.self.view_is
+    ∙ ap (λ messages. set c.args.self.now c.args.tenant (lane_at c.args.self.now c.args.tenant ++ map Some messages)) c.messages.view_is
