@@ -1,8 +1,10 @@
 //! Whether two values are one.
 
 ghost use Rattle.std.specs.Prelude.{◌≡◌, true};
+ghost use Rattle.gq_tag.specs.View.{body_of};
 
 use gq_phase::{Outcome, Row};
+use gq_tag::{Body, BodyView, Message, MessageView};
 use gq_world::Said;
 
 // Whether these are the same rows.
@@ -91,4 +93,30 @@ pub(crate) fn is_said(one: &Said, two: &Said) -> bool
         (Said::Refused(a), Said::Refused(b)) => a == b,
         _ => false,
     }
+}
+
+// Whether that is what the message says.
+fn is_body(lent: &BodyView<'_>, body: &Body) -> bool
+    ensures { result ≡ true → body_of lent.now ≡ body.now }
+{
+    match (lent, body) {
+        (BodyView::Ask, Body::Ask) => true,
+        (BodyView::Copy(a), Body::Copy(b)) => **a == *b,
+        (BodyView::Store(a), Body::Store(b)) => **a == *b,
+        (BodyView::Stored, Body::Stored) => true,
+        _ => false,
+    }
+}
+
+// Whether that is the message.
+pub(crate) fn is_message(lent: &MessageView<'_>, message: &Message) -> bool
+    ensures { result ≡ true → lent.now ≡ message.now }
+{
+    lent.tenant == message.tenant
+        && lent.session == message.session
+        && lent.op == message.op
+        && lent.round == message.round
+        && lent.server == message.server
+        && lent.file == message.file
+        && is_body(&lent.body, &message.body)
 }

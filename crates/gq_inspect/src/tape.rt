@@ -7,6 +7,7 @@ ghost use Rattle.gq_world.specs.Tables.{Stands};
 ghost use Rattle.gq_inspect.specs.Replay.{Names, sent_by, message_after};
 ghost use Rattle.gq_inspect.specs.Tapes.{before_of, listed};
 
+use crate::alike::is_message;
 use crate::steps::Step;
 use gq_cell::Letter;
 use gq_desk::Plan;
@@ -172,7 +173,7 @@ impl Tape {
         }
         match self.world.message(message.tenant, number) {
             None => false,
-            Some(sent) => *sent == *message,
+            Some(sent) => is_message(&sent, message),
         }
     }
 

@@ -24,7 +24,12 @@ pub(crate) struct SessionEnd {
 }
 
 // Sends the letters of a step. One to a closed mailbox is dropped.
-fn send_all<R: Wait>(rt: &R, servers: &[Sender<Letter>], outbox: Outbox) -> Result<(), LiveFault>
+fn send_all<R: Wait>(
+    rt: &R,
+    alloc: Global,
+    servers: &[Sender<Letter>],
+    outbox: Outbox,
+) -> Result<(), LiveFault>
     ensures { NoGate result }
 {
     let Outbox {
@@ -32,7 +37,7 @@ fn send_all<R: Wait>(rt: &R, servers: &[Sender<Letter>], outbox: Outbox) -> Resu
         messages,
         ..
     } = outbox;
-    for (index, message) in messages.into_iter().enumerate() {
+    for (index, message) in messages.to_vec(alloc)?.into_iter().enumerate() {
         let (Some(to), Ok(index)) = (servers.get(message.server as usize), u32::try_from(index))
         else {
             return Err(LiveFault::Letter);
@@ -110,6 +115,7 @@ fn ask_next<R: Wait>(
 // Sends the letters of a step in an operation, which is given up where nothing is waited for.
 fn go_on<R: Wait>(
     rt: &R,
+    alloc: Global,
     agenda: &Mutex<Agenda>,
     servers: &[Sender<Letter>],
     session: &mut Session,
@@ -119,14 +125,15 @@ fn go_on<R: Wait>(
 {
     if outbox.stuck {
         let ended = give_up(rt, agenda, session)?;
-        send_all(rt, servers, ended)?;
+        send_all(rt, alloc, servers, ended)?;
     }
-    send_all(rt, servers, outbox)
+    send_all(rt, alloc, servers, outbox)
 }
 
 // Goes on until the operation has ended. False where the session has to quit.
 fn end_operation<R: Wait>(
     rt: &R,
+    alloc: Global,
     agenda: &Mutex<Agenda>,
     inbox: &Receiver<Note>,
     servers: &[Sender<Letter>],
@@ -143,12 +150,12 @@ fn end_operation<R: Wait>(
             Ok(Note::Returned(letter)) => {
                 if session.is_current(&letter.message) {
                     let sent = retry(rt, agenda, session)?;
-                    go_on(rt, agenda, servers, session, sent)?;
+                    go_on(rt, alloc, agenda, servers, session, sent)?;
                 }
             }
             Ok(Note::Letter(letter)) => {
                 let heard = hear(rt, agenda, session, letter)?;
-                go_on(rt, agenda, servers, session, heard)?;
+                go_on(rt, alloc, agenda, servers, session, heard)?;
             }
         }
     }
@@ -158,6 +165,7 @@ fn end_operation<R: Wait>(
 // Asks all requests, one after another, unless the session has to quit.
 fn ask_all<R: Wait>(
     rt: &R,
+    alloc: Global,
     agenda: &Mutex<Agenda>,
     inbox: &Receiver<Note>,
     servers: &[Sender<Letter>],
@@ -169,8 +177,8 @@ fn ask_all<R: Wait>(
         let Some(outbox) = ask_next(rt, agenda, session)? else {
             return Ok(());
         };
-        send_all(rt, servers, outbox)?;
-        if !end_operation(rt, agenda, inbox, servers, session)? {
+        send_all(rt, alloc, servers, outbox)?;
+        if !end_operation(rt, alloc, agenda, inbox, servers, session)? {
             return Ok(());
         }
     }
@@ -197,7 +205,7 @@ pub(crate) fn attend<R: Wait>(
         ..
     } = seat;
     let mut session = Session::new(alloc, grid, tenant, number, volumes, lines);
-    match ask_all(rt, agenda, &inbox, servers.as_slice(), &mut session) {
+    match ask_all(rt, alloc, agenda, &inbox, servers.as_slice(), &mut session) {
         Ok(()) => SessionEnd {
             result: Ok(Attendance { place, session }),
         },

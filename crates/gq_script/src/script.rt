@@ -1,6 +1,6 @@
 //! A whole script, from a reader to a writer.
 
-ghost use Rattle.std.specs.Prelude.{◌≡◌, ◌≢◌, ◌↔◌, ◌+◌, ◌<◌, ◌≤◌, ◌++◌, [], ◌∷◌, List, true, false, length, vec_len, map, if◌then◌else◌, IfOk, IfErr, IfSome, OnOk, OnErr, IsOk, IsErrOf};
+ghost use Rattle.std.specs.Prelude.{◌≡◌, ◌≢◌, ◌↔◌, ◌+◌, ◌<◌, ◌≤◌, ◌++◌, [], ◌∷◌, List, true, false, Some, length, vec_len, map, if◌then◌else◌, IfOk, IfErr, IfSome, OnOk, OnErr, IsOk, IsErrOf};
 ghost use Rattle.std.specs.Io.KnownBytes.{Appends, IsAtEnd};
 
 use crate::input::read_cut_line;
@@ -134,22 +134,19 @@ pub struct Answered {
     pub answers: Vec<Answer>,
 }
 
-// Keeps an event and its answer where the tenant, if there is one, sees it.
+// Keeps an event and its answer where the tenant sees it.
 #[inline(always)]
 fn keep(
-    tenant: Option<u8>,
+    tenant: u8,
     event: Event,
     answer: Answer,
     events: &mut Vec<Event>,
     answers: &mut Vec<Answer>,
 ) -> Result<(), AllocError>
-    ensures events { OnOk result (events.new.items ≡ events.old.items ++ seen_events tenant (event ∷ [])) }
+    ensures events { OnOk result (events.new.items ≡ events.old.items ++ seen_events (Some tenant) (event ∷ [])) }
     ensures answers { OnOk result (answers.new.items ≡
-        (if is_seen tenant event then answers.old.items ++ answer ∷ [] else answers.old.items)) }
+        (if is_seen (Some tenant) event then answers.old.items ++ answer ∷ [] else answers.old.items)) }
 {
-    let Some(tenant) = tenant else {
-        return Ok(());
-    };
     if sees(tenant, &event) {
         events.push(event)?;
         answers.push(answer)?;
@@ -184,7 +181,9 @@ pub fn answer_lines(
             return Err(AllocError);
         };
         write_next_answer(world.plan(), &event, &answer, &mut quorum, &mut text)?;
-        keep(tenant, event, answer, &mut events, &mut answers)?;
+        if let Some(seer) = tenant {
+            keep(seer, event, answer, &mut events, &mut answers)?;
+        }
         rest = after;
     }
     Ok(Answered {

@@ -2,11 +2,11 @@
 use Rattle.std.specs.Prelude.{ℕ, ◌≡◌, List, Some, None}
 use Rattle.gq_grid.specs.Grid.{Servers}
 use Rattle.gq_tag.specs.declared.Message.{Message}
+use Rattle.gq_round.specs.declared.Who.{Who}
 use Rattle.gq_phase.specs.Phase.{Task}
 use Rattle.gq_phase.specs.Standing.{Begins}
 use Rattle.gq_phase.specs.declared.BeginRefused.{BeginRefused}
 use Rattle.gq_phase.specs.declared.BeginRefused.TheVariants.{NoQuorum, Memory as OutOfMemory}
-use Rattle.gq_phase.specs.declared.Who.{Who}
 use Rattle.gq_phase.specs.declared.operation.Operation.{Operation}
 use Rattle.gq_model.specs.Trace.{task_of}
 use Rattle.gq_model.specs.declared.events.Line.{Line}

@@ -1,5 +1,5 @@
 -- A session's operation: what is said to it in each step, and where that leaves it.
-use Rattle.std.specs.Prelude.{ℕ, ◌≡◌, ◌+◌, ◌*◌, ◌%◌, ◌==◌, ◌&&◌, ◌⊎◌, List, [], ◌∷◌, Bool, false, Option, Some, None, is_some, is_none, nat_lt, length, slice_get, min, unwrap_or}
+use Rattle.std.specs.Prelude.{ℕ, ◌≡◌, ◌+◌, ◌*◌, ◌%◌, ◌==◌, ◌&&◌, ◌⊎◌, List, [], ◌∷◌, Bool, false, Option, Some, None, is_some, is_none, nat_lt, length, slice_get, unwrap_or}
 use Rattle.std.specs.Option.{option_and_then}
 use Rattle.gq_grid.specs.Grid.{Grid, Servers}
 use Rattle.gq_tag.specs.declared.Body.{Body}
@@ -47,10 +47,6 @@ pub record Work : Type 0 where
 abbrev pub no_work : Work
 no_work = record { begun = 0; round = 0; last = 0; operation = None }
 
--- how many messages these are, as far as a number of 32 bits tells it
-abbrev pub count_of : List Message → ℕ
-count_of messages = min (length messages) 4294967295
-
 -- ---- a request
 
 -- how many bytes the file of the volume may hold, where it is there
@@ -89,7 +85,7 @@ pub record BeginsAs (home : Home) (old new : Work) (up : Servers) (line : Line) 
   pub is_task : task_of home.volumes line ≡ Some task
   pub operation : Operation
   pub begins : Begins home.grid (record { tenant = home.tenant; session = home.number; op = old.begun + 1 }) task old.last up operation messages
-  pub told : said ≡ Began (old.begun + 1) (count_of messages)
+  pub told : said ≡ Began (old.begun + 1) (length messages)
   pub left : new ≡ record { begun = old.begun + 1; round = 1; last = old.last; operation = Some operation }
 
 -- a refused request leaves all as it was and sends nothing
@@ -127,7 +123,7 @@ is_current work m = is_some work.operation && (m.op == work.begun) && (m.round =
 abbrev pub said_of : Heard → Said
 said_of HeardStale = Stale
 said_of HeardNoted = Noted
-said_of (HeardNext round tag messages) = Round round tag (count_of messages)
+said_of (HeardNext round tag messages) = Round round tag (length messages)
 said_of (HeardDone outcome) = Done outcome
 
 abbrev pub work_after : Work → Operation → Heard → Work
@@ -160,7 +156,7 @@ HearsIn (Some o) old new up message said messages = OperationHears o old new up 
 
 -- the round's message goes out once more, or no quorum is up
 abbrev pub OperationRetries : Operation → Servers → Said → List Message → Type 0
-OperationRetries o up (Resent sent) messages = (sent ≡ count_of messages) × ResendsAs o up messages
+OperationRetries o up (Resent sent) messages = (sent ≡ length messages) × ResendsAs o up messages
 OperationRetries o up (Refused NoQuorum) messages = (messages ≡ []) × RefusesAs o up NoQuorumIsUp
 OperationRetries o up _ messages = ⊥
 

@@ -12,15 +12,16 @@ ghost use Rattle.gq_phase.specs.Standing.{IsGoing, Begins};
 ghost use Rattle.gq_model.specs.Lone.{first_cause};
 ghost use Rattle.gq_session.specs.Began.{IsNotBegun, BeginsRequest};
 ghost use Rattle.gq_session.specs.Fitting.{IsRequest};
-ghost use Rattle.gq_session.specs.Works.{no_work, count_of, no_volume, no_file, AsksAs, fits_round, is_reply, is_current, HearsIn, RetriesIn, said_ending, ended, IsAskFault, IsHearFault};
+ghost use Rattle.gq_session.specs.Works.{no_work, no_volume, no_file, AsksAs, fits_round, is_reply, is_current, HearsIn, RetriesIn, said_ending, ended, IsAskFault, IsHearFault};
 
 use crate::records::LiveFault;
 use bytes::Bytes;
 use gq_desk::VolumeRow;
 use gq_grid::{Grid, ServerSet};
 use gq_model::{Line, Refusal};
-use gq_phase::{BeginRefused, Heard, Messages, Operation, ResendRefused, Who};
+use gq_phase::{BeginRefused, Heard, Operation, ResendRefused};
 use gq_pool::BLOCK_BYTES;
+use gq_round::{Messages, Who};
 use gq_tag::{Body, FileId, Message};
 use gq_world::Said;
 use std::alloc::Global;
@@ -29,7 +30,7 @@ use std::alloc::Global;
 #[derive(Drop)]
 pub(crate) struct Step {
     pub said: Said,
-    pub messages: Vec<Message>,
+    pub messages: Messages,
 }
 
 /// A session of a tenant, with the tenant's volumes. Its operation, if it has one, is not done.
@@ -51,21 +52,14 @@ pub(crate) struct Client {
 }
 
 // A step that sends nothing.
-fn quiet(alloc: Global, said: Said) -> Step
+fn quiet(grid: &Grid, said: Said) -> Step
     ensures said { result.said ≡ said }
-    ensures messages { result.messages.items ≡ [] }
+    ensures messages { result.messages ≡ [] }
 {
     Step {
         said,
-        messages: Vec::new(alloc),
+        messages: Messages::none(grid),
     }
-}
-
-// How many messages these are.
-fn count_of(messages: &[Message]) -> u32
-    ensures { result ≡ count_of messages.now }
-{
-    u32::try_from(messages.len()).unwrap_or(u32::MAX)
 }
 
 // The number of the copy that a reply tells.
@@ -216,9 +210,9 @@ impl Client {
         file: u32,
         bytes: &Bytes,
         up: ServerSet,
-    ) -> Result<(Operation, Vec<Message>), NotBegun>
+    ) -> Result<(Operation, Messages), NotBegun>
         ensures going { IfOk result (λ began. IsGoing began.0) }
-        ensures ok { IfOk result (λ began. BeginsRequest (home_of self.now) who self.now.floor (servers up) (Line.Write who.session volume file bytes.now) began.0 began.1.items) }
+        ensures ok { IfOk result (λ began. BeginsRequest (home_of self.now) who self.now.floor (servers up) (Line.Write who.session volume file bytes.now) began.0 began.1) }
         ensures err { IfErr result (λ e. IsNotBegun (home_of self.now) (servers up) (Line.Write who.session volume file bytes.now) e) }
     {
         let row = self.volume_with(volume, file)?;
@@ -241,9 +235,9 @@ impl Client {
         volume: u32,
         file: u32,
         up: ServerSet,
-    ) -> Result<(Operation, Vec<Message>), NotBegun>
+    ) -> Result<(Operation, Messages), NotBegun>
         ensures going { IfOk result (λ began. IsGoing began.0) }
-        ensures ok { IfOk result (λ began. BeginsRequest (home_of self.now) who self.now.floor (servers up) (Line.Read who.session volume file) began.0 began.1.items) }
+        ensures ok { IfOk result (λ began. BeginsRequest (home_of self.now) who self.now.floor (servers up) (Line.Read who.session volume file) began.0 began.1) }
         ensures err { IfErr result (λ e. IsNotBegun (home_of self.now) (servers up) (Line.Read who.session volume file) e) }
     {
         let _row = self.volume_with(volume, file)?;
@@ -257,14 +251,9 @@ impl Client {
     }
 
     // A listing begins.
-    fn list(
-        &self,
-        who: Who,
-        volume: u32,
-        up: ServerSet,
-    ) -> Result<(Operation, Vec<Message>), NotBegun>
+    fn list(&self, who: Who, volume: u32, up: ServerSet) -> Result<(Operation, Messages), NotBegun>
         ensures going { IfOk result (λ began. IsGoing began.0) }
-        ensures ok { IfOk result (λ began. BeginsRequest (home_of self.now) who self.now.floor (servers up) (Line.List who.session volume) began.0 began.1.items) }
+        ensures ok { IfOk result (λ began. BeginsRequest (home_of self.now) who self.now.floor (servers up) (Line.List who.session volume) began.0 began.1) }
         ensures err { IfErr result (λ e. IsNotBegun (home_of self.now) (servers up) (Line.List who.session volume) e) }
     {
         let row = self.volume(volume)?;
@@ -275,15 +264,10 @@ impl Client {
     }
 
     // The request's operation begins.
-    fn begin(
-        &self,
-        who: Who,
-        line: &Line,
-        up: ServerSet,
-    ) -> Result<(Operation, Vec<Message>), NotBegun>
+    fn begin(&self, who: Who, line: &Line, up: ServerSet) -> Result<(Operation, Messages), NotBegun>
         requires { IsRequest line.now }
         ensures going { IfOk result (λ began. IsGoing began.0) }
-        ensures ok { IfOk result (λ began. BeginsRequest (home_of self.now) who self.now.floor (servers up) (line.now) began.0 began.1.items) }
+        ensures ok { IfOk result (λ began. BeginsRequest (home_of self.now) who self.now.floor (servers up) (line.now) began.0 began.1) }
         ensures err { IfErr result (λ e. IsNotBegun (home_of self.now) (servers up) (line.now) e) }
     {
         match line {
@@ -303,13 +287,13 @@ impl Client {
     pub(crate) fn ask(&mut self, line: &Line, up: ServerSet) -> Result<Step, LiveFault>
         requires { IsRequest line.now }
         ensures asks { IfOk result (λ step. AsksAs (home_of self.old) (work_of self.old) (work_of self.new)
-            (servers up) line.now step.said step.messages.items) }
+            (servers up) line.now step.said step.messages) }
         ensures home { home_of self.new ≡ home_of self.old }
         ensures fault { IfErr result (λ fault. IsAskFault (work_of self.old) fault) }
         ensures same { OnErr result (work_of self.new ≡ work_of self.old) }
     {
         if self.current.is_some() {
-            return Ok(quiet(self.alloc, Said::Refused(Refusal::Busy)));
+            return Ok(quiet(&self.grid, Said::Refused(Refusal::Busy)));
         }
         let who = self.who()?;
         match self.begin(who, line, up) {
@@ -320,12 +304,12 @@ impl Client {
                 Ok(Step {
                     said: Said::Began {
                         op: who.op,
-                        sent: count_of(messages.as_slice()),
+                        sent: messages.len() as u32,
                     },
                     messages,
                 })
             }
-            Err(NotBegun::Refused(refusal)) => Ok(quiet(self.alloc, Said::Refused(refusal))),
+            Err(NotBegun::Refused(refusal)) => Ok(quiet(&self.grid, Said::Refused(refusal))),
             Err(NotBegun::Memory) => Err(LiveFault::Memory),
         }
     }
@@ -344,7 +328,7 @@ impl Client {
     // Hears the message, where the servers of `up` are up.
     pub(crate) fn hear(&mut self, message: &Message, up: ServerSet) -> Result<Step, LiveFault>
         ensures hears { IfOk result (λ step. HearsIn self.old.current (work_of self.old) (work_of self.new)
-            (servers up) message.now step.said step.messages.items) }
+            (servers up) message.now step.said step.messages) }
         ensures reply { OnOk result (is_reply (home_of self.old) message.now ≡ true) }
         ensures home { home_of self.new ≡ home_of self.old }
         ensures fault { IfErr result (λ fault. IsHearFault (home_of self.old) (work_of self.old) message.now fault) }
@@ -354,7 +338,7 @@ impl Client {
             return Err(LiveFault::Letter);
         }
         let Some(mut operation) = self.current.take() else {
-            return Ok(quiet(self.alloc, Said::Stale));
+            return Ok(quiet(&self.grid, Said::Stale));
         };
         if copied_number(&message.body) == u64::MAX || operation.floor() == u64::MAX {
             self.current = Some(operation);
@@ -367,11 +351,11 @@ impl Client {
             }
             Ok(Heard::Stale) => {
                 self.current = Some(operation);
-                Ok(quiet(self.alloc, Said::Stale))
+                Ok(quiet(&self.grid, Said::Stale))
             }
             Ok(Heard::Noted) => {
                 self.current = Some(operation);
-                Ok(quiet(self.alloc, Said::Noted))
+                Ok(quiet(&self.grid, Said::Noted))
             }
             Ok(
                 Heard::Next {
@@ -382,44 +366,43 @@ impl Client {
             ) => {
                 self.current = Some(operation);
                 self.round = round;
-                let Messages { items } = messages;
                 Ok(Step {
                     said: Said::Round {
                         round,
                         tag,
-                        sent: count_of(items.as_slice()),
+                        sent: messages.len() as u32,
                     },
-                    messages: items,
+                    messages,
                 })
             }
             Ok(Heard::Done(outcome)) => {
                 self.floor = operation.floor();
-                Ok(quiet(self.alloc, Said::Done(outcome)))
+                Ok(quiet(&self.grid, Said::Done(outcome)))
             }
         }
     }
 
     // Sends the round's message once more, where the servers of `up` are up.
     pub(crate) fn retry(&mut self, up: ServerSet) -> Result<Step, LiveFault>
-        ensures retries { IfOk result (λ step. RetriesIn self.old.current (servers up) step.said step.messages.items) }
+        ensures retries { IfOk result (λ step. RetriesIn self.old.current (servers up) step.said step.messages) }
         ensures home { home_of self.new ≡ home_of self.old }
         ensures work { work_of self.new ≡ work_of self.old }
         ensures fault { IfErr result (λ fault. fault ≡ LiveFault.Memory) }
     {
         let Some(mut operation) = self.current.take() else {
-            return Ok(quiet(self.alloc, Said::Refused(Refusal::Idle)));
+            return Ok(quiet(&self.grid, Said::Refused(Refusal::Idle)));
         };
         let resent = operation.resend(up);
         self.current = Some(operation);
         match resent {
             Ok(messages) => Ok(Step {
                 said: Said::Resent {
-                    sent: count_of(messages.as_slice()),
+                    sent: messages.len() as u32,
                 },
                 messages,
             }),
             Err(ResendRefused::NoQuorum) => {
-                Ok(quiet(self.alloc, Said::Refused(Refusal::NoQuorum)))
+                Ok(quiet(&self.grid, Said::Refused(Refusal::NoQuorum)))
             }
             Err(ResendRefused::Memory) => Err(LiveFault::Memory),
         }
@@ -428,14 +411,14 @@ impl Client {
     // Gives the operation up.
     pub(crate) fn give_up(&mut self) -> Step
         ensures said { result.said ≡ said_ending self.old.current }
-        ensures messages { result.messages.items ≡ [] }
+        ensures messages { result.messages ≡ [] }
         ensures home { home_of self.new ≡ home_of self.old }
         ensures work { work_of self.new ≡ ended (work_of self.old) }
     {
         let Some(operation) = self.current.take() else {
-            return quiet(self.alloc, Said::Refused(Refusal::Idle));
+            return quiet(&self.grid, Said::Refused(Refusal::Idle));
         };
         self.floor = operation.abandon();
-        quiet(self.alloc, Said::Abandoned)
+        quiet(&self.grid, Said::Abandoned)
     }
 }

@@ -18,6 +18,7 @@ use gq_cell::Letter;
 use gq_desk::VolumeRow;
 use gq_grid::Grid;
 use gq_model::Line;
+use gq_round::Messages;
 use gq_tag::Message;
 use gq_world::Said;
 use std::alloc::Global;
@@ -29,7 +30,7 @@ pub struct Outbox {
     /// The step's stamp.
     pub stamp: u64,
     /// The messages, in order.
-    pub messages: Vec<Message>,
+    pub messages: Messages,
     /// Whether the session waits for nothing now: a round began with no message, or a retry was refused. Its operation is
     /// then to be given up.
     pub stuck: bool,
@@ -108,7 +109,7 @@ impl Session {
     /// session is as it was.
     pub fn ask_next(&mut self, agenda: &mut Agenda) -> Result<Option<Outbox>, LiveFault>
         ensures asks { IfOk result (λ o. IfSome o (λ outbox. AsksNext self.old self.new (servers_up agenda.old)
-            outbox.stamp outbox.messages.items)) }
+            outbox.stamp outbox.messages)) }
         ensures stamp { IfOk result (λ o. ForSome o (λ outbox. IsStamped agenda.old agenda.new 0 outbox.stamp)) }
         ensures goes_on { IfOk result (λ o. ForSome o (λ outbox. outbox.stuck ≡ false)) }
         ensures none { self.old.left ≡ [] → result ≡ Ok None }
@@ -141,7 +142,7 @@ impl Session {
     /// is no reply to this session. After a fault the session is as it was.
     pub fn hear(&mut self, agenda: &mut Agenda, letter: Letter) -> Result<Outbox, LiveFault>
         ensures hears { IfOk result (λ outbox. HearsLetter self.old self.new (servers_up agenda.old) letter
-            outbox.stamp outbox.messages.items outbox.stuck) }
+            outbox.stamp outbox.messages outbox.stuck) }
         ensures stamp { IfOk result (λ outbox. IsStamped agenda.old agenda.new letter.stamp outbox.stamp) }
         ensures reply { OnOk result (is_reply self.old.home letter.message ≡ true) }
         ensures fault { IfErr result (λ fault. IsHearLetterFault self.old letter agenda.old.board.last fault) }
@@ -166,7 +167,7 @@ impl Session {
     /// The faults are `Memory`, and `Stamps` where no greater stamp is left. After a fault the session is as it was.
     pub fn retry(&mut self, agenda: &mut Agenda) -> Result<Outbox, LiveFault>
         ensures retries { IfOk result (λ outbox. Retries self.old self.new (servers_up agenda.old)
-            outbox.stamp outbox.messages.items outbox.stuck) }
+            outbox.stamp outbox.messages outbox.stuck) }
         ensures stamp { IfOk result (λ outbox. IsStamped agenda.old agenda.new 0 outbox.stamp) }
         ensures fault { IfErr result (λ fault. IsStampFault agenda.old 0 fault) }
         ensures same { OnErr result (self.new ≡ self.old) }
@@ -191,7 +192,7 @@ impl Session {
     pub fn give_up(&mut self, agenda: &mut Agenda) -> Result<Outbox, LiveFault>
         ensures ends { IfOk result (λ outbox. self.new
             ≡ with_step self.old outbox.stamp Did.GaveUp (said_ending self.old.work.operation) (ended self.old.work)) }
-        ensures quiet { IfOk result (λ outbox. outbox.messages.items ≡ []) }
+        ensures quiet { IfOk result (λ outbox. outbox.messages ≡ []) }
         ensures waits { IfOk result (λ outbox. outbox.stuck ≡ is_none self.old.work.operation) }
         ensures stamp { IfOk result (λ outbox. IsStamped agenda.old agenda.new 0 outbox.stamp) }
         ensures fault { IfErr result (λ fault. IsStampFault agenda.old 0 fault) }

@@ -5,7 +5,6 @@ use Rattle.std.proofs.lemmas.Bool.{cases_eq, cases_Bool, ne_eqb, eq-eqb}
 use Rattle.std.proofs.lemmas.List.{get_or-set_same, get_or-set_other, length-map}
 use Rattle.gq_grid.specs.Grid.{Grid, Servers}
 use Rattle.gq_grid.specs.Sets.{servers}
-use Rattle.gq_grid.specs.declared.TheConstants.{MOST_SERVERS}
 use Rattle.gq_tag.specs.declared.Message.{Message}
 use Rattle.gq_tag.specs.Tag.{OwnMessage, message_of}
 use Rattle.gq_desk.specs.CheckedPlan.{row_at}
@@ -23,7 +22,7 @@ use Rattle.gq_model.specs.Told.{Resent, Abandoned, Refused}
 use Rattle.gq_model.specs.Trace.{Own, State, Session, Known, operation, operation_with, session_by, deed}
 use Rattle.gq_model.specs.Lone.{Step, Cause, first_cause, session_causes, idle, no_quorum, quiet, line_step, retry_step}
 use Rattle.gq_world.specs.declared.sessions.Seat.{Seat}
-use Rattle.gq_world.specs.Tables.{Tables, Agrees, SeatAgrees, Sits, IsReady, IsShaped, seats_at, seat_in}
+use Rattle.gq_world.specs.Tables.{Tables, Agrees, SeatAgrees, Sits, IsReady, seats_at, seat_in}
 use Rattle.gq_world.specs.Asking.{idle_causes, last_number, rested_seat, rested_tables}
 use Rattle.gq_world.specs.Saying.{with_sent}
 use Rattle.gq_world.specs.Seats.{IsAtWork, SeatResends, SeatRefuses}
@@ -299,14 +298,6 @@ again w t k messages known h agrees =
 
     goes : (w : Tables) (t k : ℕ) (known : Known) → first_cause (session_causes w.plan.grid (row_at w.plan t) known.state (Retry k)) ≡ None → line_step w.plan.grid (row_at w.plan t) known.state (Retry k) ≡ retry_step w.plan.grid known.state (operation known.state k)
     goes w t k known none = rw none refl
-
-pub few_again : (w : Tables) (t k : ℕ) (messages : List Message) → IsReady w t → IsShaped w → Resends w t k messages → length messages ≤ MOST_SERVERS
-few_again w t k messages r shaped h =
-    let a = again w t k messages r.known h r.agrees in
-    let count : length messages ≡ length a.new = ap length a.are ∙ length-map a.new (message_of t) in
-    let few = a.few in
-    let grid = shaped.grid in
-    omega arith
 
 pub again_tells : (w : Tables) (t k : ℕ) (messages : List Message) → Resends w t k messages → TellsLine w t (Retry k) (Resent (length (lane_at w.lanes t)) (length messages))
 again_tells w t k messages h known agrees =

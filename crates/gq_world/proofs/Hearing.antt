@@ -5,14 +5,12 @@ use Rattle.std.proofs.lemmas.Bool.{cases_Bool}
 use Rattle.std.proofs.lemmas.List.{length-map}
 use Rattle.std.proofs.lemmas.List.FromFn.{length-range_with_len}
 use Rattle.gq_grid.specs.Grid.{Grid, Servers, rising, below}
-use Rattle.gq_tag.specs.Tag.{OwnMessage, message_of}
+use Rattle.gq_tag.specs.Tag.{OwnMessage}
 use Rattle.gq_phase.specs.declared.Outcome.{Outcome}
 use Rattle.gq_phase.specs.declared.Outcome.TheVariants.{Wrote, Gave, Listed}
 use Rattle.gq_phase.specs.Phase.{Task, Writing, Reading, Listing, Operation, Heard as Saying, HeardStale, HeardNoted, HeardNext, HeardDone, hear, is_current, is_collect, ends_round, with_reply, with_decided, begin_store, begin_collect, file_done, in_round, round_messages, round_quorum, stored_copy, listed_row}
-use Rattle.gq_phase.specs.Standing.{heard_as}
 use Rattle.gq_phase.specs.Laws.{SameQuorums}
 use Rattle.gq_world.specs.Seats.{said_by}
-use Rattle.gq_world.specs.Saying.{messages_of}
 
 -- ---- by cases
 
@@ -133,17 +131,3 @@ few_messages grid up o = by (round_quorum grid up o.round) refl
     by : (q : Option Servers) → round_quorum grid up o.round ≡ q → length (round_messages grid up o) ≤ grid.rows * grid.cols
     by None is = rw is (omega arith)
     by (Some set) is = rw is (simp length-map (length-rising grid set))
-
-few_said : (grid : Grid) (up : Servers) (t : ℕ) (o : Operation) (m : OwnMessage) → length (messages_of (heard_as t (hear grid up o m))) ≤ grid.rows * grid.cols
-few_said grid up t o m = hear_cases P grid up o m (omega arith) (λ cur. omega arith) (λ cur odd. next (with_decided (with_reply o m)) (2 * length (with_decided (with_reply o m)).collected))
-    (λ volume files cur even is more. next (with_reply o m) (2 * length o.collected + 1)) (λ outcome. omega arith)
-  where
-    P : Saying → Type 0
-    P s = length (messages_of (heard_as t s)) ≤ grid.rows * grid.cols
-
-    next : (p : Operation) (round : ℕ) → length (map (message_of t) (round_messages grid up (in_round p round))) ≤ grid.rows * grid.cols
-    next p round = simp length-map (few_messages grid up (in_round p round))
-
-pub few_told : (grid : Grid) (up : Servers) (t : ℕ) (o : Option Operation) (m : OwnMessage) → length (messages_of (heard_as t (said_by grid up o m))) ≤ grid.rows * grid.cols
-few_told grid up t None m = omega arith
-few_told grid up t (Some o) m = few_said grid up t o m

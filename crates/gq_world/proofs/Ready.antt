@@ -4,7 +4,6 @@ use Rattle.std.specs.Prelude.{slice_get, option_map, if◌then◌else◌}
 use Rattle.std.proofs.lemmas.Option.{slice_get_within, get_or_from_slice_get}
 use Rattle.gq_grid.specs.declared.TheConstants.{MOST_SERVERS}
 use Rattle.gq_grid.specs.Grid.{Grid}
-use Rattle.gq_grid.specs.Sets.{servers}
 use Rattle.gq_tag.specs.declared.Body.{Body}
 use Rattle.gq_tag.specs.declared.Body.TheVariants.{Ask, Copy, Store, Stored}
 use Rattle.gq_tag.specs.declared.Message.{Message}
@@ -12,16 +11,12 @@ use Rattle.gq_tag.specs.Tag.{OwnMessage, own_message, message_of}
 use Rattle.gq_desk.specs.CheckedPlan.{row_at}
 use Rattle.gq_post.specs.Lanes.{lane_at, message_at}
 use Rattle.gq_phase.specs.Best.{copied_number}
-use Rattle.gq_phase.specs.declared.Heard.{Heard}
 use Rattle.gq_phase.specs.declared.operation.Operation.{Operation as Code}
 use Rattle.gq_phase.specs.Phase.{Task, Operation}
 use Rattle.gq_model.specs.Trace.{State, Session, Known, own_message_at, operation, operation_with}
-use Rattle.gq_world.specs.declared.sessions.Seat.{Seat}
 use Rattle.gq_world.specs.Bounds.{BodyFits, MessageFits}
 use Rattle.gq_world.specs.Tables.{Tables, Agrees, IsReady, IsShaped, Sits, seats_at, seat_in}
-use Rattle.gq_world.specs.Seats.{FloorIsBelow, SeatHears}
-use Rattle.gq_world.specs.Saying.{messages_of, SendsFew}
-use Rattle.gq_world.proofs.Hearing.{few_told}
+use Rattle.gq_world.specs.Seats.{FloorIsBelow}
 
 pub all_at : {X : Type 0} (P : X → Type 0) (xs : List X) (n : ℕ) (x : X) → All P xs → slice_get xs n ≡ Some x → P x
 all_at P xs n x all is = subst P (get_or_from_slice_get xs n x x is) (all n x (slice_get_within xs n x is))
@@ -107,20 +102,3 @@ seat_floor_below w t n m r is =
     let few : r.before < 18446744073709551615 = let taken = r.taken in let few = r.few in omega arith in
     floor_below w.plan.grid t (seat_in (seats_at w.seats t) (m.session - 1)).floor _ r.before (seat_in (seats_at w.seats t) (m.session - 1)).operation (operation r.known.state k) seat.sits
     (λ p is'. let same = own_floor k (r.known.state.session k) p is' in let low = session.floor in omega arith) few
-
--- ---- what its session says
-
-pub says_few : (w : Tables) (t n : ℕ) (m : Message) (new : Seat) (heard : Heard) → IsReady w t → IsShaped w → message_at (lane_at w.lanes t) n ≡ Some m →
-    SeatHears (seat_in (seats_at w.seats t) (m.session - 1)) new (servers w.up) m heard → SendsFew heard
-says_few w t n m new heard r shaped is hears =
-    let fits = message_fits w t n m r is in
-    let first : 1 ≤ m.session = fits.first in
-    let last : m.session ≤ (row_at w.plan t).sessions = fits.last in
-    let within : m.session - 1 < (row_at w.plan t).sessions = omega arith in
-    let k : ℕ = m.session - 1 + 1 in
-    let seat = r.agrees.seats (m.session - 1) within in
-    let says = hears.says w.plan.grid t _ (operation r.known.state k) seat.sits in
-    let few = few_told w.plan.grid (servers w.up) t (operation r.known.state k) (own_message m) in
-    let grid = shaped.grid in
-    let size : length (messages_of heard) ≤ MOST_SERVERS = rw says (omega arith) in
-    size

@@ -1,12 +1,11 @@
 -- A request of a session: why it is refused, and how its operation begins.
-use Rattle.std.proofs.Common.{◌≡◌, ◌≢◌, ◌∙◌, ℕ, ◌+◌, ◌-◌, ◌*◌, ◌<◌, ◌≤◌, Bool, true, false, List, [], ◌∷◌, ◌++◌, length, map, refl, sym, ap, subst, Option, Some, None, arith, inl, inr}
+use Rattle.std.proofs.Common.{◌≡◌, ◌≢◌, ◌∙◌, ℕ, ◌+◌, ◌-◌, ◌<◌, ◌≤◌, Bool, true, false, List, [], ◌∷◌, ◌++◌, length, map, refl, sym, ap, subst, Option, Some, None, arith, inl, inr}
 use Rattle.std.specs.Prelude.{slice_set, slice_get, slice_index_or, option_map, not, nat_lt, nat_le, is_some, is_none, unwrap_or, ◌==◌, if◌then◌else◌}
 use Rattle.std.specs.Option.{option_and_then}
 use Rattle.std.proofs.Math.Path.{fun_ext}
 use Rattle.std.proofs.lemmas.Bool.{cases_eq, cases_Bool, ne_eqb, eq-eqb, and_parts}
 use Rattle.std.proofs.lemmas.Bool.Decides.{nat_tests}
 use Rattle.std.proofs.lemmas.List.{get_or_default, get_or-set_same, get_or-set_other, length-map}
-use Rattle.gq_grid.specs.declared.TheConstants.{MOST_SERVERS}
 use Rattle.gq_grid.specs.Grid.{Grid, Servers}
 use Rattle.gq_grid.specs.Sets.{servers}
 use Rattle.gq_grid.specs.declared.ServerSet.{ServerSet}
@@ -33,7 +32,6 @@ use Rattle.gq_world.specs.declared.sessions.Seat.{Seat}
 use Rattle.gq_world.specs.Tables.{Tables, Agrees, SeatAgrees, Sits, IsReady, IsShaped, seats_at, seat_in, no_seat}
 use Rattle.gq_world.specs.Asking.{volume_causes, file_causes, write_causes, busy_seat, begun_tables}
 use Rattle.gq_world.specs.Machine.{Acts, TellsLine, acted, state_after}
-use Rattle.gq_world.proofs.Hearing.{few_messages}
 use Rattle.gq_world.proofs.Lanes.{sent_count, sent_messages, new_not_lost, lane_there, quorums_in}
 
 -- ---- a session of the tables
@@ -409,12 +407,6 @@ number_left w t k task line causes r ready asked =
     let low = (ready.bounded.sessions k).op in
     let taken = ready.taken in
     let few = ready.few in
-    omega arith
-
-pub few_asks : (grid : Grid) (up : Servers) (t : ℕ) (o : Operation) (messages : List Message) → grid.rows * grid.cols ≤ MOST_SERVERS → messages ≡ map (message_of t) (round_messages grid up o) → length messages ≤ MOST_SERVERS
-few_asks grid up t o messages small is =
-    let count : length messages ≡ length (round_messages grid up o) = ap length is ∙ length-map (round_messages grid up o) (message_of t) in
-    let few = few_messages grid up o in
     omega arith
 
 -- an operation that began for the session begins in the tables

@@ -1,6 +1,6 @@
 -- A message comes to its server.
 use Rattle.std.proofs.Common.{◌≡◌, ◌≢◌, ◌∙◌, ℕ, ◌+◌, ◌*◌, ◌<◌, ◌≤◌, Bool, true, false, ◌&&◌, List, [], ◌∷◌, ◌++◌, length, map, refl, sym, ap, subst, Option, Some, None, arith, inl, inr, append-nil}
-use Rattle.std.specs.Prelude.{slice_set, slice_get, option_map, unwrap_or, nat_lt, ◌==◌, if◌then◌else◌, fold}
+use Rattle.std.specs.Prelude.{IsSome, slice_set, slice_get, option_map, unwrap_or, nat_lt, ◌==◌, if◌then◌else◌, fold}
 use Rattle.std.specs.Option.{option_and_then}
 use Rattle.std.proofs.lemmas.Bool.{cases_eq, cases_Bool, ne_eqb, eq-eqb, eqb-true, and_parts, and_from}
 use Rattle.std.proofs.lemmas.Bool.Decides.{nat_tests}
@@ -367,6 +367,11 @@ no_fault n limit Ask fits = refl
 no_fault n limit (Copy copy) fits = refl
 no_fault n limit Stored fits = refl
 no_fault n limit (Store copy) fits = let long = fits.long in let b : nat_lt limit (length copy.bytes) ≡ false = grind (arith, nat_tests) in rw b refl
+
+-- the file of a message that is not refused is there
+pub file_there : (limit : Option ℕ) (body : Body) → fault_in limit body ≡ None → IsSome limit
+file_there None body served = absurd (cc)
+file_there (Some limit) body served = refl
 
 pub never_refused : (w : Tables) (t n : ℕ) (m : Message) (r : IsReady w t) → message_at (lane_at w.lanes t) n ≡ Some m → serve_fault (store_at w.stores m.server) m ≡ None
 never_refused w t n m r there =

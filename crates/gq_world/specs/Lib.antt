@@ -2,6 +2,7 @@ pub mod Adding
 pub mod Asking
 pub mod Bounds
 pub mod Machine
+pub mod Response
 pub mod Running
 pub mod Said
 pub mod Saying

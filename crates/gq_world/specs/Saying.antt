@@ -1,6 +1,5 @@
 -- What is told and sent where an operation says this to a message, over the code's types.
-use Rattle.std.specs.Prelude.{ℕ, ◌≤◌, ◌++◌, List, [], Some, map, slice_set, length}
-use Rattle.gq_grid.specs.declared.TheConstants.{MOST_SERVERS}
+use Rattle.std.specs.Prelude.{ℕ, ◌++◌, List, [], Some, map, slice_set, length}
 use Rattle.gq_tag.specs.declared.Message.{Message}
 use Rattle.gq_phase.specs.declared.Heard.{Heard}
 use Rattle.gq_phase.specs.declared.Heard.TheVariants.{Stale, Noted, Next, Done}
@@ -22,7 +21,3 @@ heard_told first Stale = IsStale
 heard_told first Noted = IsNoted
 heard_told first (Next round tag messages) = Round round tag first (length messages)
 heard_told first (Done outcome) = IsDone outcome
-
--- at most so many messages are sent
-abbrev pub SendsFew : Heard → Type 0
-SendsFew heard = length (messages_of heard) ≤ MOST_SERVERS

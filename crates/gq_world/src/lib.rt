@@ -3,6 +3,7 @@
 
 mod adding;
 mod chooser;
+mod replies;
 mod said;
 mod sending;
 mod sessions;

@@ -1,38 +1,18 @@
-//! Several messages at once.
+//! What an operation says to a message, and what it sends then.
 
-ghost use Rattle.std.specs.Prelude.{◌≡◌, ◌<◌, ◌≤◌, ℕ, length, IfOk, OnOk};
+ghost use Rattle.std.specs.Prelude.{◌≡◌, ◌<◌, length, IfOk, OnOk};
 ghost use Rattle.gq_post.specs.Lanes.{lane_at};
 ghost use Rattle.gq_model.specs.Shown.{shown};
-ghost use Rattle.gq_world.specs.Saying.{with_sent, messages_of, heard_told, SendsFew};
+ghost use Rattle.gq_world.specs.Saying.{with_sent, messages_of, heard_told};
 
 use gq_model::Answer;
 use gq_phase::Heard;
 use gq_post::Post;
-use gq_tag::Message;
 use std::alloc::AllocError;
-
-/// Sends the messages of the tenant in order. Where memory is wanting only some of them are sent.
-pub(crate) fn send_all(
-    post: &mut Post,
-    tenant: u8,
-    messages: Vec<Message>,
-) -> Result<(), AllocError>
-    requires { tenant < length post.old }
-    ensures sent { OnOk result (post.new ≡ with_sent post.old tenant messages.items) }
-    ensures tenants { length post.new ≡ length post.old }
-{
-    for message in messages {
-        let Ok(_) = post.send(tenant, message) else {
-            return Err(AllocError);
-        };
-    }
-    Ok(())
-}
 
 /// Sends what an operation of the tenant says, and tells it.
 pub(crate) fn answer_heard(post: &mut Post, tenant: u8, heard: Heard) -> Result<Answer, AllocError>
-    requires tenant { tenant < length post.old }
-    requires few { SendsFew heard }
+    requires { tenant < length post.old }
     ensures answer { IfOk result (λ answer. shown answer ≡ heard_told (length (lane_at post.old tenant)) heard) }
     ensures sent { OnOk result (post.new ≡ with_sent post.old tenant (messages_of heard)) }
     ensures tenants { length post.new ≡ length post.old }
@@ -45,9 +25,8 @@ pub(crate) fn answer_heard(post: &mut Post, tenant: u8, heard: Heard) -> Result<
             tag,
             messages,
         } => {
-            let first = post.sent(tenant);
-            let count = messages.items.len() as u32;
-            send_all(post, tenant, messages.items)?;
+            let count = messages.len() as u32;
+            let first = post.send_all(tenant, messages)?;
             Ok(Answer::Round {
                 round,
                 tag,

@@ -6,8 +6,8 @@ ghost use Rattle.gq_grid.specs.declared.TheConstants.{MOST_SERVERS};
 ghost use Rattle.gq_phase.specs.Best.{copied_number};
 
 use gq_grid::ServerSet;
-use gq_phase::{Heard, Operation, ResendRefused};
-use gq_tag::Message;
+use gq_phase::{Heard, Messages, Operation, ResendRefused};
+use gq_tag::MessageView;
 use std::alloc::{AllocError, Global};
 use std::marker::Model;
 
@@ -68,14 +68,10 @@ impl Seats {
     }
 
     // The session at the place sends its round's message once more, where the servers of `up` are up.
-    pub(crate) fn resend(
-        &mut self,
-        place: usize,
-        up: ServerSet,
-    ) -> Result<Vec<Message>, ResendRefused>
+    pub(crate) fn resend(&mut self, place: usize, up: ServerSet) -> Result<Messages, ResendRefused>
         requires place { place < length self.old }
         requires works { IsAtWork (seat_in self.old place).operation }
-        ensures ok { IfOk result (λ messages. SeatResends (seat_in self.old place) (servers up) messages.items) }
+        ensures ok { IfOk result (λ messages. SeatResends (seat_in self.old place) (servers up) messages) }
         ensures err { IfErr result (λ fault. SeatRefuses (seat_in self.old place) (servers up) fault) }
         ensures same { self.new ≡ self.old }
     {
@@ -97,7 +93,11 @@ impl Seats {
     }
 
     // A message comes to its session, where the servers of `up` are up.
-    pub(crate) fn hear(&mut self, message: &Message, up: ServerSet) -> Result<Heard, AllocError>
+    pub(crate) fn hear(
+        &mut self,
+        message: &MessageView<'_>,
+        up: ServerSet,
+    ) -> Result<Heard, AllocError>
         requires first { 1 ≤ message.now.session }
         requires last { message.now.session ≤ length self.old }
         requires server { message.now.server < MOST_SERVERS }
@@ -116,7 +116,7 @@ impl Seat {
     ghost use Rattle.gq_world.specs.Seats.{SeatHears, FloorIsBelow};
 
     // A message comes to the session.
-    fn hear(&mut self, message: &Message, up: ServerSet) -> Result<Heard, AllocError>
+    fn hear(&mut self, message: &MessageView<'_>, up: ServerSet) -> Result<Heard, AllocError>
         requires server { message.now.server < MOST_SERVERS }
         requires number { copied_number message.now.body < u64.MAX }
         requires floor { FloorIsBelow self.old.operation }
@@ -125,7 +125,7 @@ impl Seat {
         let Some(operation) = &mut self.operation else {
             return Ok(Heard::Stale);
         };
-        let Ok(heard) = operation.hear(message, up) else {
+        let Ok(heard) = operation.hear_view(message, up) else {
             return Err(AllocError);
         };
         match heard {

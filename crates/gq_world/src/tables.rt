@@ -1,6 +1,6 @@
 //! The tables of all tenants, and what a line does to them.
 
-ghost use Rattle.std.specs.Prelude.{◌≡◌, ◌<◌, ◌≤◌, ◌+◌, ◌*◌, length, map, replicate, not, nat_le, slice_set, true, false, IfOk, IfNone, OnOk, option_copied};
+ghost use Rattle.std.specs.Prelude.{◌≡◌, ◌<◌, ◌≤◌, ◌+◌, ◌*◌, length, map, replicate, not, nat_le, slice_set, true, false, IfOk, IfNone, OnOk};
 ghost use Rattle.gq_grid.specs.Grid.{choose};
 ghost use Rattle.gq_grid.specs.declared.TheConstants.{MOST_SERVERS};
 ghost use Rattle.gq_desk.specs.CheckedPlan.{row_at};
@@ -17,15 +17,16 @@ ghost use Rattle.gq_world.specs.Whole.{FewSessions};
 
 use crate::adding::add_everywhere;
 use crate::chooser::Chooser;
-use crate::sending::{answer_heard, send_all};
+use crate::replies::{answer, serve};
+use crate::sending::answer_heard;
 use crate::sessions::Seats;
 use bytes::Bytes;
 use gq_desk::{Desk, OpenRefused, Plan, VolumeRows};
 use gq_model::{Answer, Event, Line, Refusal, ServerLine, ServerRefusal};
-use gq_phase::{BeginRefused, Operation, ResendRefused, Who};
+use gq_phase::{BeginRefused, Messages, Operation, ResendRefused, Who};
 use gq_post::Post;
-use gq_store::{ServeRefused, ServerStore};
-use gq_tag::{FileId, Message};
+use gq_store::ServerStore;
+use gq_tag::{FileId, MessageView};
 use std::alloc::{AllocError, Global};
 use std::marker::Model;
 
@@ -44,6 +45,8 @@ pub(crate) struct Core {
     stores: Vec<ServerStore>,
     // the sessions of each tenant
     seats: Vec<Seats>,
+    // where the content of a server's copy is read to
+    content: Vec<u8>,
 }
 
 impl Model for Core {
@@ -107,6 +110,7 @@ impl Core {
             post,
             stores,
             seats,
+            content: Vec::new(alloc),
         })
     }
 
@@ -127,9 +131,9 @@ impl Core {
     }
 
     // The tenant's message of this number.
-    pub(crate) fn message(&self, tenant: u8, number: u64) -> Option<&Message>
+    pub(crate) fn message(&self, tenant: u8, number: u64) -> Option<MessageView<'_>>
         requires { tenant < length self.now.plan.rows }
-        ensures { option_copied result ≡ message_at (lane_at self.now.lanes tenant) number }
+        ensures { result ≡ message_at (lane_at self.now.lanes tenant) number }
     {
         self.post.get(tenant, number)
     }
@@ -341,19 +345,17 @@ impl Core {
         tenant: u8,
         place: usize,
         operation: Operation,
-        messages: Vec<Message>,
+        messages: Messages,
     ) -> Result<Answer, AllocError>
         requires tenant { tenant < length self.old.plan.rows }
         requires place { place < (row_at self.old.plan tenant).sessions }
-        requires few { length messages.items ≤ MOST_SERVERS }
         requires number { (seat_in (seats_at self.old.seats tenant) place).op < 4294967295 }
-        ensures answer { IfOk result (λ answer. shown answer ≡ Began ((seat_in (seats_at self.old.seats tenant) place).op + 1) (length (lane_at self.old.lanes tenant)) (length messages.items)) }
-        ensures begun { OnOk result (self.new ≡ begun_tables self.old tenant place operation messages.items) }
+        ensures answer { IfOk result (λ answer. shown answer ≡ Began ((seat_in (seats_at self.old.seats tenant) place).op + 1) (length (lane_at self.old.lanes tenant)) (length messages)) }
+        ensures begun { OnOk result (self.new ≡ begun_tables self.old tenant place operation messages) }
         ensures plan { self.new.plan ≡ self.old.plan }
     {
-        let first = self.post.sent(tenant);
         let count = messages.len() as u32;
-        send_all(&mut self.post, tenant, messages)?;
+        let first = self.post.send_all(tenant, messages)?;
         let op = self.seats[tenant as usize].begin(place, operation);
         Ok(Answer::Began { op, first, count })
     }
@@ -508,9 +510,8 @@ impl Core {
         }
         match self.seats[tenant as usize].resend(session as usize - 1, self.up.servers()) {
             Ok(messages) => {
-                let first = self.post.sent(tenant);
                 let count = messages.len() as u32;
-                send_all(&mut self.post, tenant, messages)?;
+                let first = self.post.send_all(tenant, messages)?;
                 Ok(Answer::Resent { first, count })
             }
             Err(ResendRefused::NoQuorum) => Ok(Answer::Refused(Refusal::NoQuorum)),
@@ -546,23 +547,25 @@ impl Core {
             return Ok(Answer::Refused(Refusal::NoMessage));
         };
         if !message.to_server() {
-            let heard = self.seats[tenant as usize].hear(message, self.up.servers())?;
+            let heard = self.seats[tenant as usize].hear(&message, self.up.servers())?;
             return answer_heard(&mut self.post, tenant, heard);
         }
         let server = message.server as usize;
         if !self.up.has(server) {
             return Ok(Answer::Down);
         }
-        let reply = match self.stores[server].serve(message) {
-            Ok(reply) => reply,
-            Err(fault) => match fault {
-                ServeRefused::Memory => return Err(AllocError),
-                _ => unreachable!(),
-            },
-        };
-        let Ok(number) = self.post.send(tenant, reply) else {
-            return Err(AllocError);
-        };
+        let file = message.file;
+        let store = &mut self.stores[server];
+        let response = serve(store, &mut self.content, &message)?;
+        let number = answer(
+            &mut self.post,
+            store,
+            self.content.as_slice(),
+            tenant,
+            u64::from(number),
+            file,
+            response,
+        )?;
         Ok(Answer::Reply { number })
     }
 

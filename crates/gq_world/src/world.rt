@@ -1,6 +1,6 @@
 //! The world: the tenants of a plan and its servers, until memory runs out.
 
-ghost use Rattle.std.specs.Prelude.{◌≡◌, ◌*◌, ◌<◌, ◌≤◌, ◌++◌, ◌∷◌, [], ℕ, List, true, false, length, IfOk, OnOk, OnErr, IsErr, option_map, option_copied};
+ghost use Rattle.std.specs.Prelude.{◌≡◌, ◌*◌, ◌<◌, ◌≤◌, ◌++◌, ◌∷◌, [], ℕ, List, true, false, length, IfOk, OnOk, OnErr, IsErr, option_map};
 ghost use Rattle.gq_tag.specs.Tag.{File, file_of, message_of};
 ghost use Rattle.gq_store.specs.Copies.{copy_at, blocks_free};
 ghost use Rattle.gq_model.specs.declared.events.Event.{Event};
@@ -13,7 +13,7 @@ use crate::tables::Core;
 use gq_desk::Plan;
 use gq_model::{Answer, Event};
 use gq_store::ServerStore;
-use gq_tag::Message;
+use gq_tag::MessageView;
 use std::alloc::{AllocError, Global};
 use std::marker::Model;
 use thiserror::Error;
@@ -84,10 +84,10 @@ impl World {
         self.tables.store(server).free()
     }
 
-    /// The tenant's message of this number, none where it is lost or was never sent.
-    pub fn message(&self, tenant: u8, number: u64) -> Option<&Message>
+    /// The tenant's message of this number, none where it is lost or was never sent. Its copy is lent.
+    pub fn message(&self, tenant: u8, number: u64) -> Option<MessageView<'_>>
         requires { tenant < length self.now.tables.plan.rows }
-        ensures { (events : List Event) → Stands self.now.tables events → option_copied result ≡
+        ensures { (events : List Event) → Stands self.now.tables events → result ≡
             option_map (message_of tenant) (own_message_at (questions (past_at self.now.tables.plan tenant events).trace) number) }
     {
         self.tables.message(tenant, number)

@@ -6,7 +6,8 @@ use Rattle.gq_script.proofs.script.answer_lines.Given as goal
 abbrev pub invariant-loop-rest : goal.invariant-loop-rest
 invariant-loop-rest l = record {
   grid : l.quorum.grid ≡ l.world.tables.plan.grid;
-  kept : Keeps l.fn.world.tables.plan l.tenant l.world.tables l.events.items l.answers.items l.text.items (lines_of l.rest) (lines_of l.fn.lines);
+  same : l.tenant ≡ l.fn.tenant;
+  kept : Keeps l.fn.world.tables.plan l.fn.tenant l.world.tables l.events.items l.answers.items l.text.items (lines_of l.rest) (lines_of l.fn.lines);
 }
 
 abbrev pub decreases-loop-rest : goal.decreases-loop-rest

@@ -3,7 +3,7 @@ use Rattle.gq_phase.specs.Standing.{floor_of}
 use Rattle.gq_phase.specs.declared.operation.Operation.{Operation}
 use Rattle.gq_phase.specs.declared.Heard.TheVariants.{Stale, Noted, Next, Done}
 use Rattle.gq_world.specs.declared.said.Said.TheVariants.{Round}
-use Rattle.gq_session.specs.Works.{Work, count_of}
+use Rattle.gq_session.specs.Works.{Work}
 use Rattle.gq_session.proofs.Hearings.{hears-some}
 use Rattle.gq_session.proofs.client.Client.hear.Goals as goal
 
@@ -41,8 +41,8 @@ returns-in-Ok-Next-clause-hears c =
       after = c.hear.new.self;
       hears = rw c.in-Ok-Next.field-0-is at c.in-Ok-Next.ensures.hears;
       floor = rw c.in-Ok-Next.field-0-is at c.in-Ok-Next.ensures.floor;
-      told = ap (λ (n : ℕ). Round c.in-Ok-Next.round c.in-Ok-Next.tag n) (c.count_of.ensures ∙ ap count_of (c.as_slice.ensures.value ∙ c.messages.view_is));
-      sent = c.messages.view_is;
+      told = ap (λ (n : ℕ). Round c.in-Ok-Next.round c.in-Ok-Next.tag n) c.len.ensures.len;
+      sent = refl;
       left = refl;
     })
 

@@ -1,16 +1,16 @@
 -- The message's conditions follow from what is ready, and the tables go on as the model does.
-use Rattle.std.proofs.Common.{◌≡◌, ◌∙◌, ◌<◌, ℕ, List, ◌∷◌, [], false, Option, None, Some, length, ap, sym, subst, arith, ◌-◌, ◌≤◌}
-use Rattle.std.specs.Prelude.{slice_set}
+use Rattle.std.proofs.Common.{◌≡◌, ◌∙◌, ◌<◌, ℕ, List, ◌∷◌, [], false, None, Some, length, ap, sym, subst, arith, ◌-◌, ◌≤◌}
+use Rattle.std.specs.Prelude.{IsSome, slice_set}
 use Rattle.std.proofs.lemmas.Result.{IfOk-weaker, on_ok_weaker}
 use Rattle.std.proofs.lemmas.List.{get_or_default}
 use Rattle.gq_grid.specs.Sets.{servers}
+use Rattle.gq_grid.specs.declared.TheConstants.{MOST_SERVERS}
 use Rattle.gq_tag.specs.declared.Message.{Message}
 use Rattle.gq_tag.specs.Tag.{to_server}
 use Rattle.gq_post.specs.Lanes.{Lane, lane_at, message_at}
 use Rattle.gq_phase.specs.declared.Heard.{Heard}
-use Rattle.gq_store.specs.Copies.{StoreCopies, copy_at, store_accounts}
-use Rattle.gq_store.specs.Serving.{server_reply, held_after, serve_fault}
-use Rattle.gq_store.specs.declared.store.ServeRefused.{ServeRefused}
+use Rattle.gq_store.specs.Copies.{StoreCopies, copy_at, file_limit, store_accounts}
+use Rattle.gq_store.specs.Serving.{answer_body, held_after, serve_fault}
 use Rattle.gq_model.specs.Told.{Replied}
 use Rattle.gq_model.specs.declared.events.Answer.{Answer}
 use Rattle.gq_model.specs.declared.events.Line.TheVariants.{Deliver}
@@ -18,41 +18,21 @@ use Rattle.gq_model.specs.Shown.{shown}
 use Rattle.gq_world.specs.declared.sessions.Seat.{Seat}
 use Rattle.gq_world.specs.Tables.{Tables, IsReady, IsShaped, seats_at, seat_in, store_at}
 use Rattle.gq_world.specs.Saying.{with_sent, messages_of, heard_told}
+use Rattle.gq_world.specs.Response.{body_in}
+use Rattle.gq_desk.specs.Volumes.{limit_of}
 use Rattle.gq_world.specs.Seats.{SeatHears, FloorIsBelow}
 use Rattle.gq_world.specs.Machine.{Acts, TellsLine}
-use Rattle.gq_world.proofs.Ready.{says_few, server_below, number_below, seat_floor_below, session_within, message_fits}
+use Rattle.gq_world.proofs.Ready.{server_below, number_below, seat_floor_below, session_within, message_fits}
 use Rattle.gq_world.proofs.Delivering.{HearsAt, heard_tells, heard_acts}
-use Rattle.gq_world.proofs.Serving.{IsDownAt, down_tells, down_acts, Serves, served_tells, served_acts, never_refused}
+use Rattle.gq_world.proofs.Serving.{IsDownAt, down_tells, down_acts, Serves, served_tells, served_acts, never_refused, file_there}
 use Rattle.gq_world.proofs.tables.Core.deliver.Goals as goal
-
-pub answer_heard-requires-clause-few : goal.answer_heard-requires-clause-few
-answer_heard-requires-clause-few c =
-    let w : Tables = c.args.self.now in
-    let t : ℕ = c.args.tenant in
-    let n : ℕ = c.args.number in
-    let m : Message = c.in-Some.message.now in
-    let r : IsReady w t = c.requires.ready in
-    let shaped : IsShaped w = subst IsShaped c.self.view_is c.self.invariant.1 in
-    let there : message_at (lane_at w.lanes t) n ≡ Some m =
-    sym (c.in-Some.ensures ∙ ap (λ k. message_at (lane_at c.self.inside.post t) k) c.from.ensures ∙ ap (λ (x : Tables). message_at (lane_at x.lanes t) n) c.self.view_is) in
-    let lanes : t < length w.lanes = rw shaped.lanes c.requires.tenant in
-    let tenants : t < length w.seats = rw shaped.tenants c.requires.tenant in
-    let seats_now : c.self.inside.seats.items ≡ w.seats = ap (λ (x : Tables). x.seats) c.self.view_is in
-    let seats_is : c.index_mut.result.now ≡ seats_at w.seats t =
-    c.index_mut.ensures.value ∙ get_or_default c.self.inside.seats.items t _ _ (rw seats_now tenants) ∙ ap (λ all. seats_at all t) seats_now in
-    let heard : Heard = c.in_ok-heard.heard in
-    let P : List Seat → Type 0 = λ seats. SeatHears (seat_in seats (m.session - 1)) (seat_in c.hear.new.self (m.session - 1)) (servers c.servers.result) m heard in
-    let hears' : SeatHears (seat_in (seats_at w.seats t) (m.session - 1)) (seat_in c.hear.new.self (m.session - 1)) (servers c.servers.result) m heard = subst P seats_is c.in_ok-heard.ensures.hears in
-    let hears : SeatHears (seat_in (seats_at w.seats t) (m.session - 1)) (seat_in c.hear.new.self (m.session - 1)) (servers w.up) m heard =
-    subst (λ up. SeatHears (seat_in (seats_at w.seats t) (m.session - 1)) (seat_in c.hear.new.self (m.session - 1)) (servers up) m heard) (c.servers.ensures ∙ ap (λ (x : Tables). x.up) c.self.view_is) hears' in
-    says_few w t n m (seat_in c.hear.new.self (m.session - 1)) heard r shaped there hears
 
 pub returns-then-not-to_server-clause-answer : goal.returns-then-not-to_server-clause-answer
 returns-then-not-to_server-clause-answer c =
     let w : Tables = c.args.self.now in
     let t : ℕ = c.args.tenant in
     let n : ℕ = c.args.number in
-    let m : Message = c.in-Some.message.now in
+    let m : Message = c.in-Some.message in
     let r : IsReady w t = c.requires.ready in
     let shaped : IsShaped w = subst IsShaped c.self.view_is c.self.invariant.1 in
     let there : message_at (lane_at w.lanes t) n ≡ Some m =
@@ -92,7 +72,7 @@ returns-then-not-to_server-clause-acts c =
     let w : Tables = c.args.self.now in
     let t : ℕ = c.args.tenant in
     let n : ℕ = c.args.number in
-    let m : Message = c.in-Some.message.now in
+    let m : Message = c.in-Some.message in
     let r : IsReady w t = c.requires.ready in
     let shaped : IsShaped w = subst IsShaped c.self.view_is c.self.invariant.1 in
     let there : message_at (lane_at w.lanes t) n ≡ Some m =
@@ -131,28 +111,30 @@ has-requires c =
     let w : Tables = c.args.self.now in
     let t : ℕ = c.args.tenant in
     let n : ℕ = c.args.number in
-    let m : Message = c.in-Some.message.now in
+    let m : Message = c.in-Some.message in
     let r : IsReady w t = c.requires.ready in
     let shaped : IsShaped w = subst IsShaped c.self.view_is c.self.invariant.1 in
     let there : message_at (lane_at w.lanes t) n ≡ Some m =
     sym (c.in-Some.ensures ∙ ap (λ k. message_at (lane_at c.self.inside.post t) k) c.from.ensures ∙ ap (λ (x : Tables). message_at (lane_at x.lanes t) n) c.self.view_is) in
-    server_below w t n m r shaped there
+    let server : c.message.inside.server ≡ m.server = ap (λ (x : Message). x.server) c.message.view_is in
+    subst (λ k. k < MOST_SERVERS) (sym server) (server_below w t n m r shaped there)
 
 pub returns-then-not-has-clause-answer : goal.returns-then-not-has-clause-answer
 returns-then-not-has-clause-answer c =
     let w : Tables = c.args.self.now in
     let t : ℕ = c.args.tenant in
     let n : ℕ = c.args.number in
-    let m : Message = c.in-Some.message.now in
+    let m : Message = c.in-Some.message in
     let r : IsReady w t = c.requires.ready in
     let shaped : IsShaped w = subst IsShaped c.self.view_is c.self.invariant.1 in
     let there : message_at (lane_at w.lanes t) n ≡ Some m =
     sym (c.in-Some.ensures ∙ ap (λ k. message_at (lane_at c.self.inside.post t) k) c.from.ensures ∙ ap (λ (x : Tables). message_at (lane_at x.lanes t) n) c.self.view_is) in
+    let server : c.message.inside.server ≡ m.server = ap (λ (x : Message). x.server) c.message.view_is in
     let fits = message_fits w t n m r there in
     let at : IsDownAt w t n m = record {
       there = there;
       goes = sym c.to_server.ensures ∙ c.if-not-to_server.false;
-      down = ap (λ (x : Tables). servers x.up m.server) (sym c.self.view_is) ∙ sym c.has.ensures ∙ c.if-not-has.true;
+      down = ap (λ (x : Tables). servers x.up m.server) (sym c.self.view_is) ∙ ap (servers c.self.inside.up.up) (sym server) ∙ sym c.has.ensures ∙ c.if-not-has.true;
       server = fits.server;
     } in
     down_tells w t n m at
@@ -162,124 +144,151 @@ returns-then-not-has-clause-acts c =
     let w : Tables = c.args.self.now in
     let t : ℕ = c.args.tenant in
     let n : ℕ = c.args.number in
-    let m : Message = c.in-Some.message.now in
+    let m : Message = c.in-Some.message in
     let r : IsReady w t = c.requires.ready in
     let shaped : IsShaped w = subst IsShaped c.self.view_is c.self.invariant.1 in
     let there : message_at (lane_at w.lanes t) n ≡ Some m =
     sym (c.in-Some.ensures ∙ ap (λ k. message_at (lane_at c.self.inside.post t) k) c.from.ensures ∙ ap (λ (x : Tables). message_at (lane_at x.lanes t) n) c.self.view_is) in
+    let server : c.message.inside.server ≡ m.server = ap (λ (x : Message). x.server) c.message.view_is in
     let fits = message_fits w t n m r there in
     let at : IsDownAt w t n m = record {
       there = there;
       goes = sym c.to_server.ensures ∙ c.if-not-to_server.false;
-      down = ap (λ (x : Tables). servers x.up m.server) (sym c.self.view_is) ∙ sym c.has.ensures ∙ c.if-not-has.true;
+      down = ap (λ (x : Tables). servers x.up m.server) (sym c.self.view_is) ∙ ap (servers c.self.inside.up.up) (sym server) ∙ sym c.has.ensures ∙ c.if-not-has.true;
       server = fits.server;
     } in
     down_acts w t n m at
 
-pub index_mut-requires-2 : goal.index_mut-requires-2
-index_mut-requires-2 c =
+pub index_mut-store-requires : goal.index_mut-store-requires
+index_mut-store-requires c =
     let w : Tables = c.args.self.now in
     let t : ℕ = c.args.tenant in
     let n : ℕ = c.args.number in
-    let m : Message = c.in-Some.message.now in
+    let m : Message = c.in-Some.message in
     let r : IsReady w t = c.requires.ready in
     let shaped : IsShaped w = subst IsShaped c.self.view_is c.self.invariant.1 in
     let there : message_at (lane_at w.lanes t) n ≡ Some m =
     sym (c.in-Some.ensures ∙ ap (λ k. message_at (lane_at c.self.inside.post t) k) c.from.ensures ∙ ap (λ (x : Tables). message_at (lane_at x.lanes t) n) c.self.view_is) in
-    let server = (message_fits w t n m r there).server in
+    let server : c.message.inside.server ≡ m.server = ap (λ (x : Message). x.server) c.message.view_is in
+    let below = (message_fits w t n m r there).server in
     let count : length c.self.inside.stores.items ≡ length w.stores = ap (λ (x : Tables). length x.stores) c.self.view_is in
     let all = shaped.servers in
-    omega (arith, c.self.inside.stores.ok.0)
+    omega (arith, server, c.self.inside.stores.ok.0)
 
-pub unreachable-requires : goal.unreachable-requires
-unreachable-requires c =
+pub serve-requires : goal.serve-requires
+serve-requires c =
     let w : Tables = c.args.self.now in
     let t : ℕ = c.args.tenant in
     let n : ℕ = c.args.number in
-    let m : Message = c.in-Some.message.now in
+    let m : Message = c.in-Some.message in
     let r : IsReady w t = c.requires.ready in
     let shaped : IsShaped w = subst IsShaped c.self.view_is c.self.invariant.1 in
     let there : message_at (lane_at w.lanes t) n ≡ Some m =
     sym (c.in-Some.ensures ∙ ap (λ k. message_at (lane_at c.self.inside.post t) k) c.from.ensures ∙ ap (λ (x : Tables). message_at (lane_at x.lanes t) n) c.self.view_is) in
+    let server : c.message.inside.server ≡ m.server = ap (λ (x : Message). x.server) c.message.view_is in
     let fits = message_fits w t n m r there in
     let stores_now : c.self.inside.stores.items ≡ w.stores = ap (λ (x : Tables). x.stores) c.self.view_is in
-    let stores : m.server < length w.stores = let server = fits.server in let all = shaped.servers in omega arith in
-    let store_is : c.index_mut-2.result.now ≡ store_at w.stores m.server =
-    c.index_mut-2.ensures.value ∙ get_or_default c.self.inside.stores.items m.server _ _ (rw stores_now stores) ∙ ap (λ all. store_at all m.server) stores_now in
-    let refused : serve_fault c.index_mut-2.result.now m ≡ Some c.in-Err.fault = c.in-Err.ensures.refused c.in_default-fault.not-Memory in
-    let never : serve_fault c.index_mut-2.result.now m ≡ None = ap (λ (store : StoreCopies). serve_fault store m) store_is ∙ never_refused w t n m r there in
-    let e : ◌≡◌ {A = Option ServeRefused} None (Some c.in-Err.fault) = sym never ∙ refused in
-    cc
+    let stores : m.server < length w.stores = let below = fits.server in let all = shaped.servers in omega arith in
+    let store_is : c.index_mut-store.result.now ≡ store_at w.stores m.server =
+    c.index_mut-store.ensures.value ∙ get_or_default c.self.inside.stores.items c.message.inside.server _ _ (rw (stores_now, server) stores) ∙ ap (λ all. store_at all c.message.inside.server) stores_now ∙ ap (store_at w.stores) server in
+    ap (λ (store : StoreCopies). serve_fault store m) store_is ∙ never_refused w t n m r there
+
+pub answer-requires-clause-file : goal.answer-requires-clause-file
+answer-requires-clause-file c =
+    let w : Tables = c.args.self.now in
+    let t : ℕ = c.args.tenant in
+    let n : ℕ = c.args.number in
+    let m : Message = c.in-Some.message in
+    let r : IsReady w t = c.requires.ready in
+    let shaped : IsShaped w = subst IsShaped c.self.view_is c.self.invariant.1 in
+    let there : message_at (lane_at w.lanes t) n ≡ Some m =
+    sym (c.in-Some.ensures ∙ ap (λ k. message_at (lane_at c.self.inside.post t) k) c.from.ensures ∙ ap (λ (x : Tables). message_at (lane_at x.lanes t) n) c.self.view_is) in
+    let server : c.message.inside.server ≡ m.server = ap (λ (x : Message). x.server) c.message.view_is in
+    let fits = message_fits w t n m r there in
+    let stores_now : c.self.inside.stores.items ≡ w.stores = ap (λ (x : Tables). x.stores) c.self.view_is in
+    let stores : m.server < length w.stores = let below = fits.server in let all = shaped.servers in omega arith in
+    let store_is : c.index_mut-store.result.now ≡ store_at w.stores m.server =
+    c.index_mut-store.ensures.value ∙ get_or_default c.self.inside.stores.items c.message.inside.server _ _ (rw (stores_now, server) stores) ∙ ap (λ all. store_at all c.message.inside.server) stores_now ∙ ap (store_at w.stores) server in
+    let served : serve_fault c.index_mut-store.result.now m ≡ None = ap (λ (store : StoreCopies). serve_fault store m) store_is ∙ never_refused w t n m r there in
+    let file : m.file ≡ c.message.inside.file = ap (λ (x : Message). x.file) (sym c.message.view_is) in
+    let now : file_limit c.index_mut-store.result.now m.file ≡ file_limit c.serve.new.store c.message.inside.file =
+    ap (file_limit c.index_mut-store.result.now) file ∙ ap (λ accounts. limit_of accounts c.message.inside.file) (sym c.serve.ensures.accounts) in
+    subst IsSome now (file_there (file_limit c.index_mut-store.result.now m.file) m.body served)
 
 pub returns-clause-answer : goal.returns-clause-answer
 returns-clause-answer c =
     let w : Tables = c.args.self.now in
     let t : ℕ = c.args.tenant in
     let n : ℕ = c.args.number in
-    let m : Message = c.in-Some.message.now in
+    let m : Message = c.in-Some.message in
     let r : IsReady w t = c.requires.ready in
     let shaped : IsShaped w = subst IsShaped c.self.view_is c.self.invariant.1 in
     let there : message_at (lane_at w.lanes t) n ≡ Some m =
     sym (c.in-Some.ensures ∙ ap (λ k. message_at (lane_at c.self.inside.post t) k) c.from.ensures ∙ ap (λ (x : Tables). message_at (lane_at x.lanes t) n) c.self.view_is) in
+    let server : c.message.inside.server ≡ m.server = ap (λ (x : Message). x.server) c.message.view_is in
     let fits = message_fits w t n m r there in
     let stores_now : c.self.inside.stores.items ≡ w.stores = ap (λ (x : Tables). x.stores) c.self.view_is in
-    let stores : m.server < length w.stores = let server = fits.server in let all = shaped.servers in omega arith in
-    let store_is : c.index_mut-2.result.now ≡ store_at w.stores m.server =
-    c.index_mut-2.ensures.value ∙ get_or_default c.self.inside.stores.items m.server _ _ (rw stores_now stores) ∙ ap (λ all. store_at all m.server) stores_now in
+    let stores : m.server < length w.stores = let below = fits.server in let all = shaped.servers in omega arith in
+    let store_is : c.index_mut-store.result.now ≡ store_at w.stores m.server =
+    c.index_mut-store.ensures.value ∙ get_or_default c.self.inside.stores.items c.message.inside.server _ _ (rw (stores_now, server) stores) ∙ ap (λ all. store_at all c.message.inside.server) stores_now ∙ ap (store_at w.stores) server in
     let lanes : t < length w.lanes = rw shaped.lanes c.requires.tenant in
-    let at : Serves w t n m c.in-Ok.reply c.serve.new.self = record {
+    let reply : Message = record m { body = body_in c.as_slice.result.now c.in_ok-response.response } in
+    let at : Serves w t n m reply c.answer.new.store = record {
       there = there;
       goes = sym c.to_server.ensures ∙ c.if-not-to_server.false;
-      up = ap (λ (x : Tables). servers x.up m.server) (sym c.self.view_is) ∙ sym c.has.ensures ∙ c.if-not-has.false;
+      up = ap (λ (x : Tables). servers x.up m.server) (sym c.self.view_is) ∙ ap (servers c.self.inside.up.up) (sym server) ∙ sym c.has.ensures ∙ c.if-not-has.false;
       lanes = lanes;
       server = fits.server;
       stores = stores;
-      reply_is = c.in-Ok.ensures.reply ∙ ap (λ (store : StoreCopies). server_reply (copy_at store m.file) m) store_is;
-      held = c.in-Ok.ensures.held ∙ ap (λ (store : StoreCopies). held_after (copy_at store m.file) m.body) store_is;
-      others = λ other apart. c.in-Ok.ensures.others other apart ∙ ap (λ (store : StoreCopies). copy_at store other) store_is;
-      accounts = c.in-Ok.ensures.accounts ∙ ap store_accounts store_is;
+      reply_is = ap (λ body. record m { body = body }) (ap (λ content. body_in content c.in_ok-response.response) c.as_slice.ensures.value ∙ c.in_ok-response.ensures.response ∙ ap (λ (store : StoreCopies). answer_body (copy_at store m.file) m.body) store_is);
+      held = ap (λ (store : StoreCopies). copy_at store m.file) c.answer.ensures.store ∙ c.in_ok-response.ensures.held ∙ ap (λ (store : StoreCopies). held_after (copy_at store m.file) m.body) store_is;
+      others = λ other apart. ap (λ (store : StoreCopies). copy_at store other) c.answer.ensures.store ∙ c.in_ok-response.ensures.others other apart ∙ ap (λ (store : StoreCopies). copy_at store other) store_is;
+      accounts = ap store_accounts c.answer.ensures.store ∙ c.in_ok-response.ensures.accounts ∙ ap store_accounts store_is;
     } in
-    let number : c.in-Ok-send.number ≡ length (lane_at w.lanes t) = c.in-Ok-send.ensures.number ∙ ap (λ (x : Tables). length (lane_at x.lanes t)) c.self.view_is in
-    subst (λ k. TellsLine w t (Deliver n) (Replied k)) (sym number) (served_tells w t n m c.in-Ok.reply c.serve.new.self at)
+    let number : c.in_ok-number.number ≡ length (lane_at w.lanes t) = c.in_ok-number.ensures.number ∙ ap (λ (x : Tables). length (lane_at x.lanes t)) c.self.view_is in
+    subst (λ k. TellsLine w t (Deliver n) (Replied k)) (sym number) (served_tells w t n m reply c.answer.new.store at)
 
 pub returns-clause-acts : goal.returns-clause-acts
 returns-clause-acts c =
     let w : Tables = c.args.self.now in
     let t : ℕ = c.args.tenant in
     let n : ℕ = c.args.number in
-    let m : Message = c.in-Some.message.now in
+    let m : Message = c.in-Some.message in
     let r : IsReady w t = c.requires.ready in
     let shaped : IsShaped w = subst IsShaped c.self.view_is c.self.invariant.1 in
     let there : message_at (lane_at w.lanes t) n ≡ Some m =
     sym (c.in-Some.ensures ∙ ap (λ k. message_at (lane_at c.self.inside.post t) k) c.from.ensures ∙ ap (λ (x : Tables). message_at (lane_at x.lanes t) n) c.self.view_is) in
+    let server : c.message.inside.server ≡ m.server = ap (λ (x : Message). x.server) c.message.view_is in
     let fits = message_fits w t n m r there in
     let stores_now : c.self.inside.stores.items ≡ w.stores = ap (λ (x : Tables). x.stores) c.self.view_is in
-    let stores : m.server < length w.stores = let server = fits.server in let all = shaped.servers in omega arith in
-    let store_is : c.index_mut-2.result.now ≡ store_at w.stores m.server =
-    c.index_mut-2.ensures.value ∙ get_or_default c.self.inside.stores.items m.server _ _ (rw stores_now stores) ∙ ap (λ all. store_at all m.server) stores_now in
+    let stores : m.server < length w.stores = let below = fits.server in let all = shaped.servers in omega arith in
+    let store_is : c.index_mut-store.result.now ≡ store_at w.stores m.server =
+    c.index_mut-store.ensures.value ∙ get_or_default c.self.inside.stores.items c.message.inside.server _ _ (rw (stores_now, server) stores) ∙ ap (λ all. store_at all c.message.inside.server) stores_now ∙ ap (store_at w.stores) server in
     let lanes : t < length w.lanes = rw shaped.lanes c.requires.tenant in
-    let at : Serves w t n m c.in-Ok.reply c.serve.new.self = record {
+    let reply : Message = record m { body = body_in c.as_slice.result.now c.in_ok-response.response } in
+    let at : Serves w t n m reply c.answer.new.store = record {
       there = there;
       goes = sym c.to_server.ensures ∙ c.if-not-to_server.false;
-      up = ap (λ (x : Tables). servers x.up m.server) (sym c.self.view_is) ∙ sym c.has.ensures ∙ c.if-not-has.false;
+      up = ap (λ (x : Tables). servers x.up m.server) (sym c.self.view_is) ∙ ap (servers c.self.inside.up.up) (sym server) ∙ sym c.has.ensures ∙ c.if-not-has.false;
       lanes = lanes;
       server = fits.server;
       stores = stores;
-      reply_is = c.in-Ok.ensures.reply ∙ ap (λ (store : StoreCopies). server_reply (copy_at store m.file) m) store_is;
-      held = c.in-Ok.ensures.held ∙ ap (λ (store : StoreCopies). held_after (copy_at store m.file) m.body) store_is;
-      others = λ other apart. c.in-Ok.ensures.others other apart ∙ ap (λ (store : StoreCopies). copy_at store other) store_is;
-      accounts = c.in-Ok.ensures.accounts ∙ ap store_accounts store_is;
+      reply_is = ap (λ body. record m { body = body }) (ap (λ content. body_in content c.in_ok-response.response) c.as_slice.ensures.value ∙ c.in_ok-response.ensures.response ∙ ap (λ (store : StoreCopies). answer_body (copy_at store m.file) m.body) store_is);
+      held = ap (λ (store : StoreCopies). copy_at store m.file) c.answer.ensures.store ∙ c.in_ok-response.ensures.held ∙ ap (λ (store : StoreCopies). held_after (copy_at store m.file) m.body) store_is;
+      others = λ other apart. ap (λ (store : StoreCopies). copy_at store other) c.answer.ensures.store ∙ c.in_ok-response.ensures.others other apart ∙ ap (λ (store : StoreCopies). copy_at store other) store_is;
+      accounts = ap store_accounts c.answer.ensures.store ∙ c.in_ok-response.ensures.accounts ∙ ap store_accounts store_is;
     } in
-    let now = ap (λ (x : Tables). record x { stores = slice_set x.stores m.server c.serve.new.self; lanes = with_sent x.lanes t (c.in-Ok.reply ∷ []) }) (sym c.self.view_is) in
-    let V : List Lane → Tables = λ lanes. record { plan = c.self.inside.plan; up = c.self.inside.up.up; lines = c.self.inside.lines.items; desk = c.self.inside.desk; lanes = lanes; stores = slice_set c.self.inside.stores.items m.server c.serve.new.self; seats = c.self.inside.seats.items } in
-    subst (Acts w t (Deliver n)) (now ∙ ap V (sym c.in-Ok-send.ensures.sent)) (served_acts w t n m c.in-Ok.reply c.serve.new.self r at)
+    let asked : message_at (lane_at c.self.inside.post t) c.from-2.result ≡ Some m = ap (message_at (lane_at c.self.inside.post t)) (c.from-2.ensures ∙ sym c.from.ensures) ∙ sym c.in-Some.ensures in
+    let now = ap (λ (x : Tables). record x { stores = slice_set x.stores m.server c.answer.new.store; lanes = with_sent x.lanes t (reply ∷ []) }) (sym c.self.view_is) in
+    let V : List Lane → ℕ → Tables = λ lanes place. record { plan = c.self.inside.plan; up = c.self.inside.up.up; lines = c.self.inside.lines.items; desk = c.self.inside.desk; lanes = lanes; stores = slice_set c.self.inside.stores.items place c.answer.new.store; seats = c.self.inside.seats.items } in
+    subst (Acts w t (Deliver n)) (now ∙ ap (λ lanes. V lanes m.server) (sym (c.in_ok-number.ensures.sent m asked)) ∙ ap (V c.answer.new.post) (sym server)) (served_acts w t n m reply c.answer.new.store r at)
 
 pub hear-requires-clause-first : goal.hear-requires-clause-first
 hear-requires-clause-first c =
     let w : Tables = c.args.self.now in
     let t : ℕ = c.args.tenant in
     let n : ℕ = c.args.number in
-    let m : Message = c.in-Some.message.now in
+    let m : Message = c.in-Some.message in
     let r : IsReady w t = c.requires.ready in
     let shaped : IsShaped w = subst IsShaped c.self.view_is c.self.invariant.1 in
     let there : message_at (lane_at w.lanes t) n ≡ Some m =
@@ -295,7 +304,7 @@ hear-requires-clause-last c =
     let w : Tables = c.args.self.now in
     let t : ℕ = c.args.tenant in
     let n : ℕ = c.args.number in
-    let m : Message = c.in-Some.message.now in
+    let m : Message = c.in-Some.message in
     let r : IsReady w t = c.requires.ready in
     let shaped : IsShaped w = subst IsShaped c.self.view_is c.self.invariant.1 in
     let there : message_at (lane_at w.lanes t) n ≡ Some m =
@@ -311,7 +320,7 @@ hear-requires-clause-server c =
     let w : Tables = c.args.self.now in
     let t : ℕ = c.args.tenant in
     let n : ℕ = c.args.number in
-    let m : Message = c.in-Some.message.now in
+    let m : Message = c.in-Some.message in
     let r : IsReady w t = c.requires.ready in
     let shaped : IsShaped w = subst IsShaped c.self.view_is c.self.invariant.1 in
     let there : message_at (lane_at w.lanes t) n ≡ Some m =
@@ -327,7 +336,7 @@ hear-requires-clause-number c =
     let w : Tables = c.args.self.now in
     let t : ℕ = c.args.tenant in
     let n : ℕ = c.args.number in
-    let m : Message = c.in-Some.message.now in
+    let m : Message = c.in-Some.message in
     let r : IsReady w t = c.requires.ready in
     let shaped : IsShaped w = subst IsShaped c.self.view_is c.self.invariant.1 in
     let there : message_at (lane_at w.lanes t) n ≡ Some m =
@@ -343,7 +352,7 @@ hear-requires-clause-floor c =
     let w : Tables = c.args.self.now in
     let t : ℕ = c.args.tenant in
     let n : ℕ = c.args.number in
-    let m : Message = c.in-Some.message.now in
+    let m : Message = c.in-Some.message in
     let r : IsReady w t = c.requires.ready in
     let shaped : IsShaped w = subst IsShaped c.self.view_is c.self.invariant.1 in
     let there : message_at (lane_at w.lanes t) n ≡ Some m =

@@ -21,7 +21,7 @@ use Rattle.gq_world.specs.Tables.{Tables, IsShaped}
 use Rattle.gq_world.specs.Asking.{volume_causes, begun_tables}
 use Rattle.gq_world.specs.Machine.{Acts, TellsLine}
 use Rattle.gq_world.proofs.Listing.{files_read, files_few}
-use Rattle.gq_world.proofs.Requests.{IsRequest, is_list, list_task, Refuses, early, without_quorum, refused_tells, refused_acts, IsBegun, is_begun, begun_tells, begun_acts, first_at, seat_before, place_there, number_left, few_asks, seat_read, began_with, quorum_with}
+use Rattle.gq_world.proofs.Requests.{IsRequest, is_list, list_task, Refuses, early, without_quorum, refused_tells, refused_acts, IsBegun, is_begun, begun_tells, begun_acts, seat_before, place_there, number_left, seat_read, began_with, quorum_with}
 use Rattle.gq_world.proofs.tables.Core.list.Goals as goal
 
 pub returns-in-Some-clause-answer : goal.returns-in-Some-clause-answer
@@ -45,27 +45,6 @@ returns-in-Some-clause-acts c =
     let r : IsRequest w t c.args.session task line causes = is_list w t c.args.session c.args.volume in
     let refuses : Refuses w t line c.in-Some.word = early w t c.args.session task line causes c.in-Some.word r (sym c.volume_refusal.ensures ∙ c.in-Some.is) in
     refused_acts w t line c.in-Some.word refuses
-
-pub begin-requires-clause-few : goal.begin-requires-clause-few
-begin-requires-clause-few c =
-    let w : Tables = c.args.self.now in
-    let t : ℕ = c.args.tenant in
-    let task : Task = list_task w t c.args.volume in
-    let line : Line = ListFiles c.args.session c.args.volume in
-    let causes : List Cause = volume_causes w t c.args.session c.args.volume in
-    let r : IsRequest w t c.args.session task line causes = is_list w t c.args.session c.args.volume in
-    let asked : first_cause causes ≡ None = sym c.in_default.ensures in
-    let k : ℕ = c.args.session in
-    let shaped : IsShaped w = subst IsShaped c.self.view_is c.self.invariant.1 in
-    let grid : c.grid.result.now ≡ w.plan.grid = c.grid.ensures ∙ ap (λ (x : Tables). x.plan.grid) c.self.view_is in
-    let up : c.servers.result ≡ w.up = c.servers.ensures ∙ ap (λ (x : Tables). x.up) c.self.view_is in
-    let s = r.session asked in
-    let all : c.self.inside.seats.items ≡ w.seats = ap (λ (x : Tables). x.seats) c.self.view_is in
-    let seat : c.index-seat.result.now ≡ seat_before w t k = seat_read w t k _ _ _ _ _ _ all (rw shaped.tenants c.requires.tenant) (place_there w t k shaped c.requires.tenant s.0 s.1) c.index.ensures c.behind-self.view_is c.index-seat.ensures in
-    let files : _ ≡ files_of (account_at w.desk t).volumes c.args.volume = files_read w t k c.args.volume c.self.inside.desk c.volumes.result.now _ asked (ap (λ (x : Tables). x.desk) c.self.view_is) c.volumes.ensures.volumes in
-    let ok = subst (λ n. Begins c.grid.result.now (record { tenant = t; session = k; op = c.index-seat.result.now.op + 1 }) (Listing c.args.volume n) c.index-seat.result.now.floor (servers c.servers.result) c.in-Ok.operation c.in-Ok.messages.items) files c.in-Ok.ensures.ok in
-    let begins = began_with w t k task c.grid.result.now c.servers.result c.index-seat.result.now c.in-Ok.operation c.in-Ok.messages.items grid up seat ok in
-    few_asks w.plan.grid (servers w.up) t (first_at w t k task) c.in-Ok.messages.items shaped.grid begins.1
 
 pub begin-requires-clause-number : goal.begin-requires-clause-number
 begin-requires-clause-number c =
@@ -109,14 +88,14 @@ returns-in-Ok-clause-answer c =
     let all : c.self.inside.seats.items ≡ w.seats = ap (λ (x : Tables). x.seats) c.self.view_is in
     let seat : c.index-seat.result.now ≡ seat_before w t k = seat_read w t k _ _ _ _ _ _ all (rw shaped.tenants c.requires.tenant) (place_there w t k shaped c.requires.tenant s.0 s.1) c.index.ensures c.behind-self.view_is c.index-seat.ensures in
     let files : _ ≡ files_of (account_at w.desk t).volumes c.args.volume = files_read w t k c.args.volume c.self.inside.desk c.volumes.result.now _ asked (ap (λ (x : Tables). x.desk) c.self.view_is) c.volumes.ensures.volumes in
-    let ok = subst (λ n. Begins c.grid.result.now (record { tenant = t; session = k; op = c.index-seat.result.now.op + 1 }) (Listing c.args.volume n) c.index-seat.result.now.floor (servers c.servers.result) c.in-Ok.operation c.in-Ok.messages.items) files c.in-Ok.ensures.ok in
-    let begins = began_with w t k task c.grid.result.now c.servers.result c.index-seat.result.now c.in-Ok.operation c.in-Ok.messages.items grid up seat ok in
-    let at : IsBegun w t k task causes c.in-Ok.operation c.in-Ok.messages.items =
-    is_begun w t k task line causes c.in-Ok.operation c.in-Ok.messages.items r shaped c.requires.tenant asked
+    let ok = subst (λ n. Begins c.grid.result.now (record { tenant = t; session = k; op = c.index-seat.result.now.op + 1 }) (Listing c.args.volume n) c.index-seat.result.now.floor (servers c.servers.result) c.in-Ok.operation c.in-Ok.messages) files c.in-Ok.ensures.ok in
+    let begins = began_with w t k task c.grid.result.now c.servers.result c.index-seat.result.now c.in-Ok.operation c.in-Ok.messages grid up seat ok in
+    let at : IsBegun w t k task causes c.in-Ok.operation c.in-Ok.messages =
+    is_begun w t k task line causes c.in-Ok.operation c.in-Ok.messages r shaped c.requires.tenant asked
     (λ none. let h = c.in-Ok.ensures.none.1 (quorum_with w c.grid.result.now c.servers.result grid up ∙ none) in cc) begins in
-    let P : Answer → Type 0 = λ answer. shown answer ≡ Began ((seat_before w t k).op + 1) (length (lane_at w.lanes t)) (length c.in-Ok.messages.items) in
+    let P : Answer → Type 0 = λ answer. shown answer ≡ Began ((seat_before w t k).op + 1) (length (lane_at w.lanes t)) (length c.in-Ok.messages) in
     let Q : Answer → Type 0 = λ answer. TellsLine w t line (shown answer) in
-    IfOk-weaker c.begin.result P Q (λ answer is. subst (TellsLine w t line) (sym is) (begun_tells w t k task line causes c.in-Ok.operation c.in-Ok.messages.items r at)) c.begin.ensures.answer
+    IfOk-weaker c.begin.result P Q (λ answer is. subst (TellsLine w t line) (sym is) (begun_tells w t k task line causes c.in-Ok.operation c.in-Ok.messages r at)) c.begin.ensures.answer
 
 pub returns-in-Ok-clause-acts : goal.returns-in-Ok-clause-acts
 returns-in-Ok-clause-acts c =
@@ -135,13 +114,13 @@ returns-in-Ok-clause-acts c =
     let all : c.self.inside.seats.items ≡ w.seats = ap (λ (x : Tables). x.seats) c.self.view_is in
     let seat : c.index-seat.result.now ≡ seat_before w t k = seat_read w t k _ _ _ _ _ _ all (rw shaped.tenants c.requires.tenant) (place_there w t k shaped c.requires.tenant s.0 s.1) c.index.ensures c.behind-self.view_is c.index-seat.ensures in
     let files : _ ≡ files_of (account_at w.desk t).volumes c.args.volume = files_read w t k c.args.volume c.self.inside.desk c.volumes.result.now _ asked (ap (λ (x : Tables). x.desk) c.self.view_is) c.volumes.ensures.volumes in
-    let ok = subst (λ n. Begins c.grid.result.now (record { tenant = t; session = k; op = c.index-seat.result.now.op + 1 }) (Listing c.args.volume n) c.index-seat.result.now.floor (servers c.servers.result) c.in-Ok.operation c.in-Ok.messages.items) files c.in-Ok.ensures.ok in
-    let begins = began_with w t k task c.grid.result.now c.servers.result c.index-seat.result.now c.in-Ok.operation c.in-Ok.messages.items grid up seat ok in
-    let at : IsBegun w t k task causes c.in-Ok.operation c.in-Ok.messages.items =
-    is_begun w t k task line causes c.in-Ok.operation c.in-Ok.messages.items r shaped c.requires.tenant asked
+    let ok = subst (λ n. Begins c.grid.result.now (record { tenant = t; session = k; op = c.index-seat.result.now.op + 1 }) (Listing c.args.volume n) c.index-seat.result.now.floor (servers c.servers.result) c.in-Ok.operation c.in-Ok.messages) files c.in-Ok.ensures.ok in
+    let begins = began_with w t k task c.grid.result.now c.servers.result c.index-seat.result.now c.in-Ok.operation c.in-Ok.messages grid up seat ok in
+    let at : IsBegun w t k task causes c.in-Ok.operation c.in-Ok.messages =
+    is_begun w t k task line causes c.in-Ok.operation c.in-Ok.messages r shaped c.requires.tenant asked
     (λ none. let h = c.in-Ok.ensures.none.1 (quorum_with w c.grid.result.now c.servers.result grid up ∙ none) in cc) begins in
-    on_ok_weaker {P = c.begin.new.self ≡ begun_tables w t (k - 1) c.in-Ok.operation c.in-Ok.messages.items} {Q = Acts w t line c.begin.new.self} c.begin.result
-    (λ is. subst (Acts w t line) (sym is) (begun_acts w t k task line causes c.in-Ok.operation c.in-Ok.messages.items r at)) c.begin.ensures.begun
+    on_ok_weaker {P = c.begin.new.self ≡ begun_tables w t (k - 1) c.in-Ok.operation c.in-Ok.messages} {Q = Acts w t line c.begin.new.self} c.begin.result
+    (λ is. subst (Acts w t line) (sym is) (begun_acts w t k task line causes c.in-Ok.operation c.in-Ok.messages r at)) c.begin.ensures.begun
 
 pub returns-in-Err-NoQuorum-clause-answer : goal.returns-in-Err-NoQuorum-clause-answer
 returns-in-Err-NoQuorum-clause-answer c =

@@ -16,7 +16,7 @@ use Rattle.gq_world.specs.declared.sessions.Seat.{Seat}
 use Rattle.gq_world.specs.Tables.{Tables, IsShaped}
 use Rattle.gq_world.specs.Asking.{file_causes, begun_tables}
 use Rattle.gq_world.specs.Machine.{Acts, TellsLine}
-use Rattle.gq_world.proofs.Requests.{IsRequest, is_read, read_task, Refuses, early, without_quorum, refused_tells, refused_acts, IsBegun, is_begun, begun_tells, begun_acts, first_at, seat_before, place_there, number_left, few_asks, seat_read, began_with, quorum_with}
+use Rattle.gq_world.proofs.Requests.{IsRequest, is_read, read_task, Refuses, early, without_quorum, refused_tells, refused_acts, IsBegun, is_begun, begun_tells, begun_acts, seat_before, place_there, number_left, seat_read, began_with, quorum_with}
 use Rattle.gq_world.proofs.tables.Core.read.Goals as goal
 
 pub returns-in-Some-clause-answer : goal.returns-in-Some-clause-answer
@@ -40,25 +40,6 @@ returns-in-Some-clause-acts c =
     let r : IsRequest w t c.args.session task line causes = is_read w t c.args.session c.args.volume c.args.file in
     let refuses : Refuses w t line c.in-Some.word = early w t c.args.session task line causes c.in-Some.word r (sym c.file_refusal.ensures ∙ c.in-Some.is) in
     refused_acts w t line c.in-Some.word refuses
-
-pub begin-requires-clause-few : goal.begin-requires-clause-few
-begin-requires-clause-few c =
-    let w : Tables = c.args.self.now in
-    let t : ℕ = c.args.tenant in
-    let task : Task = read_task c.args.volume c.args.file in
-    let line : Line = Read c.args.session c.args.volume c.args.file in
-    let causes : List Cause = file_causes w t c.args.session c.args.volume c.args.file in
-    let r : IsRequest w t c.args.session task line causes = is_read w t c.args.session c.args.volume c.args.file in
-    let asked : first_cause causes ≡ None = sym c.in_default.ensures in
-    let k : ℕ = c.args.session in
-    let shaped : IsShaped w = subst IsShaped c.self.view_is c.self.invariant.1 in
-    let grid : c.grid.result.now ≡ w.plan.grid = c.grid.ensures ∙ ap (λ (x : Tables). x.plan.grid) c.self.view_is in
-    let up : c.servers.result ≡ w.up = c.servers.ensures ∙ ap (λ (x : Tables). x.up) c.self.view_is in
-    let s = r.session asked in
-    let all : c.self.inside.seats.items ≡ w.seats = ap (λ (x : Tables). x.seats) c.self.view_is in
-    let seat : c.index-seat.result.now ≡ seat_before w t k = seat_read w t k _ _ _ _ _ _ all (rw shaped.tenants c.requires.tenant) (place_there w t k shaped c.requires.tenant s.0 s.1) c.index.ensures c.behind-self.view_is c.index-seat.ensures in
-    let begins = began_with w t k task c.grid.result.now c.servers.result c.index-seat.result.now c.in-Ok.operation c.in-Ok.messages.items grid up seat c.in-Ok.ensures.ok in
-    few_asks w.plan.grid (servers w.up) t (first_at w t k task) c.in-Ok.messages.items shaped.grid begins.1
 
 pub begin-requires-clause-number : goal.begin-requires-clause-number
 begin-requires-clause-number c =
@@ -101,13 +82,13 @@ returns-in-Ok-clause-answer c =
     let s = r.session asked in
     let all : c.self.inside.seats.items ≡ w.seats = ap (λ (x : Tables). x.seats) c.self.view_is in
     let seat : c.index-seat.result.now ≡ seat_before w t k = seat_read w t k _ _ _ _ _ _ all (rw shaped.tenants c.requires.tenant) (place_there w t k shaped c.requires.tenant s.0 s.1) c.index.ensures c.behind-self.view_is c.index-seat.ensures in
-    let begins = began_with w t k task c.grid.result.now c.servers.result c.index-seat.result.now c.in-Ok.operation c.in-Ok.messages.items grid up seat c.in-Ok.ensures.ok in
-    let at : IsBegun w t k task causes c.in-Ok.operation c.in-Ok.messages.items =
-    is_begun w t k task line causes c.in-Ok.operation c.in-Ok.messages.items r shaped c.requires.tenant asked
+    let begins = began_with w t k task c.grid.result.now c.servers.result c.index-seat.result.now c.in-Ok.operation c.in-Ok.messages grid up seat c.in-Ok.ensures.ok in
+    let at : IsBegun w t k task causes c.in-Ok.operation c.in-Ok.messages =
+    is_begun w t k task line causes c.in-Ok.operation c.in-Ok.messages r shaped c.requires.tenant asked
     (λ none. let h = c.in-Ok.ensures.none.1 (quorum_with w c.grid.result.now c.servers.result grid up ∙ none) in cc) begins in
-    let P : Answer → Type 0 = λ answer. shown answer ≡ Began ((seat_before w t k).op + 1) (length (lane_at w.lanes t)) (length c.in-Ok.messages.items) in
+    let P : Answer → Type 0 = λ answer. shown answer ≡ Began ((seat_before w t k).op + 1) (length (lane_at w.lanes t)) (length c.in-Ok.messages) in
     let Q : Answer → Type 0 = λ answer. TellsLine w t line (shown answer) in
-    IfOk-weaker c.begin.result P Q (λ answer is. subst (TellsLine w t line) (sym is) (begun_tells w t k task line causes c.in-Ok.operation c.in-Ok.messages.items r at)) c.begin.ensures.answer
+    IfOk-weaker c.begin.result P Q (λ answer is. subst (TellsLine w t line) (sym is) (begun_tells w t k task line causes c.in-Ok.operation c.in-Ok.messages r at)) c.begin.ensures.answer
 
 pub returns-in-Ok-clause-acts : goal.returns-in-Ok-clause-acts
 returns-in-Ok-clause-acts c =
@@ -125,12 +106,12 @@ returns-in-Ok-clause-acts c =
     let s = r.session asked in
     let all : c.self.inside.seats.items ≡ w.seats = ap (λ (x : Tables). x.seats) c.self.view_is in
     let seat : c.index-seat.result.now ≡ seat_before w t k = seat_read w t k _ _ _ _ _ _ all (rw shaped.tenants c.requires.tenant) (place_there w t k shaped c.requires.tenant s.0 s.1) c.index.ensures c.behind-self.view_is c.index-seat.ensures in
-    let begins = began_with w t k task c.grid.result.now c.servers.result c.index-seat.result.now c.in-Ok.operation c.in-Ok.messages.items grid up seat c.in-Ok.ensures.ok in
-    let at : IsBegun w t k task causes c.in-Ok.operation c.in-Ok.messages.items =
-    is_begun w t k task line causes c.in-Ok.operation c.in-Ok.messages.items r shaped c.requires.tenant asked
+    let begins = began_with w t k task c.grid.result.now c.servers.result c.index-seat.result.now c.in-Ok.operation c.in-Ok.messages grid up seat c.in-Ok.ensures.ok in
+    let at : IsBegun w t k task causes c.in-Ok.operation c.in-Ok.messages =
+    is_begun w t k task line causes c.in-Ok.operation c.in-Ok.messages r shaped c.requires.tenant asked
     (λ none. let h = c.in-Ok.ensures.none.1 (quorum_with w c.grid.result.now c.servers.result grid up ∙ none) in cc) begins in
-    on_ok_weaker {P = c.begin.new.self ≡ begun_tables w t (k - 1) c.in-Ok.operation c.in-Ok.messages.items} {Q = Acts w t line c.begin.new.self} c.begin.result
-    (λ is. subst (Acts w t line) (sym is) (begun_acts w t k task line causes c.in-Ok.operation c.in-Ok.messages.items r at)) c.begin.ensures.begun
+    on_ok_weaker {P = c.begin.new.self ≡ begun_tables w t (k - 1) c.in-Ok.operation c.in-Ok.messages} {Q = Acts w t line c.begin.new.self} c.begin.result
+    (λ is. subst (Acts w t line) (sym is) (begun_acts w t k task line causes c.in-Ok.operation c.in-Ok.messages r at)) c.begin.ensures.begun
 
 pub returns-in-Err-NoQuorum-clause-answer : goal.returns-in-Err-NoQuorum-clause-answer
 returns-in-Err-NoQuorum-clause-answer c =

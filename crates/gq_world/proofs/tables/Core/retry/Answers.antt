@@ -1,10 +1,9 @@
 -- The round's message goes out once more, as the model's does.
-use Rattle.std.proofs.Common.{◌≡◌, ◌∙◌, ℕ, ◌-◌, ◌<◌, ◌≤◌, List, [], length, ap, sym, subst, arith}
+use Rattle.std.proofs.Common.{◌≡◌, ◌∙◌, ℕ, ◌-◌, ◌<◌, List, [], length, ap, sym, subst}
 use Rattle.std.specs.Prelude.{slice_set}
 use Rattle.std.proofs.lemmas.List.{get_or_default, set-get_or}
 use Rattle.gq_grid.specs.Sets.{servers}
 use Rattle.gq_grid.specs.declared.ServerSet.{ServerSet}
-use Rattle.gq_grid.specs.declared.TheConstants.{MOST_SERVERS}
 use Rattle.gq_phase.specs.declared.ResendRefused.TheVariants.{NoQuorum as NoneUp}
 use Rattle.gq_post.specs.Lanes.{Lane, lane_at}
 use Rattle.gq_model.specs.declared.events.Line.TheVariants.{Retry}
@@ -16,7 +15,7 @@ use Rattle.gq_world.specs.Saying.{with_sent}
 use Rattle.gq_world.specs.Seats.{IsAtWork, SeatResends, SeatRefuses}
 use Rattle.gq_world.specs.Machine.{Acts, TellsLine}
 use Rattle.gq_world.proofs.Quiet.{refused_acts, refused_tells}
-use Rattle.gq_world.proofs.Again.{works, Resends, retry_refused, none_refused, few_again, again_tells, again_acts}
+use Rattle.gq_world.proofs.Again.{works, Resends, retry_refused, none_refused, again_tells, again_acts}
 use Rattle.gq_world.proofs.tables.Core.retry.Goals as goal
 
 pub returns-in-Some-clause-answer : goal.returns-in-Some-clause-answer
@@ -41,8 +40,8 @@ resend-requires-clause-works c =
     c.index_mut.ensures.value ∙ get_or_default c.self.inside.seats.items t _ _ (rw seats_now tenants) ∙ ap (λ all. seats_at all t) seats_now in
     subst (λ (all : List Seat). IsAtWork (seat_in all (k - 1)).operation) (sym seats_is) (works w t k c.requires.ready (sym c.in_default.ensures))
 
-pub overflow_cast-count : goal.overflow_cast-count
-overflow_cast-count c =
+pub returns-in_ok-first-in-Ok-clause-answer : goal.returns-in_ok-first-in-Ok-clause-answer
+returns-in_ok-first-in-Ok-clause-answer c =
     let w : Tables = c.args.self.now in
     let t : ℕ = c.args.tenant in
     let k : ℕ = c.args.session in
@@ -53,15 +52,15 @@ overflow_cast-count c =
     let seats_is : c.index_mut.result.now ≡ seats_at w.seats t =
     c.index_mut.ensures.value ∙ get_or_default c.self.inside.seats.items t _ _ (rw seats_now tenants) ∙ ap (λ all. seats_at all t) seats_now in
     let up : c.servers.result ≡ w.up = c.servers.ensures ∙ ap (λ (x : Tables). x.up) c.self.view_is in
-    let S : List Seat → ServerSet → Type 0 = λ all set. SeatResends (seat_in all (k - 1)) (servers set) c.in-Ok.messages.items in
+    let S : List Seat → ServerSet → Type 0 = λ all set. SeatResends (seat_in all (k - 1)) (servers set) c.in-Ok.messages in
     let sends : S (seats_at w.seats t) w.up = subst (S (seats_at w.seats t)) up (subst (λ all. S all c.servers.result) seats_is c.in-Ok.ensures.ok) in
-    let at : Resends w t k c.in-Ok.messages.items = record { lanes = lanes; asked = sym c.in_default.ensures; sends = sends } in
-    let few : length c.in-Ok.messages.items ≤ MOST_SERVERS = few_again w t k c.in-Ok.messages.items c.requires.ready shaped at in
-    let count = c.len-count.ensures in
-    omega arith
+    let at : Resends w t k c.in-Ok.messages = record { lanes = lanes; asked = sym c.in_default.ensures; sends = sends } in
+    let first : c.in_ok-first-in-Ok.first ≡ length (lane_at w.lanes t) = c.in_ok-first-in-Ok.ensures.first ∙ ap (λ (x : Tables). length (lane_at x.lanes t)) c.self.view_is in
+    let count : length c.in-Ok.messages ≡ c.len-count.result = sym c.len-count.ensures.len in
+    subst (TellsLine w t (Retry k)) (ap (λ n. Resent n (length c.in-Ok.messages)) (sym first) ∙ ap (Resent c.in_ok-first-in-Ok.first) count) (again_tells w t k c.in-Ok.messages at)
 
-pub returns-in_ok-send_all-in-Ok-clause-answer : goal.returns-in_ok-send_all-in-Ok-clause-answer
-returns-in_ok-send_all-in-Ok-clause-answer c =
+pub returns-in_ok-first-in-Ok-clause-acts : goal.returns-in_ok-first-in-Ok-clause-acts
+returns-in_ok-first-in-Ok-clause-acts c =
     let w : Tables = c.args.self.now in
     let t : ℕ = c.args.tenant in
     let k : ℕ = c.args.session in
@@ -72,35 +71,16 @@ returns-in_ok-send_all-in-Ok-clause-answer c =
     let seats_is : c.index_mut.result.now ≡ seats_at w.seats t =
     c.index_mut.ensures.value ∙ get_or_default c.self.inside.seats.items t _ _ (rw seats_now tenants) ∙ ap (λ all. seats_at all t) seats_now in
     let up : c.servers.result ≡ w.up = c.servers.ensures ∙ ap (λ (x : Tables). x.up) c.self.view_is in
-    let S : List Seat → ServerSet → Type 0 = λ all set. SeatResends (seat_in all (k - 1)) (servers set) c.in-Ok.messages.items in
+    let S : List Seat → ServerSet → Type 0 = λ all set. SeatResends (seat_in all (k - 1)) (servers set) c.in-Ok.messages in
     let sends : S (seats_at w.seats t) w.up = subst (S (seats_at w.seats t)) up (subst (λ all. S all c.servers.result) seats_is c.in-Ok.ensures.ok) in
-    let at : Resends w t k c.in-Ok.messages.items = record { lanes = lanes; asked = sym c.in_default.ensures; sends = sends } in
-    let first : c.sent-first.result ≡ length (lane_at w.lanes t) = c.sent-first.ensures ∙ ap (λ (x : Tables). length (lane_at x.lanes t)) c.self.view_is in
-    let count : length c.in-Ok.messages.items ≡ c.len-count.result = let size = c.len-count.ensures in omega arith in
-    subst (TellsLine w t (Retry k)) (ap (λ n. Resent n (length c.in-Ok.messages.items)) (sym first) ∙ ap (Resent c.sent-first.result) count) (again_tells w t k c.in-Ok.messages.items at)
-
-pub returns-in_ok-send_all-in-Ok-clause-acts : goal.returns-in_ok-send_all-in-Ok-clause-acts
-returns-in_ok-send_all-in-Ok-clause-acts c =
-    let w : Tables = c.args.self.now in
-    let t : ℕ = c.args.tenant in
-    let k : ℕ = c.args.session in
-    let shaped : IsShaped w = subst IsShaped c.self.view_is c.self.invariant.1 in
-    let lanes : t < length w.lanes = rw shaped.lanes c.requires.tenant in
-    let tenants : t < length w.seats = rw shaped.tenants c.requires.tenant in
-    let seats_now : c.self.inside.seats.items ≡ w.seats = ap (λ (x : Tables). x.seats) c.self.view_is in
-    let seats_is : c.index_mut.result.now ≡ seats_at w.seats t =
-    c.index_mut.ensures.value ∙ get_or_default c.self.inside.seats.items t _ _ (rw seats_now tenants) ∙ ap (λ all. seats_at all t) seats_now in
-    let up : c.servers.result ≡ w.up = c.servers.ensures ∙ ap (λ (x : Tables). x.up) c.self.view_is in
-    let S : List Seat → ServerSet → Type 0 = λ all set. SeatResends (seat_in all (k - 1)) (servers set) c.in-Ok.messages.items in
-    let sends : S (seats_at w.seats t) w.up = subst (S (seats_at w.seats t)) up (subst (λ all. S all c.servers.result) seats_is c.in-Ok.ensures.ok) in
-    let at : Resends w t k c.in-Ok.messages.items = record { lanes = lanes; asked = sym c.in_default.ensures; sends = sends } in
+    let at : Resends w t k c.in-Ok.messages = record { lanes = lanes; asked = sym c.in_default.ensures; sends = sends } in
     let V : List Lane → List (List Seat) → Tables = λ lanes seats. record { plan = c.self.inside.plan; up = c.self.inside.up.up; lines = c.self.inside.lines.items; desk = c.self.inside.desk; lanes = lanes; stores = c.self.inside.stores.items; seats = seats } in
     let kept : slice_set c.self.inside.seats.items t c.resend.new.self ≡ c.self.inside.seats.items =
     ap (slice_set c.self.inside.seats.items t) (c.resend.ensures.same ∙ seats_is ∙ ap (λ all. seats_at all t) (sym seats_now)) ∙ set-get_or c.self.inside.seats.items t [] in
-    let now : record w { lanes = with_sent w.lanes t c.in-Ok.messages.items } ≡ V c.send_all.new.post (slice_set c.self.inside.seats.items t c.resend.new.self) =
-    ap (λ (x : Tables). record x { lanes = with_sent x.lanes t c.in-Ok.messages.items }) (sym c.self.view_is)
-    ∙ ap (λ lanes. V lanes c.self.inside.seats.items) (sym c.in_ok-send_all-in-Ok.ensures.sent) ∙ ap (V c.send_all.new.post) (sym kept) in
-    subst (Acts w t (Retry k)) now (again_acts w t k c.in-Ok.messages.items at)
+    let now : record w { lanes = with_sent w.lanes t c.in-Ok.messages } ≡ V c.send_all.new.self (slice_set c.self.inside.seats.items t c.resend.new.self) =
+    ap (λ (x : Tables). record x { lanes = with_sent x.lanes t c.in-Ok.messages }) (sym c.self.view_is)
+    ∙ ap (λ lanes. V lanes c.self.inside.seats.items) (sym c.in_ok-first-in-Ok.ensures.sent) ∙ ap (V c.send_all.new.self) (sym kept) in
+    subst (Acts w t (Retry k)) now (again_acts w t k c.in-Ok.messages at)
 
 pub returns-in-Err-NoQuorum-clause-answer : goal.returns-in-Err-NoQuorum-clause-answer
 returns-in-Err-NoQuorum-clause-answer c =
