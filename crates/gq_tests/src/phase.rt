@@ -8,6 +8,7 @@ use bytes::Bytes;
 use gq_grid::{Grid, MOST_SERVERS, ServerSet};
 use gq_phase::*;
 use gq_tag::{Body, FileId, Message, StoredCopy, Tag};
+use std::alloc::Global;
 use std::process::Abort;
 use std::test::Fail;
 
@@ -89,14 +90,16 @@ fn hear_all(
 // How the operation ends, all messages being replied to.
 fn end(
     rt: &impl Abort,
+    alloc: Global,
     operation: &mut Operation,
-    asks: Vec<Message>,
+    asks: Messages,
     up: ServerSet,
 ) -> Result<Outcome, Fail> {
     let mut messages = asks;
     for _ in 0..4 {
-        match hear_all(rt, operation, messages.as_slice(), up)? {
-            Heard::Next { messages: next, .. } => messages = next.items,
+        let each = messages.to_vec(alloc)?;
+        match hear_all(rt, operation, each.as_slice(), up)? {
+            Heard::Next { messages: next, .. } => messages = next,
             Heard::Done(outcome) => return Ok(outcome),
             Heard::Stale | Heard::Noted => {}
         }
@@ -118,7 +121,7 @@ fn writes(rt: HostRuntime) -> Result<(), Fail> {
         &content,
         up,
     )?;
-    let tag = match end(&rt, &mut operation, asks, up)? {
+    let tag = match end(&rt, rt.alloc(), &mut operation, asks, up)? {
         Outcome::Wrote { tag, .. } => tag,
         _ => Tag::first(),
     };
@@ -132,7 +135,7 @@ fn reads(rt: HostRuntime) -> Result<(), Fail> {
     let grid = Grid::new(2, 2)?;
     let up = ServerSet::all(&grid);
     let (mut operation, asks) = Operation::read(rt.alloc(), &grid, who(), 7, file(), up)?;
-    let is_first = match end(&rt, &mut operation, asks, up)? {
+    let is_first = match end(&rt, rt.alloc(), &mut operation, asks, up)? {
         Outcome::Gave { copy, .. } => copy == StoredCopy::first(),
         _ => false,
     };
@@ -146,7 +149,7 @@ fn lists(rt: HostRuntime) -> Result<(), Fail> {
     let grid = Grid::new(2, 2)?;
     let up = ServerSet::all(&grid);
     let (mut operation, asks) = Operation::list(rt.alloc(), &grid, who(), 7, VOLUME, 2, up)?;
-    let files = match end(&rt, &mut operation, asks, up)? {
+    let files = match end(&rt, rt.alloc(), &mut operation, asks, up)? {
         Outcome::Listed { rows, .. } => rows.items.len(),
         _ => 0,
     };

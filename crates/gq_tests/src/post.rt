@@ -1,7 +1,9 @@
 //! Lanes side by side.
 
+use gq_grid::{Grid, ServerSet};
 use gq_post::Post;
-use gq_tag::{Body, FileId, Message};
+use gq_round::{Messages, RoundMessage, Who};
+use gq_tag::{Body, FileId, Message, MessageView, Tag};
 use std::test::Fail;
 
 // A message that is known by the number of its operation.
@@ -21,7 +23,7 @@ fn message(tenant: u8, op: u32) -> Message {
     }
 }
 
-fn op(found: Option<&Message>) -> Option<u32> {
+fn op(found: Option<MessageView<'_>>) -> Option<u32> {
     found.map(|message| message.op)
 }
 
@@ -71,5 +73,50 @@ fn gives_each_tenant_the_lane_of_a_post_of_its_own(rt: HostRuntime) -> Result<()
             assert_eq!(rt; op(both.get(tenant, number)), held);
         }
     }
+    Ok(())
+}
+
+#[test]
+fn sends_a_round(rt: HostRuntime) -> Result<(), Fail> {
+    let grid = Grid::new(1, 2)?;
+    let mut post = Post::new(rt.alloc(), 1)?;
+    let ask = RoundMessage {
+        who: Who {
+            tenant: 0,
+            session: 1,
+            op: 5,
+        },
+        round: 1,
+        file: FileId {
+            tenant: 0,
+            volume: 0,
+            file: 0,
+        },
+        body: Body::Ask,
+    };
+    let asks = Messages::to_quorum(ask, &grid, Some(ServerSet::all(&grid)));
+    assert_eq!(rt; post.send_all(0, asks)?, 0);
+    assert_eq!(rt; post.sent(0), 2);
+    assert_eq!(rt; op(post.get(0, 1)), Some(5));
+    Ok(())
+}
+
+#[test]
+fn answers_a_message(rt: HostRuntime) -> Result<(), Fail> {
+    let mut post = Post::new(rt.alloc(), 1)?;
+    assert_eq!(rt; post.send(0, message(0, 5)).ok(), Some(0));
+    assert_eq!(rt; post.reply_stored(0, 0)?, 1);
+    Ok(())
+}
+
+#[test]
+fn answers_a_message_with_a_copy(rt: HostRuntime) -> Result<(), Fail> {
+    let mut post = Post::new(rt.alloc(), 1)?;
+    assert_eq!(rt; post.send(0, message(0, 5)).ok(), Some(0));
+    let tag = Tag {
+        number: 1,
+        session: 1,
+    };
+    assert_eq!(rt; post.reply_copy(0, 0, tag, b"hi", 0)?.number, 1);
     Ok(())
 }

@@ -116,6 +116,30 @@ fn gives_the_content(rt: HostRuntime) {
 }
 
 #[test]
+fn reads_the_content_in_place_of_what_was_there(rt: HostRuntime) -> Result<(), Fail> {
+    let mut store = store_of_two_files(&rt, rt.alloc());
+    let mut out = Vec::from_slice(rt.alloc(), b"longer than that")?;
+    store.put(SECOND, tag(1, 0), b"abc");
+    assert_eq!(rt; store.read(SECOND, &mut out)?, tag(1, 0));
+    assert_eq!(rt; out.as_slice(), b"abc".as_slice());
+    store.put(SECOND, tag(2, 0), &[7; 65]);
+    assert_eq!(rt; store.read(SECOND, &mut out)?, tag(2, 0));
+    assert_eq!(rt; out.as_slice(), [7; 65].as_slice());
+    assert_eq!(rt; store.read(FIRST, &mut out)?, tag(0, 0));
+    assert_eq!(rt; out.len(), 0);
+    Ok(())
+}
+
+#[test]
+fn has_a_hint_beside_each_file(rt: HostRuntime) {
+    let mut store = store_of_two_files(&rt, rt.alloc());
+    assert_eq!(rt; store.hint(SECOND), 0);
+    store.leave_hint(SECOND, 7);
+    store.put(SECOND, tag(1, 0), b"abc");
+    assert_eq!(rt; (store.hint(FIRST), store.hint(SECOND)), (0, 7));
+}
+
+#[test]
 fn serves(rt: HostRuntime) -> Result<(), Fail> {
     let mut store = store_after_puts(&rt, rt.alloc());
     let other_volume = FileId {

@@ -1,4 +1,4 @@
-//! The calls of an operation that take memory.
+//! The calls of an operation, which take memory for the rows of a listing alone, and its messages one by one.
 
 ghost use Rattle.std.specs.Prelude.{◌≡◌, IfOk};
 ghost use Rattle.gq_phase.specs.Best.{copied_number};
@@ -8,7 +8,7 @@ use crate::Fault;
 use crate::calls::{retry, tell, tell_refused};
 use bytes::Bytes;
 use gq_grid::{Grid, MOST_SERVERS, ServerSet};
-use gq_phase::{Heard, Operation, Who};
+use gq_phase::{Heard, Messages, Operation, Who};
 use gq_tag::{Body, FileId, Message, StoredCopy};
 use std::alloc::Global;
 
@@ -97,8 +97,9 @@ fn hear_all(
 
 // Sends once more, and then has all messages replied to until the operation is done.
 fn end(
+    alloc: Global,
     mut operation: Operation,
-    asks: Vec<Message>,
+    asks: Messages,
     up: ServerSet,
     out: &mut Vec<u8>,
 ) -> Result<(), Fault>
@@ -108,8 +109,9 @@ fn end(
     tell(out, &again)?;
     let mut messages = asks;
     for _ in 0..4 {
-        match hear_all(&mut operation, messages.as_slice(), up, out)? {
-            Heard::Next { messages: next, .. } => messages = next.items,
+        let each = retry!(out, "Messages::to_vec", &messages, messages.to_vec(alloc));
+        match hear_all(&mut operation, each.as_slice(), up, out)? {
+            Heard::Next { messages: next, .. } => messages = next,
             _ => return Ok(()),
         }
     }
@@ -127,7 +129,7 @@ pub fn write(alloc: Global, out: &mut Vec<u8>) -> Result<(), Fault> {
         &content,
         Operation::write(alloc, &grid, WHO, 7, FILE, &content, up)
     );
-    end(operation, asks, up, out)
+    end(alloc, operation, asks, up, out)
 }
 
 /// A read.
@@ -140,7 +142,7 @@ pub fn read(alloc: Global, out: &mut Vec<u8>) -> Result<(), Fault> {
         &grid,
         Operation::read(alloc, &grid, WHO, 7, FILE, up)
     );
-    end(operation, asks, up, out)
+    end(alloc, operation, asks, up, out)
 }
 
 /// A listing of two files.
@@ -153,5 +155,5 @@ pub fn list(alloc: Global, out: &mut Vec<u8>) -> Result<(), Fault> {
         &grid,
         Operation::list(alloc, &grid, WHO, 7, 0, 2, up)
     );
-    end(operation, asks, up, out)
+    end(alloc, operation, asks, up, out)
 }

@@ -85,6 +85,7 @@ fn is_for(message: &Message, server: u8) -> bool
 
 // The server replies to the one message of a step, and the session hears that: its next step. None where nothing was sent.
 fn go_on<L: Ledger>(
+    alloc: Global,
     agenda: &mut Agenda,
     cell: &mut Cell<L>,
     share: &mut Share<L>,
@@ -93,10 +94,11 @@ fn go_on<L: Ledger>(
 ) -> Result<Option<Outbox>, Fault> {
     let Outbox {
         stamp,
-        mut messages,
+        messages,
         ..
     } = outbox;
-    let Some(message) = messages.pop() else {
+    let mut sent = messages.to_vec(alloc)?;
+    let Some(message) = sent.pop() else {
         return Ok(None);
     };
     if !is_for(&message, cell.server()) {
@@ -117,6 +119,7 @@ fn go_on<L: Ledger>(
 
 // The session asks all its requests, one after another.
 fn ask_all<L: Ledger>(
+    alloc: Global,
     agenda: &mut Agenda,
     cell: &mut Cell<L>,
     share: &mut Share<L>,
@@ -125,7 +128,7 @@ fn ask_all<L: Ledger>(
     let mut step = None;
     for _ in 0..MOST_STEPS {
         step = match step {
-            Some(outbox) => go_on(agenda, cell, share, session, outbox)?,
+            Some(outbox) => go_on(alloc, agenda, cell, share, session, outbox)?,
             None => match session.ask_next(agenda)? {
                 Some(outbox) => Some(outbox),
                 None => return Ok(()),
@@ -152,7 +155,7 @@ fn attend<L: Ledger>(
     })?;
     let own = lines(alloc, u32::from(number), content)?;
     let mut session = Session::new(alloc, grid()?, 0, number, volumes, own);
-    ask_all(agenda, cell, share, &mut session)?;
+    ask_all(alloc, agenda, cell, share, &mut session)?;
     let asked = lines(alloc, u32::from(number), content)?;
     match session.close(asked.as_slice()) {
         Some(items) => Ok(Entries { items }),
