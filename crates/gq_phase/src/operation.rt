@@ -205,6 +205,7 @@ impl Operation {
 
     /// What the operation says to a message whose copy is lent, as [`Operation::hear`]. The copy is cloned where it
     /// becomes the greatest that was heard.
+    #[inline(always)]
     pub fn hear_view(
         &mut self,
         message: &MessageView<'_>,
@@ -298,6 +299,7 @@ impl Operation {
     }
 
     // Whether the round ends where these servers were heard.
+    #[inline(always)]
     fn ends(&self, heard: ServerSet) -> bool
         ensures { result ≡ ends_as self.now (servers heard) }
     {

@@ -1,6 +1,6 @@
 -- Lanes of envelopes as they are read: the message of an envelope, and lanes that read alike with other slots.
-use Rattle.std.proofs.Common.{◌≡◌, ◌∙◌, ◌<◌, ◌+◌, ℕ, zero, suc, List, [], ◌∷◌, length, get_or, Bool, true, false, cond, Option, Some, None, refl, sym, ap, ap₂, arith, map, slice_get}
-use Rattle.std.specs.Prelude.{option_map}
+use Rattle.std.proofs.Common.{◌≡◌, ◌∙◌, ◌<◌, ◌+◌, ℕ, zero, suc, List, [], ◌∷◌, length, get_or, Bool, true, false, cond, Option, Some, None, refl, sym, ap, ap₂, subst, arith, map, slice_get}
+use Rattle.std.specs.Prelude.{option_map, is_some, IsSome}
 use Rattle.std.proofs.lemmas.List.{length-map}
 use Rattle.std.proofs.lemmas.Bool.Decides.{nat_tests}
 use Rattle.std.proofs.lemmas.List.Sums.{sum_by-cons}
@@ -52,6 +52,14 @@ message_there slots lanes t n = ap (λ lane. message_at lane n) (lane_there slot
 pub message_in : (slots : Slots) (lanes : List (List Envelope)) (view : List Lane) (t n : ℕ) (envelope : Option Envelope) → map (lane_of slots) lanes ≡ view → envelope_at (envelopes_at lanes t) n ≡ envelope →
     message_at (lane_at view t) n ≡ found slots envelope
 message_in slots lanes view t n envelope is at = ap (λ v. message_at (lane_at v t) n) (sym is) ∙ message_there slots lanes t n ∙ ap (found slots) at
+
+-- a message that is there is an envelope's
+pub envelope_of_message : (slots : Slots) (lanes : List (List Envelope)) (view : List Lane) (t n : ℕ) → map (lane_of slots) lanes ≡ view → IsSome (message_at (lane_at view t) n) → (asked : Envelope) × (envelope_at (envelopes_at lanes t) n ≡ Some asked)
+envelope_of_message slots lanes view t n is there = by_envelope (envelope_at (envelopes_at lanes t) n) refl
+  where
+    by_envelope : (o : Option Envelope) → envelope_at (envelopes_at lanes t) n ≡ o → (asked : Envelope) × (envelope_at (envelopes_at lanes t) n ≡ Some asked)
+    by_envelope None at = absurd (let no : is_some {T = Message} None ≡ true = subst IsSome (message_in slots lanes view t n None is at) there in cc)
+    by_envelope (Some asked) at = (asked, at)
 
 -- the view has as many lanes as there are lists of envelopes
 pub within_lanes : (slots : Slots) (lanes : List (List Envelope)) (view : List Lane) (t : ℕ) → map (lane_of slots) lanes ≡ view → t < length view → t < length lanes

@@ -63,6 +63,10 @@ to_other envelope server = record envelope { server = server }
 abbrev pub lost : Envelope → Envelope
 lost envelope = record envelope { says = Lost }
 
+-- an answer to an envelope, its copy at the place
+abbrev pub answering : Envelope → Says → ℕ → Envelope
+answering envelope says place = record envelope { place = place; says = says }
+
 -- the envelopes of the tenant at place t
 abbrev pub envelopes_at : List (List Envelope) → ℕ → List Envelope
 envelopes_at lanes t = slice_index_or lanes t []

@@ -1,3 +1,4 @@
 pub mod Copies
 pub mod Lanes
 pub mod Envelopes
+pub mod Slips

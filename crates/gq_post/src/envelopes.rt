@@ -1,11 +1,13 @@
-//! Envelopes: messages as they lie in lanes, their copies apart.
+//! Envelopes: messages as they lie in lanes, their copies apart. What those of a round have in common lies once.
 
-ghost use Rattle.std.specs.Prelude.{◌≡◌, ◌<◌, ◌++◌, ◌∷◌, [], length, map, slice_set, IfSome, IfNone, IfOk, OnOk, OnErr};
+ghost use Rattle.std.specs.Prelude.{◌≡◌, ◌<◌, ◌≤◌, ◌+◌, ◌*◌, ◌++◌, ◌∷◌, [], Some, length, map, slice_get, slice_set, vec_len, vec_capacity, IfSome, IfNone, IfOk, OnOk, OnErr, IsSome};
 ghost use Rattle.gq_grid.specs.Grid.{rising};
 ghost use Rattle.gq_grid.specs.Sets.{servers};
 ghost use Rattle.gq_round.specs.Round.{apart};
 ghost use Rattle.gq_tag.specs.View.{body_of};
-ghost use Rattle.gq_post.specs.Envelopes.{says_of, is_lost, names_copy, with_body, envelope_of, to_other, lost, envelopes_at, envelope_at};
+ghost use Rattle.gq_post.specs.Envelopes.{says_of, is_lost, names_copy, with_body, envelope_of, to_other, answering, lost, envelopes_at, envelope_at};
+ghost use Rattle.gq_post.specs.declared.envelopes.Envelope.{Envelope};
+ghost use Rattle.gq_post.specs.Slips.{heading_of, slip_of, slip_to, opened};
 
 use gq_grid::{Grid, ServerSet};
 use gq_tag::{Body, BodyView, FileId, Message, MessageView};
@@ -47,7 +49,7 @@ impl Says {
     }
 }
 
-// A message without its copy. It takes 32 bytes.
+// A message without its copy.
 #[derive(Clone, Copy, Debug)]
 pub(crate) struct Envelope {
     pub(crate) op: u32,
@@ -83,7 +85,7 @@ impl Envelope {
     }
 
     // The message that says this.
-    #[inline]
+    #[inline(always)]
     pub(crate) fn with_body<'a>(&self, body: BodyView<'a>) -> MessageView<'a>
         ensures { result ≡ with_body self.now (body_of body.entry) }
     {
@@ -103,19 +105,124 @@ impl Envelope {
     }
 }
 
+// What the envelopes of a round, and the answers to them, have in common. It takes 20 bytes.
+#[derive(Clone, Copy, Debug)]
+pub(crate) struct Heading {
+    pub(crate) op: u32,
+    pub(crate) round: u32,
+    pub(crate) volume: u32,
+    pub(crate) file: u32,
+    pub(crate) tenant: u8,
+    pub(crate) file_tenant: u8,
+    pub(crate) session: u8,
+}
+
+impl Heading {
+    fn of(envelope: Envelope) -> Heading
+        ensures { result ≡ heading_of envelope }
+    {
+        Heading {
+            op: envelope.op,
+            round: envelope.round,
+            volume: envelope.volume,
+            file: envelope.file,
+            tenant: envelope.tenant,
+            file_tenant: envelope.file_tenant,
+            session: envelope.session,
+        }
+    }
+}
+
+// An envelope as it lies in its lane: what is its own, and the place of its heading. It takes 12 bytes.
+#[derive(Clone, Copy, Debug)]
+pub(crate) struct Slip {
+    pub(crate) heading: u32,
+    pub(crate) place: u32,
+    pub(crate) server: u8,
+    pub(crate) says: Says,
+}
+
+impl Slip {
+    // The envelope's slip. Places past 32 bits are refused, as memory for so many would be.
+    fn of(envelope: Envelope, heading: usize) -> Result<Slip, AllocError>
+        ensures { IfOk result (λ slip. slip ≡ slip_of envelope heading) }
+    {
+        let (Ok(heading), Ok(place)) = (u32::try_from(heading), u32::try_from(envelope.place))
+        else {
+            return Err(AllocError);
+        };
+        Ok(Slip {
+            heading,
+            place,
+            server: envelope.server,
+            says: envelope.says,
+        })
+    }
+}
+
+// The envelope of the slip.
+#[inline(always)]
+fn opened(headings: &[Heading], slip: Slip) -> Envelope
+    requires { slip.heading < length headings.now }
+    ensures { result ≡ opened headings.now slip }
+{
+    let heading = headings[slip.heading as usize];
+    Envelope {
+        op: heading.op,
+        round: heading.round,
+        volume: heading.volume,
+        file: heading.file,
+        place: slip.place as usize,
+        tenant: heading.tenant,
+        file_tenant: heading.file_tenant,
+        session: heading.session,
+        server: slip.server,
+        says: slip.says,
+    }
+}
+
+// The slip to each server of the grid that is in the one set and not in the other; answers to how many.
+fn push_slips(
+    slips: &mut Vec<Slip>,
+    slip: Slip,
+    grid: &Grid,
+    to: ServerSet,
+    except: ServerSet,
+) -> usize
+    requires { vec_len slips.old + grid.now.rows * grid.now.cols ≤ vec_capacity slips.old }
+    ensures count { result ≡ length (rising grid.now (apart (servers to) (servers except))) }
+    ensures pushed { slips.new.items ≡ slips.old.items ++ map (slip_to slip) (rising grid.now (apart (servers to) (servers except))) }
+{
+    let mut count = 0;
+    for server in 0..grid.servers() {
+        if to.has(server) && !except.has(server) {
+            slips.push_reserved(Slip {
+                server: server as u8,
+                ..slip
+            });
+            count += 1;
+        }
+    }
+    count
+}
+
 // The envelopes of a tenant in order of sending, lost ones included.
 #[derive(Debug, Drop)]
 pub(crate) struct Envelopes {
-    envelopes: Vec<Envelope>,
+    headings: Vec<Heading>,
+    slips: Vec<Slip>,
 }
 
 impl Model for Envelopes {
-    ghost use Rattle.std.specs.Prelude.{List};
+    ghost use Rattle.std.specs.Prelude.{List, map};
     ghost use Rattle.gq_post.specs.declared.envelopes.Envelope.{Envelope};
+    ghost use Rattle.gq_post.specs.Slips.{opened, HaveHeadings};
 
     ghost Value = { List Envelope };
 
-    ghost view = { λ l. l.envelopes.items };
+    ghost view = { λ l. map (opened l.headings.items) l.slips.items };
+
+    ghost invariant = { λ l. HaveHeadings l.headings.items l.slips.items };
 }
 
 impl Envelopes {
@@ -123,33 +230,57 @@ impl Envelopes {
         ensures { result ≡ [] }
     {
         Envelopes {
-            envelopes: Vec::new(alloc),
+            headings: Vec::new(alloc),
+            slips: Vec::new(alloc),
         }
     }
 
     pub(crate) fn count(&self) -> usize
         ensures { result ≡ length self.now }
     {
-        self.envelopes.len()
+        self.slips.len()
     }
 
     // The envelope of this number, or none where it was never sent or is lost.
-    #[inline]
+    #[inline(always)]
     pub(crate) fn envelope(&self, number: u64) -> Option<Envelope>
         ensures { result ≡ envelope_at self.now number }
     {
-        let envelope = self.envelopes.get(number as usize).copied()?;
-        if envelope.says.is_lost() {
+        let slip = self.slips.get(number as usize).copied()?;
+        if slip.says.is_lost() {
             return None;
         }
-        Some(envelope)
+        Some(opened(self.headings.as_slice(), slip))
     }
 
+    // Sends an envelope under a heading of its own.
     fn push(&mut self, envelope: Envelope) -> Result<(), AllocError>
         ensures ok { OnOk result (self.new ≡ self.old ++ envelope ∷ []) }
         ensures err { OnErr result (self.new ≡ self.old) }
     {
-        self.envelopes.push(envelope)?;
+        let slip = Slip::of(envelope, self.headings.len())?;
+        self.slips.reserve(1)?;
+        self.headings.push(Heading::of(envelope))?;
+        self.slips.push_reserved(slip);
+        Ok(())
+    }
+
+    // Sends an answer to the envelope of this number, under the same heading.
+    #[inline(always)]
+    fn push_answer(&mut self, number: u64, says: Says, place: usize) -> Result<(), AllocError>
+        requires { number < length self.old }
+        ensures ok { OnOk result ((asked : Envelope) → slice_get self.old number ≡ Some asked → self.new ≡ self.old ++ answering asked says place ∷ []) }
+        ensures err { OnErr result (self.new ≡ self.old) }
+    {
+        let Ok(place) = u32::try_from(place) else {
+            return Err(AllocError);
+        };
+        let asked = self.slips[number as usize];
+        self.slips.push(Slip {
+            place,
+            says,
+            ..asked
+        })?;
         Ok(())
     }
 
@@ -165,29 +296,27 @@ impl Envelopes {
         ensures ok { OnOk result (self.new ≡ self.old ++ map (to_other envelope) (rising grid.now (apart (servers to) (servers except)))) }
         ensures err { OnErr result (self.new ≡ self.old) }
     {
-        self.envelopes.reserve(grid.servers())?;
-        let mut count = 0;
-        for server in 0..grid.servers() {
-            if to.has(server) && !except.has(server) {
-                self.envelopes.push_reserved(Envelope {
-                    server: server as u8,
-                    ..envelope
-                });
-                count += 1;
-            }
-        }
-        Ok(count)
+        let slip = Slip::of(envelope, self.headings.len())?;
+        self.slips.reserve(grid.servers())?;
+        self.headings.push(Heading::of(envelope))?;
+        Ok(push_slips(&mut self.slips, slip, grid, to, except))
     }
 
-    // Loses the envelope of this number.
-    fn lose(&mut self, number: u64, envelope: Envelope)
-        requires { number < length self.old }
-        ensures { self.new ≡ slice_set self.old number (lost envelope) }
+    // Loses the envelope of this number, if there is one, and answers it.
+    fn lose(&mut self, number: u64) -> Option<Envelope>
+        ensures envelope { result ≡ envelope_at self.old number }
+        ensures some { IfSome result (λ envelope. self.new ≡ slice_set self.old number (lost envelope)) }
+        ensures none { IfNone result (self.new ≡ self.old) }
     {
-        self.envelopes[number as usize] = Envelope {
+        let slip = self.slips.get(number as usize).copied()?;
+        if slip.says.is_lost() {
+            return None;
+        }
+        self.slips[number as usize] = Slip {
             says: Says::Lost,
-            ..envelope
+            ..slip
         };
+        Some(opened(self.headings.as_slice(), slip))
     }
 }
 
@@ -225,6 +354,28 @@ pub(crate) fn push_round(
     lanes[tenant as usize].push_round(envelope, grid, to, except)
 }
 
+// Sends an answer to the tenant's envelope of this number, and answers the number of the answer.
+#[inline(always)]
+pub(crate) fn push_answer(
+    lanes: &mut Vec<Envelopes>,
+    tenant: u8,
+    number: u64,
+    says: Says,
+    place: usize,
+) -> Result<u64, AllocError>
+    requires tenant { tenant < length lanes.old.items }
+    requires there { IsSome (envelope_at (envelopes_at lanes.old.items tenant) number) }
+    ensures number { IfOk result (λ number. number ≡ length (envelopes_at lanes.old.items tenant)) }
+    ensures ok { OnOk result ((asked : Envelope) → envelope_at (envelopes_at lanes.old.items tenant) number ≡ Some asked →
+        lanes.new.items ≡ slice_set lanes.old.items tenant (envelopes_at lanes.old.items tenant ++ answering asked says place ∷ [])) }
+    ensures err { OnErr result (lanes.new.items ≡ lanes.old.items) }
+{
+    let lane = &mut lanes[tenant as usize];
+    let count = lane.count();
+    lane.push_answer(number, says, place)?;
+    Ok(count as u64)
+}
+
 // Loses the tenant's envelope of this number; none where it was never sent or is lost already.
 pub(crate) fn lose(lanes: &mut Vec<Envelopes>, tenant: u8, number: u64) -> Option<Envelope>
     requires { tenant < length lanes.old.items }
@@ -232,8 +383,5 @@ pub(crate) fn lose(lanes: &mut Vec<Envelopes>, tenant: u8, number: u64) -> Optio
     ensures some { IfSome result (λ envelope. lanes.new.items ≡ slice_set lanes.old.items tenant (slice_set (envelopes_at lanes.old.items tenant) number (lost envelope))) }
     ensures none { IfNone result (lanes.new.items ≡ lanes.old.items) }
 {
-    let lane = &mut lanes[tenant as usize];
-    let envelope = lane.envelope(number)?;
-    lane.lose(number, envelope);
-    Some(envelope)
+    lanes[tenant as usize].lose(number)
 }

@@ -135,14 +135,7 @@ impl Post {
         ensures sent { OnOk result ((message : Message) → message_at (lane_at self.old tenant) number ≡ Some message → self.new ≡ slice_set self.old tenant (lane_at self.old tenant ++ Some (record message { body = Body.Stored }) ∷ [])) }
         ensures same { OnErr result (self.new ≡ self.old) }
     {
-        let Some(asked) = self.lanes[tenant as usize].envelope(number) else {
-            unreachable!();
-        };
-        let envelope = Envelope {
-            says: Says::Stored,
-            ..asked
-        };
-        let number = envelopes::push(&mut self.lanes, tenant, envelope)?;
+        let number = envelopes::push_answer(&mut self.lanes, tenant, number, Says::Stored, 0)?;
         Ok(number)
     }
 
@@ -164,57 +157,33 @@ impl Post {
         ensures same { OnErr result (self.new ≡ self.old) }
     {
         if copies::can_share(&self.copies, hint, tag, bytes) {
-            let Some(asked) = self.lanes[tenant as usize].envelope(number) else {
-                unreachable!();
-            };
-            let envelope = Envelope {
-                place: hint,
-                says: Says::Copy,
-                ..asked
-            };
-            let number = envelopes::push(&mut self.lanes, tenant, envelope)?;
+            let number = envelopes::push_answer(&mut self.lanes, tenant, number, Says::Copy, hint)?;
             copies::add_user(&mut self.copies, hint);
             return Ok(CopySent { number, hint });
         }
-        let bytes = Bytes::copy_from_slice(self.alloc, bytes)?;
-        let hint = self.copies.vacant_key();
-        let number = self.reply(tenant, number, Body::Copy(StoredCopy { tag, bytes }))?;
-        Ok(CopySent { number, hint })
+        self.reply_own_copy(tenant, number, tag, bytes)
     }
 
-    // Sends the tenant's message of this number an answer that says `body`.
-    fn reply(&mut self, tenant: u8, number: u64, body: Body) -> Result<u64, AllocError>
+    // The same, with a copy that is made for it.
+    fn reply_own_copy(
+        &mut self,
+        tenant: u8,
+        number: u64,
+        tag: Tag,
+        bytes: &[u8],
+    ) -> Result<CopySent, AllocError>
         requires tenant { tenant < length self.old }
         requires there { IsSome (message_at (lane_at self.old tenant) number) }
-        ensures number { IfOk result (λ sent. sent ≡ length (lane_at self.old tenant)) }
-        ensures sent { OnOk result ((message : Message) → message_at (lane_at self.old tenant) number ≡ Some message → self.new ≡ slice_set self.old tenant (lane_at self.old tenant ++ Some (record message { body = body }) ∷ [])) }
+        ensures number { IfOk result (λ sent. sent.number ≡ length (lane_at self.old tenant)) }
+        ensures sent { OnOk result ((message : Message) → message_at (lane_at self.old tenant) number ≡ Some message → self.new ≡ slice_set self.old tenant (lane_at self.old tenant ++ Some (record message { body = Body.Copy (record { tag = tag; bytes = bytes.now }) }) ∷ [])) }
         ensures same { OnErr result (self.new ≡ self.old) }
     {
-        let Some(asked) = self.get(tenant, number) else {
-            unreachable!();
-        };
-        let MessageView {
-            tenant: of,
-            session,
-            op,
-            round,
-            server,
-            file,
-            body: _,
-        } = asked;
-        let message = Message {
-            tenant: of,
-            session,
-            op,
-            round,
-            server,
-            file,
-            body,
-        };
-        match self.send(tenant, message) {
-            Ok(sent) => Ok(sent),
-            Err(_) => Err(AllocError),
-        }
+        let bytes = Bytes::copy_from_slice(self.alloc, bytes)?;
+        self.copies.reserve(1)?;
+        let hint = self.copies.vacant_key();
+        let number = envelopes::push_answer(&mut self.lanes, tenant, number, Says::Copy, hint)?;
+        copies::keep(&mut self.copies, Body::Copy(StoredCopy { tag, bytes }), 1);
+        Ok(CopySent { number, hint })
     }
 
     /// The tenant's message of this number, or none where it was never sent or is lost. Its copy is lent.

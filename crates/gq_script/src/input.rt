@@ -87,20 +87,21 @@ fn write_line(alloc: Global, text: &[u8]) -> Result<Line, AllocError>
 }
 
 // The line of the words after a tenant's name. The most frequent kinds are seen without a search for the ends of words.
+#[inline(always)]
 #[tactic(auto, unfolding(crate::specs::Input::line_of))]
 fn tenant_line(alloc: Global, text: &[u8]) -> Result<Line, AllocError>
     ensures { IfOk result (λ line. line ≡ line_of (words_after text.now)) }
 {
-    match text {
-        b" quorum" => return Ok(Line::Quorum),
-        b" volumes" => return Ok(Line::Volumes),
-        _ => {}
-    }
     if let Some(word) = text.strip_prefix(b" deliver ".as_slice()) {
         return match number(word) {
             Some(number) => Ok(Line::Deliver { number }),
             None => Ok(Line::Bad),
         };
+    }
+    match text {
+        b" quorum" => return Ok(Line::Quorum),
+        b" volumes" => return Ok(Line::Volumes),
+        _ => {}
     }
     if let Some(word) = text.strip_prefix(b" lose ".as_slice()) {
         return match number(word) {
@@ -216,6 +217,7 @@ pub fn read_line(alloc: Global, line: &[u8], plan: &Plan) -> Result<Event, Alloc
 }
 
 /// The event of a line that is cut behind its first word, as [`read_line`] reads it.
+#[inline(always)]
 #[tactic(auto, unfolding(crate::specs::Input::event_of_words))]
 pub fn read_cut_line(
     alloc: Global,

@@ -269,6 +269,7 @@ impl ServerStore {
     /// greatest that was put; one that comes late, or twice, changes nothing. (So do the servers of Attiya, Bar-Noy and
     /// Dolev, Sharing memory robustly in message-passing systems, JACM 42(1), 1995.) The content has at most
     /// [`gq_pool::BLOCK_BYTES`] bytes for each block of the file. It takes no memory and always finds the blocks.
+    #[inline(always)]
     pub fn put(&mut self, file: FileId, tag: Tag, bytes: &[u8]) -> Put
         requires limit { IfSome (file_limit self.old file) (λ limit. length bytes.now ≤ limit) }
         requires there { IsSome (file_limit self.old file) }
@@ -289,6 +290,7 @@ impl ServerStore {
     }
 
     // Puts the copy in the place of the file's.
+    #[inline(always)]
     fn replace(&mut self, file: FileId, tag: Tag, bytes: &[u8])
         requires limit { IfSome (file_limit self.old file) (λ limit. length bytes.now ≤ limit) }
         requires there { IsSome (file_limit self.old file) }

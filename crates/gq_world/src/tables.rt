@@ -139,6 +139,7 @@ impl Core {
     }
 
     // One event.
+    #[inline(always)]
     pub(crate) fn advance(&mut self, event: &Event) -> Result<Answer, AllocError>
         requires tenant { IsIn self.old.plan event.now }
         requires sound { AllSound self.old }

@@ -96,6 +96,7 @@ impl World {
     /// Answers the next event. A tenant's line is answered as in that tenant's run by itself, over its own lines and the
     /// server lines before, whatever the other tenants did; a server line by the server lines before it. `Ended` comes
     /// first where memory is wanting in the call, and from then on for each event, with nothing changed.
+    #[inline(always)]
     pub fn step(&mut self, event: &Event) -> Result<Answer, Ended>
         requires { IsIn self.old.tables.plan event.now }
         ensures answer { IfOk result (λ answer. (events : List Event) → Stands self.old.tables events →

@@ -1,43 +1,23 @@
--- One envelope more, or none.
-use Rattle.std.proofs.Common.{◌≡◌, ◌∙◌, ◌++◌, ◌∷◌, [], ◌+◌, ◌≤◌, ap, sym, arith, true, false, length, append_assoc}
-use Rattle.std.specs.Prelude.{vec_len, vec_capacity}
+-- The slips under the heading are the envelopes to the servers.
+use Rattle.std.proofs.Common.{◌≡◌, ◌∙◌, ◌++◌, length, map, refl, ap, arith}
+use Rattle.std.specs.Prelude.{vec_len}
+use Rattle.gq_grid.specs.Grid.{rising}
 use Rattle.gq_grid.specs.Sets.{servers}
 use Rattle.gq_round.specs.Round.{apart}
-use Rattle.gq_round.proofs.Lists.{map_filter_more, map_filter_same, length_more, apart-true, apart-left, apart-right}
 use Rattle.gq_post.specs.Envelopes.{to_other}
+use Rattle.gq_post.specs.Slips.{heading_of, slip_of}
+use Rattle.gq_post.proofs.Slips.{have_round, pushed_round}
 use Rattle.gq_post.proofs.envelopes.Envelopes.push_round.Goals as goal
-use Rattle.gq_post.proofs.envelopes.Envelopes.push_round.Goals.{then-has+then-not-has, else-has, else-has-via-then-has+else-not-has, else-has-via-else-has}
 
-pub loop-server-preserved : goal.loop-server-preserved
-loop-server-preserved c =
-    elim c.if-has.branch [
-      | then-has+then-not-has w ↦
-          let passes : apart (servers c.args.to) (servers c.args.except) c.loop-server.server ≡ true =
-          apart-true (servers c.args.to) (servers c.args.except) c.loop-server.server (sym c.has.ensures ∙ w.if-has.true) (sym w.has-then-has.ensures ∙ w.if-not-has.true) in
-          let few : c.loop-server.count ≤ c.loop-server.server = c.loop-server.invariant.2 in
-          let room : vec_len c.loop-server.self-inside.envelopes + c.servers-server-end.result ≤ vec_capacity c.loop-server.self-inside.envelopes + c.loop-server.server = c.loop-server.invariant.3 in
-          rw (w.count-is, w.self-inside-is) (
-            w.push_reserved.ensures.items
-                ∙ ap (λ items. items ++ to_other c.args.envelope c.loop-server.server ∷ []) c.loop-server.invariant.0
-                ∙ append_assoc c.reserve.new.self.items _ (to_other c.args.envelope c.loop-server.server ∷ [])
-                ∙ ap (λ more. c.reserve.new.self.items ++ more) (sym (map_filter_more (to_other c.args.envelope) (apart (servers c.args.to) (servers c.args.except)) c.loop-server.server passes)),
-            length_more (to_other c.args.envelope) (apart (servers c.args.to) (servers c.args.except)) c.loop-server.server c.loop-server.count passes c.loop-server.invariant.1,
-            (omega (arith, few)),
-            (omega (arith, room, w.push_reserved.ensures.len, w.push_reserved.ensures.capacity)),
-          )
-      | else-has w ↦
-          let fails : apart (servers c.args.to) (servers c.args.except) c.loop-server.server ≡ false =
-          elim w.else-has.branch [
-            | else-has-via-then-has+else-not-has v ↦ apart-right (servers c.args.to) (servers c.args.except) c.loop-server.server (sym c.has.ensures ∙ v.if-has.true) (sym v.has-then-has.ensures ∙ v.if-not-has.false)
-            | else-has-via-else-has v ↦ apart-left (servers c.args.to) (servers c.args.except) c.loop-server.server (sym c.has.ensures ∙ v.if-has.false)
-          ] in
-          let few : c.loop-server.count ≤ c.loop-server.server = c.loop-server.invariant.2 in
-          let room : vec_len c.loop-server.self-inside.envelopes + c.servers-server-end.result ≤ vec_capacity c.loop-server.self-inside.envelopes + c.loop-server.server = c.loop-server.invariant.3 in
-          let same = map_filter_same (to_other c.args.envelope) (apart (servers c.args.to) (servers c.args.except)) c.loop-server.server fails in
-          rw (w.count-is, w.self-inside-is) (
-            c.loop-server.invariant.0 ∙ ap (λ more. c.reserve.new.self.items ++ more) (sym same),
-            c.loop-server.invariant.1 ∙ sym (ap length same),
-            (omega (arith, few)),
-            (omega (arith, room)),
-          )
-    ]
+pub invariant_of-self-2 : goal.invariant_of-self-2
+invariant_of-self-2 c =
+    let place : vec_len c.self.inside.headings ≡ length c.self.inside.headings.items = omega arith in
+    rw (c.push_slips.ensures.pushed, c.in_ok-push.ensures.items, c.of-2.ensures, c.reserve.ensures.items, c.in_ok-slip.ensures, c.len.ensures, place)
+    (have_round c.self.inside.headings.items c.self.inside.slips.items (heading_of c.args.envelope) (slip_of c.args.envelope (length c.self.inside.headings.items)) (rising c.args.grid.now (apart (servers c.args.to) (servers c.args.except))) refl c.self.invariant)
+
+pub returns-clause-ok : goal.returns-clause-ok
+returns-clause-ok c =
+    let place : vec_len c.self.inside.headings ≡ length c.self.inside.headings.items = omega arith in
+    rw (c.push_slips.ensures.pushed, c.in_ok-push.ensures.items, c.of-2.ensures, c.reserve.ensures.items, c.in_ok-slip.ensures, c.len.ensures, place)
+    (pushed_round c.self.inside.headings.items c.self.inside.slips.items c.args.envelope (rising c.args.grid.now (apart (servers c.args.to) (servers c.args.except))) c.self.invariant
+    ∙ ap (λ lane. lane ++ map (to_other c.args.envelope) (rising c.args.grid.now (apart (servers c.args.to) (servers c.args.except)))) c.self.view_is)

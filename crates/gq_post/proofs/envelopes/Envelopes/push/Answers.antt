@@ -1,0 +1,11 @@
+-- The slip under the heading is the envelope.
+use Rattle.std.proofs.Common.{◌≡◌, ◌∙◌, ◌++◌, ◌∷◌, [], length, ap, arith}
+use Rattle.std.specs.Prelude.{vec_len}
+use Rattle.gq_post.proofs.Slips.{pushed}
+use Rattle.gq_post.proofs.envelopes.Envelopes.push.Goals as goal
+
+pub returns-clause-ok : goal.returns-clause-ok
+returns-clause-ok c =
+    let place : vec_len c.self.inside.headings ≡ length c.self.inside.headings.items = omega arith in
+    rw (c.push_reserved.ensures.items, c.in_ok-push.ensures.items, c.of-2.ensures, c.reserve.ensures.items, c.in_ok-slip.ensures, c.len.ensures, place)
+    (pushed c.self.inside.headings.items c.self.inside.slips.items c.args.envelope c.self.invariant ∙ ap (λ lane. lane ++ c.args.envelope ∷ []) c.self.view_is)
