@@ -23,6 +23,7 @@ under h slip =
 abbrev pub no_heading : Heading
 no_heading = record { op = 0; round = 0; volume = 0; file = 0; tenant = 0; file_tenant = 0; session = 0 }
 
+-- the envelope of a slip, its heading looked up; one that is not there counts as `no_heading`
 abbrev pub opened : List Heading → Slip → Envelope
 opened headings slip = under (slice_index_or headings slip.heading no_heading) slip
 

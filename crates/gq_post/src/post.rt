@@ -30,8 +30,8 @@ pub struct CopySent {
 }
 
 /// The messages of all tenants: for each tenant a lane of its messages in order of sending, numbered from 0. A message stays
-/// until it is lost; its number is then nobody's. A copy lies once for all messages that have it, and its place serves the
-/// next message of any tenant once the last of them is lost.
+/// until it is lost; its number is then nobody's. Messages may share a copy, whose place serves the next message of any
+/// tenant once the last of them is lost.
 #[derive(Debug, Drop)]
 pub struct Post {
     copies: Slab<SharedCopy>,
