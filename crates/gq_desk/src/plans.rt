@@ -199,6 +199,7 @@ impl Plan {
     }
 
     /// The place, from 0, of the tenant of which the word is the name; none also where the word is no name.
+    #[inline(always)]
     pub fn find_word(&self, word: &[u8]) -> Option<u8>
         ensures place { result ≡ position_from (is_of word.now) 0 self.now.rows }
         ensures within { IfSome result (λ place. place < length self.now.rows) }
@@ -211,6 +212,7 @@ impl Plan {
     }
 
     // The place of the row of the word, where it is the likely one; none says nothing.
+    #[inline(always)]
     fn likely_place(&self, word: &[u8]) -> Option<usize>
         ensures place { IfSome result (λ place. position_from (is_of word.now) 0 self.now.rows ≡ Some place) }
         ensures within { IfSome result (λ place. place < length self.now.rows) }

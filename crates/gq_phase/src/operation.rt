@@ -71,6 +71,7 @@ impl Operation {
 
     /// Begins a write of the content: round 1, which asks a quorum of the servers of `up` for their copies. `floor` is
     /// the session's own last number. Answers the operation and the asks in rising server number.
+    #[inline(always)]
     pub fn write(
         alloc: Global,
         grid: &Grid,

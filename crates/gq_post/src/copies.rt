@@ -19,7 +19,7 @@ pub(crate) struct SharedCopy {
 }
 
 // What the envelope says, its copy lent.
-#[inline]
+#[inline(always)]
 pub(crate) fn body_said(copies: &Slab<SharedCopy>, envelope: Envelope) -> Option<BodyView<'_>>
     ensures { option_map body_of result ≡ said envelope.says (copy_at copies.now.slots envelope.place) }
 {
@@ -33,6 +33,7 @@ pub(crate) fn body_said(copies: &Slab<SharedCopy>, envelope: Envelope) -> Option
 }
 
 // Whether there is an equal copy at the place, and room for one user more.
+#[inline(always)]
 pub(crate) fn can_share(copies: &Slab<SharedCopy>, place: usize, tag: Tag, bytes: &[u8]) -> bool
     ensures { IsTrue result ↔ IsSomeAnd (get copies.now place) (λ shared. (shared.copy ≡ record { tag = tag; bytes = bytes.now }) × (shared.users < usize.MAX)) }
 {
@@ -74,6 +75,7 @@ pub(crate) fn keep(copies: &mut Slab<SharedCopy>, body: Body, users: usize)
 }
 
 // Gives the copy at the place so many users.
+#[inline(always)]
 fn set_users(copies: &mut Slab<SharedCopy>, place: usize, users: usize)
     ensures { Updates copies.old copies.new place (with_users users (get copies.old place)) }
 {
@@ -83,6 +85,7 @@ fn set_users(copies: &mut Slab<SharedCopy>, place: usize, users: usize)
 }
 
 // Gives the copy at the place one user more.
+#[inline(always)]
 pub(crate) fn add_user(copies: &mut Slab<SharedCopy>, place: usize)
     requires { IsSomeAnd (get copies.old place) (λ shared. shared.users < usize.MAX) }
     ensures { IsSomeAnd (get copies.old place) (λ shared. Updates copies.old copies.new place (Some (record shared { users = shared.users + 1 }))) }

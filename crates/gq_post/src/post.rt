@@ -129,6 +129,7 @@ impl Post {
 
     /// Sends the answer `stored` to the tenant's message of this number, in the same round, and answers the number of
     /// the answer. Where memory is wanting nothing changes.
+    #[inline(always)]
     pub fn reply_stored(&mut self, tenant: u8, number: u64) -> Result<u64, AllocError>
         requires tenant { tenant < length self.old }
         requires there { IsSome (message_at (lane_at self.old tenant) number) }
@@ -143,6 +144,7 @@ impl Post {
     /// Sends the tenant's message of this number the answer with a copy of that tag and content, in the same round.
     /// `hint` is where an equal copy may lie: it is looked at, and shared where it is equal. Where memory is wanting
     /// nothing changes.
+    #[inline(always)]
     pub fn reply_copy(
         &mut self,
         tenant: u8,
@@ -188,7 +190,7 @@ impl Post {
     }
 
     /// The tenant's message of this number, or none where it was never sent or is lost. Its copy is lent.
-    #[inline]
+    #[inline(always)]
     pub fn get(&self, tenant: u8, number: u64) -> Option<MessageView<'_>>
         requires { tenant < length self.now }
         ensures { result ≡ message_at (lane_at self.now tenant) number }

@@ -113,6 +113,7 @@ fn tenant_line(alloc: Global, text: &[u8]) -> Result<Line, AllocError>
 }
 
 // The same, word by word.
+#[inline(always)]
 #[tactic(auto, unfolding(crate::specs::Input::line_of))]
 fn line_of_words(alloc: Global, text: &[u8]) -> Result<Line, AllocError>
     ensures { IfOk result (λ line. line ≡ line_of (words_after text.now)) }
@@ -179,6 +180,7 @@ fn line_of_words(alloc: Global, text: &[u8]) -> Result<Line, AllocError>
 }
 
 // The server line of the words after `server`.
+#[inline(always)]
 #[tactic(auto, unfolding(crate::specs::Input::server_line_of))]
 fn server_line(text: &[u8]) -> ServerLine
     ensures { result ≡ server_line_of (words_after text.now) }

@@ -57,6 +57,7 @@ fn put_server_refusal(out: &mut Vec<u8>, refusal: ServerRefusal) -> Result<(), A
 }
 
 // Appends the words of how an operation ended, and the newline.
+#[inline(always)]
 fn put_done(out: &mut Vec<u8>, outcome: &Outcome) -> Result<(), AllocError>
     ensures ok { OnOk result (out.new.items ≡
         out.old.items ++ ended (codes "done" ∷ outcome_words outcome.now)) }
@@ -95,6 +96,7 @@ fn put_done(out: &mut Vec<u8>, outcome: &Outcome) -> Result<(), AllocError>
 }
 
 // Appends the words of an answer, and the newline.
+#[inline(always)]
 #[tactic(auto, unfolding(crate::specs::Output::told_words))]
 fn put_answer(out: &mut Vec<u8>, grid: &Grid, answer: &Answer) -> Result<(), AllocError>
     ensures ok { OnOk result (out.new.items ≡
@@ -198,6 +200,7 @@ fn put_who(out: &mut Vec<u8>, plan: &Plan, event: &Event) -> Result<(), AllocErr
 }
 
 // Appends the line of the answer to an event.
+#[inline(always)]
 fn put_line(
     out: &mut Vec<u8>,
     plan: &Plan,
@@ -214,6 +217,7 @@ fn put_line(
 }
 
 // Appends the line of a chosen quorum, whose words are put together only where they are not those of the last one.
+#[inline(always)]
 #[tactic(auto, unfolding(crate::specs::Output::told_words))]
 fn put_quorum_line(
     out: &mut Vec<u8>,

@@ -193,13 +193,27 @@ pub fn answer_lines(
     })
 }
 
-// The answers to the lines of a text after the plan.
+// The answers to the lines of a text after the plan. The loop is that of `answer_lines` without what is kept there: so no
+// event or answer has to lie in memory whole (docs/DECISIONS.md, Speed).
 fn answers(alloc: Global, plan: Plan, lines: &[u8]) -> Result<Vec<u8>, AllocError>
     ensures { IfOk result (λ text. text.items ≡ joined (output_lines plan (lines_of lines.now))) }
 {
     let mut world = World::new(alloc, plan)?;
-    let told = answer_lines(alloc, &mut world, lines, None)?;
-    Ok(told.text)
+    let mut text = Vec::new(alloc);
+    let mut quorum = QuorumText::new(alloc, *world.plan().grid());
+    let mut rest = lines;
+    while !rest.is_empty() {
+        let (first, words, after) = cut_line(rest);
+        let event = read_cut_line(alloc, first, words, world.plan())?;
+        let Ok(answer) = world.step(&event) else {
+            return Err(AllocError);
+        };
+        write_next_answer(world.plan(), &event, &answer, &mut quorum, &mut text)?;
+        drop(event);
+        drop(answer);
+        rest = after;
+    }
+    Ok(text)
 }
 
 // The output of an input.

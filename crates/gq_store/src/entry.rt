@@ -77,6 +77,7 @@ impl Entry {
     }
 
     // Gives the blocks of the old content back and takes those of the new one.
+    #[inline(always)]
     pub(crate) fn put(&mut self, pool: &mut Pool, tag: Tag, bytes: &[u8])
         requires fits { pool.old + taken self.old < 2 ^ 64 }
         requires room { blocks_for (length bytes.now) ≤ pool.old + taken self.old }

@@ -226,6 +226,7 @@ impl ServerStore {
     ///
     /// `AllocError` is want of memory, for a content that is longer than what `out` has room for: `out` may then have
     /// anything.
+    #[inline(always)]
     pub fn read(&self, file: FileId, out: &mut Vec<u8>) -> Result<Tag, AllocError>
         requires { IsSome (file_limit self.now file) }
         ensures content { OnOk result (out.new.items ≡ (copy_at self.now file).bytes) }

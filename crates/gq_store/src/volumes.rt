@@ -75,6 +75,7 @@ impl Volume {
     }
 
     // Puts another copy in the file's place.
+    #[inline(always)]
     fn put(&mut self, pool: &mut Pool, file: u32, tag: Tag, bytes: &[u8])
         requires there { file < length self.old.copies }
         requires fits { pool.old + taken (copy_in self.old file) < 2 ^ 64 }
@@ -149,6 +150,7 @@ impl Tenant {
     }
 
     // Puts another copy in the file's place.
+    #[inline(always)]
     pub(crate) fn put(&mut self, pool: &mut Pool, volume: u32, file: u32, tag: Tag, bytes: &[u8])
         requires volume { volume < length self.old.volumes }
         requires file { file < length (volume_in self.old volume).copies }

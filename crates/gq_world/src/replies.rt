@@ -23,6 +23,7 @@ pub(crate) enum Response {
 
 /// What the server's store does with a message that it does not refuse: a store is put, and of an ask the content of the
 /// file's copy is read into `content`. The message then waits for that answer.
+#[inline(always)]
 pub(crate) fn serve(
     store: &mut ServerStore,
     content: &mut Vec<u8>,
@@ -49,6 +50,7 @@ pub(crate) fn serve(
 
 /// Sends the answer to the tenant's message of this number, and answers its number. The store and the post leave each other
 /// a hint at equal copies.
+#[inline(always)]
 pub(crate) fn answer(
     post: &mut Post,
     store: &mut ServerStore,

@@ -11,6 +11,7 @@ use gq_post::Post;
 use std::alloc::AllocError;
 
 /// Sends what an operation of the tenant says, and tells it.
+#[inline(always)]
 pub(crate) fn answer_heard(post: &mut Post, tenant: u8, heard: Heard) -> Result<Answer, AllocError>
     requires { tenant < length post.old }
     ensures answer { IfOk result (λ answer. shown answer ≡ heard_told (length (lane_at post.old tenant)) heard) }

@@ -93,6 +93,7 @@ impl Seats {
     }
 
     // A message comes to its session, where the servers of `up` are up.
+    #[inline(always)]
     pub(crate) fn hear(
         &mut self,
         message: &MessageView<'_>,
@@ -116,6 +117,7 @@ impl Seat {
     ghost use Rattle.gq_world.specs.Seats.{SeatHears, FloorIsBelow};
 
     // A message comes to the session.
+    #[inline(always)]
     fn hear(&mut self, message: &MessageView<'_>, up: ServerSet) -> Result<Heard, AllocError>
         requires server { message.now.server < MOST_SERVERS }
         requires number { copied_number message.now.body < u64.MAX }

@@ -157,6 +157,7 @@ impl Core {
     // ---- lines of a tenant
 
     // A line of a tenant.
+    #[inline(always)]
     fn tenant_line(&mut self, tenant: u8, line: &Line) -> Result<Answer, AllocError>
         requires tenant { tenant < length self.old.plan.rows }
         requires sound { AllSound self.old }
@@ -171,6 +172,7 @@ impl Core {
     }
 
     // Takes one of the tenant's steps, where one is left.
+    #[inline(always)]
     fn take_step(&mut self, tenant: u8) -> bool
         requires { tenant < length self.old.plan.rows }
         ensures left { result ≡ not (nat_le (row_at self.old.plan tenant).steps (taken_at self.old tenant)) }
@@ -189,6 +191,7 @@ impl Core {
     }
 
     // A line of a tenant, whose step is taken.
+    #[inline(always)]
     fn act(&mut self, tenant: u8, line: &Line) -> Result<Answer, AllocError>
         requires tenant { tenant < length self.old.plan.rows }
         requires ready { IsReady self.old tenant }
@@ -316,6 +319,7 @@ impl Core {
     }
 
     // Why a request of the session to write the content to the file is refused, the choice of a quorum apart.
+    #[inline(always)]
     fn write_refusal(
         &self,
         tenant: u8,
@@ -362,6 +366,7 @@ impl Core {
     }
 
     // A line that begins a write.
+    #[inline(always)]
     fn write(
         &mut self,
         tenant: u8,
@@ -537,6 +542,7 @@ impl Core {
     // ---- messages
 
     // A line that delivers a message.
+    #[inline(always)]
     fn deliver(&mut self, tenant: u8, number: u32) -> Result<Answer, AllocError>
         requires tenant { tenant < length self.old.plan.rows }
         requires ready { IsReady self.old tenant }
@@ -589,6 +595,7 @@ impl Core {
     }
 
     // A server line.
+    #[inline(always)]
     fn server_line(&mut self, line: &ServerLine) -> Answer
         ensures answer { Tells self.old (Event.Server line.now) (shown result) }
         ensures advances { Advances self.old (Event.Server line.now) self.new }

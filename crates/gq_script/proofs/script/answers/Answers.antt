@@ -1,0 +1,46 @@
+use Rattle.std.proofs.Common.{◌≡◌, ◌∙◌, [], ◌∷◌, ◌++◌, ap, sym, subst, refl, length}
+use Rattle.std.proofs.lemmas.Bool.{eqb-true}
+use Rattle.std.specs.Prelude.{None}
+use Rattle.gq_desk.specs.CheckedPlan.{CheckedPlan}
+use Rattle.gq_model.specs.declared.events.Event.{Event}
+use Rattle.gq_model.specs.Events.{answer_to}
+use Rattle.gq_model.specs.Shown.{shown}
+use Rattle.gq_world.specs.Tables.{Stands}
+use Rattle.gq_script.specs.Input.{event_of, event_of_words}
+use Rattle.gq_script.specs.Lines.{lines_of}
+use Rattle.gq_script.specs.Words.{words_after}
+use Rattle.gq_script.specs.Output.{answer_line}
+use Rattle.gq_script.specs.QuorumText.{Held}
+use Rattle.gq_script.proofs.Answering.{keeps_first, keeps_more, keeps_all}
+use Rattle.gq_script.proofs.script.answers.Goals as goal
+
+pub loop-rest-init : goal.loop-rest-init
+loop-rest-init c = record {
+  grid = ap (λ (held : Held). held.grid) c.new-quorum.ensures ∙ (c.grid.ensures ∙ ap (λ (p : CheckedPlan). p.grid) c.plan.ensures);
+  kept = rw (c.new-text.ensures.items) (keeps_first c.args.plan None c.in_ok-world.world.tables (lines_of c.args.lines.now) c.in_ok-world.ensures.plan c.in_ok-world.ensures.stands);
+}
+
+pub loop-rest-preserved : goal.loop-rest-preserved
+loop-rest-preserved c =
+    let plan : CheckedPlan = c.loop-rest.world.tables.plan in let first = c.cut_line.result.0.now in let words = words_after c.cut_line.result.1.now in
+    let line = first ++ c.cut_line.result.1.now in let e = c.in_ok-event.event in let text = c.loop-rest.text.items in
+    let reads : e ≡ event_of plan line =
+    c.in_ok-event.ensures.event ∙ (ap (λ (p : CheckedPlan). event_of_words p (first ∷ words)) c.plan-in-loop-rest.ensures ∙ ap (event_of_words plan) (sym c.cut_line.ensures.words)) in
+    record {
+      grid = c.write_next_answer.ensures.grid ∙ c.loop-rest.invariant.grid ∙ sym (ap (λ (p : CheckedPlan). p.grid) c.step.ensures.plan);
+      kept = keeps_more c.args.plan None c.loop-rest.world.tables c.step.new.self.tables [] [] [] []
+          text c.write_next_answer.new.out.items line _ _ _ e c.in-Ok.answer c.loop-rest.invariant.kept c.cut_line.ensures.lines c.step.ensures.plan reads
+          (λ before stands. c.in-Ok.ensures.answer before stands ∙ ap (answer_to plan before) reads)
+          (λ before stands. subst (λ (x : Event). Stands c.step.new.self.tables (before ++ x ∷ [])) reads (c.in-Ok.ensures.stands before stands))
+          (λ before stands. c.in_ok-write_next_answer.ensures.ok
+          ∙ ap (λ (p : CheckedPlan). text ++ answer_line p e (shown c.in-Ok.answer)) (c.plan-in-loop-rest-2.ensures ∙ c.step.ensures.plan)
+          ∙ ap (λ told. text ++ answer_line plan e told) (c.in-Ok.ensures.answer before stands)
+          ∙ ap (λ (x : Event). text ++ answer_line plan x (answer_to plan before x)) reads)
+          refl refl;
+    }
+
+pub returns : goal.returns
+returns c =
+    let all = keeps_all c.args.plan None c.loop-rest.world.tables [] [] c.loop-rest.text.items c.loop-rest.rest.now (lines_of c.args.lines.now) c.loop-rest.invariant.kept
+    (eqb-true (length c.loop-rest.rest.now) 0 (sym c.is_empty.ensures ∙ c.loop-rest-test.false)) in
+    all.0

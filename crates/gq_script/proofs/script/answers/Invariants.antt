@@ -1,0 +1,13 @@
+use Rattle.std.proofs.Common.{◌≡◌, [], None, length}
+use Rattle.gq_script.specs.Lines.{lines_of}
+use Rattle.gq_script.proofs.Answering.{Keeps}
+use Rattle.gq_script.proofs.script.answers.Given as goal
+
+abbrev pub invariant-loop-rest : goal.invariant-loop-rest
+invariant-loop-rest l = record {
+  grid : l.quorum.grid ≡ l.world.tables.plan.grid;
+  kept : Keeps l.fn.plan None l.world.tables [] [] l.text.items (lines_of l.rest) (lines_of l.fn.lines);
+}
+
+abbrev pub decreases-loop-rest : goal.decreases-loop-rest
+decreases-loop-rest l = length l.rest
