@@ -1,13 +1,15 @@
 """Lines of sessions that write, read and list files on a grid of servers, and the deliveries of what they send.
 
 The lines follow the answers that they will get, as far as these give numbers: how many messages each tenant has sent, which
-of them are under way, and for each session its round and the servers heard in it. So few of them are refused.
+of them are under way, for each session its round and the servers heard in it, and the tags of all copies, by which a read or a
+listing leaves its store rounds out. So few of them are refused.
 """
 
 FILES = 4
 BLOCKS = 16
 MOST_DOWN = 4
 REPEATED = 0.02
+FIRST = (0, 0)
 
 
 def least_whole(parts, servers):
@@ -21,24 +23,28 @@ class Grid:
         self.rows = [sum(1 << cols * row + col for col in range(cols)) for row in range(rows)]
         self.cols = [sum(1 << cols * row + col for row in range(rows)) for col in range(cols)]
 
-    def quorum(self, servers):
-        """The least row and the least column that are whole, or none."""
-        row, col = least_whole(self.rows, servers), least_whole(self.cols, servers)
-        return row | col if row and col else 0
+    def quorum(self, servers, number):
+        """Of a round of this number the least row, where it collects, or the least column that is whole; or none."""
+        return least_whole(self.rows if number % 2 else self.cols, servers)
 
 
 class Session:
     def __init__(self, tenant, number):
         self.tenant, self.number = tenant, number
-        # A round of 0: there is no operation.
-        self.op, self.round, self.last_round, self.heard = 0, 0, 0, 0
-        # Messages as number, server, operation, round, and whether it is a reply.
+        # A round of 0: there is no operation. The last collect round of an operation, and whether it writes.
+        self.op, self.round, self.last_collect, self.writes = 0, 0, 0, False
+        self.heard, self.file, self.last_number = 0, 0, 0
+        # Of the round the greatest tag heard and the servers that told it, or the tag that it stores.
+        self.tag, self.givers = FIRST, 0
+        # Messages as number, server, operation, round, file, tag or none, and whether it is a reply.
         self.under_way = []
 
 
 class Tenant:
     def __init__(self, name, sessions):
         self.name, self.sent = name, 0
+        # The tags of the servers' copies, of which each file has the first at first.
+        self.tags = {}
         self.sessions = [Session(self, number) for number in range(1, sessions + 1)]
 
 
@@ -52,7 +58,6 @@ class Lines:
         self.tenants = [Tenant(name, sessions) for name in names]
         self.grid = Grid(rows, cols)
         self.up = sum(self.grid.rows)
-        self.quorum = self.grid.quorum(self.up)
         self.opens = [f"{name} open {files} {blocks}\n" for name in reversed(names)]
 
     def __iter__(self):
@@ -68,12 +73,11 @@ class Lines:
         return f"{tenant.name} {self.ask(session)}\n"
 
     def change(self):
-        # (the more are down, the likelier one comes up: so there is a quorum most of the time)
+        # (the more are down, the likelier one comes up: so a row and a column are up most of the time)
         down = [server for server in self.grid.servers if not self.up >> server & 1]
         comes_up = self.draw.randrange(MOST_DOWN) < len(down) or len(down) == len(self.grid.servers)
         server = self.draw.choice(down if comes_up else [server for server in self.grid.servers if server not in down])
         self.up ^= 1 << server
-        self.quorum = self.grid.quorum(self.up)
         return f"server {server} {'up' if self.up >> server & 1 else 'down'}\n"
 
     def ask(self, session):
@@ -89,25 +93,27 @@ class Lines:
         return self.deliver(session)
 
     def send(self, session, servers):
-        tenant = session.tenant
+        tenant, tag = session.tenant, None if session.round % 2 else session.tag
         for server in self.grid.servers:
             if servers >> server & 1:
-                session.under_way.append((tenant.sent, server, session.op, session.round, False))
+                session.under_way.append((tenant.sent, server, session.op, session.round, session.file, tag, False))
                 tenant.sent += 1
 
-    def begin_round(self, session, number):
-        session.round, session.heard = number, 0
+    def begin_round(self, session, number, tag=FIRST):
+        session.round, session.heard, session.tag, session.givers = number, 0, tag, 0
         # Few messages of earlier rounds stay under way.
         del session.under_way[1:]
         if number:
-            self.send(session, self.quorum)
+            self.send(session, self.grid.quorum(self.up, number))
 
     def begin(self, session):
         file = self.draw.randrange(self.files)
         kind = self.draw.random()
-        if self.quorum:
+        if self.grid.quorum(self.up, 1):
             session.op += 1
-            session.last_round = 2 if kind < 1 - self.listed else 2 * self.files
+            listed = kind >= 1 - self.listed
+            session.writes, session.file = kind < 0.70, 0 if listed else file
+            session.last_collect = 2 * self.files - 1 if listed else 1
             self.begin_round(session, 1)
         if kind < 0.70:
             # (short contents are more common than long ones: the logarithm of the length is drawn)
@@ -122,7 +128,7 @@ class Lines:
         return f"abandon {session.number}"
 
     def retry(self, session):
-        self.send(session, self.quorum & ~session.heard)
+        self.send(session, self.grid.quorum(self.up, session.round) & ~session.heard)
         return f"retry {session.number}"
 
     def take(self, session):
@@ -134,15 +140,51 @@ class Lines:
 
     def deliver(self, session):
         message = self.take(session)
-        number, server, op, round_number, is_reply = message
+        number, server, op, round_number, file, tag, is_reply = message
         if self.draw.random() < REPEATED:
             session.under_way.append(message)
         if not is_reply:
             if self.up >> server & 1:
-                session.under_way.append((session.tenant.sent, server, op, round_number, True))
+                told = self.serve(session.tenant, server, file, tag)
+                session.under_way.append((session.tenant.sent, server, op, round_number, file, told, True))
                 session.tenant.sent += 1
         elif (op, round_number) == (session.op, session.round):
-            session.heard |= 1 << server
-            if self.grid.quorum(session.heard):
-                self.begin_round(session, (session.round + 1) % (session.last_round + 1))
+            self.hear(session, server, tag)
         return f"deliver {number}"
+
+    def serve(self, tenant, server, file, tag):
+        """The tag that the server tells: of its copy to an ask, which has no tag, and none to a store."""
+        copy = tenant.tags.get((server, file), FIRST)
+        if tag is None:
+            return copy
+        tenant.tags[server, file] = max(copy, tag)
+        return None
+
+    def hear(self, session, server, tag):
+        session.heard |= 1 << server
+        if session.round % 2 == 0:
+            if least_whole(self.grid.cols, session.heard):
+                self.end_file(session)
+            return
+        if tag > session.tag:
+            session.tag, session.givers = tag, 0
+        if tag == session.tag:
+            session.givers |= 1 << server
+        if not least_whole(self.grid.rows, session.heard):
+            return
+        if session.writes:
+            session.last_number = max(session.tag[0], session.last_number) + 1
+            self.begin_round(session, 2, (session.last_number, session.number))
+        elif least_whole(self.grid.cols, session.givers):
+            self.end_file(session)
+        else:
+            self.begin_round(session, session.round + 1, session.tag)
+
+    def end_file(self, session):
+        """The next file of a listing is collected, or the operation is done."""
+        collected = session.round - 1 + session.round % 2
+        if collected == session.last_collect:
+            self.begin_round(session, 0)
+        else:
+            session.file += 1
+            self.begin_round(session, collected + 2)

@@ -17,7 +17,7 @@ TAG = rb"tag %s %s" % (N, N)
 RANGE = rb"(?P<first>%s) to (?P<last>%s)" % (N, N)
 DELIVERIES = re.compile(
     rb"reply (?P<reply>%s)|down|stale|noted" % N
-    + rb"|round %s(?: %s)? sent (?:none|%s)" % (N, TAG, RANGE)
+    + rb"|round (?P<round>%s)(?P<tag> %s)? sent (?:none|%s)" % (N, TAG, RANGE)
     + rb"|done (?:write (?P<write>%s) %s %s" % (N, N, TAG)
     + rb"|read (?P<read>%s) %s %s (?:-|(?:[0-9a-f]{2})+)" % (N, N, TAG)
     + rb"|list (?P<list>%s) %s(?: %s:%s\.%s)+)" % (N, N, N, N, N)
@@ -135,6 +135,13 @@ class Servers:
         row = next((place for place, servers in enumerate(rows) if servers <= self.up), None)
         col = next((place for place, servers in enumerate(cols) if servers <= self.up), None)
         self.quorum = None if None in (row, col) else (row, col, sorted(rows[row] | cols[col]))
+        self.row_up, self.column_up = row is not None, col is not None
+
+    def asked(self, round):
+        """How many servers a round that begins now sends to: those of a row where it collects, of a column where it stores."""
+        if round % 2:
+            return self.cols if self.row_up else 0
+        return self.rows if self.column_up else 0
 
     def answer(self, words):
         """The answer to a server line, by the words behind the first."""
@@ -159,10 +166,12 @@ class Tenant:
 
     def __init__(self, row, servers):
         self.row, self.servers = row, servers
-        self.lines, self.sent = 0, 0
+        self.lines = 0
         self.volumes, self.free = [], row.share
         self.ops = [0] * (row.sessions + 1)
-        self.busy, self.lost, self.replies = set(), set(), set()
+        # the round of each session's operation, the session of each message, and which messages are replies
+        self.rounds = [None] * (row.sessions + 1)
+        self.owners, self.lost, self.replies = [], set(), set()
 
     def check(self, words, answer):
         """Takes a line, by the words behind the first, and its answer."""
@@ -218,7 +227,7 @@ class Tenant:
     def begun(self, session, volume, file=0, content=b""):
         if not 1 <= session <= self.row.sessions:
             return b"refused nosession"
-        if session in self.busy:
+        if self.rounds[session]:
             return b"refused busy"
         if volume >= len(self.volumes):
             return b"refused novolume"
@@ -227,30 +236,33 @@ class Tenant:
             return b"refused nofile"
         if len(content) // 2 > BLOCK * blocks:
             return b"refused toolong"
-        if not self.servers.quorum:
+        asked = self.servers.asked(1)
+        if not asked:
             return b"refused noquorum"
-        self.busy.add(session)
+        self.rounds[session] = 1
         self.ops[session] += 1
-        first, self.sent = self.sent, self.sent + len(self.servers.quorum[2])
-        return b"op %d sent %d to %d" % (self.ops[session], first, self.sent - 1)
+        return b"op %d sent %s" % (self.ops[session], self.sending(session, asked))
 
     def gone_on(self, verb, session, answer):
         if not 1 <= session <= self.row.sessions:
             return b"refused nosession"
-        if session not in self.busy:
+        if not self.rounds[session]:
             return b"refused idle"
         if verb == b"abandon":
-            self.busy.remove(session)
+            self.rounds[session] = None
             return b"abandoned"
-        if not self.servers.quorum:
+        asked = self.servers.asked(self.rounds[session])
+        if not asked:
             return b"refused noquorum"
         told = RESENT.fullmatch(answer)
         if not told:
             return b"resent .."
-        return self.sending(told, answer)
+        # (it is sent to those of them that were not heard, which no answer tells)
+        count = int(told["last"]) - int(told["first"]) + 1
+        return b"resent " + self.sending(session, min(max(count, 1), asked))
 
     def met(self, verb, message, answer):
-        if message >= self.sent or message in self.lost:
+        if message >= len(self.owners) or message in self.lost:
             return b"refused nomessage"
         if verb == b"lose":
             self.lost.add(message)
@@ -260,25 +272,40 @@ class Tenant:
         goes_to_server = answer == b"down" or told and told["reply"]
         if not told or bool(goes_to_server) == (message in self.replies):
             return b"what is told to a session" if message in self.replies else b"what is told to a server"
+        session = self.owners[message]
         if told["reply"]:
-            self.replies.add(self.sent)
-            self.sent += 1
-            return b"reply %d" % (self.sent - 1)
+            self.replies.add(len(self.owners))
+            return b"reply %s" % self.sending(session, 1).split()[0]
+        if told["round"]:
+            return self.gone_to(session, told)
         done = told["write"] or told["read"] or told["list"]
         if done:
-            if int(done) not in self.busy:
+            if int(done) != session or not self.rounds[session]:
                 return b"an end of an operation that is there"
-            self.busy.remove(int(done))
-        return self.sending(told, answer) if told["first"] else answer
-
-    def sending(self, told, answer):
-        """Takes an answer that sends messages: at most a quorum's, of the next numbers."""
-        first, last = int(told["first"]), int(told["last"])
-        most = self.sent + self.servers.rows + self.servers.cols - 2
-        if not first == self.sent <= last <= most:
-            return b"messages %d to %d at most" % (self.sent, most)
-        self.sent = last + 1
+            if told["write"] and self.rounds[session] != 2:
+                return b"an end of a write that has stored its copy"
+            if told["read"] and self.rounds[session] > 2:
+                return b"an end of a read"
+            self.rounds[session] = None
+        elif answer == b"noted" and not self.rounds[session]:
+            return b"stale"
         return answer
+
+    def gone_to(self, session, told):
+        """What is told where a session's next round begins: a store round, or after a store round that was left out a collect
+        round."""
+        last, round = self.rounds[session], int(told["round"])
+        if not last or round not in ([last + 1, last + 2] if last % 2 else [last + 1]) or bool(told["tag"]) != (round % 2 == 0):
+            return b"a round that can follow %s" % last
+        self.rounds[session] = round
+        asked = self.servers.asked(round)
+        return b"round %d%s sent %s" % (round, told["tag"] or b"", self.sending(session, asked) if asked else b"none")
+
+    def sending(self, session, count):
+        """The numbers of so many messages of the session, which are sent now."""
+        first = len(self.owners)
+        self.owners += [session] * count
+        return b"%d to %d" % (first, first + count - 1)
 
 
 def check_answers(plan, lines, output):

@@ -60,7 +60,8 @@ The input is a plan, and after its line `go` the lines of tenants and servers:
     NAME list S V                       session S begins to list the files of volume V, one after another: no snapshot
     NAME deliver N                      deliver message N of the tenant, to its server or to its session
     NAME lose N                         lose message N
-    NAME retry S                        send the message of session S's round again, to servers that were not heard in it
+    NAME retry S                        send the message of session S's round again, to each server that it has not heard in the
+                                        round of the row, or of the column, that is up now
     NAME abandon S                      give the operation of session S up
     server N down                       server N stops
     server N up                         server N returns
@@ -68,6 +69,13 @@ The input is a plan, and after its line `go` the lines of tenants and servers:
 Words are separated by one space. NAME is 1 to 16 letters a to z, and not `server`. HEX is two hexadecimal digits for each
 byte, or `-` for the empty content. The other words in capitals are numbers: 0, or digits of which the first is no 0; at most
 4294967295. Sessions are numbered from 1, servers, volumes, files and messages from 0.
+
+An operation goes on in rounds, numbered from 1. An odd round asks each server of a row for its copy of the file, and ends
+when the servers of some full row have answered. An even round sends a copy to each server of a column to be stored, and ends
+when the servers of some full column have answered. The row and the column are the least of which all servers are up at that
+moment. Where there is none, a request or a retry is answered `noquorum`, and a later round begins and sends nothing (`none`). A
+write has the rounds 1 and 2, and so has a read; a listing has the rounds 2K+1 and 2K+2 for file K. A read or a listing leaves an
+even round out where a full column told the newest copy already.
 
 A write from its request to its end, on the plan `grid 1 1`, `blocks 1`, `tenant ann 1 1 100`; beside each line its answer:
 

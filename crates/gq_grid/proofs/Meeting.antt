@@ -1,9 +1,9 @@
--- Two sets that cover share a server, and the chosen servers cover.
-use Rattle.std.proofs.Common.{◌≡◌, ℕ, zero, suc, ◌+◌, ◌*◌, ◌<◌, ◌≤◌, Bool, true, false, refl, sym, ◌∙◌, inl, inr, Option, Some, None, is_some, arith, eqb, mul-zero}
+-- A set with a row and a set with a column share a server, so do two sets that cover, and the chosen servers cover.
+use Rattle.std.proofs.Common.{◌≡◌, ℕ, zero, suc, ◌+◌, ◌*◌, ◌<◌, ◌≤◌, Bool, true, false, refl, sym, ◌∙◌, inl, inr, Option, Some, None, is_some, arith, eqb, mul-zero, zero-mul}
 use Rattle.std.specs.List.{find, list_all, list_any, range_with_len}
 use Rattle.std.proofs.lemmas.Bool.{and_parts, and_from, cases_Bool, cases_eq, eq-eqb, or_left, or_right, true≢false}
-use Rattle.gq_grid.specs.Grid.{Grid, Servers, server_at, is_full_row, is_full_column, least_row, least_column, has_row, has_column, covers, no_servers, row_servers, column_servers, either, Choice, choose, choice_servers}
-use Rattle.gq_grid.specs.Laws.{CoveringSetsMeet, ChosenSetsCover}
+use Rattle.gq_grid.specs.Grid.{Grid, Servers, server_at, is_full_row, is_full_column, least_row, least_column, has_row, has_column, covers, no_servers, row_servers, column_servers, either, choice_servers}
+use Rattle.gq_grid.specs.Laws.{CoveringSetsMeet, ChosenSetsCover, RowsMeetColumns, RowUpIsRow, ColumnUpIsColumn}
 use Rattle.gq_grid.proofs.Agreeing.{placed}
 
 -- ---- the numbers from a on
@@ -81,20 +81,19 @@ row_meets_column grid left right r c in_rows in_cols row column =
     (all_at (λ y. left (server_at grid r y)) 0 grid.cols c row (omega arith) (omega arith), all_at (λ x. right (server_at grid x c)) 0 grid.rows r column (omega arith) (omega arith))
 
 -- a set with a full row and a set with a full column share a server of the grid
-pub rowed_meets_columned : (grid : Grid) (left right : Servers) → has_row grid left ≡ true → has_column grid right ≡ true →
-    (server : ℕ) × (server < grid.rows * grid.cols) × (left server ≡ true) × (right server ≡ true)
-rowed_meets_columned grid left right row column =
-    let r = found (is_full_row grid left) 0 grid.rows row in
-    let c = found (is_full_column grid right) 0 grid.cols column in
-    let both = row_meets_column grid left right r.0 c.0 (omega arith) (omega arith) r.3 c.3 in
+pub rows_meet_columns : RowsMeetColumns
+rows_meet_columns grid rowed columned row column =
+    let r = found (is_full_row grid rowed) 0 grid.rows row in
+    let c = found (is_full_column grid columned) 0 grid.cols column in
+    let both = row_meets_column grid rowed columned r.0 c.0 (omega arith) (omega arith) r.3 c.3 in
     (server_at grid r.0 c.0, placed grid.rows grid.cols r.0 c.0 (omega arith) (omega arith), both.0, both.1)
 
 -- any two sets that cover share a server
 pub covers_meet : CoveringSetsMeet
 covers_meet grid left right first second =
-    rowed_meets_columned grid left right (and_parts (has_row grid left) (has_column grid left) first).0 (and_parts (has_row grid right) (has_column grid right) second).1
+    rows_meet_columns grid left right (and_parts (has_row grid left) (has_column grid left) first).0 (and_parts (has_row grid right) (has_column grid right) second).1
 
--- a set with all servers of another has its rows, its columns, and covers where it does
+-- a set with all servers of another has its rows and its columns
 pub has_row_more : (grid : Grid) (fewer more : Servers) → ((server : ℕ) → server < grid.rows * grid.cols → fewer server ≡ true → more server ≡ true) → has_row grid fewer ≡ true → has_row grid more ≡ true
 has_row_more grid fewer more within h =
     let r = found (is_full_row grid fewer) 0 grid.rows h in
@@ -111,39 +110,56 @@ has_column_more grid fewer more within h =
     (λ r low high. within (server_at grid r c.0) (placed grid.rows grid.cols r c.0 (omega arith) (omega arith))
     (all_at (λ r. fewer (server_at grid r c.0)) 0 grid.rows r c.3 low high)))
 
-pub covers_more : (grid : Grid) (fewer more : Servers) → ((server : ℕ) → server < grid.rows * grid.cols → fewer server ≡ true → more server ≡ true) → covers grid fewer ≡ true → covers grid more ≡ true
-covers_more grid fewer more within h =
-    let parts = and_parts (has_row grid fewer) (has_column grid fewer) h in
-    and_from (has_row grid more) (has_column grid more) (has_row_more grid fewer more within parts.0) (has_column_more grid fewer more within parts.1)
+-- nobody has a row or a column of a grid that has a server
+some_row : (rows cols : ℕ) → 0 < rows * cols → 0 < 0 + rows
+some_row zero cols h = absurd (omega (arith, zero-mul cols))
+some_row (suc rows) cols h = omega arith
 
--- no server covers no grid that has one
-pub covers-none : (grid : Grid) → 0 < grid.rows * grid.cols → covers grid no_servers ≡ false
-covers-none grid some =
-    elim (cases_Bool (covers grid no_servers)) [
+some_column : (rows cols : ℕ) → 0 < rows * cols → 0 < 0 + cols
+some_column rows zero h = absurd (omega (arith, mul-zero rows))
+some_column rows (suc cols) h = omega arith
+
+pub has_row-none : (grid : Grid) → 0 < grid.rows * grid.cols → has_row grid no_servers ≡ false
+has_row-none grid some =
+    elim (cases_Bool (has_row grid no_servers)) [
       | inl e ↦
-          let r = found (is_full_row grid no_servers) 0 grid.rows (and_parts (has_row grid no_servers) (has_column grid no_servers) e).0 in
-          absurd (true≢false (sym (all_at (λ c. no_servers (server_at grid r.0 c)) 0 grid.cols 0 r.3 (omega arith) (some_of grid.rows grid.cols some))))
+          let r = found (is_full_row grid no_servers) 0 grid.rows e in
+          absurd (true≢false (sym (all_at (λ c. no_servers (server_at grid r.0 c)) 0 grid.cols 0 r.3 (omega arith) (some_column grid.rows grid.cols some))))
       | inr e ↦ e
     ]
-  where
-    some_of : (rows cols : ℕ) → 0 < rows * cols → 0 < 0 + cols
-    some_of rows zero h = absurd (omega (arith, mul-zero rows))
-    some_of rows (suc cols) h = omega arith
+
+pub has_column-none : (grid : Grid) → 0 < grid.rows * grid.cols → has_column grid no_servers ≡ false
+has_column-none grid some =
+    elim (cases_Bool (has_column grid no_servers)) [
+      | inl e ↦
+          let c = found (is_full_column grid no_servers) 0 grid.cols e in
+          absurd (true≢false (sym (all_at (λ r. no_servers (server_at grid r c.0)) 0 grid.rows 0 c.3 (omega arith) (some_row grid.rows grid.cols some))))
+      | inr e ↦ e
+    ]
 
 -- the servers of a row of the grid have that row, and those of a column that column
-pub row_servers-row : (grid : Grid) (r : ℕ) (set : Servers) → r < grid.rows → has_row grid (either (row_servers grid r) set) ≡ true
-row_servers-row grid r set within =
-    find_from (is_full_row grid (either (row_servers grid r) set)) 0 grid.rows r (omega arith) (omega arith)
-    (all_from (λ c. either (row_servers grid r) set (server_at grid r c)) 0 grid.cols
-    (λ c low high. or_left (row_servers grid r (server_at grid r c)) (set (server_at grid r c))
-    (any_from (λ x. eqb (server_at grid r x) (server_at grid r c)) 0 grid.cols c low high (eq-eqb _ _ refl))))
+pub row_servers-row : (grid : Grid) (r : ℕ) → r < grid.rows → has_row grid (row_servers grid r) ≡ true
+row_servers-row grid r within =
+    find_from (is_full_row grid (row_servers grid r)) 0 grid.rows r (omega arith) (omega arith)
+    (all_from (λ c. row_servers grid r (server_at grid r c)) 0 grid.cols
+    (λ c low high. any_from (λ x. eqb (server_at grid r x) (server_at grid r c)) 0 grid.cols c low high (eq-eqb _ _ refl)))
 
-pub column_servers-column : (grid : Grid) (c : ℕ) (set : Servers) → c < grid.cols → has_column grid (either set (column_servers grid c)) ≡ true
-column_servers-column grid c set within =
-    find_from (is_full_column grid (either set (column_servers grid c))) 0 grid.cols c (omega arith) (omega arith)
-    (all_from (λ r. either set (column_servers grid c) (server_at grid r c)) 0 grid.rows
-    (λ r low high. or_right (set (server_at grid r c)) (column_servers grid c (server_at grid r c))
-    (any_from (λ x. eqb (server_at grid x c) (server_at grid r c)) 0 grid.rows r low high (eq-eqb _ _ refl))))
+pub column_servers-column : (grid : Grid) (c : ℕ) → c < grid.cols → has_column grid (column_servers grid c) ≡ true
+column_servers-column grid c within =
+    find_from (is_full_column grid (column_servers grid c)) 0 grid.cols c (omega arith) (omega arith)
+    (all_from (λ r. column_servers grid c (server_at grid r c)) 0 grid.rows
+    (λ r low high. any_from (λ x. eqb (server_at grid x c) (server_at grid r c)) 0 grid.rows r low high (eq-eqb _ _ refl)))
+
+-- what is up has a row, or a column
+pub row_up_is_row : RowUpIsRow
+row_up_is_row grid up row h =
+    let passes = found_passes (is_full_row grid up) 0 grid.rows row h in
+    row_servers-row grid row (omega arith)
+
+pub column_up_is_column : ColumnUpIsColumn
+column_up_is_column grid up col h =
+    let passes = found_passes (is_full_column grid up) 0 grid.cols col h in
+    column_servers-column grid col (omega arith)
 
 -- what is chosen covers
 pub choose_covers : ChosenSetsCover
@@ -155,8 +171,7 @@ choose_covers grid up choice h = go (least_row grid up) refl (least_column grid 
     go (Some r) is_row (Some c) is_col =
         let same : Some (record { row = r; col = c }) ≡ Some choice = rw (is_row, is_col) at h in
         let chosen : record { row = r; col = c } ≡ choice = cc in
-        let row_in = found_passes (is_full_row grid up) 0 grid.rows r is_row in
-        let col_in = found_passes (is_full_column grid up) 0 grid.cols c is_col in
-        rw (← chosen) (and_from (has_row grid (either (row_servers grid r) (column_servers grid c))) (has_column grid (either (row_servers grid r) (column_servers grid c)))
-        (row_servers-row grid r (column_servers grid c) (omega arith))
-        (column_servers-column grid c (row_servers grid r) (omega arith)))
+        let both : Servers = either (row_servers grid r) (column_servers grid c) in
+        rw (← chosen) (and_from (has_row grid both) (has_column grid both)
+        (has_row_more grid (row_servers grid r) both (λ server within in_row. or_left (row_servers grid r server) (column_servers grid c server) in_row) (row_up_is_row grid up r is_row))
+        (has_column_more grid (column_servers grid c) both (λ server within in_col. or_right (row_servers grid r server) (column_servers grid c server) in_col) (column_up_is_column grid up c is_col)))

@@ -1,6 +1,7 @@
 -- What makes covering sets quorums: any two of them meet (Maekawa 1985), and the chooser gives only such sets.
+-- What makes rows and columns split quorums: each row meets each column.
 use Rattle.std.specs.Prelude.{◌≡◌, ℕ, ◌*◌, ◌<◌, true, Some}
-use Rattle.gq_grid.specs.Grid.{Grid, Servers, Choice, covers, choose, choice_servers}
+use Rattle.gq_grid.specs.Grid.{Grid, Servers, Choice, covers, choose, choice_servers, has_row, has_column, least_row, least_column, row_servers, column_servers}
 
 -- any two sets that cover share a server of the grid
 abbrev pub CoveringSetsMeet : Type 0
@@ -12,3 +13,18 @@ CoveringSetsMeet =
 abbrev pub ChosenSetsCover : Type 0
 ChosenSetsCover =
     (grid : Grid) (up : Servers) (choice : Choice) → choose grid up ≡ Some choice → covers grid (choice_servers grid choice) ≡ true
+
+-- a set that has a full row and a set that has a full column share a server of the grid
+abbrev pub RowsMeetColumns : Type 0
+RowsMeetColumns =
+    (grid : Grid) (rowed columned : Servers) → has_row grid rowed ≡ true → has_column grid columned ≡ true →
+    (server : ℕ) × (server < grid.rows * grid.cols) × (rowed server ≡ true) × (columned server ≡ true)
+
+-- the servers of the least row that is up have a full row
+abbrev pub RowUpIsRow : Type 0
+RowUpIsRow = (grid : Grid) (up : Servers) (row : ℕ) → least_row grid up ≡ Some row → has_row grid (row_servers grid row) ≡ true
+
+-- the servers of the least column that is up have a full column
+abbrev pub ColumnUpIsColumn : Type 0
+ColumnUpIsColumn =
+    (grid : Grid) (up : Servers) (col : ℕ) → least_column grid up ≡ Some col → has_column grid (column_servers grid col) ≡ true

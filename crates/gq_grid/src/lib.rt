@@ -52,6 +52,20 @@ pub struct Choice {
     pub servers: ServerSet,
 }
 
+/// A row (numbered from 0) and all its servers.
+#[derive(Clone, Copy, Debug, PartialEq, Eq)]
+pub struct RowChoice {
+    pub row: usize,
+    pub servers: ServerSet,
+}
+
+/// A column (numbered from 0) and all its servers.
+#[derive(Clone, Copy, Debug, PartialEq, Eq)]
+pub struct ColumnChoice {
+    pub col: usize,
+    pub servers: ServerSet,
+}
+
 impl ServerSet {
     /// The set of no server.
     pub fn empty() -> ServerSet
@@ -97,12 +111,27 @@ impl ServerSet {
         set
     }
 
+    /// Whether the set holds all servers of some row. Any such set shares a server with any set that has a column
+    /// ([`laws::quorums_meet`](crate::laws::quorums_meet)).
+    pub fn has_row(&self, grid: &Grid) -> bool
+        ensures { result ≡ has_row grid.now (servers self.now) }
+    {
+        grid.least_row(*self).is_some()
+    }
+
+    /// Whether the set holds all servers of some column.
+    pub fn has_column(&self, grid: &Grid) -> bool
+        ensures { result ≡ has_column grid.now (servers self.now) }
+    {
+        grid.least_column(*self).is_some()
+    }
+
     /// Whether the set holds all servers of some row and all servers of some column. Any two sets that do share a
     /// server ([`laws::quorums_meet`](crate::laws::quorums_meet)).
     pub fn covers(&self, grid: &Grid) -> bool
         ensures { result ≡ covers grid.now (servers self.now) }
     {
-        grid.least_row(*self).is_some() && grid.least_column(*self).is_some()
+        self.has_row(grid) && self.has_column(grid)
     }
 }
 
@@ -230,6 +259,40 @@ impl Grid {
         for row in 0..self.rows {
             set.insert(row * self.cols + col);
         }
+    }
+
+    // The servers of the column.
+    fn column_set(&self, col: usize) -> ServerSet
+        requires { col < self.now.cols }
+        ensures { servers result ≡ column_servers self.now col }
+    {
+        let mut set = ServerSet::empty();
+        self.add_column(&mut set, col);
+        set
+    }
+
+    /// The least row that is wholly up where the servers of `up` are up, and its servers. None where no row is.
+    pub fn row_up(&self, up: ServerSet) -> Option<RowChoice>
+        ensures row { option_map (λ c. c.row) result ≡ least_row self.now (servers up) }
+        ensures servers { IfSome result (λ c. servers c.servers ≡ row_servers self.now c.row) }
+    {
+        let least = self.least_row(up)?;
+        Some(RowChoice {
+            row: least,
+            servers: self.row_set(least),
+        })
+    }
+
+    /// The least column that is wholly up where the servers of `up` are up, and its servers. None where no column is.
+    pub fn column_up(&self, up: ServerSet) -> Option<ColumnChoice>
+        ensures col { option_map (λ c. c.col) result ≡ least_column self.now (servers up) }
+        ensures servers { IfSome result (λ c. servers c.servers ≡ column_servers self.now c.col) }
+    {
+        let least = self.least_column(up)?;
+        Some(ColumnChoice {
+            col: least,
+            servers: self.column_set(least),
+        })
     }
 
     /// The quorum to ask where the servers of `up` are up: the least row and the least column that are wholly up, and

@@ -1,5 +1,5 @@
 -- What is known of an operation that has ended, and of a write that has made its tag.
-use Rattle.std.proofs.Common.{◌≡◌, ℕ, zero, suc, ◌+◌, ◌-◌, ◌*◌, ◌/◌, ◌<◌, max, true, false, List, [], ◌∷◌, length, refl, sym, ap, ◌∙◌, subst, Option, Some, None, arith, option_map}
+use Rattle.std.proofs.Common.{◌≡◌, ℕ, zero, suc, ◌+◌, ◌-◌, ◌*◌, ◌/◌, ◌<◌, max, true, false, List, [], ◌∷◌, ◌++◌, length, refl, sym, ap, ◌∙◌, subst, Option, Some, None, arith, option_map}
 use Rattle.std.specs.Prelude.{slice_get}
 use Rattle.std.proofs.lemmas.Bool.{true≢false}
 use Rattle.std.proofs.lemmas.Option.{slice_get-map}
@@ -9,7 +9,7 @@ use Rattle.gq_tag.specs.declared.StoredCopy.{StoredCopy}
 use Rattle.gq_tag.specs.Tag.{File, greatest, is_less}
 use Rattle.gq_tag.proofs.Order.{IsAtMost}
 use Rattle.gq_desk.specs.declared.plans.TenantRow.{TenantRow}
-use Rattle.gq_phase.specs.Phase.{Task, Reply, Writing, Reading, Listing, Operation, listed_row, is_collect, stored_copy, hear_reply, reply_of, with_reply, heard_copies, round_file}
+use Rattle.gq_phase.specs.Phase.{Task, Reply, Writing, Reading, Listing, Operation, listed_row, is_collect, stored_copy, hear_reply, reply_of, with_reply, with_decided, decided_copy, heard_copies, round_file}
 use Rattle.gq_phase.specs.declared.Outcome.{Outcome}
 use Rattle.gq_phase.specs.declared.Outcome.TheVariants.{Wrote}
 use Rattle.gq_model.specs.Trace.{files_of, Turn, Trace, Past, Begins, deed, up, volumes, task_of}
@@ -20,16 +20,17 @@ use Rattle.gq_laws.specs.declared.ops.Kind.TheVariants.{Write as Writes, Read as
 use Rattle.gq_laws.specs.declared.ops.Op.{Op}
 use Rattle.gq_laws.specs.Operations.{SessionAnswer, ending, write_tag, end_place, copy_told, row_told, is_write, Gives}
 use Rattle.gq_laws.proofs.Runs.{IsRun, IsKnown, Settled, Starts, op_start, starts}
+use Rattle.gq_phase.proofs.Saying.{even_is}
 use Rattle.gq_laws.proofs.Acts.{going}
 use Rattle.gq_laws.proofs.Floors.{new_tag}
 use Rattle.gq_laws.proofs.Reaching.{Goes, Reach, Here, Later, reach_join, reach_up, reach_run}
 use Rattle.gq_laws.proofs.Telling.{tells}
 use Rattle.gq_laws.proofs.Found.{last_at}
-use Rattle.gq_laws.proofs.Sessions.{Holds, file_at, all_settled, greatest_least, number_above, store_number}
-use Rattle.gq_laws.proofs.Invariant.{holds_with}
+use Rattle.gq_laws.proofs.Sessions.{Holds, file_at, all_settled, skip_settled, greatest_least, number_above, collect_number, store_number}
+use Rattle.gq_laws.proofs.Invariant.{holds_with, starts_along, skip_holds}
 use Rattle.gq_laws.proofs.InvariantKept.{invariant_along}
-use Rattle.gq_laws.proofs.Facts.{store_round_settles}
-use Rattle.gq_laws.proofs.RoundEnds.{Next, ToStore, ToCollect, next_of, IsDone, DoneWrite, DoneRead, DoneList, DoneBy, ByStore, done_of}
+use Rattle.gq_laws.proofs.Facts.{store_round_settles, skip_settles}
+use Rattle.gq_laws.proofs.RoundEnds.{Next, ToStore, ToCollect, Skips, next_of, IsDone, DoneWrite, DoneRead, DoneList, DoneBy, ByStore, BySkip, done_of}
 use Rattle.gq_laws.proofs.OperationMoments.{Ended, ended, Tags, tags, write_done, BegunAs, AsWrite, AsRead, AsRow}
 use Rattle.gq_laws.proofs.Beginnings.{OpAt}
 
@@ -107,6 +108,10 @@ final grid row p n es k task m outcome begin run start E = go (done_of grid (up 
 
     go : DoneBy grid o outcome → Final grid t task begin outcome
     go (ByStore even ends is) = final_from grid t task (round t k) o.heard o (starts t k) begin outcome refl is (E.start ∙ start) h even (store_round_settles grid row t run' k E.l task E.comes even ends)
+    go (BySkip odd ends skips is) =
+        let cs : List StoredCopy = collected t k ++ decided_copy o ∷ [] in
+        let settled = skip_settled grid t task (round t k) (collected t k) (decided_copy o) (collect_number (round t k) (length (collected t k)) odd h.standing) (skip_settles grid row t run' k E.l task E.comes skips) in
+        final_from grid t task (2 * length cs) [] (with_decided o) (record { op = op_start t k; round = t }) begin outcome refl is (E.start ∙ start) (skip_holds grid t o (starts t k) t h odd ends skips (starts_along t k).0) (even_is (length cs)) settled
 
 is_end : (en : Option (ℕ × Outcome)) (e : ℕ) → end_place en ≡ Some e → (outcome : Outcome) × (en ≡ Some (e, outcome))
 is_end None e h = absurd (let bad : None ≡ Some e = h in cc)
@@ -282,6 +287,7 @@ made_tag grid row file p n es a tag run o writes tagged = go o.begun.like
 
     turned : (bytes : List ℕ) (m : ℕ) (T : Tags grid row p' (o.m + 1) o.rest k (Writing file bytes) m tag) → Next grid (up T.q.trace) (with_reply (going T.q.trace k (Writing file bytes)) T.l) T.r (Some tag) T.g.e.new → MadeTag grid row file p n es a o.q.trace tag
     turned bytes m T (ToCollect v f lists even ends r_is tag_is new_is) = absurd (let bad : Some tag ≡ None = tag_is in cc)
+    turned bytes m T (Skips v f lists odd ends skips r_is tag_is new_is) = absurd (let bad : Some tag ≡ None = tag_is in cc)
     turned bytes m T (ToStore odd ends r_is tag_is new_is) =
         let t : Trace = T.q.trace in
         let run'' = reach_run T.reach run' in

@@ -4,11 +4,12 @@
 -- 2. `held_was_made`: what a server holds of a file is the first copy, or a copy with which the store round of a write of
 --    the file began; `made_tags_differ`: the tags of these rounds differ.
 -- 3. `store_round_settles`: once a store round of a copy has ended, the servers that ended it hold tags of at least the
---    copy's.
+--    copy's; `skip_settles`: so do the servers that told a copy's tag where the store round of the copy is left out.
 -- 4. `heard_was_held`: a copy heard in a collect round was held at its server at a moment since the round began.
 --
 -- A set that ends a store round and one that ends a collect round share a server. So by 1, 3 and 4 the greatest copy that a
--- collect round hears is at least each whose store round ended before the operation began (`greatest_least` in Sessions).
+-- collect round hears is at least each whose store round ended, or was left out, before the operation began
+-- (`greatest_least` in Sessions).
 use Rattle.std.proofs.Common.{◌≡◌, ℕ, true, false, Some}
 use Rattle.std.specs.Prelude.{Contains, slice_get}
 use Rattle.gq_grid.specs.Grid.{Grid}
@@ -17,15 +18,16 @@ use Rattle.gq_tag.specs.declared.Body.TheVariants.{Copy}
 use Rattle.gq_tag.specs.Tag.{File, OwnMessage}
 use Rattle.gq_tag.proofs.Order.{IsAtMost}
 use Rattle.gq_desk.specs.declared.plans.TenantRow.{TenantRow}
-use Rattle.gq_phase.specs.Phase.{Task, Reply, heard_servers, hear_reply, is_collect, reply_of, round_file, stored_copy}
+use Rattle.gq_phase.specs.Phase.{Task, Reply, heard_servers, hear_reply, is_collect, reply_of, round_file, stored_copy, with_reply, with_decided, decided_copy, skips_store}
 use Rattle.gq_phase.specs.Quorums.{ends_store}
 use Rattle.gq_model.specs.Trace.{Trace}
 use Rattle.gq_laws.proofs.Words.{current, round, heard, collected, held}
 use Rattle.gq_laws.proofs.Runs.{IsRun, IsKnown, Settled, Extends, HeldBetween, Made, made, round_start, starts}
-use Rattle.gq_laws.proofs.Acts.{Comes}
+use Rattle.gq_laws.proofs.Acts.{Comes, going}
 use Rattle.gq_laws.proofs.Holding.{held_since}
 use Rattle.gq_laws.proofs.Making as making
 use Rattle.gq_laws.proofs.Sessions.{stored_settled}
+use Rattle.gq_laws.proofs.Invariant as invariant
 use Rattle.gq_laws.proofs.Invariant.{holds_with}
 use Rattle.gq_laws.proofs.InvariantKept.{invariant_along}
 
@@ -43,6 +45,11 @@ pub store_round_settles : (grid : Grid) (row : TenantRow) (t : Trace) → IsRun 
 store_round_settles grid row t run k m task comes even ends =
     let all = hear_reply (heard t k) (reply_of m) in
     stored_settled grid t task (round t k) all (collected t k) (starts t k) (holds_with grid row t k m task run (invariant_along grid row t run) comes) even ends
+
+pub skip_settles : (grid : Grid) (row : TenantRow) (t : Trace) → IsRun grid row t → (k : ℕ) (m : OwnMessage) (task : Task) → Comes t k m task → skips_store grid (with_decided (with_reply (going t k task) m)) ≡ true →
+    Settled grid t (round_file task (round t k)) (decided_copy (with_reply (going t k task) m)).tag
+skip_settles grid row t run k m task comes skips =
+    invariant.skip_settles grid t (with_reply (going t k task) m) (starts t k) (holds_with grid row t k m task run (invariant_along grid row t run) comes) skips
 
 pub heard_was_held : (grid : Grid) (row : TenantRow) (t : Trace) → IsRun grid row t → (k : ℕ) (task : Task) → current t k ≡ Some task → (x : Reply) (c : StoredCopy) → Contains (heard t k) x → x.body ≡ Copy c →
     HeldBetween (round_start t k) t x.server (round_file task (round t k)) c

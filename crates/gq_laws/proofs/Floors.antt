@@ -9,7 +9,7 @@ use Rattle.gq_model.specs.Trace.{Entry, Trace, Deed, Elsewhere, Begins, Hears, M
 use Rattle.gq_laws.proofs.Words.{current, floor, heard}
 use Rattle.gq_laws.proofs.Runs.{Follows}
 use Rattle.gq_laws.proofs.Acts.{act, Turning, turning, going}
-use Rattle.gq_laws.proofs.RoundEnds.{Next, ToStore, ToCollect, next_of}
+use Rattle.gq_laws.proofs.RoundEnds.{Next, ToStore, ToCollect, Skips, next_of}
 
 -- the tag that a write of session k makes is the session's; its number is above the session's last one, and is then that
 pub new_tag : (grid : Grid) (row : TenantRow) (t : Trace) (e : Entry) (k : ℕ) (file : File) (bytes : List ℕ) (l : OwnMessage) (r : ℕ) (tag : Tag) → Follows grid row t e → deed k e ≡ Moves l r (Some tag) → current t k ≡ Some (Writing file bytes) →
@@ -32,6 +32,7 @@ new_tag grid row t e k file bytes l r tag follows does busy = by (next_of grid (
         let is : tag ≡ new = cc in
         (ap (λ z. z.session) is, omega (arith, ap (λ z. z.number) is), (rw (does, floor, busy)))
     by (ToCollect v f lists even ends r_is tag_is new_is) = absurd (let bad : Some tag ≡ None = tag_is in cc)
+    by (Skips v f lists odd ends skips r_is tag_is new_is) = absurd (let bad : Some tag ≡ None = tag_is in cc)
 
 -- with one more entry
 pub floor_grows : (grid : Grid) (row : TenantRow) (t : Trace) (e : Entry) (k : ℕ) → Follows grid row t e → floor t k ≤ floor (e ∷ t) k

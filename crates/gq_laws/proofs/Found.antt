@@ -1,15 +1,16 @@
 -- What is found in lists of copies and of replies.
 use Rattle.std.proofs.Common.{◌≡◌, ◌⊎◌, ℕ, zero, suc, ◌+◌, ◌<◌, Bool, true, false, ◌++◌, List, [], ◌∷◌, length, refl, sym, ap, ◌∙◌, subst, inl, inr, Some, None, arith, eqb}
-use Rattle.std.specs.Prelude.{Contains, slice_get, fold}
+use Rattle.std.specs.Prelude.{Contains, slice_get, fold, filter}
 use Rattle.std.specs.List.{list_any}
-use Rattle.std.proofs.lemmas.Bool.{true≢false, eqb-true}
+use Rattle.std.proofs.lemmas.Bool.{true≢false, eqb-true, and_parts}
 use Rattle.std.proofs.lemmas.List.Elements.{Contains-push_cases}
+use Rattle.gq_tag.specs.declared.Tag.{Tag}
 use Rattle.gq_tag.specs.declared.StoredCopy.{StoredCopy}
 use Rattle.gq_tag.specs.Tag.{first_copy, newer_of, greatest, is_less}
 use Rattle.gq_tag.specs.declared.Body.{Body}
 use Rattle.gq_tag.specs.declared.Body.TheVariants.{Ask, Copy, Store, Stored}
 use Rattle.gq_tag.proofs.Order.{IsAtMost, at_most_trans, newer_of-right}
-use Rattle.gq_phase.specs.Phase.{Reply, heard_servers, heard_copies, hear_reply, is_reply, stored_copy}
+use Rattle.gq_phase.specs.Phase.{Reply, heard_servers, heard_copies, hear_reply, is_reply, stored_copy, has_tag, givers}
 use Rattle.gq_laws.proofs.Holding.{fold_grows, greatest-cons}
 
 -- ---- places of a list
@@ -130,3 +131,38 @@ copies_to (y ∷ hs) x c (suc i) h is = go y.body refl (copies_to hs x c i h is)
     go Ask e later = (later.0, (rw e later.1))
     go (Store d) e later = (later.0, (rw e later.1))
     go Stored e later = (later.0, (rw e later.1))
+
+-- what passes a test is in the list, and passes
+filtered_in : (test : Reply → Bool) (hs : List Reply) (x : Reply) → Contains (filter test hs) x → Contains hs x × (test x ≡ true)
+filtered_in test [] x within = absurd (omega (arith, within.1))
+filtered_in test (y ∷ hs) x within = go (test y) refl (filtered_in test hs x)
+  where
+    Result : Type 0
+    Result = Contains (y ∷ hs) x × (test x ≡ true)
+
+    later : Contains hs x × (test x ≡ true) → Result
+    later r = let at = r.0 in ((suc at.0, omega (arith, at.1), at.2), r.1)
+
+    by : test y ≡ true → (Contains (filter test hs) x → Contains hs x × (test x ≡ true)) → Contains (y ∷ filter test hs) x → Result
+    by e ih (zero, low, is) = ((0, omega arith, is), ap test (sym is) ∙ e)
+    by e ih (suc i, low, is) = later (ih (i, omega arith, is))
+
+    go : (b : Bool) → test y ≡ b → (Contains (filter test hs) x → Contains hs x × (test x ≡ true)) → Result
+    go true e ih = by e ih (rw e at within)
+    go false e ih = later (ih (rw e at within))
+
+copy_of_tag : (tag : Tag) (b : Body) → has_tag tag b ≡ true → (c : StoredCopy) × (b ≡ Copy c) × (c.tag ≡ tag)
+copy_of_tag tag (Copy c) h =
+    let parts = and_parts (eqb c.tag.number tag.number) (eqb c.tag.session tag.session) h in
+    (c, refl, (λ i. record { number = eqb-true c.tag.number tag.number parts.0 i; session = eqb-true c.tag.session tag.session parts.1 i }))
+copy_of_tag tag Ask h = absurd (true≢false (sym h))
+copy_of_tag tag (Store c) h = absurd (true≢false (sym h))
+copy_of_tag tag Stored h = absurd (true≢false (sym h))
+
+-- a server that told a copy of the tag, with its reply and the copy
+pub giver_in : (tag : Tag) (hs : List Reply) (s : ℕ) → givers tag hs s ≡ true → (x : Reply) × (c : StoredCopy) × Contains hs x × (x.server ≡ s) × (x.body ≡ Copy c) × (c.tag ≡ tag)
+giver_in tag hs s gives =
+    let passed = server_in (filter (λ reply. has_tag tag reply.body) hs) s gives in
+    let told = filtered_in (λ reply. has_tag tag reply.body) hs passed.0 passed.1 in
+    let copy = copy_of_tag tag passed.0.body told.1 in
+    (passed.0, copy.0, told.0, passed.2, copy.1, copy.2)

@@ -85,6 +85,12 @@ extends_more e later earlier x = (e ∷ x.0, ap (λ z. e ∷ z) x.1)
 pub held_between_more : (e : Entry) (earlier later : Trace) (server : ℕ) (file : File) (copy : StoredCopy) → HeldBetween earlier later server file copy → HeldBetween earlier (e ∷ later) server file copy
 held_between_more e earlier later server file copy h = record { moment = h.moment; since = h.since; until = extends_more e later h.moment h.until; held_then = h.held_then }
 
+-- what a server holds is at least a copy that it held before
+pub held_between_most : (earlier later : Trace) (server : ℕ) (file : File) (copy : StoredCopy) → HeldBetween earlier later server file copy → IsAtMost copy.tag (held later server file).tag
+held_between_most earlier later server file copy h =
+    let P : StoredCopy → Type 0 = λ c. IsAtMost c.tag (held later server file).tag in
+    subst P h.held_then (held_since later h.moment server file h.until)
+
 -- a copy that was held since is at least what was held before
 pub held_between_least : (first earlier later : Trace) (server : ℕ) (file : File) (copy : StoredCopy) → Extends earlier first → HeldBetween earlier later server file copy → IsAtMost (held first server file).tag copy.tag
 held_between_least first earlier later server file copy extends h =

@@ -11,18 +11,20 @@ use Rattle.gq_tag.specs.declared.Body.{Body}
 use Rattle.gq_tag.specs.declared.Body.TheVariants.{Ask, Copy, Store, Stored}
 use Rattle.gq_tag.proofs.Order.{IsAtMost, less_at_most}
 use Rattle.gq_desk.specs.declared.plans.TenantRow.{TenantRow}
-use Rattle.gq_phase.specs.Phase.{Task, Reply, Writing, Reading, Listing, HeardNext, is_collect, round_file, stored_copy, heard_servers, heard_copies, hear_reply, reply_of, with_reply, decided_copy, hear_current}
-use Rattle.gq_phase.specs.Quorums.{ends_collect}
+use Rattle.gq_phase.specs.Phase.{Task, Reply, Writing, Reading, Listing, Operation, HeardNext, is_collect, round_file, stored_copy, heard_servers, heard_copies, hear_reply, reply_of, with_reply, with_decided, decided_copy, hear_current, givers, skips_store}
+use Rattle.gq_phase.specs.Quorums.{ends_collect, ends_store}
+use Rattle.gq_phase.proofs.Saying.{even_is}
 use Rattle.gq_model.specs.declared.events.Line.{Line}
 use Rattle.gq_model.specs.Trace.{Turn, Entry, Trace, Deed, Elsewhere, Begins, Hears, Moves, Ends, deed, sent, up, volumes, task_of}
 use Rattle.gq_model.specs.Told.{Told}
 use Rattle.gq_laws.proofs.Words.{held, current, round, heard, collected, op}
-use Rattle.gq_laws.proofs.Runs.{Follows, IsRun, IsKnown, made, made_of, Made, Extends, Starts, HeldBetween, op_start, round_start, starts}
+use Rattle.gq_laws.proofs.Runs.{Follows, IsRun, IsKnown, Settled, made, made_of, Made, Extends, Starts, HeldBetween, op_start, round_start, starts}
 use Rattle.gq_laws.proofs.Holding.{extends_more}
 use Rattle.gq_laws.proofs.Acts.{Act, Doing, Requests, Serves, Notes, Turns, Finishes, Resends, Abandons, Silent, Comes, act, going}
-use Rattle.gq_laws.proofs.RoundEnds.{Next, ToStore, ToCollect, next_of}
+use Rattle.gq_laws.proofs.RoundEnds.{Next, ToStore, ToCollect, Skips, next_of, write_stores, skip_ends, skip_greatest}
 use Rattle.gq_laws.proofs.SessionTurns.{Unmoved, elsewhere_unmoved, hears_unmoved}
-use Rattle.gq_laws.proofs.Sessions.{Holds, Shown, known_grows, holds_grow, holds_hear, holds_begin, holds_store, holds_next, stored_settled, greatest_least, greatest_known, number_above}
+use Rattle.gq_laws.proofs.Found.{stored-push}
+use Rattle.gq_laws.proofs.Sessions.{Holds, Shown, holds_grow, holds_hear, holds_begin, holds_store, holds_greatest, holds_next, collect_number, stored_settled, told_settled, skip_settled, greatest_least, number_above}
 
 -- ---- the invariant
 
@@ -183,19 +185,28 @@ begin_store_holds grid t e k l (Writing file bytes) r tag comes message does h o
 begin_store_holds grid t e k l (Reading file) r tag comes message does h odd ends tag_is =
     let o = with_reply (going t k (Reading file)) l in
     let since = extends_more e t (op_start t k) (starts_along t k).0 in
-    holds_store grid (e ∷ t) (Reading file) (round t k) o.heard (collected t k) (starts t k) (e ∷ t) (decided_copy o)
-    (holds_grow grid e t (Reading file) (round t k) o.heard (collected t k) (starts t k) h) odd since
-    (known_grows e t file (decided_copy o) (greatest_known grid t (Reading file) (round t k) o.heard (collected t k) (starts t k) h))
-    (λ x s. greatest_least grid t (Reading file) (round t k) o.heard (collected t k) (starts t k) x h odd ends s)
-    (λ f b x is s. absurd (let bad : Reading file ≡ Writing f b = is in cc))
+    holds_greatest grid (e ∷ t) (Reading file) (round t k) o.heard (collected t k) (starts t k) (e ∷ t)
+    (holds_grow grid e t (Reading file) (round t k) o.heard (collected t k) (starts t k) h) odd ends since
+    (λ f b is. let bad : Reading file ≡ Writing f b = is in cc)
 begin_store_holds grid t e k l (Listing v n) r tag comes message does h odd ends tag_is =
     let o = with_reply (going t k (Listing v n)) l in
     let since = extends_more e t (op_start t k) (starts_along t k).0 in
-    holds_store grid (e ∷ t) (Listing v n) (round t k) o.heard (collected t k) (starts t k) (e ∷ t) (decided_copy o)
-    (holds_grow grid e t (Listing v n) (round t k) o.heard (collected t k) (starts t k) h) odd since
-    (known_grows e t (round_file (Listing v n) (round t k)) (decided_copy o) (greatest_known grid t (Listing v n) (round t k) o.heard (collected t k) (starts t k) h))
-    (λ x s. greatest_least grid t (Listing v n) (round t k) o.heard (collected t k) (starts t k) x h odd ends s)
-    (λ f b x is s. absurd (let bad : Listing v n ≡ Writing f b = is in cc))
+    holds_greatest grid (e ∷ t) (Listing v n) (round t k) o.heard (collected t k) (starts t k) (e ∷ t)
+    (holds_grow grid e t (Listing v n) (round t k) o.heard (collected t k) (starts t k) h) odd ends since
+    (λ f b is. let bad : Listing v n ≡ Writing f b = is in cc)
+
+-- a collect round ends, and its store round is left out: the operation has what the store round would begin with, ..
+pub skip_holds : (grid : Grid) (t : Trace) (o : Operation) (start : Starts) (now : Trace) → Holds grid t o.task o.round o.heard o.collected start → is_collect o.round ≡ true → ends_collect grid (heard_servers o.heard) ≡ true → skips_store grid (with_decided o) ≡ true → Extends now start.op →
+    Holds grid t o.task (2 * length (o.collected ++ decided_copy o ∷ [])) [] (o.collected ++ decided_copy o ∷ []) (record { op = start.op; round = now })
+skip_holds grid t o start now h odd ends skips later =
+    let P : StoredCopy → Type 0 = λ c. Holds grid t o.task (2 * length (o.collected ++ c ∷ [])) [] (o.collected ++ c ∷ []) (record { op = start.op; round = now }) in
+    subst P (sym (skip_greatest grid o skips)) (holds_greatest grid t o.task o.round o.heard o.collected start now h odd ends later (λ f b is. write_stores grid (with_decided o) f b is skips))
+
+-- .. and its copy is settled
+pub skip_settles : (grid : Grid) (t : Trace) (o : Operation) (start : Starts) → Holds grid t o.task o.round o.heard o.collected start → skips_store grid (with_decided o) ≡ true → Settled grid t (round_file o.task o.round) (decided_copy o).tag
+skip_settles grid t o start h skips =
+    let P : StoredCopy → Type 0 = λ c. ends_store grid (givers c.tag o.heard) ≡ true in
+    told_settled grid t o.task o.round o.heard o.collected start (decided_copy o).tag h (subst P (stored-push o.collected (decided_copy o)) (skip_ends grid (with_decided o) skips))
 
 pub sessions_step : (grid : Grid) (row : TenantRow) (t : Trace) (e : Entry) → IsRun grid row t → Follows grid row t e → Invariant grid t → (k : ℕ) (task : Task) → current (e ∷ t) k ≡ Some task → Holds grid (e ∷ t) task (round (e ∷ t) k) (heard (e ∷ t) k) (collected (e ∷ t) k) (starts (e ∷ t) k)
 sessions_step grid row t e run follows inv k task busy = go (change grid t e k (act grid row t e follows))
@@ -214,6 +225,15 @@ sessions_step grid row t e run follows inv k task busy = go (change grid t e k (
         at (2 * length (collected t k ++ decided_copy (with_reply (going t k task) l) ∷ [])) [] (collected t k ++ decided_copy (with_reply (going t k task) l) ∷ []) (record { op = op_start t k; round = e ∷ t })
         (sym r_is ∙ (rw (does, round))) (rw (does, heard)) (rw (does, collected, comes.busy, odd)) (rw does)
         (begin_store_holds grid t e k l task r tag comes message does (holds_with grid row t k l task run inv comes) odd ends tag_is)
+    next l r tag comes message does (Skips v f lists odd ends skips r_is tag_is new_is) =
+        let o : Operation = with_reply (going t k task) l in
+        let cs : List StoredCopy = collected t k ++ decided_copy o ∷ [] in
+        let since = extends_more e t (op_start t k) (starts_along t k).0 in
+        let h = holds_grow grid e t task (round t k) o.heard (collected t k) (starts t k) (holds_with grid row t k l task run inv comes) in
+        let settled = skip_settled grid (e ∷ t) task (round t k) (collected t k) (decided_copy o) (collect_number (round t k) (length (collected t k)) odd h.standing) (skip_settles grid (e ∷ t) o (starts t k) h skips) in
+        at (2 * length cs + 1) [] cs (record { op = op_start t k; round = e ∷ t })
+        (sym r_is ∙ (rw (does, round))) (rw (does, heard)) (rw (does, collected, comes.busy, odd)) (rw does)
+        (holds_next grid (e ∷ t) task (2 * length cs) [] cs (record { op = op_start t k; round = e ∷ t }) (e ∷ t) (skip_holds grid (e ∷ t) o (starts t k) (e ∷ t) h odd ends skips since) (even_is (length cs)) since settled)
     next l r tag comes message does (ToCollect v f lists even ends r_is tag_is new_is) =
         let hs : List Reply = hear_reply (heard t k) (reply_of l) in
         let h = holds_grow grid e t task (round t k) hs (collected t k) (starts t k) (holds_with grid row t k l task run inv comes) in

@@ -21,7 +21,7 @@ use Rattle.gq_laws.proofs.Holding.{greatest-push, held_grows, held_between_more}
 use Rattle.gq_laws.proofs.Runs.{Follows, IsRun, IsKnown, Extends, Starts, HeldBetween, round_start, starts}
 use Rattle.gq_laws.proofs.Shapes.{Shape, shape_of, shape_round, only}
 use Rattle.gq_laws.proofs.Acts.{Act, Doing, Requests, Serves, Notes, Turns, Finishes, Resends, Abandons, Silent, Comes, act, going, first_round, back, back_to_ask, back_to_store, message_sent}
-use Rattle.gq_laws.proofs.RoundEnds.{Next, ToStore, ToCollect, next_of}
+use Rattle.gq_laws.proofs.RoundEnds.{Next, ToStore, ToCollect, Skips, next_of}
 use Rattle.gq_laws.proofs.SessionTurns.{Unmoved, elsewhere_unmoved, hears_unmoved}
 use Rattle.gq_laws.proofs.Found.{contains_at, last_at}
 use Rattle.gq_laws.proofs.Sessions.{Holds, known_grows, store_number, collect_number, store_file, last_number}
@@ -32,6 +32,9 @@ use Rattle.gq_laws.proofs.Invariant.{IsBodyOf, Sound, Invariant, Change, Stays, 
 -- a round is followed by one of a greater number
 rises : (grid : Grid) (row : TenantRow) (t : Trace) (e : Entry) (k : ℕ) (l : OwnMessage) (task : Task) (r : ℕ) (tag : Option Tag) → Invariant grid t → Comes t k l task → Next grid (up t) (with_reply (going t k task) l) r tag e.new → round t k < r
 rises grid row t e k l task r tag inv comes (ToStore odd ends r_is tag_is new_is) =
+    let number = collect_number (round t k) (length (collected t k)) odd (inv.sessions k task comes.busy).standing in
+    omega (arith, r_is, number, length_push (collected t k) (decided_copy (with_reply (going t k task) l)))
+rises grid row t e k l task r tag inv comes (Skips v f lists odd ends skips r_is tag_is new_is) =
     let number = collect_number (round t k) (length (collected t k)) odd (inv.sessions k task comes.busy).standing in
     omega (arith, r_is, number, length_push (collected t k) (decided_copy (with_reply (going t k task) l)))
 rises grid row t e k l task r tag inv comes (ToCollect v f lists even ends r_is tag_is new_is) =
@@ -316,6 +319,8 @@ new_messages_sound grid row t e run follows inv m within = go (act grid row t e 
 
     turned : (k : ℕ) (l : OwnMessage) (task : Task) (r : ℕ) (tag : Option Tag) → Comes t k l task → deed k e ≡ Moves l r tag → Next grid (up t) (with_reply (going t k task) l) r tag e.new → Sound (e ∷ t) m
     turned k l task r tag comes is (ToStore odd ends r_is tag_is new_is) =
+        ours k (op t k) r task (collected t k ++ decided_copy (with_reply (going t k task) l) ∷ []) (shape_round grid (up t) (in_round (with_decided (with_reply (going t k task) l)) r) m (in_new _ new_is)) (rw (is, current) comes.busy) (rw (is, op)) (rw (is, round)) (rw (is, collected, comes.busy, odd))
+    turned k l task r tag comes is (Skips v f lists odd ends skips r_is tag_is new_is) =
         ours k (op t k) r task (collected t k ++ decided_copy (with_reply (going t k task) l) ∷ []) (shape_round grid (up t) (in_round (with_decided (with_reply (going t k task) l)) r) m (in_new _ new_is)) (rw (is, current) comes.busy) (rw (is, op)) (rw (is, round)) (rw (is, collected, comes.busy, odd))
     turned k l task r tag comes is (ToCollect v f lists even ends r_is tag_is new_is) =
         ours k (op t k) r task (collected t k) (shape_round grid (up t) (in_round (with_reply (going t k task) l) r) m (in_new _ new_is)) (rw (is, current) comes.busy) (rw (is, op)) (rw (is, round)) (rw (is, collected, comes.busy, even))

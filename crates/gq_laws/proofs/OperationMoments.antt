@@ -8,7 +8,7 @@ use Rattle.gq_tag.specs.declared.StoredCopy.{StoredCopy}
 use Rattle.gq_tag.specs.Tag.{OwnMessage, File, is_file}
 use Rattle.gq_desk.specs.declared.plans.TenantRow.{TenantRow}
 use Rattle.gq_desk.specs.declared.volumes.VolumeRow.{VolumeRow}
-use Rattle.gq_phase.specs.Phase.{Task, Writing, Reading, Listing, Operation, HeardNext, HeardDone, hear_current, with_reply, is_collect, stored_copy, decided_copy}
+use Rattle.gq_phase.specs.Phase.{Task, Writing, Reading, Listing, Operation, HeardNext, HeardDone, hear_current, with_reply, is_collect, stored_copy, decided_copy, with_decided}
 use Rattle.gq_phase.specs.declared.Outcome.{Outcome}
 use Rattle.gq_phase.specs.declared.Outcome.TheVariants.{Wrote}
 use Rattle.gq_model.specs.Trace.{files_of, Turn, Own, Trace, Past, Begins, Moves, Ends, deed, up, task_of, volumes}
@@ -23,7 +23,7 @@ use Rattle.gq_laws.specs.Operations.{SessionAnswer, ending, write_tag, end_place
 use Rattle.gq_laws.proofs.Runs.{op_start}
 use Rattle.gq_laws.proofs.Found.{stored-push}
 use Rattle.gq_phase.proofs.Saying.{even_is}
-use Rattle.gq_laws.proofs.RoundEnds.{Next, ToStore, ToCollect, next_of, IsDone, DoneWrite, DoneRead, DoneList, DoneBy, ByStore, done_of}
+use Rattle.gq_laws.proofs.RoundEnds.{Next, ToStore, ToCollect, Skips, next_of, IsDone, DoneWrite, DoneRead, DoneList, DoneBy, ByStore, BySkip, done_of, write_stores}
 use Rattle.gq_laws.proofs.Acts.{Comes, going, act, Turning, turning}
 use Rattle.gq_laws.proofs.Reaching.{Goes, goes_or_not, Reach, Here, Later}
 use Rattle.gq_laws.proofs.Telling.{first_told, tells, tells-cons}
@@ -145,6 +145,7 @@ write_not_done grid up o file bytes outcome task odd h = go (done_of grid up o o
   where
     go : DoneBy grid o outcome → ⊥
     go (ByStore even ends is) = true≢false (sym odd ∙ even)
+    go (BySkip same ends skips is) = write_stores grid (with_decided o) file bytes task skips
 
 -- a write in its store round goes on to no round
 write_stays : (grid : Grid) (t : Trace) (k : ℕ) (l : OwnMessage) (file : File) (bytes : List ℕ) (r : ℕ) (tag : Option Tag) (new : List OwnMessage) → is_collect (round t k) ≡ false →
@@ -157,6 +158,7 @@ write_stays grid t k l file bytes r tag new even heard = go (next_of grid (up t)
     go : Next grid (up t) o r tag new → ⊥
     go (ToStore odd ends r_is tag_is new_is) = true≢false (sym odd ∙ even)
     go (ToCollect v f lists same ends r_is tag_is new_is) = let bad : Writing file bytes ≡ Listing v f = lists in cc
+    go (Skips v f lists odd ends skips r_is tag_is new_is) = true≢false (sym odd ∙ even)
 
 -- in its store round a write ends with the tag that it stores
 store_ending : (grid : Grid) (row : TenantRow) (es : List Turn) (p : Past) (n k : ℕ) (file : File) (bytes : List ℕ) (m : ℕ) (outcome : Outcome) →
@@ -183,6 +185,7 @@ store_ending grid row (x ∷ es) p n k file bytes m outcome busy even h = go (λ
 
     stored : (task : Task) → task ≡ Writing file bytes → (l : OwnMessage) → (out : Outcome) → out ≡ outcome → DoneBy grid (with_reply (going p.trace k task) l) out → Result
     stored task is l out same (ByStore odd ends how) = done task is l out same how
+    stored task is l out same (BySkip odd ends skips how) = absurd (true≢false (sym odd ∙ even))
 
     go : (current p'.trace k ≡ Some (Writing file bytes) → is_collect (round p'.trace k) ≡ false → ending k (tells grid row p' (n + 1) es) ≡ Some (m, outcome) → (o : ℕ) × (outcome ≡ Wrote k o (stored_copy (collected p'.trace k)).tag)) → View grid row p n x k → Result
     go ih (Quiet u en tg) =
@@ -226,6 +229,7 @@ write_done grid row (x ∷ es) p n k file bytes m outcome busy odd h = go (λ b 
     turned : (g : Goes grid row p x) (l : OwnMessage) (r : ℕ) (tag : Option Tag) → deed k g.e ≡ Moves l r tag → Tagging (first_told grid row p n x) k (λ rest. tag) → ending k (tells grid row p' (n + 1) es) ≡ Some (m, outcome) →
         Next grid (up p.trace) (with_reply (going p.trace k (Writing file bytes)) l) r tag g.e.new → Result
     turned g l r tag does tg later (ToCollect v f lists even ends r_is tag_is new_is) = absurd (true≢false (sym odd ∙ even))
+    turned g l r tag does tg later (Skips v f lists odd' ends skips r_is tag_is new_is) = absurd (let bad : Writing file bytes ≡ Listing v f = lists in cc)
     turned g l r tag does tg later (ToStore odd' ends r_is tag_is new_is) =
         let c : StoredCopy = decided_copy (with_reply (going p.trace k (Writing file bytes)) l) in
         let cs : collected p'.trace k ≡ collected p.trace k ++ c ∷ [] = ap (λ t. collected t k) g.grown ∙ (rw (does, collected, busy, odd)) in

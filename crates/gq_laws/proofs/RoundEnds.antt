@@ -1,11 +1,11 @@
 -- What an operation does at the end of a round.
-use Rattle.std.proofs.Common.{◌≡◌, ℕ, ◌+◌, ◌*◌, ◌≤◌, Bool, true, false, ◌++◌, List, [], ◌∷◌, length, map, refl, sym, ap, ◌∙◌, Option, Some, None, nat_lt}
-use Rattle.std.proofs.lemmas.Bool.{ltb-false}
+use Rattle.std.proofs.Common.{◌≡◌, ◌≢◌, ℕ, ◌+◌, ◌*◌, ◌≤◌, Bool, true, false, ◌++◌, List, [], ◌∷◌, length, map, refl, sym, ap, ◌∙◌, Option, Some, None, nat_lt}
+use Rattle.std.proofs.lemmas.Bool.{ltb-false, true≢false}
 use Rattle.gq_grid.specs.Grid.{Grid, Servers}
 use Rattle.gq_tag.specs.declared.Tag.{Tag}
 use Rattle.gq_tag.specs.declared.StoredCopy.{StoredCopy}
-use Rattle.gq_tag.specs.Tag.{File, OwnMessage}
-use Rattle.gq_phase.specs.Phase.{Task, Reply, Writing, Reading, Listing, Operation, HeardNoted, HeardNext, HeardDone, hear_current, ends_round, heard_servers, is_collect, with_decided, file_done, decided_copy, round_messages, in_round, stored_copy, listed_row}
+use Rattle.gq_tag.specs.Tag.{File, OwnMessage, greatest}
+use Rattle.gq_phase.specs.Phase.{Task, Reply, Writing, Reading, Listing, Operation, HeardNoted, HeardNext, HeardDone, hear_current, ends_round, heard_servers, heard_copies, is_collect, with_decided, file_done, decided_copy, round_messages, in_round, stored_copy, listed_row, givers, skips_store}
 use Rattle.gq_phase.specs.declared.Outcome.{Outcome}
 use Rattle.gq_phase.specs.declared.Outcome.TheVariants.{Wrote, Gave, Listed}
 use Rattle.gq_phase.specs.Quorums.{ends_collect, ends_store}
@@ -17,7 +17,8 @@ pub data Next (grid : Grid) (up : Servers) (o : Operation) (r : ℕ) (tag : Opti
   ToStore : is_collect o.round ≡ true → ends_collect grid (heard_servers o.heard) ≡ true → r ≡ 2 * length (o.collected ++ decided_copy o ∷ []) → tag ≡ Some (decided_copy o).tag → new ≡ round_messages grid up (in_round (with_decided o) r) → Next grid up o r tag new
   -- a store round of a listing by the collect round of its next file
   ToCollect : (v f : ℕ) → o.task ≡ Listing v f → is_collect o.round ≡ false → ends_store grid (heard_servers o.heard) ≡ true → r ≡ 2 * length o.collected + 1 → tag ≡ None → new ≡ round_messages grid up (in_round o r) → Next grid up o r tag new
-  -- (a collect round whose store round is skipped, followed by the next file's collect round, will stand here)
+  -- a collect round of a listing whose store round is left out by the collect round of its next file
+  Skips : (v f : ℕ) → o.task ≡ Listing v f → is_collect o.round ≡ true → ends_collect grid (heard_servers o.heard) ≡ true → skips_store grid (with_decided o) ≡ true → r ≡ 2 * length (o.collected ++ decided_copy o ∷ []) + 1 → tag ≡ None → new ≡ round_messages grid up (in_round (with_decided o) r) → Next grid up o r tag new
 
 next_parts : (r next : ℕ) (t tag : Option Tag) (ms new : List OwnMessage) → HeardNext r t ms ≡ HeardNext next tag new → (next ≡ r) × (tag ≡ t) × (new ≡ ms)
 next_parts r next t tag ms new h =
@@ -52,9 +53,15 @@ next_of grid up o r tag new h = go (is_collect o.round) refl (ends_round grid o.
   where
     go : (odd : Bool) → is_collect o.round ≡ odd → (b : Bool) → ends_round grid o.round o.heard ≡ b → Next grid up o r tag new
     go odd g false e = absurd (let bad : HeardNoted ≡ HeardNext r tag new = rw e at h in cc)
-    go true g true e =
-        let parts = next_parts (2 * length (o.collected ++ decided_copy o ∷ [])) r (Some (stored_copy (o.collected ++ decided_copy o ∷ [])).tag) tag (round_messages grid up (in_round (with_decided o) (2 * length (o.collected ++ decided_copy o ∷ [])))) new (rw (e, g) at h) in
-        ToStore g (rw g at e) parts.0 (parts.1 ∙ ap (λ z. Some z.tag) (stored-push o.collected (decided_copy o))) (parts.2 ∙ ap (λ z. round_messages grid up (in_round (with_decided o) z)) (sym parts.0))
+    go true g true e = by (skips_store grid (with_decided o)) refl
+      where
+        by : (skips : Bool) → skips_store grid (with_decided o) ≡ skips → Next grid up o r tag new
+        by true s =
+            let parts = file_next grid up (with_decided o) r tag new (rw (e, g, s) at h) in
+            Skips parts.0 parts.1 parts.2 g (rw g at e) s parts.3 parts.4 parts.5
+        by false s =
+            let parts = next_parts (2 * length (o.collected ++ decided_copy o ∷ [])) r (Some (stored_copy (o.collected ++ decided_copy o ∷ [])).tag) tag (round_messages grid up (in_round (with_decided o) (2 * length (o.collected ++ decided_copy o ∷ [])))) new (rw (e, g, s) at h) in
+            ToStore g (rw g at e) parts.0 (parts.1 ∙ ap (λ z. Some z.tag) (stored-push o.collected (decided_copy o))) (parts.2 ∙ ap (λ z. round_messages grid up (in_round (with_decided o) z)) (sym parts.0))
     go false g true e =
         let parts = file_next grid up o r tag new (rw (e, g) at h) in
         ToCollect parts.0 parts.1 parts.2 g (rw g at e) parts.3 parts.4 parts.5
@@ -65,10 +72,10 @@ pub data IsDone (o : Operation) (outcome : Outcome) : Type 0 where
   DoneRead : (file : File) → o.task ≡ Reading file → outcome ≡ Gave o.session o.op (stored_copy o.collected) → IsDone o outcome
   DoneList : (v f : ℕ) → o.task ≡ Listing v f → f ≤ length o.collected → outcome ≡ Listed o.session o.op (map listed_row o.collected) → IsDone o outcome
 
--- its last round is a store round
+-- its last round is a store round, or a collect round whose store round is left out
 pub data DoneBy (grid : Grid) (o : Operation) (outcome : Outcome) : Type 0 where
   ByStore : is_collect o.round ≡ false → ends_store grid (heard_servers o.heard) ≡ true → IsDone o outcome → DoneBy grid o outcome
-  -- (a collect round whose store round is skipped will stand here)
+  BySkip : is_collect o.round ≡ true → ends_collect grid (heard_servers o.heard) ≡ true → skips_store grid (with_decided o) ≡ true → IsDone (with_decided o) outcome → DoneBy grid o outcome
 
 finish_by : (grid : Grid) (up : Servers) (task : Task) (k n r floor : ℕ) (heard : List Reply) (collected : List StoredCopy) (outcome : Outcome) →
     file_done grid up (record { session = k; op = n; task = task; round = r; heard = heard; collected = collected; floor = floor }) ≡ HeardDone outcome →
@@ -97,5 +104,33 @@ done_of grid up o outcome h = go (is_collect o.round) refl (ends_round grid o.ro
   where
     go : (odd : Bool) → is_collect o.round ≡ odd → (b : Bool) → ends_round grid o.round o.heard ≡ b → DoneBy grid o outcome
     go odd g false e = absurd (let bad : HeardNoted ≡ HeardDone outcome = rw e at h in cc)
-    go true g true e = absurd (let bad : HeardNext _ _ _ ≡ HeardDone outcome = rw (e, g) at h in cc)
+    go true g true e = by (skips_store grid (with_decided o)) refl
+      where
+        by : (skips : Bool) → skips_store grid (with_decided o) ≡ skips → DoneBy grid o outcome
+        by true s = BySkip g (rw g at e) s (file_finish grid up (with_decided o) outcome (rw (e, g, s) at h))
+        by false s = absurd (let bad : HeardNext _ _ _ ≡ HeardDone outcome = rw (e, g, s) at h in cc)
     go false g true e = ByStore g (rw g at e) (file_finish grid up o outcome (rw (e, g) at h))
+
+-- ---- a store round that is left out
+
+-- it is not a write's
+pub write_stores : (grid : Grid) (o : Operation) (file : File) (bytes : List ℕ) → o.task ≡ Writing file bytes → skips_store grid o ≢ true
+write_stores grid o file bytes is skips = true≢false (sym (rw is at skips))
+
+-- the servers that told the tag of its copy would end it
+pub skip_ends : (grid : Grid) (o : Operation) → skips_store grid o ≡ true → ends_store grid (givers (stored_copy o.collected).tag o.heard) ≡ true
+skip_ends grid o skips = by o.task refl
+  where
+    by : (task : Task) → o.task ≡ task → ends_store grid (givers (stored_copy o.collected).tag o.heard) ≡ true
+    by (Writing file bytes) is = absurd (write_stores grid o file bytes is skips)
+    by (Reading file) is = rw is at skips
+    by (Listing v f) is = rw is at skips
+
+-- its copy is the greatest that was heard
+pub skip_greatest : (grid : Grid) (o : Operation) → skips_store grid (with_decided o) ≡ true → decided_copy o ≡ greatest (heard_copies o.heard)
+skip_greatest grid o skips = by o.task refl
+  where
+    by : (task : Task) → o.task ≡ task → decided_copy o ≡ greatest (heard_copies o.heard)
+    by (Writing file bytes) is = absurd (write_stores grid (with_decided o) file bytes is skips)
+    by (Reading file) is = rw is refl
+    by (Listing v f) is = rw is refl

@@ -11,15 +11,15 @@ use Rattle.gq_tag.specs.declared.StoredCopy.{StoredCopy}
 use Rattle.gq_tag.specs.Tag.{File, greatest, is_less}
 use Rattle.gq_tag.specs.declared.Body.TheVariants.{Copy}
 use Rattle.gq_tag.proofs.Order.{IsAtMost, at_most_trans, less_from, at_most-parts}
-use Rattle.gq_phase.specs.Phase.{Task, Reply, Writing, Reading, Listing, is_collect, round_file, stored_copy, heard_servers, heard_copies, hear_reply}
+use Rattle.gq_phase.specs.Phase.{Task, Reply, Writing, Reading, Listing, is_collect, round_file, stored_copy, heard_servers, heard_copies, hear_reply, givers}
 use Rattle.gq_phase.specs.Quorums.{ends_collect, ends_store}
 use Rattle.gq_phase.proofs.Meeting.{rounds_meet}
 use Rattle.gq_model.specs.Trace.{Entry, Trace}
 use Rattle.gq_laws.proofs.Words.{held}
-use Rattle.gq_laws.proofs.Holding.{held_grows, held_since, held_between_more, held_between_least}
+use Rattle.gq_laws.proofs.Holding.{held_grows, held_since, held_between_more, held_between_least, held_between_most}
 use Rattle.gq_laws.proofs.Runs.{IsKnown, Settled, made, Extends, Starts, HeldBetween}
 use Rattle.gq_phase.proofs.Saying.{odd_is, even_is}
-use Rattle.gq_laws.proofs.Found.{push_at, last_at, greatest_in, greatest_bound, hear_in, server_in, copies_in, copies_to, position_of}
+use Rattle.gq_laws.proofs.Found.{push_at, stored-push, last_at, greatest_in, greatest_bound, hear_in, server_in, giver_in, copies_in, copies_to, position_of}
 
 -- all that is used of quorums: a set that ends a store round and one that ends a collect round share a server
 quorums_meet : (grid : Grid) (left right : Servers) → ends_store grid left ≡ true → ends_collect grid right ≡ true → (server : ℕ) × (left server ≡ true) × (right server ≡ true)
@@ -260,6 +260,38 @@ greatest_least grid t task r hs cs start tag h odd ends s =
 -- the greatest copy heard is known
 pub greatest_known : (grid : Grid) (t : Trace) (task : Task) (r : ℕ) (hs : List Reply) (cs : List StoredCopy) (start : Starts) → Holds grid t task r hs cs start → IsKnown t (round_file task r) (greatest (heard_copies hs))
 greatest_known grid t task r hs cs start h = greatest_in (IsKnown t (round_file task r)) (heard_copies hs) (inl refl) (λ c within. let x = copies_in hs c within in h.heard_known x.0 c x.1 x.2)
+
+-- an operation that is no write collects the greatest copy heard
+pub holds_greatest : (grid : Grid) (t : Trace) (task : Task) (r : ℕ) (hs : List Reply) (cs : List StoredCopy) (start : Starts) (now : Trace) → Holds grid t task r hs cs start → is_collect r ≡ true → ends_collect grid (heard_servers hs) ≡ true → Extends now start.op →
+    ((file : File) (bytes : List ℕ) → task ≢ Writing file bytes) → Holds grid t task (2 * length (cs ++ greatest (heard_copies hs) ∷ [])) [] (cs ++ greatest (heard_copies hs) ∷ []) (record { op = start.op; round = now })
+holds_greatest grid t task r hs cs start now h odd ends later no_write =
+    holds_store grid t task r hs cs start now (greatest (heard_copies hs)) h odd later
+    (greatest_known grid t task r hs cs start h)
+    (λ tag s. greatest_least grid t task r hs cs start tag h odd ends s)
+    (λ file bytes tag is s. absurd (no_write file bytes is))
+
+-- ---- a store round is left out
+
+-- where the servers that told copies of a tag end a store round, the tag is settled
+pub told_settled : (grid : Grid) (t : Trace) (task : Task) (r : ℕ) (hs : List Reply) (cs : List StoredCopy) (start : Starts) (tag : Tag) → Holds grid t task r hs cs start → ends_store grid (givers tag hs) ≡ true →
+    Settled grid t (round_file task r) tag
+told_settled grid t task r hs cs start tag h ends = record { set = givers tag hs; ends = ends; held_there = there }
+  where
+    there : (s : ℕ) → givers tag hs s ≡ true → IsAtMost tag (held t s (round_file task r)).tag
+    there s inside =
+        let found = giver_in tag hs s inside in
+        let x = found.0 in
+        let c = found.1 in
+        let was_held = h.heard_held x c found.2 found.4 in
+        let P : ℕ → Tag → Type 0 = λ server least. IsAtMost least (held t server (round_file task r)).tag in
+        subst (λ least. P s least) found.5 (subst (λ server. P server c.tag) found.3 (held_between_most start.round t x.server (round_file task r) c was_held))
+
+-- the copy collected is as settled as after its store round
+pub skip_settled : (grid : Grid) (t : Trace) (task : Task) (r : ℕ) (cs : List StoredCopy) (c : StoredCopy) → r ≡ 2 * length cs + 1 → Settled grid t (round_file task r) c.tag → Settled grid t (round_file task (2 * length (cs ++ c ∷ []))) (stored_copy (cs ++ c ∷ [])).tag
+skip_settled grid t task r cs c number s =
+    let files : round_file task r ≡ round_file task (2 * length (cs ++ c ∷ [])) = ap (round_file task) number ∙ sym (store_file task (2 * length (cs ++ c ∷ [])) (length cs) (ap (λ z. 2 * z) (length_push cs c))) in
+    let P : File → StoredCopy → Type 0 = λ f x. Settled grid t f x.tag in
+    subst (λ x. P (round_file task (2 * length (cs ++ c ∷ []))) x) (sym (stored-push cs c)) (subst (λ f. P f c) files s)
 
 -- a tag with a greater number is greater
 pub number_above : (a b : Tag) (s n : ℕ) → IsAtMost a b → is_less a (record { number = max b.number n + 1; session = s }) ≡ true

@@ -20,7 +20,7 @@ use Rattle.gq_laws.specs.Operations.{SessionAnswer, ending, write_tag, end_place
 use Rattle.gq_laws.proofs.Runs.{Made, made}
 use Rattle.gq_phase.proofs.Saying.{even_is}
 use Rattle.gq_laws.proofs.Acts.{going}
-use Rattle.gq_laws.proofs.RoundEnds.{Next, ToStore, ToCollect, next_of}
+use Rattle.gq_laws.proofs.RoundEnds.{Next, ToStore, ToCollect, Skips, next_of}
 use Rattle.gq_laws.proofs.Reaching.{Goes, goes_or_not, Reach, Here, Later, reach_up}
 use Rattle.gq_laws.proofs.Telling.{first_told, tells, tells-cons}
 use Rattle.gq_laws.proofs.SessionTurns.{View, Quiet, Turned, Finished, Started, Stopped, view, moves_tag}
@@ -109,6 +109,7 @@ source_step grid row p n x es m y low source = go source
 
         by : Next grid (up p.trace) (with_reply (going p.trace k task) l) r tag g.e.new → ⊥
         by (ToStore o ends r_is tag_is new_is) = true≢false (sym odd ∙ ap is_collect (now ∙ r_is) ∙ even_is (length (collected p.trace k ++ decided_copy (with_reply (going p.trace k task) l) ∷ [])))
+        by (Skips v f lists o ends skips r_is tag_is new_is) = let bad : Some (Writing y.file y.copy.bytes) ≡ Some (Listing v f) = sym was ∙ comes.busy ∙ ap Some lists in cc
         by (ToCollect v f lists even ends r_is tag_is new_is) = true≢false (sym (write_goes grid row p x k y.file y.copy.bytes g l r tag was is) ∙ even)
     going_on k busy odd tagged (Finished g l task out comes is heard en tg) = absurd (let bad : None ≡ Some (Writing y.file y.copy.bytes) = sym (ap (λ t. current t k) g.grown ∙ (rw (is, current))) ∙ busy in cc)
     going_on k busy odd tagged (Stopped g is en tg) = absurd (let bad : None ≡ Some (Writing y.file y.copy.bytes) = sym (ap (λ t. current t k) g.grown ∙ (rw (is, current))) ∙ busy in cc)

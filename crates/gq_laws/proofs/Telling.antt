@@ -14,7 +14,7 @@ use Rattle.gq_model.specs.Lone.{after, said, told_from, is_refusal}
 use Rattle.gq_laws.proofs.Words.{op, round}
 use Rattle.gq_laws.specs.Operations.{SessionAnswer, answered_from, session_answers_from, owners, session_of}
 use Rattle.gq_laws.proofs.Shapes.{shape_of, shape_round}
-use Rattle.gq_laws.proofs.RoundEnds.{Next, ToStore, ToCollect, next_of}
+use Rattle.gq_laws.proofs.RoundEnds.{Next, ToStore, ToCollect, Skips, next_of}
 use Rattle.gq_laws.proofs.Acts.{Doing, Requests, Serves, Notes, Turns, Finishes, Resends, Abandons, Silent, IsPassive, act, sessions, going, first_round}
 use Rattle.gq_laws.proofs.Reaching.{Goes, goes_or_not}
 
@@ -33,6 +33,7 @@ of_round grid up o ms is = all_of o.session ms (λ m within. (shape_round grid u
 
 of_next : (grid : Grid) (up : Servers) (o : Operation) (r : ℕ) (tag : Option Tag) (ms : List OwnMessage) → Next grid up o r tag ms → sessions ms ≡ replicate (length ms) o.session
 of_next grid up o r tag ms (ToStore odd ends r_is tag_is new_is) = of_round grid up (in_round (with_decided o) r) ms new_is
+of_next grid up o r tag ms (Skips v f lists odd ends skips r_is tag_is new_is) = of_round grid up (in_round (with_decided o) r) ms new_is
 of_next grid up o r tag ms (ToCollect v f lists even ends r_is tag_is new_is) = of_round grid up (in_round o r) ms new_is
 
 passive_owners : (k : ℕ) (a : Told) → IsPassive a → owners k a ≡ []

@@ -144,8 +144,8 @@ task_of volumes (ListFiles s v) = Some (Listing v (files_of volumes v))
 task_of volumes _ = None
 
 -- one session: how many operations it began; what the operation that it has is to do, none where it has none; of the
--- last operation the round, what was heard in it, and the copies with which its collect rounds ended, in order; and
--- the number of the tag in the last Round answer of a write, or 0
+-- last operation, as it stood before it ended, the round, what was heard in it, and the copies with which its collect
+-- rounds ended, in order; and the number of the tag in the last Round answer of a write, or 0
 pub record Session : Type 0 where
   pub op : ℕ
   pub current : Option Task

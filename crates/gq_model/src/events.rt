@@ -61,7 +61,8 @@ pub enum Line {
     Lose {
         number: u32,
     },
-    /// The session sends its round's message once more, to the servers of a new quorum that it has not heard.
+    /// The session sends its round's message once more, to those servers that it has not heard in the round of the
+    /// row that is up now, or in a store round of the column that is up now.
     Retry {
         session: u32,
     },
@@ -199,7 +200,7 @@ pub enum Answer {
     /// The message came to its session, and the round goes on.
     Noted,
     /// The message came to its session and ended the round. This round begins, of this tag where it stores, with these
-    /// messages: none where no quorum is up.
+    /// messages: none where no column is up for a store round, or no row for a collect round.
     Round {
         round: u32,
         tag: Option<Tag>,

@@ -7,6 +7,7 @@ use Rattle.std.proofs.lemmas.List.Folds.{list_any-append}
 use Rattle.std.proofs.lemmas.Bool.{and_parts, true≢false, eqb-true, eq-eqb, or_cases, not-true}
 use Rattle.gq_grid.specs.Grid.{with_server}
 use Rattle.gq_grid.proofs.Same.{or-false, or-true}
+use Rattle.gq_tag.specs.declared.Tag.{Tag}
 use Rattle.gq_tag.specs.declared.StoredCopy.{StoredCopy}
 use Rattle.gq_tag.specs.declared.Body.{Body}
 use Rattle.gq_tag.specs.declared.Body.TheVariants.{Ask, Copy, Store, Stored}
@@ -16,7 +17,7 @@ use Rattle.gq_tag.proofs.Greatest.{latest-append, latest-single, latest-cons, la
 use Rattle.gq_phase.specs.Best.{best_with}
 use Rattle.gq_phase.specs.Phase.{Reply, heard_servers, heard_copies, hear_reply, is_reply, is_body, is_copy}
 
-or-same : (a b : Bool) → (b ≡ true → a ≡ true) → (a || b) ≡ a
+pub or-same : (a b : Bool) → (b ≡ true → a ≡ true) → (a || b) ≡ a
 or-same true b h = refl
 or-same false true h = sym (h refl)
 or-same false false h = refl
@@ -34,16 +35,18 @@ repeats_server r (x ∷ xs) h = by (repeats_server r xs) (or_cases (is_reply r x
         rw (eq-eqb x.server r.server (sym (eqb-true r.server x.server parts.0))) refl
     by rest (inr there) = rw (rest there) (or-true (eqb x.server r.server))
 
-same_tag : (a b : StoredCopy) → is_copy a b ≡ true → a.tag ≡ b.tag
-same_tag a b h =
-    let tags = and_parts (is_tag a.tag b.tag) _ h in
-    let parts = and_parts (eqb a.tag.number b.tag.number) (eqb a.tag.session b.tag.session) tags.0 in
-    let numbers = eqb-true a.tag.number b.tag.number parts.0 in
-    let sessions = eqb-true a.tag.session b.tag.session parts.1 in
+pub tags_same : (a b : Tag) → is_tag a b ≡ true → a ≡ b
+tags_same a b h =
+    let parts = and_parts (eqb a.number b.number) (eqb a.session b.session) h in
+    let numbers = eqb-true a.number b.number parts.0 in
+    let sessions = eqb-true a.session b.session parts.1 in
     λ i. record { number = numbers i; session = sessions i }
 
+pub same_tag : (a b : StoredCopy) → is_copy a b ≡ true → a.tag ≡ b.tag
+same_tag a b h = tags_same a.tag b.tag (and_parts (is_tag a.tag b.tag) _ h).0
+
 -- a copy that was heard before is at most one that no copy exceeds
-repeats_at_most : (server : ℕ) (c b : StoredCopy) (heard : List Reply) → list_any (is_reply (record { server = server; body = Copy c })) heard ≡ true → is_unexceeded (heard_copies heard) b ≡ true → IsAtMost c.tag b.tag
+pub repeats_at_most : (server : ℕ) (c b : StoredCopy) (heard : List Reply) → list_any (is_reply (record { server = server; body = Copy c })) heard ≡ true → is_unexceeded (heard_copies heard) b ≡ true → IsAtMost c.tag b.tag
 repeats_at_most server c b [] h k = absurd (true≢false (sym h))
 repeats_at_most server c b (x ∷ xs) h k = go x.body refl (repeats_at_most server c b xs) (or_cases (is_reply r x) (list_any (is_reply r) xs) h)
   where
@@ -84,7 +87,7 @@ repeats_some server c (x ∷ xs) h = go x.body refl (repeats_some server c xs) (
     go Stored e rest (inr there) = rw e (rest there)
 
 -- a copy heard before changes nothing
-repeats_latest : (server : ℕ) (c : StoredCopy) (heard : List Reply) → list_any (is_reply (record { server = server; body = Copy c })) heard ≡ true →
+pub repeats_latest : (server : ℕ) (c : StoredCopy) (heard : List Reply) → list_any (is_reply (record { server = server; body = Copy c })) heard ≡ true →
     best_with (latest (heard_copies heard)) (Copy c) ≡ latest (heard_copies heard)
 repeats_latest server c heard h =
     let some = repeats_some server c heard h in
@@ -93,7 +96,7 @@ repeats_latest server c heard h =
     let below : IsAtMost c.tag best.tag = repeats_at_most server c best heard h (latest-unexceeded (heard_copies heard) best is_best) in
     rw is_best (ap Some (newer_of-at_most best c below))
 
-best_with-other : (o : Option StoredCopy) (b : Body) → ((c : StoredCopy) → b ≡ Copy c → best_with o (Copy c) ≡ o) → best_with o b ≡ o
+pub best_with-other : (o : Option StoredCopy) (b : Body) → ((c : StoredCopy) → b ≡ Copy c → best_with o (Copy c) ≡ o) → best_with o b ≡ o
 best_with-other o (Copy c) h = h c refl
 best_with-other None Ask h = refl
 best_with-other None (Store c) h = refl

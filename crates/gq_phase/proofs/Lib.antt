@@ -1,4 +1,5 @@
 pub mod Meeting
 pub mod Hearing
+pub mod Givers
 pub mod Retrying
 pub mod Saying

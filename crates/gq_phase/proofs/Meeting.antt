@@ -1,45 +1,42 @@
 -- The laws of the four words on quorums.
-use Rattle.std.proofs.Common.{◌≡◌, Option, Some, None, true, refl, ap}
+use Rattle.std.proofs.Common.{◌≡◌, ℕ, Option, Some, None, true, ap}
 use Rattle.std.specs.Prelude.{option_map}
-use Rattle.gq_grid.specs.Grid.{Grid, Servers, Choice, covers, choose, choice_servers}
-use Rattle.gq_grid.proofs.Agreeing.{choose_agree}
-use Rattle.gq_grid.proofs.Meeting.{covers_meet, choose_covers, covers-none, covers_more}
+use Rattle.gq_grid.specs.Grid.{Servers, has_row, has_column, least_row, least_column, row_servers, column_servers}
+use Rattle.gq_grid.proofs.Agreeing.{least_row_agree, least_column_agree}
+use Rattle.gq_grid.proofs.Meeting.{rows_meet_columns, row_up_is_row, column_up_is_column, has_row-none, has_column-none, has_row_more, has_column_more}
 use Rattle.gq_phase.specs.Quorums.{collect_quorum, store_quorum, ends_collect, ends_store}
 use Rattle.gq_phase.specs.Laws.{RoundsMeet, CollectQuorumsEnd, StoreQuorumsEnd, NobodyEnds, MoreStillEnd, QuorumsInGrid}
 
 pub rounds_meet : RoundsMeet
 unfolding ends_collect ends_store
-rounds_meet grid collected stored first second = covers_meet grid collected stored first second
+rounds_meet grid collected stored first second = rows_meet_columns grid collected stored first second
 
--- the servers of a choice cover
-chosen_covers : (grid : Grid) (up quorum : Servers) → option_map (choice_servers grid) (choose grid up) ≡ Some quorum → covers grid quorum ≡ true
-chosen_covers grid up quorum h = go (choose grid up) refl
-  where
-    go : (choice : Option Choice) → choose grid up ≡ choice → covers grid quorum ≡ true
-    go None e = absurd (let none : None ≡ Some quorum = rw e at h in cc)
-    go (Some choice) e =
-        let some : Some (choice_servers grid choice) ≡ Some quorum = rw e at h in
-        let same : choice_servers grid choice ≡ quorum = cc in
-        rw (← same) (choose_covers grid up choice e)
+-- what some number gives holds of what is made of it
+made : (least : Option ℕ) (to : ℕ → Servers) (Holds : Servers → Type 0) (quorum : Servers) → option_map to least ≡ Some quorum → ((n : ℕ) → least ≡ Some n → Holds (to n)) → Holds quorum
+made None to Holds quorum h each = absurd (cc)
+made (Some n) to Holds quorum h each =
+    let same : to n ≡ quorum = cc in
+    rw (← same) (each n (λ i. Some n))
 
 pub collect_quorums_end : CollectQuorumsEnd
 unfolding collect_quorum ends_collect
-collect_quorums_end grid up quorum h = chosen_covers grid up quorum h
+collect_quorums_end grid up quorum h =
+    made (least_row grid up) (row_servers grid) (λ set. has_row grid set ≡ true) quorum h (λ row least. row_up_is_row grid up row least)
 
 pub store_quorums_end : StoreQuorumsEnd
 unfolding store_quorum ends_store
-store_quorums_end grid up quorum h = chosen_covers grid up quorum h
+store_quorums_end grid up quorum h =
+    made (least_column grid up) (column_servers grid) (λ set. has_column grid set ≡ true) quorum h (λ col least. column_up_is_column grid up col least)
 
 pub nobody_ends : NobodyEnds
 unfolding ends_collect ends_store
-nobody_ends grid some = (covers-none grid some, covers-none grid some)
+nobody_ends grid some = (has_row-none grid some, has_column-none grid some)
 
 pub more_still_end : MoreStillEnd
 unfolding ends_collect ends_store
-more_still_end grid fewer more within = (covers_more grid fewer more within, covers_more grid fewer more within)
+more_still_end grid fewer more within = (has_row_more grid fewer more within, has_column_more grid fewer more within)
 
 pub quorums_in_grid : QuorumsInGrid
 unfolding collect_quorum store_quorum
 quorums_in_grid grid up also same =
-    let chosen : choose grid up ≡ choose grid also = choose_agree grid up also same in
-    (ap (option_map (choice_servers grid)) chosen, ap (option_map (choice_servers grid)) chosen)
+    (ap (option_map (row_servers grid)) (least_row_agree grid up also same), ap (option_map (column_servers grid)) (least_column_agree grid up also same))

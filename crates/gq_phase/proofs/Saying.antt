@@ -11,11 +11,11 @@ use Rattle.gq_tag.specs.declared.StoredCopy.{StoredCopy}
 use Rattle.gq_tag.specs.declared.FileId.{FileId}
 use Rattle.gq_tag.specs.declared.Body.TheVariants.{Ask, Store}
 use Rattle.gq_tag.specs.declared.Message.{Message}
-use Rattle.gq_tag.specs.Tag.{latest, first_copy, OwnMessage, own_message, message_of, file_of}
+use Rattle.gq_tag.specs.Tag.{latest, greatest, first_copy, OwnMessage, own_message, message_of, file_of}
 use Rattle.gq_round.specs.declared.RoundMessage.{RoundMessage}
 use Rattle.gq_round.specs.declared.Who.{Who}
 use Rattle.gq_round.specs.Round.{addressed, apart, sent_to}
-use Rattle.gq_phase.specs.Quorums.{collect_quorum, store_quorum}
+use Rattle.gq_phase.specs.Quorums.{collect_quorum, store_quorum, ends_store}
 use Rattle.std.specs.List.{last_or}
 use Rattle.gq_phase.specs.declared.Row.{Row}
 use Rattle.gq_phase.specs.declared.Heard.{Heard}
@@ -24,10 +24,11 @@ use Rattle.gq_phase.specs.declared.operation.Operation.{Operation as Code}
 use Rattle.gq_phase.specs.declared.operation.Task.{Task as CodeTask}
 use Rattle.gq_phase.specs.declared.operation.Task.TheVariants.{Write, Read, List as ListFiles}
 use Rattle.gq_phase.specs.Course.{Course, round_of}
-use Rattle.gq_phase.specs.Best.{best_with}
-use Rattle.gq_phase.specs.Phase.{Task, Reply, Operation, HeardNoted, HeardNext, HeardDone, heard_servers, heard_copies, reply_of, stored_copy, round_file, round_body, round_messages, messages_to, round_quorum, is_collect, is_current, ends_round, hear, with_reply, with_decided, decided_copy, begin_store, begin_collect, file_done, listed_row, moved, begun, floor_after}
-use Rattle.gq_phase.specs.Standing.{task_of, StandsFor, HearsAs, Begins, BeginsStore, decided_as, floor_with, outcome_as, IsFresh, ResendsAs, rows_of, rows_with, is_list, next_file, BeginsCollect, first_ask, is_current_as, quorum_as, ends_as, message_as, store_message, next_ask}
+use Rattle.gq_phase.specs.Best.{best_with, givers_with}
+use Rattle.gq_phase.specs.Phase.{Task, Reply, Operation, HeardNoted, HeardNext, HeardDone, heard_servers, heard_copies, givers, reply_of, stored_copy, skips_store, round_file, round_body, round_messages, messages_to, round_quorum, is_collect, is_current, ends_round, hear, with_reply, with_decided, decided_copy, begin_store, begin_collect, file_done, listed_row, moved, begun, floor_after}
+use Rattle.gq_phase.specs.Standing.{task_of, StandsFor, HearsAs, Begins, BeginsStore, decided_as, floor_with, outcome_as, IsFresh, ResendsAs, rows_of, rows_with, is_list, reads, skips_as, next_file, file_after, BeginsCollect, SkipsOn, first_ask, is_current_as, quorum_as, ends_as, message_as, store_message, next_ask, ask_after}
 use Rattle.gq_phase.proofs.Hearing.{heard_servers-hear, latest-hear}
+use Rattle.gq_phase.proofs.Givers.{givers-hear}
 use Rattle.gq_phase.proofs.Retrying.{nothing_heard, one_unheard}
 
 -- ---- rounds
@@ -92,8 +93,12 @@ hear_noted : (grid : Grid) (up : Servers) (o : Operation) (m : OwnMessage) → i
 hear_noted grid up o m cur goes_on = rw (cur, goes_on) refl
 
 hear_collected : (grid : Grid) (up : Servers) (o : Operation) (m : OwnMessage) → is_current o m ≡ true → ends_round grid o.round (with_reply o m).heard ≡ true → is_collect o.round ≡ true →
-    hear grid up o m ≡ begin_store grid up (with_decided (with_reply o m))
-hear_collected grid up o m cur ended odd = rw (cur, ended, odd) refl
+    skips_store grid (with_decided (with_reply o m)) ≡ false → hear grid up o m ≡ begin_store grid up (with_decided (with_reply o m))
+hear_collected grid up o m cur ended odd stores = rw (cur, ended, odd, stores) refl
+
+hear_skipped : (grid : Grid) (up : Servers) (o : Operation) (m : OwnMessage) → is_current o m ≡ true → ends_round grid o.round (with_reply o m).heard ≡ true → is_collect o.round ≡ true →
+    skips_store grid (with_decided (with_reply o m)) ≡ true → hear grid up o m ≡ file_done grid up (with_decided (with_reply o m))
+hear_skipped grid up o m cur ended odd skips = rw (cur, ended, odd, skips) refl
 
 hear_stored : (grid : Grid) (up : Servers) (o : Operation) (m : OwnMessage) → is_current o m ≡ true → ends_round grid o.round (with_reply o m).heard ≡ true → is_collect o.round ≡ false →
     hear grid up o m ≡ file_done grid up (with_reply o m)
@@ -164,9 +169,10 @@ listed_floor ListFiles file files task floor e = rw (← e) refl
 -- ---- the value afterwards
 
 -- a message of the operation's round, whose server and copy were added to what was heard
-module _ (grid : Grid) (tenant : ℕ) (old : Code) (o : Operation) (up : Servers) (m : Message) (set : ServerSet) (best : Option StoredCopy)
+module _ (grid : Grid) (tenant : ℕ) (old : Code) (o : Operation) (up : Servers) (m : Message) (set : ServerSet) (best : Option StoredCopy) (told : ServerSet)
     (s : StandsFor grid tenant old o) (op : m.op ≡ old.who.op) (round : m.round ≡ round_of old.course)
-    (adds : servers set ≡ with_server m.server (servers old.heard)) (betters : best ≡ best_with old.best m.body) where
+    (adds : servers set ≡ with_server m.server (servers old.heard)) (betters : best ≡ best_with old.best m.body)
+    (gives : servers told ≡ givers_with old.best (servers old.givers) m.server m.body) where
   is_now : is_current o (own_message m) ≡ true
   is_now = current o (own_message m) (op ∙ s.op) (round ∙ s.round)
 
@@ -176,10 +182,13 @@ module _ (grid : Grid) (tenant : ℕ) (old : Code) (o : Operation) (up : Servers
   best_now : best ≡ latest (heard_copies (with_reply o (own_message m)).heard)
   best_now = betters ∙ ap (λ b. best_with b m.body) s.best ∙ sym (latest-hear o.heard m.server m.body)
 
+  givers_now : servers told ≡ givers (greatest (heard_copies (with_reply o (own_message m)).heard)).tag (with_reply o (own_message m)).heard
+  givers_now = gives ∙ (λ i. givers_with (s.best i) (s.givers i) m.server m.body) ∙ sym (givers-hear o.heard m.server m.body)
+
   ends_now : (b : Bool) → ends_as old (servers set) ≡ b → ends_round grid o.round (with_reply o (own_message m)).heard ≡ b
   ends_now b e = ends_is old grid o.round (with_reply o (own_message m)).heard (servers set) s.its_grid s.round heard_now ∙ e
 
-  noted_stands : ends_as old (servers set) ≡ false → StandsFor grid tenant (record old { heard = set; best = best }) (with_reply o (own_message m))
+  noted_stands : ends_as old (servers set) ≡ false → StandsFor grid tenant (record old { heard = set; best = best; givers = told }) (with_reply o (own_message m))
   noted_stands goes_on = record {
     going = s.going;
     its_grid = s.its_grid;
@@ -194,6 +203,7 @@ module _ (grid : Grid) (tenant : ℕ) (old : Code) (o : Operation) (up : Servers
     heard = heard_now;
     goes_on = ends_now false goes_on;
     best = best_now;
+    givers = givers_now;
     stored = s.stored;
     rows = s.rows;
     floor = s.floor;
@@ -203,8 +213,8 @@ module _ (grid : Grid) (tenant : ℕ) (old : Code) (o : Operation) (up : Servers
   said_noted e = hear_noted grid up o (own_message m) is_now (ends_now false e)
 
   -- the copy with which the collect round ends
-  module _ (new : Code) (copy : StoredCopy) (over : ends_as old (servers set) ≡ true) (collecting : old.course.collecting ≡ true)
-      (decided : copy ≡ decided_as old.task old.who.session old.floor (unwrap_or best first_copy)) (b : BeginsStore old new copy) where
+  module _ (copy : StoredCopy) (over : ends_as old (servers set) ≡ true) (collecting : old.course.collecting ≡ true)
+      (decided : copy ≡ decided_as old.task old.who.session old.floor (unwrap_or best first_copy)) where
     is_decided : copy ≡ decided_copy (with_reply o (own_message m))
     is_decided = decided ∙ decided_is old.task old.file old.course.files (with_reply o (own_message m)) old.who.session old.floor best s.task s.session s.floor best_now
 
@@ -214,50 +224,118 @@ module _ (grid : Grid) (tenant : ℕ) (old : Code) (o : Operation) (up : Servers
     round_is : o.round ≡ 2 * old.course.collected + 1
     round_is = sym s.round ∙ rw collecting refl
 
-    count : 2 * length (o.collected ++ decided_copy (with_reply o (own_message m)) ∷ []) ≡ 2 * (old.course.collected + 1)
-    count = ap (λ n. 2 * n) (length_push o.collected (decided_copy (with_reply o (own_message m))) ∙ ap (λ n. n + 1) (sym s.collected))
+    its_length : length (o.collected ++ decided_copy (with_reply o (own_message m)) ∷ []) ≡ old.course.collected + 1
+    its_length = length_push o.collected (decided_copy (with_reply o (own_message m))) ∙ ap (λ n. n + 1) (sym s.collected)
 
     stored : stored_copy (o.collected ++ decided_copy (with_reply o (own_message m)) ∷ []) ≡ copy
     stored = stored-push o.collected (decided_copy (with_reply o (own_message m))) ∙ sym is_decided
 
-    -- the operation in its store round
-    next : ℕ → Operation
-    next n = record { session = o.session; op = o.op; task = o.task; round = n; heard = []; collected = o.collected ++ decided_copy (with_reply o (own_message m)) ∷ []; floor = o.floor }
+    -- who told the copy's tag decides whether its store round is left out
+    told_ends : ends_store grid (givers (stored_copy (o.collected ++ greatest (heard_copies (with_reply o (own_message m)).heard) ∷ [])).tag (with_reply o (own_message m)).heard) ≡ ends_store old.grid (servers told)
+    told_ends = rw (stored-push o.collected (greatest (heard_copies (with_reply o (own_message m)).heard)), givers_now, s.its_grid) refl
 
-    said_next : hear grid up o (own_message m) ≡ HeardNext (2 * (old.course.collected + 1)) (Some copy.tag) (round_messages grid up (next (2 * (old.course.collected + 1))))
-    unfolding next
-    said_next =
-        hear_collected grid up o (own_message m) is_now (ends_now true over) is_odd ∙
-        rw (count, stored) refl
+    skips_is : skips_store grid (with_decided (with_reply o (own_message m))) ≡ skips_as old (servers told)
+    skips_is = go old.task o.task s.task
+      where
+        go : (t : CodeTask) (task : Task) → task_of t old.file old.course.files ≡ task →
+            skips_store grid (record { session = o.session; op = o.op; task = task; round = o.round; heard = (with_reply o (own_message m)).heard; collected = o.collected ++ decided_copy (record { session = o.session; op = o.op; task = task; round = o.round; heard = (with_reply o (own_message m)).heard; collected = o.collected; floor = o.floor }) ∷ []; floor = o.floor }) ≡ (reads t && ends_store old.grid (servers told))
+        go (Write bytes) task e = rw (← e) refl
+        go Read task e = rw (← e) told_ends
+        go ListFiles task e = rw (← e) told_ends
 
-    sent : map (message_of tenant) (round_messages grid up (next (2 * (old.course.collected + 1)))) ≡ sent_to old.grid (store_quorum old.grid up) (store_message old copy)
-    unfolding next
-    sent =
-        let even : is_collect (2 * (old.course.collected + 1)) ≡ false = even_is (old.course.collected + 1) in
-        let quorum : round_quorum grid up (2 * (old.course.collected + 1)) ≡ store_quorum old.grid up = rw (even, s.its_grid) refl in
-        let body : round_body (2 * (old.course.collected + 1)) (o.collected ++ decided_copy (with_reply o (own_message m)) ∷ []) ≡ Store copy = rw (even, stored) refl in
-        let file : old.file ≡ file_of tenant (round_file o.task (2 * (old.course.collected + 1))) = s.file ∙ ap (file_of tenant) (same_file old.task old.file old.course.files o.task old.course.collected o.round (2 * (old.course.collected + 1)) s.task round_is refl) in
-        round_messages-sent grid up tenant (next (2 * (old.course.collected + 1))) (store_message old copy) (store_quorum old.grid up) quorum s.its_tenant s.session s.op refl file body ∙ rw s.its_grid refl
+    module _ (stores : skips_as old (servers told) ≡ false) (new : Code) (b : BeginsStore old new copy) where
+      -- the operation in its store round
+      next : ℕ → Operation
+      next n = record { session = o.session; op = o.op; task = o.task; round = n; heard = []; collected = o.collected ++ decided_copy (with_reply o (own_message m)) ∷ []; floor = o.floor }
 
-    next_stands : StandsFor grid tenant new (moved o (own_message m) (2 * (old.course.collected + 1)) (Some copy.tag))
-    next_stands = record {
-      going = b.going ∙ s.going;
-      its_grid = b.grid ∙ s.its_grid;
-      some = s.some;
-      its_tenant = ap (λ w. w.tenant) b.who ∙ s.its_tenant;
-      session = ap (λ w. w.session) b.who ∙ s.session;
-      op = ap (λ w. w.op) b.who ∙ s.op;
-      task = rw (b.task, b.file, b.course) s.task;
-      file = b.file ∙ s.file ∙ ap (file_of tenant) (same_file old.task old.file old.course.files o.task old.course.collected o.round (2 * (old.course.collected + 1)) s.task round_is refl);
-      round = rw b.course refl;
-      collected = rw (b.course, is_odd) (ap (λ n. n + 1) s.collected ∙ sym (length_push o.collected (decided_copy (with_reply o (own_message m)))));
-      heard = b.heard;
-      goes_on = nothing_heard grid (2 * (old.course.collected + 1)) s.some;
-      best = b.best;
-      stored = b.stored ∙ rw is_odd (sym stored);
-      rows = b.rows ∙ rw (b.task, is_odd, ← is_decided) (rows_push old.task old.rows o.collected copy s.rows);
-      floor = b.floor ∙ rw (← s.floor) (floor_is old.task old.file old.course.files o.task copy.tag old.floor s.task);
-    }
+      said_next : hear grid up o (own_message m) ≡ HeardNext (2 * (old.course.collected + 1)) (Some copy.tag) (round_messages grid up (next (2 * (old.course.collected + 1))))
+      unfolding next
+      said_next =
+          hear_collected grid up o (own_message m) is_now (ends_now true over) is_odd (skips_is ∙ stores) ∙
+          rw (its_length, stored) refl
+
+      sent : map (message_of tenant) (round_messages grid up (next (2 * (old.course.collected + 1)))) ≡ sent_to old.grid (store_quorum old.grid up) (store_message old copy)
+      unfolding next
+      sent =
+          let even : is_collect (2 * (old.course.collected + 1)) ≡ false = even_is (old.course.collected + 1) in
+          let quorum : round_quorum grid up (2 * (old.course.collected + 1)) ≡ store_quorum old.grid up = rw (even, s.its_grid) refl in
+          let body : round_body (2 * (old.course.collected + 1)) (o.collected ++ decided_copy (with_reply o (own_message m)) ∷ []) ≡ Store copy = rw (even, stored) refl in
+          let file : old.file ≡ file_of tenant (round_file o.task (2 * (old.course.collected + 1))) = s.file ∙ ap (file_of tenant) (same_file old.task old.file old.course.files o.task old.course.collected o.round (2 * (old.course.collected + 1)) s.task round_is refl) in
+          round_messages-sent grid up tenant (next (2 * (old.course.collected + 1))) (store_message old copy) (store_quorum old.grid up) quorum s.its_tenant s.session s.op refl file body ∙ rw s.its_grid refl
+
+      next_stands : StandsFor grid tenant new (moved o (own_message m) (2 * (old.course.collected + 1)) (Some copy.tag))
+      next_stands = record {
+        going = b.going ∙ s.going;
+        its_grid = b.grid ∙ s.its_grid;
+        some = s.some;
+        its_tenant = ap (λ w. w.tenant) b.who ∙ s.its_tenant;
+        session = ap (λ w. w.session) b.who ∙ s.session;
+        op = ap (λ w. w.op) b.who ∙ s.op;
+        task = rw (b.task, b.file, b.course) s.task;
+        file = b.file ∙ s.file ∙ ap (file_of tenant) (same_file old.task old.file old.course.files o.task old.course.collected o.round (2 * (old.course.collected + 1)) s.task round_is refl);
+        round = rw b.course refl;
+        collected = rw (b.course, is_odd) (sym its_length);
+        heard = b.heard;
+        goes_on = nothing_heard grid (2 * (old.course.collected + 1)) s.some;
+        best = b.best;
+        givers = b.givers;
+        stored = b.stored ∙ rw is_odd (sym stored);
+        rows = b.rows ∙ rw (b.task, is_odd, ← is_decided) (rows_push old.task old.rows o.collected copy s.rows);
+        floor = b.floor ∙ rw (← s.floor) (floor_is old.task old.file old.course.files o.task copy.tag old.floor s.task);
+      }
+
+    -- the store round is left out
+    module _ (skips : skips_as old (servers told) ≡ true) where
+      said_skipped : (is_list old.task ≡ true → nat_lt (old.course.collected + 1) old.course.files ≡ false) →
+          hear grid up o (own_message m) ≡ HeardDone (outcome_as old.task old.who copy (rows_with old.task (listed_row copy) old.rows))
+      said_skipped last =
+          hear_skipped grid up o (own_message m) is_now (ends_now true over) is_odd (skips_is ∙ skips) ∙
+          finished grid up old.task old.file old.course.files (with_decided (with_reply o (own_message m))) old.who copy (rows_with old.task (listed_row copy) old.rows) s.task s.session s.op (sym stored)
+          (rows_push old.task old.rows o.collected copy s.rows ∙ ap (λ c. rows_of old.task (o.collected ++ c ∷ [])) is_decided) (λ lists. rw its_length (last lists))
+
+      -- a listing goes on with its next file
+      module _ (new : Code) (lists : is_list old.task ≡ true) (more : nat_lt (old.course.collected + 1) old.course.files ≡ true) (b : SkipsOn old new copy) where
+        later : ℕ → Operation
+        later n = record { session = o.session; op = o.op; task = o.task; round = n; heard = []; collected = o.collected ++ decided_copy (with_reply o (own_message m)) ∷ []; floor = o.floor }
+
+        said_over : hear grid up o (own_message m) ≡ HeardNext (2 * (old.course.collected + 1) + 1) None (round_messages grid up (later (2 * (old.course.collected + 1) + 1)))
+        unfolding later
+        said_over =
+            hear_skipped grid up o (own_message m) is_now (ends_now true over) is_odd (skips_is ∙ skips) ∙
+            continued grid up old.task old.file old.course.files (with_decided (with_reply o (own_message m))) s.task lists (rw its_length more) ∙
+            rw its_length refl
+
+        file_over : file_after old ≡ file_of tenant (round_file o.task (2 * (old.course.collected + 1) + 1))
+        file_over = listed_file old.task old.file old.course.files o.task tenant (old.course.collected + 1) s.task lists (ap (λ f. f.tenant) s.file)
+
+        sent_over : map (message_of tenant) (round_messages grid up (later (2 * (old.course.collected + 1) + 1))) ≡ sent_to old.grid (collect_quorum old.grid up) (ask_after old)
+        unfolding later
+        sent_over =
+            let odd : is_collect (2 * (old.course.collected + 1) + 1) ≡ true = odd_is (old.course.collected + 1) in
+            let quorum : round_quorum grid up (2 * (old.course.collected + 1) + 1) ≡ collect_quorum old.grid up = rw (odd, s.its_grid) refl in
+            let body : round_body (2 * (old.course.collected + 1) + 1) (o.collected ++ decided_copy (with_reply o (own_message m)) ∷ []) ≡ Ask = rw odd refl in
+            round_messages-sent grid up tenant (later (2 * (old.course.collected + 1) + 1)) (ask_after old) (collect_quorum old.grid up) quorum s.its_tenant s.session s.op refl file_over body ∙ rw s.its_grid refl
+
+        over_stands : StandsFor grid tenant new (moved o (own_message m) (2 * (old.course.collected + 1) + 1) None)
+        over_stands = record {
+          going = b.going ∙ s.going;
+          its_grid = b.grid ∙ s.its_grid;
+          some = s.some;
+          its_tenant = ap (λ w. w.tenant) b.who ∙ s.its_tenant;
+          session = ap (λ w. w.session) b.who ∙ s.session;
+          op = ap (λ w. w.op) b.who ∙ s.op;
+          task = rw (b.task, b.file, b.course) (listed_task old.task old.file old.course.files (old.course.collected + 1) lists ∙ s.task);
+          file = b.file ∙ file_over;
+          round = rw b.course refl;
+          collected = rw (b.course, is_odd) (sym its_length);
+          heard = b.heard;
+          goes_on = nothing_heard grid (2 * (old.course.collected + 1) + 1) s.some;
+          best = b.best;
+          givers = b.givers;
+          stored = b.stored ∙ rw is_odd (sym stored);
+          rows = b.rows ∙ rw (b.task, is_odd, ← is_decided) (rows_push old.task old.rows o.collected copy s.rows);
+          floor = b.floor ∙ s.floor ∙ listed_floor old.task old.file old.course.files o.task o.floor s.task;
+        }
 
   -- the store round ends
   module _ (over : ends_as old (servers set) ≡ true) (storing : old.course.collecting ≡ false) where
@@ -307,6 +385,7 @@ module _ (grid : Grid) (tenant : ℕ) (old : Code) (o : Operation) (up : Servers
         heard = b.heard;
         goes_on = nothing_heard grid (2 * old.course.collected + 1) s.some;
         best = b.best;
+        givers = b.givers;
         stored = b.stored ∙ rw is_even s.stored;
         rows = b.rows ∙ rw (b.task, is_even) s.rows;
         floor = b.floor ∙ s.floor ∙ listed_floor old.task old.file old.course.files o.task o.floor s.task;
@@ -325,58 +404,82 @@ pub and-last : (a b : Bool) → (a && b) ≡ false → a ≡ true → b ≡ fals
 and-last true b e f = e
 and-last false b e f = absurd (true≢false (sym f))
 
-pub noted_hears : (old : Code) (up : Servers) (m : Message) (set : ServerSet) (best : Option StoredCopy) → m.op ≡ old.who.op → m.round ≡ round_of old.course →
-    servers set ≡ with_server m.server (servers old.heard) → best ≡ best_with old.best m.body → ends_as old (servers set) ≡ false →
-    HearsAs old (record old { heard = set; best = best }) up m Noted
-noted_hears old up m set best op round adds betters open_ = λ grid tenant o s.
-    let said = said_noted grid tenant old o up m set best s op round adds betters open_ in
-    rw said (refl, noted_stands grid tenant old o up m set best s op round adds betters open_)
+pub noted_hears : (old : Code) (up : Servers) (m : Message) (set : ServerSet) (best : Option StoredCopy) (told : ServerSet) → m.op ≡ old.who.op → m.round ≡ round_of old.course →
+    servers set ≡ with_server m.server (servers old.heard) → best ≡ best_with old.best m.body → servers told ≡ givers_with old.best (servers old.givers) m.server m.body → ends_as old (servers set) ≡ false →
+    HearsAs old (record old { heard = set; best = best; givers = told }) up m Noted
+noted_hears old up m set best told op round adds betters gives open_ = λ grid tenant o s.
+    let said = said_noted grid tenant old o up m set best told s op round adds betters gives open_ in
+    rw said (refl, noted_stands grid tenant old o up m set best told s op round adds betters gives open_)
 
-pub collected_hears : (old new : Code) (up : Servers) (m : Message) (set : ServerSet) (best : Option StoredCopy) (copy : StoredCopy) (heard : Heard) → m.op ≡ old.who.op → m.round ≡ round_of old.course →
-    servers set ≡ with_server m.server (servers old.heard) → best ≡ best_with old.best m.body → ends_as old (servers set) ≡ true → old.course.collecting ≡ true →
-    copy ≡ decided_as old.task old.who.session old.floor (unwrap_or best first_copy) → BeginsStore old new copy →
+pub collected_hears : (old new : Code) (up : Servers) (m : Message) (set : ServerSet) (best : Option StoredCopy) (told : ServerSet) (copy : StoredCopy) (heard : Heard) → m.op ≡ old.who.op → m.round ≡ round_of old.course →
+    servers set ≡ with_server m.server (servers old.heard) → best ≡ best_with old.best m.body → servers told ≡ givers_with old.best (servers old.givers) m.server m.body → ends_as old (servers set) ≡ true → old.course.collecting ≡ true →
+    copy ≡ decided_as old.task old.who.session old.floor (unwrap_or best first_copy) → skips_as old (servers told) ≡ false → BeginsStore old new copy →
     heard ≡ Next (2 * (old.course.collected + 1)) (Some copy.tag) (sent_to old.grid (store_quorum old.grid up) (store_message old copy)) →
     HearsAs old new up m heard
-collected_hears old new up m set best copy heard op round adds betters over collecting decided b is = λ grid tenant o s.
-    let said = said_next grid tenant old o up m set best s op round adds betters new copy over collecting decided b in
-    let news = sent grid tenant old o up m set best s op round adds betters new copy over collecting decided b in
-    rw said (is ∙ ap (Next (2 * (old.course.collected + 1)) (Some copy.tag)) (sym news), next_stands grid tenant old o up m set best s op round adds betters new copy over collecting decided b)
+collected_hears old new up m set best told copy heard op round adds betters gives over collecting decided stores b is = λ grid tenant o s.
+    let said = said_next grid tenant old o up m set best told s op round adds betters gives copy over collecting decided stores new b in
+    let news = sent grid tenant old o up m set best told s op round adds betters gives copy over collecting decided stores new b in
+    rw said (is ∙ ap (Next (2 * (old.course.collected + 1)) (Some copy.tag)) (sym news), next_stands grid tenant old o up m set best told s op round adds betters gives copy over collecting decided stores new b)
 
-pub done_hears : (old new : Code) (up : Servers) (m : Message) (set : ServerSet) (best : Option StoredCopy) (heard : Heard) → m.op ≡ old.who.op → m.round ≡ round_of old.course →
-    servers set ≡ with_server m.server (servers old.heard) → best ≡ best_with old.best m.body → ends_as old (servers set) ≡ true → old.course.collecting ≡ false →
+pub done_hears : (old new : Code) (up : Servers) (m : Message) (set : ServerSet) (best : Option StoredCopy) (told : ServerSet) (heard : Heard) → m.op ≡ old.who.op → m.round ≡ round_of old.course →
+    servers set ≡ with_server m.server (servers old.heard) → best ≡ best_with old.best m.body → servers told ≡ givers_with old.best (servers old.givers) m.server m.body → ends_as old (servers set) ≡ true → old.course.collecting ≡ false →
     heard ≡ Done (outcome_as old.task old.who old.stored old.rows) → new.done ≡ true → new.floor ≡ old.floor →
     (is_list old.task ≡ true → nat_lt old.course.collected old.course.files ≡ false) → HearsAs old new up m heard
-done_hears old new up m set best heard op round adds betters over storing is done floor last = λ grid tenant o s.
-    let said = said_done grid tenant old o up m set best s op round adds betters over storing last in
+done_hears old new up m set best told heard op round adds betters gives over storing is done floor last = λ grid tenant o s.
+    let said = said_done grid tenant old o up m set best told s op round adds betters gives over storing last in
     rw said (is, (done, floor ∙ s.floor))
 
 -- ---- what the other calls owe
 
 -- the result of the step that begins a store round
-pub collected_result : {E : Type 0} (old new : Code) (up : Servers) (m : Message) (set : ServerSet) (best : Option StoredCopy) (copy : StoredCopy) (r : Result Heard E) → m.op ≡ old.who.op → m.round ≡ round_of old.course →
-    servers set ≡ with_server m.server (servers old.heard) → best ≡ best_with old.best m.body → ends_as old (servers set) ≡ true → old.course.collecting ≡ true →
-    copy ≡ decided_as old.task old.who.session old.floor (unwrap_or best first_copy) → OnOk r (BeginsStore old new copy) →
+pub collected_result : {E : Type 0} (old new : Code) (up : Servers) (m : Message) (set : ServerSet) (best : Option StoredCopy) (told : ServerSet) (copy : StoredCopy) (r : Result Heard E) → m.op ≡ old.who.op → m.round ≡ round_of old.course →
+    servers set ≡ with_server m.server (servers old.heard) → best ≡ best_with old.best m.body → servers told ≡ givers_with old.best (servers old.givers) m.server m.body → ends_as old (servers set) ≡ true → old.course.collecting ≡ true →
+    copy ≡ decided_as old.task old.who.session old.floor (unwrap_or best first_copy) → skips_as old (servers told) ≡ false → OnOk r (BeginsStore old new copy) →
     IfOk r (λ heard. heard ≡ Next (2 * (old.course.collected + 1)) (Some copy.tag) (sent_to old.grid (store_quorum old.grid up) (store_message old copy))) →
     IfOk r (HearsAs old new up m)
-collected_result old new up m set best copy (Ok heard) op round adds betters over collecting decided b is = collected_hears old new up m set best copy heard op round adds betters over collecting decided b is
-collected_result old new up m set best copy (Err e) op round adds betters over collecting decided b is = tt
+collected_result old new up m set best told copy (Ok heard) op round adds betters gives over collecting decided stores b is = collected_hears old new up m set best told copy heard op round adds betters gives over collecting decided stores b is
+collected_result old new up m set best told copy (Err e) op round adds betters gives over collecting decided stores b is = tt
 
-pub done_result : {E : Type 0} (old new : Code) (up : Servers) (m : Message) (set : ServerSet) (best : Option StoredCopy) (r : Result Heard E) → m.op ≡ old.who.op → m.round ≡ round_of old.course →
-    servers set ≡ with_server m.server (servers old.heard) → best ≡ best_with old.best m.body → ends_as old (servers set) ≡ true → old.course.collecting ≡ false →
+-- the result of a read or a listing that is done without a store round
+pub skipped_result : {E : Type 0} (old new : Code) (up : Servers) (m : Message) (set : ServerSet) (best : Option StoredCopy) (told : ServerSet) (copy : StoredCopy) (r : Result Heard E) → m.op ≡ old.who.op → m.round ≡ round_of old.course →
+    servers set ≡ with_server m.server (servers old.heard) → best ≡ best_with old.best m.body → servers told ≡ givers_with old.best (servers old.givers) m.server m.body → ends_as old (servers set) ≡ true → old.course.collecting ≡ true →
+    copy ≡ decided_as old.task old.who.session old.floor (unwrap_or best first_copy) → skips_as old (servers told) ≡ true →
+    IfOk r (λ heard. heard ≡ Done (outcome_as old.task old.who copy (rows_with old.task (listed_row copy) old.rows))) → OnOk r (new.done ≡ true) → new.floor ≡ old.floor →
+    (is_list old.task ≡ true → nat_lt (old.course.collected + 1) old.course.files ≡ false) → IfOk r (HearsAs old new up m)
+skipped_result old new up m set best told copy (Ok heard) op round adds betters gives over collecting decided skips is done floor last = λ grid tenant o s.
+    let said = said_skipped grid tenant old o up m set best told s op round adds betters gives copy over collecting decided skips last in
+    rw said (is, (done, floor ∙ s.floor))
+skipped_result old new up m set best told copy (Err e) op round adds betters gives over collecting decided skips is done floor last = tt
+
+-- the result of a listing that goes on without a store round
+pub over_result : {E : Type 0} (old new : Code) (up : Servers) (m : Message) (set : ServerSet) (best : Option StoredCopy) (told : ServerSet) (copy : StoredCopy) (r : Result Heard E) → m.op ≡ old.who.op → m.round ≡ round_of old.course →
+    servers set ≡ with_server m.server (servers old.heard) → best ≡ best_with old.best m.body → servers told ≡ givers_with old.best (servers old.givers) m.server m.body → ends_as old (servers set) ≡ true → old.course.collecting ≡ true →
+    copy ≡ decided_as old.task old.who.session old.floor (unwrap_or best first_copy) → skips_as old (servers told) ≡ true →
+    is_list old.task ≡ true → nat_lt (old.course.collected + 1) old.course.files ≡ true → OnOk r (SkipsOn old new copy) →
+    IfOk r (λ heard. heard ≡ Next (2 * (old.course.collected + 1) + 1) None (sent_to old.grid (collect_quorum old.grid up) (ask_after old))) →
+    IfOk r (HearsAs old new up m)
+over_result old new up m set best told copy (Ok heard) op round adds betters gives over collecting decided skips lists more b is = λ grid tenant o s.
+    let said = said_over grid tenant old o up m set best told s op round adds betters gives copy over collecting decided skips new lists more b in
+    let news = sent_over grid tenant old o up m set best told s op round adds betters gives copy over collecting decided skips new lists more b in
+    rw said (is ∙ ap (Next (2 * (old.course.collected + 1) + 1) None) (sym news), over_stands grid tenant old o up m set best told s op round adds betters gives copy over collecting decided skips new lists more b)
+over_result old new up m set best told copy (Err e) op round adds betters gives over collecting decided skips lists more b is = tt
+
+pub done_result : {E : Type 0} (old new : Code) (up : Servers) (m : Message) (set : ServerSet) (best : Option StoredCopy) (told : ServerSet) (r : Result Heard E) → m.op ≡ old.who.op → m.round ≡ round_of old.course →
+    servers set ≡ with_server m.server (servers old.heard) → best ≡ best_with old.best m.body → servers told ≡ givers_with old.best (servers old.givers) m.server m.body → ends_as old (servers set) ≡ true → old.course.collecting ≡ false →
     IfOk r (λ heard. heard ≡ Done (outcome_as old.task old.who old.stored old.rows)) → OnOk r (new.done ≡ true) → new.floor ≡ old.floor →
     (is_list old.task ≡ true → nat_lt old.course.collected old.course.files ≡ false) → IfOk r (HearsAs old new up m)
-done_result old new up m set best (Ok heard) op round adds betters over storing is done floor last = done_hears old new up m set best heard op round adds betters over storing is done floor last
-done_result old new up m set best (Err e) op round adds betters over storing is done floor last = tt
+done_result old new up m set best told (Ok heard) op round adds betters gives over storing is done floor last = done_hears old new up m set best told heard op round adds betters gives over storing is done floor last
+done_result old new up m set best told (Err e) op round adds betters gives over storing is done floor last = tt
 
-pub on_hears : (old new : Code) (up : Servers) (m : Message) (set : ServerSet) (best : Option StoredCopy) (heard : Heard) → m.op ≡ old.who.op → m.round ≡ round_of old.course →
-    servers set ≡ with_server m.server (servers old.heard) → best ≡ best_with old.best m.body → ends_as old (servers set) ≡ true → old.course.collecting ≡ false →
+pub on_hears : (old new : Code) (up : Servers) (m : Message) (set : ServerSet) (best : Option StoredCopy) (told : ServerSet) (heard : Heard) → m.op ≡ old.who.op → m.round ≡ round_of old.course →
+    servers set ≡ with_server m.server (servers old.heard) → best ≡ best_with old.best m.body → servers told ≡ givers_with old.best (servers old.givers) m.server m.body → ends_as old (servers set) ≡ true → old.course.collecting ≡ false →
     is_list old.task ≡ true → nat_lt old.course.collected old.course.files ≡ true → BeginsCollect old new →
     heard ≡ Next (2 * old.course.collected + 1) None (sent_to old.grid (collect_quorum old.grid up) (next_ask old)) →
     HearsAs old new up m heard
-on_hears old new up m set best heard op round adds betters over storing lists more b is = λ grid tenant o s.
-    let said = said_on grid tenant old o up m set best s op round adds betters over storing new lists more b in
-    let news = sent_on grid tenant old o up m set best s op round adds betters over storing new lists more b in
-    rw said (is ∙ ap (Next (2 * old.course.collected + 1) None) (sym news), on_stands grid tenant old o up m set best s op round adds betters over storing new lists more b)
+on_hears old new up m set best told heard op round adds betters gives over storing lists more b is = λ grid tenant o s.
+    let said = said_on grid tenant old o up m set best told s op round adds betters gives over storing new lists more b in
+    let news = sent_on grid tenant old o up m set best told s op round adds betters gives over storing new lists more b in
+    rw said (is ∙ ap (Next (2 * old.course.collected + 1) None) (sym news), on_stands grid tenant old o up m set best told s op round adds betters gives over storing new lists more b)
 
 no_rows : (t : CodeTask) → [] ≡ rows_of t []
 no_rows (Write bytes) = refl
@@ -403,6 +506,7 @@ fresh_begins grid up who t task files file floor code quorum messages is_task ow
         heard = f.heard;
         goes_on = nothing_heard grid 1 f.some;
         best = f.best;
+        givers = f.givers;
         stored = f.stored;
         rows = f.rows ∙ no_rows code.task;
         floor = f.its_floor;

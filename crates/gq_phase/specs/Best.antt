@@ -1,9 +1,10 @@
--- The greatest of the copies heard, as replies come in.
-use Rattle.std.specs.Prelude.{ℕ, ◌<◌, Bool, true, Option, Some, None}
+-- The greatest of the copies heard, and who told its tag, as replies come in.
+use Rattle.std.specs.Prelude.{ℕ, ◌<◌, Bool, true, Option, Some, None, if◌then◌else◌}
+use Rattle.gq_grid.specs.Grid.{Servers, no_servers, with_server}
 use Rattle.gq_tag.specs.declared.StoredCopy.{StoredCopy}
 use Rattle.gq_tag.specs.declared.Body.{Body}
 use Rattle.gq_tag.specs.declared.Body.TheVariants.{Copy}
-use Rattle.gq_tag.specs.Tag.{is_less, newer_of}
+use Rattle.gq_tag.specs.Tag.{is_less, is_tag, newer_of}
 
 -- the greatest copy, if there is one, where one more reply says this
 abbrev pub best_with : Option StoredCopy → Body → Option StoredCopy
@@ -25,3 +26,10 @@ IsBelow (Some copy) = copy.tag.number < 18446744073709551615
 abbrev pub exceeds : Option StoredCopy → StoredCopy → Bool
 exceeds None copy = true
 exceeds (Some best) copy = is_less best.tag copy.tag
+
+-- the servers that told the greatest tag, where one more server says this
+abbrev pub givers_with : Option StoredCopy → Servers → ℕ → Body → Servers
+givers_with None givers server (Copy copy) = with_server server no_servers
+givers_with (Some best) givers server (Copy copy) =
+    if is_less best.tag copy.tag then with_server server no_servers else if is_tag copy.tag best.tag then with_server server givers else givers
+givers_with best givers server _ = givers

@@ -1,6 +1,6 @@
 -- One session's operation: its rounds, what it has heard, when a round ends, and what is then said and sent.
 -- (The two phases of Attiya, Bar-Noy and Dolev, with several writers.)
-use Rattle.std.specs.Prelude.{ℕ, ◌+◌, ◌-◌, ◌*◌, ◌/◌, ◌%◌, List, [], ◌∷◌, ◌++◌, Bool, true, false, ◌&&◌, ◌==◌, not, nat_lt, Option, Some, None, filter_map, map, max, length, unwrap_or, if◌then◌else◌}
+use Rattle.std.specs.Prelude.{ℕ, ◌+◌, ◌-◌, ◌*◌, ◌/◌, ◌%◌, List, [], ◌∷◌, ◌++◌, Bool, true, false, ◌&&◌, ◌==◌, not, nat_lt, Option, Some, None, filter, filter_map, map, max, length, unwrap_or, if◌then◌else◌}
 use Rattle.std.specs.List.{list_any, last_or}
 use Rattle.std.specs.Str.{bytes_eq}
 use Rattle.gq_grid.specs.Grid.{Grid, Servers, rising}
@@ -174,12 +174,39 @@ abbrev pub with_decided : Operation → Operation
 with_decided o =
     record { session = o.session; op = o.op; task = o.task; round = o.round; heard = o.heard; collected = o.collected ++ decided_copy o ∷ []; floor = o.floor }
 
+-- whether a body tells a copy of the tag
+abbrev pub has_tag : Tag → Body → Bool
+has_tag tag (Copy copy) = is_tag copy.tag tag
+has_tag tag _ = false
+
+-- the servers that told a copy of the tag
+abbrev pub givers : Tag → List Reply → Servers
+givers tag heard = heard_servers (filter (λ reply. has_tag tag reply.body) heard)
+
+-- whether the file's store round is left out, where a collect round ended with the last copy collected: a read or a
+-- listing needs none where the servers that told this copy's tag would end it
+abbrev pub skips_store : Grid → Operation → Bool
+skips_store grid o = by o.task
+  where
+    by : Task → Bool
+    by (Writing file bytes) = false
+    by (Reading file) = ends_store grid (givers (stored_copy o.collected).tag o.heard)
+    by (Listing volume files) = ends_store grid (givers (stored_copy o.collected).tag o.heard)
+
+-- a collect round has ended, and its copy is the last one collected
+abbrev pub collect_done : Grid → Servers → Operation → Heard
+collect_done grid up o = by (skips_store grid o)
+  where
+    by : Bool → Heard
+    by true = file_done grid up o
+    by false = begin_store grid up o
+
 -- the round ends
 abbrev pub round_done : Grid → Servers → Operation → Heard
 round_done grid up o = by (is_collect o.round)
   where
     by : Bool → Heard
-    by true = begin_store grid up (with_decided o)
+    by true = collect_done grid up (with_decided o)
     by false = file_done grid up o
 
 -- whether a message to the session is of its operation and round

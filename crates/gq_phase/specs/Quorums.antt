@@ -1,20 +1,20 @@
 -- The four words on quorums: whom a round asks, and when the servers heard end it. Only the four
 -- functions of src/quorums.rt, the proofs of Laws and worked cases open them: all else knows of them what Laws says.
 use Rattle.std.specs.Prelude.{Bool, Option, option_map}
-use Rattle.gq_grid.specs.Grid.{Grid, Servers, covers, choose, choice_servers}
+use Rattle.gq_grid.specs.Grid.{Grid, Servers, has_row, has_column, least_row, least_column, row_servers, column_servers}
 
--- the servers that a collect round asks, where the servers of up are up; none where no quorum is up
+-- the servers that a collect round asks, where the servers of up are up: a full row; none where no row is up
 unfoldable pub collect_quorum : Grid → Servers → Option Servers
-collect_quorum grid up = option_map (choice_servers grid) (choose grid up)
+collect_quorum grid up = option_map (row_servers grid) (least_row grid up)
 
--- the servers that a store round sends to
+-- the servers that a store round sends to: a full column; none where no column is up
 unfoldable pub store_quorum : Grid → Servers → Option Servers
-store_quorum grid up = option_map (choice_servers grid) (choose grid up)
+store_quorum grid up = option_map (column_servers grid) (least_column grid up)
 
 -- whether a collect round ends where these servers were heard
 unfoldable pub ends_collect : Grid → Servers → Bool
-ends_collect grid heard = covers grid heard
+ends_collect grid heard = has_row grid heard
 
 -- whether a store round ends where these servers were heard
 unfoldable pub ends_store : Grid → Servers → Bool
-ends_store grid heard = covers grid heard
+ends_store grid heard = has_column grid heard

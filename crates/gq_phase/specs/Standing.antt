@@ -7,7 +7,7 @@ use Rattle.gq_tag.specs.declared.StoredCopy.{StoredCopy}
 use Rattle.gq_tag.specs.declared.FileId.{FileId}
 use Rattle.gq_tag.specs.declared.Body.TheVariants.{Ask, Store}
 use Rattle.gq_tag.specs.declared.Message.{Message}
-use Rattle.gq_tag.specs.Tag.{first_copy, latest, OwnMessage, file_place, file_of, message_of, own_message}
+use Rattle.gq_tag.specs.Tag.{first_copy, latest, greatest, OwnMessage, file_place, file_of, message_of, own_message}
 use Rattle.gq_round.specs.declared.Who.{Who}
 use Rattle.gq_round.specs.declared.RoundMessage.{RoundMessage}
 use Rattle.gq_phase.specs.declared.Row.{Row}
@@ -22,7 +22,7 @@ use Rattle.gq_phase.specs.declared.ResendRefused.{ResendRefused}
 use Rattle.gq_phase.specs.declared.ResendRefused.TheVariants.{NoQuorum, Memory}
 use Rattle.gq_phase.specs.Quorums.{collect_quorum, store_quorum, ends_collect, ends_store}
 use Rattle.gq_phase.specs.Course.{round_of}
-use Rattle.gq_phase.specs.Phase.{Task, Writing, Reading, Listing, Operation, Heard as Saying, HeardStale, HeardNoted, HeardNext, HeardDone, heard_servers, heard_copies, stored_copy, round_file, round_messages, round_quorum, ends_round, resent, hear, with_reply, moved, begun, listed_row}
+use Rattle.gq_phase.specs.Phase.{Task, Writing, Reading, Listing, Operation, Heard as Saying, HeardStale, HeardNoted, HeardNext, HeardDone, heard_servers, heard_copies, givers, stored_copy, round_file, round_messages, round_quorum, ends_round, resent, hear, with_reply, moved, begun, listed_row}
 
 -- ---- what is sent and said, with the tenant in its messages
 
@@ -45,9 +45,9 @@ abbrev pub rows_of : CodeTask → List StoredCopy → List Row
 rows_of ListFiles copies = map listed_row copies
 rows_of _ copies = []
 
--- a value that is not done stands for an operation of the tenant in the grid: the servers heard
--- and the greatest copy are those of the list heard, the last copy is that of the list collected;
--- the grid has a server, and the round goes on, which the servers heard do not end
+-- a value that is not done stands for an operation of the tenant in the grid: the servers heard, the
+-- greatest copy and the servers that told its tag are those of the list heard, the last copy is that
+-- of the list collected; the grid has a server, and the round goes on, which the servers heard do not end
 pub record StandsFor (grid : Grid) (tenant : ℕ) (code : Code) (o : Operation) : Type 0 where
   pub going : code.done ≡ false
   pub its_grid : code.grid ≡ grid
@@ -62,6 +62,7 @@ pub record StandsFor (grid : Grid) (tenant : ℕ) (code : Code) (o : Operation) 
   pub heard : servers code.heard ≡ heard_servers o.heard
   pub goes_on : ends_round grid o.round o.heard ≡ false
   pub best : code.best ≡ latest (heard_copies o.heard)
+  pub givers : servers code.givers ≡ givers (greatest (heard_copies o.heard)).tag o.heard
   pub stored : code.stored ≡ stored_copy o.collected
   pub rows : code.rows ≡ rows_of code.task o.collected
   pub floor : code.floor ≡ o.floor
@@ -132,6 +133,7 @@ pub record IsFresh (code : Code) (grid : Grid) (who : Who) (task : CodeTask) (fi
   pub course : code.course ≡ record { files = files; collected = 0; collecting = true }
   pub heard : servers code.heard ≡ no_servers
   pub best : code.best ≡ None
+  pub givers : servers code.givers ≡ no_servers
   pub stored : code.stored ≡ first_copy
   pub rows : code.rows ≡ []
   pub its_floor : code.floor ≡ floor
@@ -174,16 +176,28 @@ abbrev pub is_list : CodeTask → Bool
 is_list ListFiles = true
 is_list _ = false
 
+abbrev pub reads : CodeTask → Bool
+reads (Write bytes) = false
+reads _ = true
+
+-- whether the file's store round is left out where these servers told the greatest tag
+abbrev pub skips_as : Code → Servers → Bool
+skips_as code givers = reads code.task && ends_store code.grid givers
+
 abbrev pub outcome_as : CodeTask → Who → StoredCopy → List Row → Outcome
 outcome_as (Write bytes) who copy rows = Wrote who.session who.op copy.tag
 outcome_as Read who copy rows = Gave who.session who.op copy
 outcome_as ListFiles who copy rows = Listed who.session who.op rows
 
--- the file that a listing reads next
+-- the file that a listing reads next; the one that it reads after that of its collect round
 abbrev pub next_file : Code → FileId
 next_file code = record { tenant = code.file.tenant; volume = code.file.volume; file = code.course.collected }
 
--- the messages of the store round of the copy, and of the collect round of a listing's next file
+abbrev pub file_after : Code → FileId
+file_after code = record { tenant = code.file.tenant; volume = code.file.volume; file = code.course.collected + 1 }
+
+-- the messages of the store round of the copy, of the collect round of a listing's next file, and of
+-- that of the file after
 abbrev pub store_message : Code → StoredCopy → RoundMessage
 store_message code copy =
     record { who = code.who; round = 2 * (code.course.collected + 1); file = code.file; body = Store copy }
@@ -191,6 +205,10 @@ store_message code copy =
 abbrev pub next_ask : Code → RoundMessage
 next_ask code =
     record { who = code.who; round = 2 * code.course.collected + 1; file = next_file code; body = Ask }
+
+abbrev pub ask_after : Code → RoundMessage
+ask_after code =
+    record { who = code.who; round = 2 * (code.course.collected + 1) + 1; file = file_after code; body = Ask }
 
 -- the store round of the copy begins
 pub record BeginsStore (old new : Code) (copy : StoredCopy) : Type 0 where
@@ -202,6 +220,7 @@ pub record BeginsStore (old new : Code) (copy : StoredCopy) : Type 0 where
   pub course : new.course ≡ record { files = old.course.files; collected = old.course.collected + 1; collecting = false }
   pub heard : servers new.heard ≡ no_servers
   pub best : new.best ≡ None
+  pub givers : servers new.givers ≡ no_servers
   pub stored : new.stored ≡ copy
   pub rows : new.rows ≡ rows_with old.task (listed_row copy) old.rows
   pub floor : new.floor ≡ floor_with old.task copy.tag old.floor
@@ -216,6 +235,22 @@ pub record BeginsCollect (old new : Code) : Type 0 where
   pub course : new.course ≡ record { files = old.course.files; collected = old.course.collected; collecting = true }
   pub heard : servers new.heard ≡ no_servers
   pub best : new.best ≡ None
+  pub givers : servers new.givers ≡ no_servers
   pub stored : new.stored ≡ old.stored
   pub rows : new.rows ≡ old.rows
+  pub floor : new.floor ≡ old.floor
+
+-- the collect round of the file after begins, where the copy is the one collected
+pub record SkipsOn (old new : Code) (copy : StoredCopy) : Type 0 where
+  pub going : new.done ≡ old.done
+  pub grid : new.grid ≡ old.grid
+  pub who : new.who ≡ old.who
+  pub task : new.task ≡ old.task
+  pub file : new.file ≡ file_after old
+  pub course : new.course ≡ record { files = old.course.files; collected = old.course.collected + 1; collecting = true }
+  pub heard : servers new.heard ≡ no_servers
+  pub best : new.best ≡ None
+  pub givers : servers new.givers ≡ no_servers
+  pub stored : new.stored ≡ copy
+  pub rows : new.rows ≡ rows_with old.task (listed_row copy) old.rows
   pub floor : new.floor ≡ old.floor

@@ -1,10 +1,13 @@
-//! The greatest copy heard in a round.
+//! The greatest copy heard in a round, and who told its tag.
 
 ghost use Rattle.std.specs.Prelude.{◌≡◌, ◌<◌, None, OnOk, OnErr};
 ghost use Rattle.std.specs.Option.{option_copied};
+ghost use Rattle.gq_grid.specs.declared.TheConstants.{MOST_SERVERS};
+ghost use Rattle.gq_grid.specs.Sets.{servers};
 ghost use Rattle.gq_tag.specs.View.{body_of};
-ghost use Rattle.gq_phase.specs.Best.{best_with, exceeds, copied_number, IsBelow};
+ghost use Rattle.gq_phase.specs.Best.{best_with, exceeds, copied_number, givers_with, IsBelow};
 
+use gq_grid::ServerSet;
 use gq_tag::{BodyView, StoredCopy, newer};
 use std::alloc::AllocError;
 use std::marker::Model;
@@ -60,6 +63,30 @@ impl Best {
             }
         }
         Ok(())
+    }
+
+    /// The servers that told the greatest copy's tag, with what one more server says: it is alone where its tag is
+    /// greater, and one more of them where it is the same.
+    pub fn givers_with(&self, givers: ServerSet, server: usize, body: BodyView<'_>) -> ServerSet
+        requires { server < MOST_SERVERS }
+        ensures { servers result ≡ givers_with self.now (servers givers) server (body_of body.entry) }
+    {
+        let BodyView::Copy(copy) = body else {
+            return givers;
+        };
+        let mut alone = ServerSet::empty();
+        alone.insert(server);
+        let Some(best) = &self.copy else {
+            return alone;
+        };
+        if newer(copy, best) {
+            return alone;
+        }
+        let mut more = givers;
+        if copy.tag == best.tag {
+            more.insert(server);
+        }
+        more
     }
 
     // Whether no copy was heard or the copy's tag is greater.

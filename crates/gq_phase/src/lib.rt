@@ -1,8 +1,9 @@
 //! One session's operation: the rounds of a write, a read or a listing, what it says to each reply, and what it
 //! sends. Reads and writes are the two phases of Attiya, Bar-Noy and Dolev (Sharing memory robustly in
-//! message-passing systems, JACM 42(1), 1995), in the textbook form with several writers: a collect round asks a
-//! quorum for its copies, a store round stores the copy that was decided at a quorum. A listing does both for each
-//! file of its volume in turn.
+//! message-passing systems, JACM 42(1), 1995), with several writers: a collect round asks a full row of the grid for
+//! its copies, a store round stores the copy that was decided at a full column. A read whose copy's tag was told by a
+//! full column already leaves out the store round, which would change nothing. A listing does so for each file of its
+//! volume in turn.
 #![tactic(auto)]
 
 mod best;
@@ -106,8 +107,8 @@ pub enum Heard {
     Stale,
     /// The reply was noted, and the round goes on.
     Noted,
-    /// The round ended, and this one begins: of this tag where it stores, with these messages, none where no quorum
-    /// is up.
+    /// The round ended, and this one begins: of this tag where it stores, with these messages, none where no column
+    /// is up for a store round, or no row for a collect round.
     Next {
         round: u32,
         tag: Option<Tag>,
@@ -117,11 +118,11 @@ pub enum Heard {
     Done(Outcome),
 }
 
-/// Why an operation did not begin. Whether a quorum is up is tested first.
+/// Why an operation did not begin. Whether a row is up is tested first.
 #[derive(Clone, Copy, Debug, PartialEq, Eq, Error)]
 pub enum BeginRefused {
-    /// No quorum is up.
-    #[error("no quorum is up")]
+    /// No row is up.
+    #[error("no row is up")]
     NoQuorum,
     /// A growth of memory was refused.
     #[error("out of memory")]
@@ -139,11 +140,11 @@ impl From<AllocError> for BeginRefused {
     }
 }
 
-/// Why a round's message was not sent once more. Whether a quorum is up is tested first.
+/// Why a round's message was not sent once more. Whether a row is up, or in a store round a column, is tested first.
 #[derive(Clone, Copy, Debug, PartialEq, Eq, Error)]
 pub enum ResendRefused {
-    /// No quorum is up.
-    #[error("no quorum is up")]
+    /// No row is up in a collect round, or no column in a store round.
+    #[error("no quorum of the round is up")]
     NoQuorum,
     /// A growth of memory was refused.
     #[error("out of memory")]

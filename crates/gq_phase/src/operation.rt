@@ -1,8 +1,8 @@
 //! An operation in its round.
 
-ghost use Rattle.std.specs.Prelude.{◌≡◌, ◌↔◌, ◌+◌, ◌*◌, ◌<◌, ◌≤◌, true, false, None, ◌&&◌, nat_lt, IfOk, IfErr, OnOk, OnErr, IsErrOf, unwrap_or, map, option_map};
+ghost use Rattle.std.specs.Prelude.{◌≡◌, ◌↔◌, ◌+◌, ◌*◌, ◌<◌, ◌≤◌, [], true, false, None, ◌&&◌, nat_lt, IfOk, IfErr, OnOk, OnErr, IsErrOf, unwrap_or, map, option_map};
 ghost use Rattle.gq_grid.specs.declared.TheConstants.{MOST_SERVERS};
-ghost use Rattle.gq_grid.specs.Grid.{rising};
+ghost use Rattle.gq_grid.specs.Grid.{no_servers, rising};
 ghost use Rattle.gq_grid.specs.Sets.{servers};
 ghost use Rattle.gq_tag.specs.declared.TheConstants.{MOST_FILES};
 ghost use Rattle.gq_tag.specs.Tag.{first_copy, file_place};
@@ -10,7 +10,7 @@ ghost use Rattle.gq_tag.specs.View.{body_of};
 ghost use Rattle.gq_round.specs.Round.{addressed, apart, sent_to};
 ghost use Rattle.gq_phase.specs.Best.{copied_number, best_with};
 ghost use Rattle.gq_phase.specs.Quorums.{collect_quorum, store_quorum};
-ghost use Rattle.gq_phase.specs.Phase.{Writing, Reading, Listing};
+ghost use Rattle.gq_phase.specs.Phase.{Writing, Reading, Listing, listed_row};
 ghost use Rattle.gq_phase.specs.Standing.{first_ask, rows_with};
 
 use crate::best::Best;
@@ -48,6 +48,8 @@ pub struct Operation {
     // the servers heard in the round, and the greatest copy heard
     heard: ServerSet,
     best: Best,
+    // the servers that told its tag
+    givers: ServerSet,
     // the last copy collected, and of a listing the row of each copy collected
     stored: StoredCopy,
     rows: Rows,
@@ -55,22 +57,38 @@ pub struct Operation {
     done: bool,
 }
 
-// Of a listing, adds the row.
-fn keep_row(task: &Task, rows: &mut Rows, row: Row) -> Result<(), AllocError>
-    ensures ok { OnOk result (rows.new ≡ rows_with task.now row rows.old) }
+// Of a listing, adds the copy's row.
+fn keep_row(task: &Task, rows: &mut Rows, copy: &StoredCopy) -> Result<(), AllocError>
+    ensures ok { OnOk result (rows.new ≡ rows_with task.now (listed_row copy.now) rows.old) }
     ensures err { OnErr result (rows.new ≡ rows.old) }
 {
     if let Task::List = task {
-        rows.items.push(row)?;
+        rows.items.push(Row {
+            length: copy.bytes.len() as u64,
+            tag: copy.tag,
+        })?;
     }
     Ok(())
 }
 
-impl Operation {
-    ghost use Rattle.gq_phase.specs.Standing.{floor_of, IsGoing, IsDone, Begins, HearsAs, RaisesFloor, EndsAs, ResendsAs, RefusesAs, IsFresh, is_current_as, quorum_as, ends_as, message_as, decided_as, floor_with, outcome_as, is_list, next_file, store_message, next_ask, BeginsStore, BeginsCollect};
+// The rows, of which none are left.
+fn take_rows(alloc: Global, rows: &mut Rows) -> Rows
+    ensures value { result ≡ rows.old }
+    ensures rest { rows.new ≡ [] }
+{
+    mem::replace(
+        rows,
+        Rows {
+            items: Vec::new(alloc),
+        },
+    )
+}
 
-    /// Begins a write of the content: round 1, which asks a quorum of the servers of `up` for their copies. `floor` is
-    /// the session's own last number. Answers the operation and the asks in rising server number.
+impl Operation {
+    ghost use Rattle.gq_phase.specs.Standing.{floor_of, IsGoing, IsDone, Begins, HearsAs, RaisesFloor, EndsAs, ResendsAs, RefusesAs, IsFresh, is_current_as, quorum_as, ends_as, message_as, decided_as, floor_with, outcome_as, is_list, reads, skips_as, next_file, store_message, next_ask, ask_after, BeginsStore, BeginsCollect, SkipsOn};
+
+    /// Begins a write of the content: round 1, which asks the least full row of the servers of `up` for their copies.
+    /// `floor` is the session's own last number. Answers the operation and the asks in rising server number.
     #[inline(always)]
     pub fn write(
         alloc: Global,
@@ -93,8 +111,8 @@ impl Operation {
         Ok(Operation::begin(alloc, grid, who, task, 1, file, floor, quorum))
     }
 
-    /// Begins a read: round 1, which asks a quorum of the servers of `up` for their copies. `floor` is the session's
-    /// own last number, which a read keeps. Answers the operation and the asks in rising server number.
+    /// Begins a read: round 1, which asks the least full row of the servers of `up` for their copies. `floor` is the
+    /// session's own last number, which a read keeps. Answers the operation and the asks in rising server number.
     pub fn read(
         alloc: Global,
         grid: &Grid,
@@ -114,9 +132,9 @@ impl Operation {
         Ok(Operation::begin(alloc, grid, who, Task::Read, 1, file, floor, quorum))
     }
 
-    /// Begins a listing of a volume of so many files: round 1, which asks a quorum of the servers of `up` for their
-    /// copies of file 0. `floor` is the session's own last number, which a listing keeps. Answers the operation and
-    /// the asks in rising server number.
+    /// Begins a listing of a volume of so many files: round 1, which asks the least full row of the servers of `up` for
+    /// their copies of file 0. `floor` is the session's own last number, which a listing keeps. Answers the operation
+    /// and the asks in rising server number.
     pub fn list(
         alloc: Global,
         grid: &Grid,
@@ -176,6 +194,7 @@ impl Operation {
             course: Course::new(files),
             heard: ServerSet::empty(),
             best: Best::none(),
+            givers: ServerSet::empty(),
             stored: StoredCopy::first(),
             rows: Rows {
                 items: Vec::new(alloc),
@@ -187,7 +206,8 @@ impl Operation {
     }
 
     /// What the operation says to a message of its session, where the servers of `up` are up. A reply of its round is
-    /// noted, once; where the servers heard end the round, the next round begins or the operation is done. The store
+    /// noted, once; where the servers heard end the round, the next round begins or the operation is done. A read or a
+    /// listing leaves out a file's store round where the servers that told the copy's tag would end it. The store
     /// round of a write has a tag of its session with a number above all numbers heard and above the session's own
     /// last one, which it then is. After `AllocError` nothing has changed; after `Done` every message is stale.
     pub fn hear(&mut self, message: &Message, up: ServerSet) -> Result<Heard, AllocError>
@@ -225,15 +245,23 @@ impl Operation {
         if !self.is_current(message) {
             return Ok(Heard::Stale);
         }
+        let server = message.server as usize;
         let mut heard = self.heard;
-        heard.insert(message.server as usize);
+        heard.insert(server);
+        let givers = self.best.givers_with(self.givers, server, message.body);
         if !self.ends(heard) {
-            self.note(message.body, heard)?;
+            self.note(message.body, heard, givers)?;
             return Ok(Heard::Noted);
         }
         if self.course.collects() {
             let copy = self.decided(message.body)?;
-            self.begin_store(copy, up)
+            if !self.skips(givers) {
+                self.begin_store(copy, up)
+            } else if self.goes_on_after() {
+                self.skip_on(copy, up)
+            } else {
+                self.skip_done(copy)
+            }
         } else if self.goes_on() {
             Ok(self.begin_collect(up))
         } else {
@@ -241,8 +269,9 @@ impl Operation {
         }
     }
 
-    /// Sends the round's message once more, to the servers of a quorum chosen anew that were not heard in the round,
-    /// in rising number: one at least, since the servers heard do not end the round. The operation stays as it is.
+    /// Sends the round's message once more, to those servers that were not heard in the round of the least full row of
+    /// `up`, or in a store round of the least full column, in rising number: one at least, since the servers heard do
+    /// not end the round. The operation stays as it is.
     pub fn resend(&mut self, up: ServerSet) -> Result<Messages, ResendRefused>
         requires going { IsGoing self.old }
         ensures ok { IfOk result (λ messages. ResendsAs self.old (servers up) messages) }
@@ -287,15 +316,21 @@ impl Operation {
         !self.done && message.op == self.who.op && message.round == self.course.round()
     }
 
-    // Notes the reply: these servers are heard now.
-    fn note(&mut self, body: BodyView<'_>, heard: ServerSet) -> Result<(), AllocError>
+    // Notes the reply: these servers are heard now, and these told the greatest tag.
+    fn note(
+        &mut self,
+        body: BodyView<'_>,
+        heard: ServerSet,
+        givers: ServerSet,
+    ) -> Result<(), AllocError>
         requires { copied_number (body_of body) < u64.MAX }
         ensures ok { OnOk result (self.new
-            ≡ record self.old { heard = heard; best = best_with self.old.best (body_of body.entry) }) }
+            ≡ record self.old { heard = heard; best = best_with self.old.best (body_of body.entry); givers = givers }) }
         ensures err { OnErr result (self.new ≡ self.old) }
     {
         self.best.note(body)?;
         self.heard = heard;
+        self.givers = givers;
         Ok(())
     }
 
@@ -382,14 +417,9 @@ impl Operation {
         let messages = Messages::to_quorum(message, &self.grid, quorum);
         let tag = copy.tag;
         let floor = self.next_floor(tag);
-        let row = Row {
-            length: copy.bytes.len() as u64,
-            tag,
-        };
-        keep_row(&self.task, &mut self.rows, row)?;
+        keep_row(&self.task, &mut self.rows, &copy)?;
         self.course.store();
-        self.heard = ServerSet::empty();
-        self.best = Best::none();
+        self.forget_heard();
         self.stored = copy;
         self.floor = floor;
         Ok(Heard::Next {
@@ -399,6 +429,54 @@ impl Operation {
         })
     }
 
+    // Nothing was heard in the round that begins.
+    fn forget_heard(&mut self)
+        ensures heard { servers self.new.heard ≡ no_servers }
+        ensures givers { servers self.new.givers ≡ no_servers }
+        ensures others { self.new ≡ record self.old { heard = self.new.heard; best = None; givers = self.new.givers } }
+    {
+        self.heard = ServerSet::empty();
+        self.best = Best::none();
+        self.givers = ServerSet::empty();
+    }
+
+    // Whether the file's store round is left out where these servers told the greatest tag.
+    fn skips(&self, givers: ServerSet) -> bool
+        ensures { result ≡ skips_as self.now (servers givers) }
+    {
+        match &self.task {
+            Task::Write(_) => false,
+            Task::Read | Task::List => ends_store(&self.grid, givers),
+        }
+    }
+
+    // The collect round of a listing's file after this one begins, without a store round of the copy.
+    fn skip_on(&mut self, copy: StoredCopy, up: ServerSet) -> Result<Heard, AllocError>
+        requires collects { self.old.course.collecting ≡ true }
+        requires more { self.old.course.collected + 1 < self.old.course.files }
+        ensures ok { IfOk result (λ heard. heard ≡ Heard.Next (2 * (self.old.course.collected + 1) + 1) None
+            (sent_to self.old.grid (collect_quorum self.old.grid (servers up)) (ask_after self.old))) }
+        ensures new { OnOk result (SkipsOn self.old self.new copy) }
+        ensures err { OnErr result (self.new ≡ self.old) }
+    {
+        keep_row(&self.task, &mut self.rows, &copy)?;
+        self.course.store();
+        self.stored = copy;
+        Ok(self.begin_collect(up))
+    }
+
+    // A read or a listing is done with the copy, without a store round of it.
+    fn skip_done(&mut self, copy: StoredCopy) -> Result<Heard, AllocError>
+        ensures ok { IfOk result (λ heard. heard ≡ Heard.Done (outcome_as self.old.task self.old.who copy
+            (rows_with self.old.task (listed_row copy) self.old.rows))) }
+        ensures floor { self.new.floor ≡ self.old.floor }
+        ensures done { OnOk result (self.new.done ≡ true) }
+        ensures err { OnErr result (self.new ≡ self.old) }
+    {
+        keep_row(&self.task, &mut self.rows, &copy)?;
+        Ok(Heard::Done(self.end(copy)))
+    }
+
     // The session's own last number once a round stores the tag.
     fn next_floor(&self, tag: Tag) -> u64
         ensures { result ≡ floor_with self.now.task tag self.now.floor }
@@ -406,6 +484,17 @@ impl Operation {
         match &self.task {
             Task::Write(_) => tag.number,
             Task::Read | Task::List => self.floor,
+        }
+    }
+
+    // Whether the operation is a listing with files left to collect after this one.
+    fn goes_on_after(&self) -> bool
+        requires { self.now.course.collecting ≡ true }
+        ensures { result ≡ (is_list self.now.task && nat_lt (self.now.course.collected + 1) self.now.course.files) }
+    {
+        match &self.task {
+            Task::List => self.course.more_after(),
+            _ => false,
         }
     }
 
@@ -443,8 +532,7 @@ impl Operation {
         let messages = Messages::to_quorum(ask, &self.grid, quorum);
         self.course.collect();
         self.file = file;
-        self.heard = ServerSet::empty();
-        self.best = Best::none();
+        self.forget_heard();
         Heard::Next {
             round,
             tag: None,
@@ -460,29 +548,31 @@ impl Operation {
         ensures done { OnOk result (self.new.done ≡ true) }
         ensures err { OnErr result (self.new ≡ self.old) }
     {
-        let outcome = match &self.task {
-            Task::Write(_) => Outcome::Wrote {
-                session: self.who.session,
-                op: self.who.op,
-                tag: self.stored.tag,
-            },
-            Task::Read => Outcome::Gave {
-                session: self.who.session,
-                op: self.who.op,
-                copy: self.stored.clone()?,
-            },
-            Task::List => Outcome::Listed {
-                session: self.who.session,
-                op: self.who.op,
-                rows: mem::replace(
-                    &mut self.rows,
-                    Rows {
-                        items: Vec::new(self.alloc),
-                    },
-                ),
-            },
-        };
+        let copy = self.stored.clone()?;
+        Ok(Heard::Done(self.end(copy)))
+    }
+
+    // The operation is done with this copy, and the rows of a listing.
+    fn end(&mut self, copy: StoredCopy) -> Outcome
+        ensures value { result ≡ outcome_as self.old.task self.old.who copy self.old.rows }
+        ensures floor { self.new.floor ≡ self.old.floor }
+        ensures done { self.new.done ≡ true }
+    {
         self.done = true;
-        Ok(Heard::Done(outcome))
+        let session = self.who.session;
+        let op = self.who.op;
+        match &self.task {
+            Task::Write(_) => Outcome::Wrote {
+                session,
+                op,
+                tag: copy.tag,
+            },
+            Task::Read => Outcome::Gave { session, op, copy },
+            Task::List => Outcome::Listed {
+                session,
+                op,
+                rows: take_rows(self.alloc, &mut self.rows),
+            },
+        }
     }
 }

@@ -1,4 +1,5 @@
-//! Whom a round asks, and when the servers heard end it. Nothing else in this crate chooses or covers.
+//! Whom a round asks, and when the servers heard end it: a collect round a full row, a store round a full column.
+//! Nothing else in this crate knows of rows and columns.
 
 ghost use Rattle.std.specs.Prelude.{◌≡◌, option_map};
 ghost use Rattle.gq_grid.specs.Sets.{servers};
@@ -6,20 +7,21 @@ ghost use Rattle.gq_phase.specs.Quorums.{collect_quorum, store_quorum, ends_coll
 
 use gq_grid::{Grid, ServerSet};
 
-/// The servers that a collect round asks, where the servers of `up` are up; none where no quorum is up.
+/// The servers that a collect round asks, where the servers of `up` are up: the least full row; none where no row is up.
 #[tactic(auto, unfolding(crate::specs::Quorums::collect_quorum))]
 pub fn collect_quorum(grid: &Grid, up: ServerSet) -> Option<ServerSet>
     ensures { option_map servers result ≡ collect_quorum grid.now (servers up) }
 {
-    Some(grid.choose(up)?.servers)
+    Some(grid.row_up(up)?.servers)
 }
 
-/// The servers that a store round sends to, where the servers of `up` are up; none where no quorum is up.
+/// The servers that a store round sends to, where the servers of `up` are up: the least full column; none where no column
+/// is up.
 #[tactic(auto, unfolding(crate::specs::Quorums::store_quorum))]
 pub fn store_quorum(grid: &Grid, up: ServerSet) -> Option<ServerSet>
     ensures { option_map servers result ≡ store_quorum grid.now (servers up) }
 {
-    Some(grid.choose(up)?.servers)
+    Some(grid.column_up(up)?.servers)
 }
 
 /// Whether a collect round ends where these servers were heard.
@@ -27,7 +29,7 @@ pub fn store_quorum(grid: &Grid, up: ServerSet) -> Option<ServerSet>
 pub fn ends_collect(grid: &Grid, heard: ServerSet) -> bool
     ensures { result ≡ ends_collect grid.now (servers heard) }
 {
-    heard.covers(grid)
+    heard.has_row(grid)
 }
 
 /// Whether a store round ends where these servers were heard.
@@ -35,5 +37,5 @@ pub fn ends_collect(grid: &Grid, heard: ServerSet) -> bool
 pub fn ends_store(grid: &Grid, heard: ServerSet) -> bool
     ensures { result ≡ ends_store grid.now (servers heard) }
 {
-    heard.covers(grid)
+    heard.has_column(grid)
 }

@@ -33,6 +33,29 @@ fn chooses_the_least_row_and_column_that_are_up(rt: HostRuntime) -> Result<(), F
 }
 
 #[test]
+fn the_least_row_that_is_up_and_the_least_column(rt: HostRuntime) -> Result<(), Fail> {
+    let grid = Grid::new(2, 3).ok().ok_or("a grid")?;
+    let mut up = ServerSet::all(&grid);
+    up.remove(1);
+    let row = grid.row_up(up).ok_or("a row")?;
+    let column = grid.column_up(up).ok_or("a column")?;
+    assert_eq!(rt; (row.row, column.col), (1, 0));
+    assert_eq!(rt;
+        held(row.servers),
+        [false, false, false, true, true, true, false, false, false]
+    );
+    assert_eq!(rt;
+        held(column.servers),
+        [true, false, false, true, false, false, false, false, false]
+    );
+    assert!(rt; row.servers.has_row(&grid) && !row.servers.has_column(&grid));
+    assert!(rt; column.servers.has_column(&grid) && !column.servers.has_row(&grid));
+    up.remove(4);
+    assert!(rt; grid.row_up(up).is_none() && grid.column_up(up).is_some());
+    Ok(())
+}
+
+#[test]
 fn a_row_alone_covers_nothing(rt: HostRuntime) -> Result<(), Fail> {
     let grid = Grid::new(2, 2).ok().ok_or("a grid")?;
     let mut set = ServerSet::empty();

@@ -152,9 +152,9 @@ fn gave(alloc: Global, content: &[u8]) -> Result<Kind, AllocError> {
 fn a_read_writes_back(rt: &impl Abort, alloc: Global) -> Result<Vec<Op>, Fail> {
     let mut run = with_volume(rt, alloc, 2)?;
     run.send(rt, write(alloc, 1, 0, b"hi")?);
-    run.deliver(rt, 0, 7);
+    run.deliver(rt, 0, 5);
     run.send(rt, read(2));
-    run.deliver(rt, 10, 22);
+    run.deliver(rt, 7, 15);
     run.tell(
         rt,
         Event::Server {
@@ -162,7 +162,7 @@ fn a_read_writes_back(rt: &impl Abort, alloc: Global) -> Result<Vec<Op>, Fail> {
         },
     );
     run.send(rt, read(2));
-    run.deliver(rt, 22, 34);
+    run.deliver(rt, 15, 23);
     Ok(run.operations(alloc, 0)?)
 }
 
@@ -182,16 +182,16 @@ fn operations_of_a_write_that_never_ended_and_its_reads(rt: HostRuntime) -> Resu
         kind: gave(alloc, b"hi")?,
         session: 2,
         op: 1,
-        begin: 9,
-        end: Some(21),
+        begin: 7,
+        end: Some(15),
         tag: tag(1, 1),
     };
     let again = Op {
         kind: gave(alloc, b"hi")?,
         session: 2,
         op: 2,
-        begin: 23,
-        end: Some(35),
+        begin: 17,
+        end: Some(25),
         tag: tag(1, 1),
     };
     assert!(rt; ops.as_slice() == [write, read, again].as_slice());
@@ -214,7 +214,7 @@ fn a_read_stands_after_its_write(rt: HostRuntime) -> Result<(), Fail> {
 fn an_abandoned_write(rt: &impl Abort, alloc: Global) -> Result<Vec<Op>, Fail> {
     let mut run = with_volume(rt, alloc, 2)?;
     run.send(rt, write(alloc, 1, 0, b"\xaa")?);
-    run.deliver(rt, 0, 7);
+    run.deliver(rt, 0, 5);
     run.send(rt, Line::Abandon { session: 1 });
     run.tell(
         rt,
@@ -223,9 +223,9 @@ fn an_abandoned_write(rt: &impl Abort, alloc: Global) -> Result<Vec<Op>, Fail> {
         },
     );
     run.send(rt, write(alloc, 1, 0, b"\xbb")?);
-    run.deliver(rt, 10, 16);
-    run.deliver(rt, 9, 10);
-    run.deliver(rt, 16, 22);
+    run.deliver(rt, 7, 11);
+    run.deliver(rt, 6, 7);
+    run.deliver(rt, 11, 15);
     Ok(run.operations(alloc, 0)?)
 }
 
@@ -245,8 +245,8 @@ fn operations_of_an_abandoned_write_and_the_next(rt: HostRuntime) -> Result<(), 
         kind: wrote(alloc, b"\xbb")?,
         session: 1,
         op: 2,
-        begin: 11,
-        end: Some(24),
+        begin: 9,
+        end: Some(18),
         tag: tag(2, 1),
     };
     assert!(rt; ops.as_slice() == [abandoned, next].as_slice());
@@ -273,13 +273,13 @@ fn a_listing(rt: &impl Abort, alloc: Global) -> Result<Run, Fail> {
             volume: 0,
         },
     );
-    run.deliver(rt, 0, 4);
+    run.deliver(rt, 0, 2);
     run.send(rt, write(alloc, 2, 0, b"\xaa")?);
-    run.deliver(rt, 5, 9);
+    run.deliver(rt, 3, 7);
     run.send(rt, write(alloc, 2, 1, b"\xbb\xcc")?);
-    run.deliver(rt, 9, 13);
-    run.deliver(rt, 4, 5);
-    run.deliver(rt, 13, 16);
+    run.deliver(rt, 7, 11);
+    run.deliver(rt, 2, 3);
+    run.deliver(rt, 11, 12);
     Ok(run)
 }
 
@@ -292,15 +292,15 @@ fn the_order_of_a_listing_and_a_write(rt: HostRuntime) -> Result<(), Fail> {
         session: 1,
         op: 1,
         begin: 1,
-        end: Some(19),
+        end: Some(15),
         tag: tag(0, 0),
     };
     let write = Op {
         kind: wrote(alloc, b"\xaa")?,
         session: 2,
         op: 1,
-        begin: 6,
-        end: Some(10),
+        begin: 4,
+        end: Some(8),
         tag: tag(1, 2),
     };
     assert!(rt; found.ops.as_slice() == [row, write].as_slice());

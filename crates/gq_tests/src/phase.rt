@@ -61,6 +61,22 @@ fn reply(message: &Message) -> Message {
     }
 }
 
+// The reply of the server to the ask of a first round: an empty copy of that number.
+fn told(server: u8, number: u64) -> Message {
+    Message {
+        tenant: TENANT,
+        session: 1,
+        op: 1,
+        round: 1,
+        server,
+        file: file(),
+        body: Body::Copy(StoredCopy {
+            tag: Tag { number, session: 2 },
+            bytes: Bytes::new(),
+        }),
+    }
+}
+
 // What the operation says to the reply.
 fn hear(
     rt: &impl Abort,
@@ -157,12 +173,77 @@ fn lists(rt: HostRuntime) -> Result<(), Fail> {
     Ok(())
 }
 
+// How the read of a grid of two rows and two columns ends its collect round, where server 1 goes down before it replies: the
+// others told these numbers, in this order.
+fn reads_where_a_server_went_down(
+    rt: &impl Abort,
+    alloc: Global,
+    copies: &[(u8, u64)],
+) -> Result<Heard, Fail> {
+    let grid = Grid::new(2, 2)?;
+    let mut up = ServerSet::all(&grid);
+    let (mut operation, asks) = Operation::read(alloc, &grid, who(), 0, file(), up)?;
+    assert_eq!(rt; asks.len(), 2);
+    up.remove(1);
+    assert_eq!(rt; operation.resend(up)?.len(), 2);
+    let mut heard = Heard::Stale;
+    for (server, number) in copies.iter() {
+        assert!(rt; matches!(heard, Heard::Stale | Heard::Noted));
+        heard = hear(rt, &mut operation, &told(*server, *number), up)?;
+    }
+    Ok(heard)
+}
+
+#[test]
+fn a_read_is_done_where_a_column_told_its_tag(rt: HostRuntime) -> Result<(), Fail> {
+    let alloc = rt.alloc();
+    let heard = reads_where_a_server_went_down(&rt, rt.alloc(), &[(0, 4), (2, 4), (3, 3)])?;
+    let number = match &heard {
+        Heard::Done(Outcome::Gave { copy, .. }) => copy.tag.number,
+        _ => 0,
+    };
+    assert_eq!(rt; number, 4);
+    let later = reads_where_a_server_went_down(&rt, alloc, &[(0, 4), (2, 3), (2, 4), (3, 3)])?;
+    assert!(rt; matches!(later, Heard::Done(_)));
+    Ok(())
+}
+
+#[test]
+fn a_read_stores_a_tag_that_no_column_told(rt: HostRuntime) -> Result<(), Fail> {
+    let alloc = rt.alloc();
+    let row = reads_where_a_server_went_down(&rt, rt.alloc(), &[(0, 3), (2, 4), (3, 4)])?;
+    assert!(rt; matches!(row, Heard::Next { round: 2, .. }));
+    let last = reads_where_a_server_went_down(&rt, alloc, &[(0, 4), (2, 4), (3, 5)])?;
+    assert!(rt; matches!(last, Heard::Next { round: 2, .. }));
+    Ok(())
+}
+
+#[test]
+fn a_listing_of_one_row_of_servers_stores_nothing(rt: HostRuntime) -> Result<(), Fail> {
+    let grid = Grid::new(1, 2)?;
+    let up = ServerSet::all(&grid);
+    let (mut operation, asks) = Operation::list(rt.alloc(), &grid, who(), 7, VOLUME, 2, up)?;
+    let first = asks.to_vec(rt.alloc())?;
+    let next = match hear_all(&rt, &mut operation, first.as_slice(), up)? {
+        Heard::Next {
+            round: 3,
+            tag: None,
+            messages,
+        } => messages.to_vec(rt.alloc())?,
+        _ => Vec::new(rt.alloc()),
+    };
+    assert_eq!(rt; next.len(), 2);
+    let done = hear_all(&rt, &mut operation, next.as_slice(), up)?;
+    assert!(rt; matches!(done, Heard::Done(Outcome::Listed { .. })));
+    Ok(())
+}
+
 #[test]
 fn sends_once_more(rt: HostRuntime) -> Result<(), Fail> {
     let grid = Grid::new(2, 2)?;
     let up = ServerSet::all(&grid);
     let (mut operation, _) = Operation::read(rt.alloc(), &grid, who(), 0, file(), up)?;
-    assert_eq!(rt; operation.resend(up)?.len(), 3);
+    assert_eq!(rt; operation.resend(up)?.len(), 2);
     assert_eq!(rt;
         operation.resend(ServerSet::empty()).err(),
         Some(ResendRefused::NoQuorum)

@@ -149,6 +149,16 @@ none_floor (Writing file bytes) floor = refl
 none_floor (Reading file) floor = refl
 none_floor (Listing volume files) floor = refl
 
+-- the copy that was decided is the last one collected
+decided_stored : (n : ℕ) (volumes : List VolumeRow) (o : Operation) (message : OwnMessage) → OperationFits n volumes o → BodyFits n (room volumes (volume_of o.task)) message.body →
+    Fits (n + 1) (room volumes (volume_of o.task)) (stored_copy (o.collected ++ decided_copy (with_reply o message) ∷ []))
+decided_stored n volumes o message fits body =
+    let p : Operation = with_reply o message in
+    let size : ℕ = room volumes (volume_of o.task) in
+    let all : All (Fits n size) (heard_copies p.heard) = heard_fits n size o.heard message fits.heard body in
+    let good : Fits (n + 1) size (decided_copy p) = decided_fits n volumes p o.task refl fits.task fits.floor all in
+    subst (Fits (n + 1) size) (sym (stored_push o.collected (decided_copy p))) good
+
 -- the store round begins
 stores_fits : (grid : Grid) (up : Servers) (n : ℕ) (volumes : List VolumeRow) (o : Operation) (message : OwnMessage) → OperationFits n volumes o → BodyFits n (room volumes (volume_of o.task)) message.body → is_collect o.round ≡ true →
     HeardFits grid n volumes o message (begin_store grid up (with_decided (with_reply o message)))
@@ -157,9 +167,7 @@ stores_fits grid up n volumes o message fits body odd =
     let size : ℕ = room volumes (volume_of o.task) in
     let decided : StoredCopy = decided_copy p in
     let copies : List StoredCopy = o.collected ++ decided ∷ [] in
-    let all : All (Fits n size) (heard_copies p.heard) = heard_fits n size o.heard message fits.heard body in
-    let good : Fits (n + 1) size decided = decided_fits n volumes p o.task refl fits.task fits.floor all in
-    let stored : Fits (n + 1) size (stored_copy copies) = subst (Fits (n + 1) size) (sym (stored_push o.collected decided)) good in
+    let stored : Fits (n + 1) size (stored_copy copies) = decided_stored n volumes o message fits body in
     let count : length copies ≡ length o.collected + 1 = length_push o.collected decided in
     let round : 2 * length copies ≡ 2 * (length o.collected + 1) = omega arith in
     let file : (round_file o.task (2 * length copies)).place < files_of volumes (volume_of o.task) =
@@ -183,19 +191,18 @@ stores_fits grid up n volumes o message fits body odd =
           (round_fits grid up (n + 1) volumes (in_round (with_decided p) (2 * length copies)) file stored),
     )
 
--- the collect round of a listing's next file begins
-collects_fits : (grid : Grid) (up : Servers) (n : ℕ) (volumes : List VolumeRow) (o : Operation) (message : OwnMessage) (volume files : ℕ) → OperationFits n volumes o → is_collect o.round ≡ false → o.task ≡ Listing volume files → nat_lt (length o.collected) files ≡ true →
-    HeardFits grid n volumes o message (begin_collect grid up (with_reply o message))
-collects_fits grid up n volumes o message volume files fits even is more =
-    let p : Operation = with_reply o message in
-    let k : ℕ = length o.collected in
+-- the collect round of a listing's next file begins, where these copies were collected
+next_fits : (grid : Grid) (up : Servers) (n : ℕ) (volumes : List VolumeRow) (o : Operation) (message : OwnMessage) (heard : List Reply) (copies : List StoredCopy) (volume files : ℕ) → OperationFits n volumes o → collected_after o message ≡ copies →
+    Fits (n + 1) (room volumes (volume_of o.task)) (stored_copy copies) → o.task ≡ Listing volume files → nat_lt (length copies) files ≡ true →
+    HeardFits grid n volumes o message (begin_collect grid up (record { session = o.session; op = o.op; task = o.task; round = o.round; heard = heard; collected = copies; floor = o.floor }))
+next_fits grid up n volumes o message heard copies volume files fits after stored is more =
+    let p : Operation = record { session = o.session; op = o.op; task = o.task; round = o.round; heard = heard; collected = copies; floor = o.floor } in
+    let k : ℕ = length copies in
     let size : ℕ = room volumes (volume_of o.task) in
     let there : files ≤ files_of volumes volume = rw is at fits.task in
     let low : k < files = grind (arith, nat_tests) in
     let F : Task → Type 0 = λ task. (round_file task (2 * k + 1)).place < files_of volumes (volume_of task) in
     let file : F o.task = subst F (sym is) (omega arith) in
-    let stored : Fits (n + 1) size (stored_copy o.collected) = fits_more n size (stored_copy o.collected) fits.stored in
-    let after : collected_after o message ≡ o.collected = rw even refl in
     let op : o.op ≤ n + 1 = let h = fits.op in omega arith in
     let floor : floor_after o.task None o.floor ≤ n + 1 = let e = none_floor o.task o.floor in let h = fits.floor in omega arith in (
       record {
@@ -213,6 +220,21 @@ collects_fits grid up n volumes o message volume files fits even is more =
           (round_fits grid up (n + 1) volumes (in_round p (2 * k + 1)) file stored),
     )
 
+-- after a store round
+collects_fits : (grid : Grid) (up : Servers) (n : ℕ) (volumes : List VolumeRow) (o : Operation) (message : OwnMessage) (volume files : ℕ) → OperationFits n volumes o → is_collect o.round ≡ false → o.task ≡ Listing volume files → nat_lt (length o.collected) files ≡ true →
+    HeardFits grid n volumes o message (begin_collect grid up (with_reply o message))
+collects_fits grid up n volumes o message volume files fits even is more =
+    let size : ℕ = room volumes (volume_of o.task) in
+    let after : collected_after o message ≡ o.collected = rw even refl in
+    next_fits grid up n volumes o message (with_reply o message).heard o.collected volume files fits after (fits_more n size (stored_copy o.collected) fits.stored) is more
+
+-- without a store round of the copy that was decided
+skips_fits : (grid : Grid) (up : Servers) (n : ℕ) (volumes : List VolumeRow) (o : Operation) (message : OwnMessage) (volume files : ℕ) → OperationFits n volumes o → BodyFits n (room volumes (volume_of o.task)) message.body → is_collect o.round ≡ true →
+    o.task ≡ Listing volume files → nat_lt (length (with_decided (with_reply o message)).collected) files ≡ true → HeardFits grid n volumes o message (begin_collect grid up (with_decided (with_reply o message)))
+skips_fits grid up n volumes o message volume files fits body odd is more =
+    let after : collected_after o message ≡ o.collected ++ decided_copy (with_reply o message) ∷ [] = rw odd refl in
+    next_fits grid up n volumes o message (with_reply o message).heard (o.collected ++ decided_copy (with_reply o message) ∷ []) volume files fits after (decided_stored n volumes o message fits body) is more
+
 pub hear_fits : (grid : Grid) (up : Servers) (n : ℕ) (volumes : List VolumeRow) (o : Operation) (message : OwnMessage) → OperationFits n volumes o → (is_current o message ≡ true → BodyFits n (room volumes (volume_of o.task)) message.body) →
     HeardFits grid n volumes o message (hear grid up o message)
 hear_fits grid up n volumes o message fits body =
@@ -228,5 +250,6 @@ hear_fits grid up n volumes o message fits body =
       stored = fits_more n size (stored_copy o.collected) fits.stored;
     })
     (λ cur odd. stores_fits grid up n volumes o message fits (body cur) odd)
+    (λ volume files cur odd is more. skips_fits grid up n volumes o message volume files fits (body cur) odd is more)
     (λ volume files cur even is more. collects_fits grid up n volumes o message volume files fits even is more)
     (λ outcome. tt)

@@ -8,7 +8,7 @@ use Rattle.gq_grid.specs.Grid.{Grid, Servers, rising, below}
 use Rattle.gq_tag.specs.Tag.{OwnMessage}
 use Rattle.gq_phase.specs.declared.Outcome.{Outcome}
 use Rattle.gq_phase.specs.declared.Outcome.TheVariants.{Wrote, Gave, Listed}
-use Rattle.gq_phase.specs.Phase.{Task, Writing, Reading, Listing, Operation, Heard as Saying, HeardStale, HeardNoted, HeardNext, HeardDone, hear, is_current, is_collect, ends_round, with_reply, with_decided, begin_store, begin_collect, file_done, in_round, round_messages, round_quorum, stored_copy, listed_row}
+use Rattle.gq_phase.specs.Phase.{Task, Writing, Reading, Listing, Operation, Heard as Saying, HeardStale, HeardNoted, HeardNext, HeardDone, hear, is_current, is_collect, ends_round, with_reply, with_decided, begin_store, begin_collect, file_done, skips_store, in_round, round_messages, round_quorum, stored_copy, listed_row}
 use Rattle.gq_phase.specs.Laws.{SameQuorums}
 use Rattle.gq_world.specs.Seats.{said_by}
 
@@ -21,8 +21,12 @@ hear_noted : (grid : Grid) (up : Servers) (o : Operation) (m : OwnMessage) → i
 hear_noted grid up o m cur goes_on = rw (cur, goes_on) refl
 
 hear_collected : (grid : Grid) (up : Servers) (o : Operation) (m : OwnMessage) → is_current o m ≡ true → ends_round grid o.round (with_reply o m).heard ≡ true → is_collect o.round ≡ true →
-    hear grid up o m ≡ begin_store grid up (with_decided (with_reply o m))
-hear_collected grid up o m cur ended odd = rw (cur, ended, odd) refl
+    skips_store grid (with_decided (with_reply o m)) ≡ false → hear grid up o m ≡ begin_store grid up (with_decided (with_reply o m))
+hear_collected grid up o m cur ended odd stores = rw (cur, ended, odd, stores) refl
+
+hear_skipped : (grid : Grid) (up : Servers) (o : Operation) (m : OwnMessage) → is_current o m ≡ true → ends_round grid o.round (with_reply o m).heard ≡ true → is_collect o.round ≡ true →
+    skips_store grid (with_decided (with_reply o m)) ≡ true → hear grid up o m ≡ file_done grid up (with_decided (with_reply o m))
+hear_skipped grid up o m cur ended odd skips = rw (cur, ended, odd, skips) refl
 
 hear_stored : (grid : Grid) (up : Servers) (o : Operation) (m : OwnMessage) → is_current o m ≡ true → ends_round grid o.round (with_reply o m).heard ≡ true → is_collect o.round ≡ false →
     hear grid up o m ≡ file_done grid up (with_reply o m)
@@ -53,16 +57,20 @@ pub hear_cases : (P : Saying → Type 0) (grid : Grid) (up : Servers) (o : Opera
     P HeardStale →
     (is_current o m ≡ true → P HeardNoted) →
     (is_current o m ≡ true → is_collect o.round ≡ true → P (begin_store grid up (with_decided (with_reply o m)))) →
+    ((volume files : ℕ) → is_current o m ≡ true → is_collect o.round ≡ true → o.task ≡ Listing volume files → nat_lt (length (with_decided (with_reply o m)).collected) files ≡ true → P (begin_collect grid up (with_decided (with_reply o m)))) →
     ((volume files : ℕ) → is_current o m ≡ true → is_collect o.round ≡ false → o.task ≡ Listing volume files → nat_lt (length o.collected) files ≡ true → P (begin_collect grid up (with_reply o m))) →
     ((outcome : Outcome) → P (HeardDone outcome)) →
     P (hear grid up o m)
-hear_cases P grid up o m stale noted stores collects done =
+hear_cases P grid up o m stale noted stores skips collects done =
     elim (cases_Bool (is_current o m)) [
       | inr old ↦ (subst P (sym (hear_stale grid up o m old)) stale)
       | inl cur ↦ (elim (cases_Bool (ends_round grid o.round (with_reply o m).heard)) [
         | inr on ↦ (subst P (sym (hear_noted grid up o m cur on)) (noted cur))
         | inl ended ↦ (elim (cases_Bool (is_collect o.round)) [
-          | inl odd ↦ (subst P (sym (hear_collected grid up o m cur ended odd)) (stores cur odd))
+          | inl odd ↦ (elim (cases_Bool (skips_store grid (with_decided (with_reply o m)))) [
+            | inr sends ↦ (subst P (sym (hear_collected grid up o m cur ended odd sends)) (stores cur odd))
+            | inl leaves ↦ (subst P (sym (hear_skipped grid up o m cur ended odd leaves)) (file_done_cases P grid up (with_decided (with_reply o m)) (λ volume files is more. skips volume files cur odd is more) done))
+          ])
           | inr even ↦ (subst P (sym (hear_stored grid up o m cur ended even)) (file_done_cases P grid up (with_reply o m) (λ volume files is more. collects volume files cur even is more) done))
         ])
       ])
@@ -84,7 +92,10 @@ hear_up grid up also o m same =
       | inl cur ↦ (elim (cases_Bool (ends_round grid o.round (with_reply o m).heard)) [
         | inr on ↦ (hear_noted grid up o m cur on ∙ sym (hear_noted grid also o m cur on))
         | inl ended ↦ (elim (cases_Bool (is_collect o.round)) [
-          | inl odd ↦ (hear_collected grid up o m cur ended odd ∙ stores (with_decided (with_reply o m)) ∙ sym (hear_collected grid also o m cur ended odd))
+          | inl odd ↦ (elim (cases_Bool (skips_store grid (with_decided (with_reply o m)))) [
+            | inr sends ↦ (hear_collected grid up o m cur ended odd sends ∙ stores (with_decided (with_reply o m)) ∙ sym (hear_collected grid also o m cur ended odd sends))
+            | inl leaves ↦ (hear_skipped grid up o m cur ended odd leaves ∙ done (with_decided (with_reply o m)) ∙ sym (hear_skipped grid also o m cur ended odd leaves))
+          ])
           | inr even ↦ (hear_stored grid up o m cur ended even ∙ done (with_reply o m) ∙ sym (hear_stored grid also o m cur ended even))
         ])
       ])

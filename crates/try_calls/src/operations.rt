@@ -24,7 +24,7 @@ const FILE: FileId = FileId {
     file: 0,
 };
 
-// A grid with a quorum of three servers.
+// A grid of two rows and two columns.
 fn grid() -> Result<Grid, Fault> {
     match Grid::new(2, 2) {
         Ok(grid) => Ok(grid),
