@@ -1,4 +1,5 @@
 pub mod Agreeing
 pub mod Meeting
+pub mod Inside
 pub mod Ranges
 pub mod Same

@@ -28,7 +28,7 @@ use Rattle.gq_laws.proofs.Found.{contains_at}
 -- ---- accepted lines
 
 -- what a line does that is not refused
-abbrev accepted_step : Grid → TenantRow → State → Line → Step
+abbrev pub accepted_step : Grid → TenantRow → State → Line → Step
 accepted_step grid row state (Write k v f bytes) = session_step grid state (Write k v f bytes)
 accepted_step grid row state (Read k v f) = session_step grid state (Read k v f)
 accepted_step grid row state (ListFiles k v) = session_step grid state (ListFiles k v)
@@ -40,7 +40,7 @@ unless_none : (r : Option Refusal) (s : Step) → is_refusal (unless r s).told �
 unless_none None s h = refl
 unless_none (Some word) s h = absurd (true≢false h)
 
-line_is : (grid : Grid) (row : TenantRow) (state : State) (line : Line) → is_refusal (line_step grid row state line).told ≡ false → line_step grid row state line ≡ accepted_step grid row state line
+pub line_is : (grid : Grid) (row : TenantRow) (state : State) (line : Line) → is_refusal (line_step grid row state line).told ≡ false → line_step grid row state line ≡ accepted_step grid row state line
 line_is grid row state (Write k v f bytes) h = unless_none (first_cause (session_causes grid row state (Write k v f bytes))) (session_step grid state (Write k v f bytes)) h
 line_is grid row state (Read k v f) h = unless_none (first_cause (session_causes grid row state (Read k v f))) (session_step grid state (Read k v f)) h
 line_is grid row state (ListFiles k v) h = unless_none (first_cause (session_causes grid row state (ListFiles k v))) (session_step grid state (ListFiles k v)) h
@@ -49,7 +49,7 @@ line_is grid row state (Abandon k) h = unless_none (first_cause (session_causes 
 line_is grid row state line h = refl
 
 -- a line that is not refused is not spent
-step_line : (grid : Grid) (row : TenantRow) (lines : ℕ) (t : Trace) (line : Line) → is_refusal (step_on grid row lines t (Own line)).told ≡ false →
+pub step_line : (grid : Grid) (row : TenantRow) (lines : ℕ) (t : Trace) (line : Line) → is_refusal (step_on grid row lines t (Own line)).told ≡ false →
     step_on grid row lines t (Own line) ≡ line_step grid row (questions t) line
 step_line grid row lines t line h = go (nat_le row.steps lines) refl
   where
@@ -103,7 +103,7 @@ third_fails a b c rest h = go a.0 refl b.0 refl c.0 refl
     go false e true f true g = absurd (let bad : Some b.1 ≡ None = rw (e, f) at h in cc)
     go false e false f true g = absurd (let bad : Some c.1 ≡ None = rw (e, f, g) at h in cc)
 
-no_cause : (r : Option Refusal) (s : Step) → is_refusal (unless r s).told ≡ false → r ≡ None
+pub no_cause : (r : Option Refusal) (s : Step) → is_refusal (unless r s).told ≡ false → r ≡ None
 no_cause None s h = refl
 no_cause (Some word) s h = absurd (true≢false h)
 
@@ -117,11 +117,11 @@ listed_volume grid row lines t k v h =
     ltb-true v (length (volumes t)) (not-false (nat_lt v (length (volumes t))) there)
 
 -- the entry of an accepted line of the tenant
-abbrev own_entry : Grid → TenantRow → Trace → Line → Entry
+abbrev pub own_entry : Grid → TenantRow → Trace → Line → Entry
 own_entry grid row t line = record { turn = Own line; message = delivered t (Own line); told = (accepted_step grid row (questions t) line).told; new = (accepted_step grid row (questions t) line).new }
 
 -- an accepted line leaves that entry
-is_own_entry : (grid : Grid) (row : TenantRow) (t : Trace) (line : Line) (message : Option OwnMessage) (said : Told) (new : List OwnMessage) →
+pub is_own_entry : (grid : Grid) (row : TenantRow) (t : Trace) (line : Line) (message : Option OwnMessage) (said : Told) (new : List OwnMessage) →
     Follows grid row t (record { turn = Own line; message = message; told = said; new = new }) → own_entry grid row t line ≡ record { turn = Own line; message = message; told = said; new = new }
 is_own_entry grid row t line message said new follows =
     let is = own_step grid row t line message said new follows in

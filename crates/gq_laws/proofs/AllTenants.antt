@@ -58,7 +58,7 @@ told_same plan t before (Server line) turn sees =
 told_same plan t before Stray turn sees = absurd (let bad : None ≡ Some turn = sees in cc)
 
 -- the past after one event more
-past_more : (plan : CheckedPlan) (t : ℕ) (before : List Event) (event : Event) (turn : Option Turn) → turn_of t event ≡ turn → past_at plan t (before ++ event ∷ []) ≡ fold (after plan.grid (row_at plan t)) (past_at plan t before) (cons_option turn [])
+pub past_more : (plan : CheckedPlan) (t : ℕ) (before : List Event) (event : Event) (turn : Option Turn) → turn_of t event ≡ turn → past_at plan t (before ++ event ∷ []) ≡ fold (after plan.grid (row_at plan t)) (past_at plan t before) (cons_option turn [])
 past_more plan t before event turn is =
     rw (filter_map-append (turn_of t) before (event ∷ []), is)
     (fold-append (after plan.grid (row_at plan t)) start (own t before) (cons_option turn []))

@@ -28,3 +28,10 @@ pub mod OtherPlaces
 pub mod AllTenants
 pub mod Checking
 pub mod Cases
+pub mod Remaining
+pub mod Going
+pub mod OwnLines
+pub mod Completing
+pub mod CompletingAmong
+pub mod Asking
+pub mod CompletedCase

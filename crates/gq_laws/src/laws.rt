@@ -2,6 +2,7 @@
 
 ghost use Rattle.gq_laws.specs.Checks.{ChecksDecide};
 ghost use Rattle.gq_laws.specs.Laws.{AllPlacesTagged, AllRunsTagged};
+ghost use Rattle.gq_laws.specs.Progress.{AllMayAbandon, AllOperationsComplete, AllRequestsComplete, AllTenantsComplete};
 ghost use Rattle.gq_laws.specs.Orders.{AllRunsLegal, OrdersAreLegal};
 ghost use Rattle.gq_laws.specs.Tenants.{AllTenantsLegal, AllTenantsTagged};
 
@@ -35,4 +36,16 @@ pub fn tenants()
 #[tactic(auto, using(crate::proofs::Checking::checks_decide))]
 pub fn checked()
     ensures { ChecksDecide }
+{}
+
+/// Each operation can be completed. Whatever the lines of a tenant and the servers' changes, losses and abandoned
+/// operations among them: where a collect quorum and a store quorum are up and steps are left, a going operation is
+/// completed by one retry of its session and deliveries of messages that are sent from then on, none of which is refused.
+/// A request that is accepted needs no retry. In a run of all tenants the same lines are told the same. And whatever is
+/// up, a session may abandon its operation and ask again.
+pub fn completes()
+    ensures operations { AllOperationsComplete }
+    ensures requests { AllRequestsComplete }
+    ensures tenants { AllTenantsComplete }
+    ensures abandoned { AllMayAbandon }
 {}

@@ -4,8 +4,9 @@ use Rattle.std.specs.Prelude.{option_map}
 use Rattle.gq_grid.specs.Grid.{Servers, has_row, has_column, least_row, least_column, row_servers, column_servers}
 use Rattle.gq_grid.proofs.Agreeing.{least_row_agree, least_column_agree}
 use Rattle.gq_grid.proofs.Meeting.{rows_meet_columns, row_up_is_row, column_up_is_column, has_row-none, has_column-none, has_row_more, has_column_more}
+use Rattle.gq_grid.proofs.Inside.{chosen_row_up, chosen_column_up}
 use Rattle.gq_phase.specs.Quorums.{collect_quorum, store_quorum, ends_collect, ends_store}
-use Rattle.gq_phase.specs.Laws.{RoundsMeet, CollectQuorumsEnd, StoreQuorumsEnd, NobodyEnds, MoreStillEnd, QuorumsInGrid}
+use Rattle.gq_phase.specs.Laws.{RoundsMeet, CollectQuorumsEnd, StoreQuorumsEnd, QuorumsAreUp, NobodyEnds, MoreStillEnd, QuorumsInGrid}
 
 pub rounds_meet : RoundsMeet
 unfolding ends_collect ends_store
@@ -27,6 +28,13 @@ pub store_quorums_end : StoreQuorumsEnd
 unfolding store_quorum ends_store
 store_quorums_end grid up quorum h =
     made (least_column grid up) (column_servers grid) (λ set. has_column grid set ≡ true) quorum h (λ col least. column_up_is_column grid up col least)
+
+pub quorums_are_up : QuorumsAreUp
+unfolding collect_quorum store_quorum
+quorums_are_up grid up quorum server inside = (
+  λ h. made (least_row grid up) (row_servers grid) (λ set. set server ≡ true → up server ≡ true) quorum h (λ row least. chosen_row_up grid up row server least) inside,
+  λ h. made (least_column grid up) (column_servers grid) (λ set. set server ≡ true → up server ≡ true) quorum h (λ col least. chosen_column_up grid up col server least) inside,
+)
 
 pub nobody_ends : NobodyEnds
 unfolding ends_collect ends_store

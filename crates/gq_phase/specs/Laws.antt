@@ -19,6 +19,12 @@ abbrev pub StoreQuorumsEnd : Type 0
 StoreQuorumsEnd =
     (grid : Grid) (up quorum : Servers) → store_quorum grid up ≡ Some quorum → ends_store grid quorum ≡ true
 
+-- the servers that a round asks, or sends to, are up
+abbrev pub QuorumsAreUp : Type 0
+QuorumsAreUp =
+    (grid : Grid) (up quorum : Servers) (server : ℕ) → quorum server ≡ true →
+    (collect_quorum grid up ≡ Some quorum → up server ≡ true) × (store_quorum grid up ≡ Some quorum → up server ≡ true)
+
 -- nobody ends no round, on a grid that has a server
 abbrev pub NobodyEnds : Type 0
 NobodyEnds = (grid : Grid) → 0 < grid.rows * grid.cols → (ends_collect grid no_servers ≡ false) × (ends_store grid no_servers ≡ false)

@@ -1,5 +1,5 @@
 -- Each law of the four words.
-use Rattle.gq_phase.proofs.Meeting.{rounds_meet, collect_quorums_end, store_quorums_end, nobody_ends, more_still_end, quorums_in_grid}
+use Rattle.gq_phase.proofs.Meeting.{rounds_meet, collect_quorums_end, store_quorums_end, quorums_are_up, nobody_ends, more_still_end, quorums_in_grid}
 use Rattle.gq_phase.proofs.laws.rounds_meet.Goals as goal
 
 pub returns-clause-meet : goal.returns-clause-meet
@@ -10,6 +10,9 @@ returns-clause-collect c = collect_quorums_end
 
 pub returns-clause-store : goal.returns-clause-store
 returns-clause-store c = store_quorums_end
+
+pub returns-clause-up : goal.returns-clause-up
+returns-clause-up c = quorums_are_up
 
 pub returns-clause-nobody : goal.returns-clause-nobody
 returns-clause-nobody c = nobody_ends

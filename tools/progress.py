@@ -1,0 +1,65 @@
+"""How far a command is that proves crates, told on standard error; and which crates there are."""
+
+import os
+import sys
+import time
+
+TOP = os.path.dirname(os.path.dirname(os.path.abspath(__file__)))
+
+
+def crates_below(program=None):
+    """The crates that a program stands on and the program, or all crates, each with those of the repository that its line in
+    crates.txt names. The lowest are first."""
+    below = {}
+    with open(f"{TOP}/crates.txt") as lines:
+        for line in lines:
+            name, is_crate, words = line.partition("#")[0].partition(":")
+            if is_crate:
+                below[name.split()[0]] = words.split()
+    wanted = [program] if program else list(below)
+    for name in wanted:
+        wanted += [it for it in below[name] if it in below and it not in wanted]
+    return {name: [it for it in below[name] if it in below] for name in below if name in wanted}
+
+
+def kept_seconds(name):
+    """The seconds that things took the last time, by their names."""
+    try:
+        with open(f"{TOP}/.{name}.seconds") as lines:
+            return {it: float(seconds) for it, seconds in map(str.split, lines)}
+    except (OSError, ValueError):
+        return {}
+
+
+def keep_seconds(name, seconds):
+    with open(f"{TOP}/.{name}.seconds", "w") as out:
+        out.writelines(f"{it} {seconds[it]:.1f}\n" for it in seconds)
+
+
+class Shown:
+    """One line on standard error that moves where that is a terminal; elsewhere a line for each thing that has ended."""
+
+    def __init__(self, name):
+        self.name, self.begun, self.moves = name, time.monotonic(), sys.stderr.isatty()
+
+    def seconds(self):
+        return time.monotonic() - self.begun
+
+    def at_hand(self, text, left):
+        """What is at hand, and the seconds that are expected to be left, if that is known."""
+        if self.moves:
+            now = self.seconds()
+            of = f" of some {now + left:.0f}" if left is not None else ""
+            self.write(f"\r\x1b[K{self.name}: {text}; {now:.0f}{of} seconds")
+
+    def ended(self, text):
+        if not self.moves:
+            self.write(f"{self.name}: {text}; {self.seconds():.0f} seconds\n")
+
+    def clear(self):
+        if self.moves:
+            self.write("\r\x1b[K")
+
+    def write(self, text):
+        sys.stderr.write(text)
+        sys.stderr.flush()
