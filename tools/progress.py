@@ -1,6 +1,7 @@
 """How far a command is that proves crates, told on standard error; and which crates there are."""
 
 import os
+import shutil
 import sys
 import time
 
@@ -50,7 +51,8 @@ class Shown:
         if self.moves:
             now = self.seconds()
             of = f" of some {now + left:.0f}" if left is not None else ""
-            self.write(f"\r\x1b[K{self.name}: {text}; {now:.0f}{of} seconds")
+            line = f"{self.name}: {now:.0f}{of} seconds; {text}"
+            self.write(f"\r\x1b[K{line[:shutil.get_terminal_size().columns - 1]}")
 
     def ended(self, text):
         if not self.moves:

@@ -2,11 +2,12 @@
 
 ghost use Rattle.std.specs.Prelude.{◌≡◌, ◌∷◌, [], false, codes, IfOk, IfErr, IsErrAnd};
 ghost use Rattle.clap.specs.Matches.{subcommand_name_of};
-ghost use Rattle.clap.specs.Simple.{app_of};
+ghost use Rattle.clap.specs.Simple.{app_of, new_app};
 ghost use Rattle.clap.specs.Walk.{rule_of};
+ghost use Rattle.clap.specs.declared.builder.command.Command.TheViews.{out-Command as fields_of};
 ghost use Rattle.clap.specs.Walk.{Text, texts};
 ghost use Rattle.clap.specs.declared.error.kind.ErrorKind.TheVariants.{DisplayHelp, DisplayVersion};
-ghost use Rattle.gq_cli.specs.Words.{AsksForLive, AsksToRun, IsAskedBy, IsMemory, IsOf, ShownFor, Shows, gridfs, name_rule, number_rule};
+ghost use Rattle.gq_cli.specs.Words.{AsksForLive, AsksToRun, IsAskedBy, IsMemory, IsOf, ShownFor, Shows, gridfs, name_rule, number_rule, order_shape};
 
 use clap::error::ErrorKind;
 use clap::{Arg, ArgAction, ArgMatches, Command, Error};
@@ -147,24 +148,47 @@ fn name<'a>(alloc: Global) -> Arg<'a>
         .help("The tenant's name")
 }
 
+// A subcommand, without words of its own.
+fn subcommand<'a>(alloc: Global, name: &'a str, about: &'a str, help: &'a str) -> Command<'a>
+    ensures app { app_of result ≡ new_app name.entry.now }
+    ensures local { (fields_of result).has_globals ≡ false }
+{
+    Command::new(alloc, name).about(about).after_help(help)
+}
+
+// The subcommand `order`.
+fn order<'a>(alloc: Global) -> Result<Command<'a>, AllocError>
+    ensures shape { IfOk result (λ c. (app_of c).top ≡ order_shape) }
+    ensures local { IfOk result (λ c. (fields_of c).has_globals ≡ false) }
+{
+    let order = subcommand(
+        alloc,
+        "order",
+        "The same, and behind it the order of the operations on a file of the tenant",
+        ORDER,
+    )
+    .arg(name(alloc))?
+    .arg(number(alloc, "VOLUME", "The number of the tenant's volume, from 0"))?
+    .arg(number(alloc, "FILE", "The number of the volume's file, from 0"))?;
+    Ok(order)
+}
+
 // The command line.
 fn command<'a>(alloc: Global) -> Result<Command<'a>, AllocError>
     ensures app { IfOk result (λ c. app_of c ≡ gridfs) }
 {
-    let run = Command::new(alloc, "run")
-        .about(
-            "Read a script from standard input, and write one line of answer for each of its lines",
-        )
-        .after_help(INPUT);
-    let order = Command::new(alloc, "order")
-        .about("The same, and behind it the order of the operations on a file of the tenant")
-        .after_help(ORDER)
-        .arg(name(alloc))?
-        .arg(number(alloc, "VOLUME", "The number of the tenant's volume, from 0"))?
-        .arg(number(alloc, "FILE", "The number of the volume's file, from 0"))?;
-    let live = Command::new(alloc, "live")
-        .about("Run the programs of an input in threads, and write the run as a script")
-        .after_help(LIVE);
+    let run = subcommand(
+        alloc,
+        "run",
+        "Read a script from standard input, and write one line of answer for each of its lines",
+        INPUT,
+    );
+    let live = subcommand(
+        alloc,
+        "live",
+        "Run the programs of an input in threads, and write the run as a script",
+        LIVE,
+    );
     let gridfs = Command::new(alloc, "gridfs")
         .about(
             "A replicated file service for many tenants: each is told what its run alone would tell",
@@ -173,7 +197,7 @@ fn command<'a>(alloc: Global) -> Result<Command<'a>, AllocError>
         .after_help(INPUT)
         .subcommand_required(true)
         .subcommand(run)?
-        .subcommand(order)?
+        .subcommand(order(alloc)?)?
         .subcommand(live)?;
     Ok(gridfs)
 }

@@ -24,6 +24,48 @@ fn is_for(message: &Message, server: u8) -> bool
     message.server == server && message.to_server()
 }
 
+// What a worker does while it holds the cell's lock.
+fn serve_held<L: Ledger, G: Gate>(
+    site: &Site<'_, G>,
+    cell: &mut Cell<L>,
+    share: &mut Share<L>,
+    letter: &Letter,
+) -> Result<Served, LiveFault>
+    ensures { G.never ≡ true → NoGate result }
+{
+    if site.gate.inside(u32::from(site.server)).is_err() {
+        return Err(LiveFault::Gate);
+    }
+    if !is_for(&letter.message, cell.server()) {
+        return Err(LiveFault::Letter);
+    }
+    match cell.serve(share, letter) {
+        Ok(served) => Ok(served),
+        Err(CellRefused::Memory) => Err(LiveFault::Memory),
+        Err(CellRefused::Stamps) => Err(LiveFault::Stamps),
+        Err(CellRefused::File | CellRefused::Long) => Err(LiveFault::Letter),
+    }
+}
+
+// Sends the note to the session. One to a closed mailbox is dropped.
+fn send<G: Gate, R: Wait>(
+    rt: &R,
+    site: &Site<'_, G>,
+    tenant: u8,
+    session: u8,
+    note: Note,
+) -> Result<(), LiveFault>
+    ensures { NoGate result }
+{
+    match site.mailboxes.of(tenant, session) {
+        Some(to) => match to.send(rt, note) {
+            Err(SendError::OutOfMemory(_)) => Err(LiveFault::Memory),
+            _ => Ok(()),
+        },
+        None => Err(LiveFault::Letter),
+    }
+}
+
 // One hold of the cell's lock, and the note to the letter's session.
 fn serve_one<L: Ledger, G: Gate, R: Wait>(
     rt: &R,
@@ -37,32 +79,16 @@ fn serve_one<L: Ledger, G: Gate, R: Wait>(
     if site.gate.before(u32::from(site.server)).is_err() {
         return Err(LiveFault::Gate);
     }
-    let mut cell = cell.lock(rt);
-    if site.gate.inside(u32::from(site.server)).is_err() {
-        return Err(LiveFault::Gate);
-    }
-    if !is_for(&letter.message, cell.server()) {
-        return Err(LiveFault::Letter);
-    }
-    let served = cell.serve(share, &letter);
-    drop(cell);
+    let mut held = cell.lock(rt);
+    let served = serve_held(site, &mut held, share, &letter);
+    drop(held);
     let tenant = letter.message.tenant;
     let session = letter.message.session;
-    let note = match served {
-        Ok(Served::Reply(reply)) => Note::Letter(reply),
-        Ok(Served::Down) => Note::Returned(letter),
-        Err(CellRefused::Memory) => return Err(LiveFault::Memory),
-        Err(CellRefused::Stamps) => return Err(LiveFault::Stamps),
-        Err(CellRefused::File | CellRefused::Long) => return Err(LiveFault::Letter),
+    let note = match served? {
+        Served::Reply(reply) => Note::Letter(reply),
+        Served::Down => Note::Returned(letter),
     };
-    match site.mailboxes.of(tenant, session) {
-        Some(to) => match to.send(rt, note) {
-            Err(SendError::OutOfMemory(_)) => Err(LiveFault::Memory),
-            // A note to a closed mailbox is dropped.
-            _ => Ok(()),
-        },
-        None => Err(LiveFault::Letter),
-    }
+    send(rt, site, tenant, session, note)
 }
 
 // What a worker did: its share, and its fault, if it met one.

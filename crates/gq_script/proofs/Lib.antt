@@ -18,3 +18,9 @@ pub mod Plain
 pub mod LinesBack
 pub mod EventsBack
 pub mod ScriptBack
+pub mod Behind
+pub mod PlanIs
+pub mod FewMessages
+pub mod Refusing
+pub mod Longer
+pub mod Completing

@@ -32,7 +32,7 @@ then_some (Some x) next y is = (x, refl, is)
 some_same : {x y : TenantRow} → Some x ≡ Some y → x ≡ y
 some_same is = cc
 
-row_named : (words : List Word) (row : TenantRow) → row_told words ≡ Some row → is_name row.name ≡ true
+pub row_named : (words : List Word) (row : TenantRow) → row_told words ≡ Some row → is_name row.name ≡ true
 unfolding row_told
 row_named [] row is = cc
 row_named (verb ∷ []) row is = cc
@@ -49,10 +49,10 @@ row_named (verb ∷ name ∷ a ∷ b ∷ c ∷ []) row is =
     subst P same (and_true (bytes_eq verb (codes "tenant")) (is_name name) one.0).1
 row_named (verb ∷ name ∷ a ∷ b ∷ c ∷ d ∷ words) row is = cc
 
-ok_same : {A : Type 0} {x y : A} → ◌≡◌ {A = Reading A} (Ok x) (Ok y) → x ≡ y
+pub ok_same : {A : Type 0} {x y : A} → ◌≡◌ {A = Reading A} (Ok x) (Ok y) → x ≡ y
 ok_same is = cc
 
-row_and_rest : (n : ℕ) (o : Option TenantRow) (r : Reading (List TenantRow × List (List ℕ))) (rows : List TenantRow) (rest : List (List ℕ)) → row_then n o r ≡ Ok (rows, rest) → (row : TenantRow) × (more : List TenantRow) × (o ≡ Some row) × (r ≡ Ok (more, rest)) × (rows ≡ row ∷ more)
+pub row_and_rest : (n : ℕ) (o : Option TenantRow) (r : Reading (List TenantRow × List (List ℕ))) (rows : List TenantRow) (rest : List (List ℕ)) → row_then n o r ≡ Ok (rows, rest) → (row : TenantRow) × (more : List TenantRow) × (o ≡ Some row) × (r ≡ Ok (more, rest)) × (rows ≡ row ∷ more)
 row_and_rest n None r rows rest is = cc
 row_and_rest n (Some row) (Ok read) rows rest is =
     let same = ok_same is in
@@ -89,11 +89,11 @@ rows_named n (line ∷ lines) rest rows t row is at = by (bytes_eq line (codes "
 
 -- ---- the plan of lines
 
-then_read_ok : {A B : Type 0} (read : Reading A) (next : A → Reading B) (y : B) → then_read read next ≡ Ok y → (x : A) × (read ≡ Ok x) × (next x ≡ Ok y)
+pub then_read_ok : {A B : Type 0} (read : Reading A) (next : A → Reading B) (y : B) → then_read read next ≡ Ok y → (x : A) × (read ≡ Ok x) × (next x ≡ Ok y)
 then_read_ok (Ok x) next y is = (x, refl, is)
 then_read_ok (Err fault) next y is = cc
 
-unless_ok : (fault : Option PlanFault) (made plan : CheckedPlan) → plan_unless fault made ≡ Ok plan → (fault ≡ None) × (made ≡ plan)
+pub unless_ok : (fault : Option PlanFault) (made plan : CheckedPlan) → plan_unless fault made ≡ Ok plan → (fault ≡ None) × (made ≡ plan)
 unless_ok None made plan is = (refl, cc)
 unless_ok (Some fault) made plan is = cc
 

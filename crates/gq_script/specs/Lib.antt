@@ -12,3 +12,4 @@ pub mod Steps
 pub mod Laws
 pub mod Alone
 pub mod Canonical
+pub mod Completing

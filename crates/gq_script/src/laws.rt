@@ -25,3 +25,14 @@ pub fn alone()
     ensures alone { TellsAsAlone }
     ensures same { TellsTheSame }
 {}
+
+ghost use Rattle.gq_script.specs.Completing.{AllInputRequestsComplete, AllInputsComplete};
+
+/// Each operation that an accepted input leaves going can be completed. Where a collect quorum and a store quorum are up
+/// and steps are left: behind the input come a line `NAME retry K` and lines `NAME deliver N`, and the output goes on by
+/// one line for each, none of them a refusal, of which the last tells that the operation is done. A request that is
+/// accepted behind the input needs no retry.
+pub fn completes()
+    ensures operations { AllInputsComplete }
+    ensures requests { AllInputRequestsComplete }
+{}

@@ -195,10 +195,10 @@ pub fn answer_lines(
 
 // The answers to the lines of a text after the plan. The loop is that of `answer_lines` without what is kept there: so no
 // event or answer has to lie in memory whole (docs/DECISIONS.md, Speed).
-fn answers(alloc: Global, plan: Plan, lines: &[u8]) -> Result<Vec<u8>, AllocError>
-    ensures { IfOk result (λ text. text.items ≡ joined (output_lines plan (lines_of lines.now))) }
+fn answers(alloc: Global, world: &mut World, lines: &[u8]) -> Result<Vec<u8>, AllocError>
+    requires { Stands world.old.tables [] }
+    ensures { IfOk result (λ text. text.items ≡ joined (output_lines world.old.tables.plan (lines_of lines.now))) }
 {
-    let mut world = World::new(alloc, plan)?;
     let mut text = Vec::new(alloc);
     let mut quorum = QuorumText::new(alloc, *world.plan().grid());
     let mut rest = lines;
@@ -216,6 +216,14 @@ fn answers(alloc: Global, plan: Plan, lines: &[u8]) -> Result<Vec<u8>, AllocErro
     Ok(text)
 }
 
+// The answers of a new world of the plan.
+fn answers_of(alloc: Global, plan: Plan, lines: &[u8]) -> Result<Vec<u8>, AllocError>
+    ensures { IfOk result (λ text. text.items ≡ joined (output_lines plan (lines_of lines.now))) }
+{
+    let mut world = World::new(alloc, plan)?;
+    answers(alloc, &mut world, lines)
+}
+
 // The output of an input.
 fn output(alloc: Global, input: &[u8]) -> Result<Vec<u8>, RunFault>
     ensures plan { OnOk result (IsOk (plan_of (lines_of input.now))) }
@@ -223,7 +231,7 @@ fn output(alloc: Global, input: &[u8]) -> Result<Vec<u8>, RunFault>
     ensures fault { IfErr result (IsFaultOfLines (lines_of input.now)) }
 {
     match read_plan(alloc, input) {
-        Ok((plan, place)) => match answers(alloc, plan, &input[place..]) {
+        Ok((plan, place)) => match answers_of(alloc, plan, &input[place..]) {
             Ok(text) => Ok(text),
             Err(_) => Err(RunFault::Memory),
         },

@@ -1,8 +1,8 @@
 //! The calls that take memory, one kind after another. What can be seen of a value is told before a call, and once more
 //! where memory is refused to the call, which then is made again.
 
-ghost use Rattle.std.specs.Prelude.{◌≡◌, ◌<◌, [], ◌∷◌, length, IfOk};
-ghost use Rattle.gq_store.specs.Copies.{store_accounts};
+ghost use Rattle.std.specs.Prelude.{◌≡◌, ◌<◌, [], ◌∷◌, length, IfOk, OnOk};
+ghost use Rattle.gq_store.specs.Copies.{empty_store, store_accounts};
 
 use crate::{Fault, cells, histories, operations, records, texts};
 use gq_desk::{Desk, Name, Plan, TenantRow};
@@ -36,11 +36,16 @@ pub fn tell_refused(out: &mut Vec<u8>, call: &str) -> io::Result<()> {
     writeln!(out, "refused {call}")
 }
 
+/// Tells that memory was refused to a call, and what can be seen of the value then.
+pub fn tell_kept<T: Debug>(out: &mut Vec<u8>, call: &str, seen: &T) -> io::Result<()> {
+    tell_refused(out, call)?;
+    tell(out, seen)
+}
+
 // What a call gives that is made once more, after memory was refused to it, which is told.
 macro_rules! again {
     ($out:ident, $call:literal, $seen:expr, $make:expr) => {{
-        tell_refused($out, $call)?;
-        tell($out, $seen)?;
+        $crate::calls::tell_kept($out, $call, $seen)?;
         match $make {
             Ok(value) => value,
             Err(_) => return Err(Fault::Memory),
@@ -109,11 +114,15 @@ fn plan(alloc: Global, row: TenantRow, out: &mut Vec<u8>) -> Result<Plan, Fault>
     Ok(plan)
 }
 
-fn copy_of_a_plan(alloc: Global, out: &mut Vec<u8>) -> Result<(), Fault> {
-    let plan = plan(alloc, row()?, out)?;
+// A plan's copy. (Each call that is retried stands in a function that owns little: a proof follows each way out of it.)
+fn copy(plan: &Plan, out: &mut Vec<u8>) -> Result<(), Fault> {
     let copy = retry!(out, "Plan::copy", &plan.rows(), plan.copy());
     tell(out, &copy)?;
     Ok(())
+}
+
+fn copy_of_a_plan(alloc: Global, out: &mut Vec<u8>) -> Result<(), Fault> {
+    copy(&plan(alloc, row()?, out)?, out)
 }
 
 // Opens a volume of a file of so many blocks.
@@ -131,14 +140,27 @@ fn open(desk: &mut Desk, blocks: u32, out: &mut Vec<u8>) -> Result<(), Fault>
     Ok(())
 }
 
-fn desk(alloc: Global, out: &mut Vec<u8>) -> Result<(), Fault> {
-    let plan = plan(alloc, row()?, out)?;
-    let mut desk = retry!(out, "Desk::new", &plan.rows(), Desk::new(alloc, &plan));
-    open(&mut desk, 1, out)?;
-    open(&mut desk, 2, out)?;
-    open(&mut desk, 3, out)?;
+fn new_desk(alloc: Global, plan: &Plan, out: &mut Vec<u8>) -> Result<Desk, Fault>
+    ensures { IfOk result (λ desk. length desk ≡ length plan.now.rows) }
+{
+    let desk = retry!(out, "Desk::new", &plan.rows(), Desk::new(alloc, plan));
+    Ok(desk)
+}
+
+fn open_three(desk: &mut Desk, out: &mut Vec<u8>) -> Result<(), Fault>
+    requires { 0 < length desk.old }
+{
+    open(desk, 1, out)?;
+    open(desk, 2, out)?;
+    open(desk, 3, out)?;
     tell(out, &(desk.volumes(0), desk.free(0), desk.limit(FILE)))?;
     Ok(())
+}
+
+fn desk(alloc: Global, out: &mut Vec<u8>) -> Result<(), Fault> {
+    let plan = plan(alloc, row()?, out)?;
+    let mut desk = new_desk(alloc, &plan, out)?;
+    open_three(&mut desk, out)
 }
 
 fn pool(alloc: Global, out: &mut Vec<u8>) -> Result<(), Fault> {
@@ -149,29 +171,42 @@ fn pool(alloc: Global, out: &mut Vec<u8>) -> Result<(), Fault> {
     Ok(())
 }
 
-fn new_store(alloc: Global, out: &mut Vec<u8>) -> Result<ServerStore, Fault>
-    ensures { IfOk result (λ store. store_accounts store ≡ record { share = 8; volumes = [] } ∷ []) }
+fn store_of(alloc: Global, plan: &Plan, out: &mut Vec<u8>) -> Result<ServerStore, Fault>
+    ensures { IfOk result (λ store. store ≡ empty_store plan.now) }
 {
-    let plan = plan(alloc, row()?, out)?;
     let store = retry!(
         out,
         "ServerStore::new",
         &plan.rows(),
-        ServerStore::new(alloc, &plan)
+        ServerStore::new(alloc, plan)
     );
     Ok(store)
 }
 
-fn store_of_two_files(alloc: Global, out: &mut Vec<u8>) -> Result<ServerStore, Fault>
-    ensures { IfOk result (λ store. store_accounts store ≡ record { share = 8; volumes = record { files = 2; blocks = 2 } ∷ [] } ∷ []) }
+fn new_store(alloc: Global, out: &mut Vec<u8>) -> Result<ServerStore, Fault>
+    ensures { IfOk result (λ store. store_accounts store ≡ record { share = 8; volumes = [] } ∷ []) }
 {
-    let mut store = new_store(alloc, out)?;
+    store_of(alloc, &plan(alloc, row()?, out)?, out)
+}
+
+fn add_two_files(store: &mut ServerStore, out: &mut Vec<u8>) -> Result<(), Fault>
+    requires { store_accounts store.old ≡ record { share = 8; volumes = [] } ∷ [] }
+    ensures { OnOk result (store_accounts store.new ≡ record { share = 8; volumes = record { files = 2; blocks = 2 } ∷ [] } ∷ []) }
+{
     retry!(
         out,
         "ServerStore::add_files",
         &store.free(),
         store.add_files(0, 2, 2)
     );
+    Ok(())
+}
+
+fn store_of_two_files(alloc: Global, out: &mut Vec<u8>) -> Result<ServerStore, Fault>
+    ensures { IfOk result (λ store. store_accounts store ≡ record { share = 8; volumes = record { files = 2; blocks = 2 } ∷ [] } ∷ []) }
+{
+    let mut store = new_store(alloc, out)?;
+    add_two_files(&mut store, out)?;
     Ok(store)
 }
 
@@ -236,17 +271,21 @@ fn post(alloc: Global, out: &mut Vec<u8>) -> Result<(), Fault> {
     Ok(())
 }
 
-fn world(alloc: Global, out: &mut Vec<u8>) -> Result<(), Fault> {
-    let plan = plan(alloc, row()?, out)?;
-    // (the plan is given up where memory is refused)
+// A world of a copy of the plan, which is given up where memory is refused.
+fn world_of(alloc: Global, plan: &Plan, out: &mut Vec<u8>) -> Result<World, Fault> {
     let world = retry!(
         out,
         "World::new",
         &plan.rows(),
         World::new(alloc, plan.copy()?)
     );
-    let kept = world.plan();
-    tell(out, &kept)?;
+    Ok(world)
+}
+
+fn world(alloc: Global, out: &mut Vec<u8>) -> Result<(), Fault> {
+    let plan = plan(alloc, row()?, out)?;
+    let world = world_of(alloc, &plan, out)?;
+    tell(out, &world.plan())?;
     Ok(())
 }
 

@@ -3,10 +3,10 @@
 ghost use Rattle.std.specs.Prelude.{All};
 ghost use Rattle.gq_model.specs.Events.{IsIn};
 
-use crate::calls::{retry, tell, tell_refused};
+use crate::calls::{retry, tell};
 use crate::{Fault, texts};
 use gq_desk::Plan;
-use gq_order::{check_order, operations, order};
+use gq_order::{Op, check_order, operations, order};
 use gq_tag::FileId;
 use gq_world::{Answer, Event, World, said_of};
 use std::alloc::Global;
@@ -32,22 +32,43 @@ fn answers(alloc: Global, plan: &Plan, events: &[Event]) -> Result<Vec<Answer>, 
     Ok(answers)
 }
 
+// What a session was told by the answer.
+fn say(answer: &Answer, out: &mut Vec<u8>) -> Result<(), Fault> {
+    let said = retry!(out, "said_of", answer, said_of(answer));
+    tell(out, &said)?;
+    Ok(())
+}
+
+fn ops(
+    alloc: Global,
+    plan: &Plan,
+    events: &[Event],
+    answers: &[Answer],
+    out: &mut Vec<u8>,
+) -> Result<Vec<Op>, Fault> {
+    let ops = retry!(
+        out,
+        "operations",
+        &(),
+        operations(alloc, plan, events, answers, FILE)
+    );
+    Ok(ops)
+}
+
+fn put_order(alloc: Global, ops: &[Op], out: &mut Vec<u8>) -> Result<(), Fault> {
+    let places = retry!(out, "order", &ops, order(alloc, ops));
+    tell(out, &(places.as_slice(), check_order(ops, &places)))?;
+    Ok(())
+}
+
 /// Runs a script, and tells what each session was told, and the operations on the first file in their order.
 pub fn make(alloc: Global, script: &[u8], out: &mut Vec<u8>) -> Result<(), Fault> {
     let (plan, place) = texts::plan(alloc, script, out)?;
     let events = texts::events(alloc, &plan, &script[place..], out)?;
     let answers = answers(alloc, &plan, &events)?;
     for answer in &answers {
-        let said = retry!(out, "said_of", answer, said_of(answer));
-        tell(out, &said)?;
+        say(answer, out)?;
     }
-    let ops = retry!(
-        out,
-        "operations",
-        &(),
-        operations(alloc, &plan, &events, &answers, FILE)
-    );
-    let places = retry!(out, "order", &ops, order(alloc, &ops));
-    tell(out, &(places.as_slice(), check_order(&ops, &places)))?;
-    Ok(())
+    let ops = ops(alloc, &plan, &events, &answers, out)?;
+    put_order(alloc, &ops, out)
 }

@@ -93,6 +93,17 @@ fn put_sessions(
     Ok(())
 }
 
+// Has the records inspected, and appends the script of their run and what each session was told.
+fn put_run(alloc: Global, plan: &Plan, records: &Records, out: &mut Vec<u8>) -> Result<(), Fault> {
+    let events = inspect(alloc, plan, records)?;
+    if !are_in(plan, events.as_slice()) {
+        return Err(Fault::Other);
+    }
+    write_script(plan, events.as_slice(), out)?;
+    out.extend_from_slice(b"answers\n")?;
+    put_sessions(alloc, plan, records, out)
+}
+
 /// Runs the programs of an input in threads, and has the records inspected. It gives the run's script, a line `answers`, and
 /// then for each session a line `session TENANT SESSION`, the tenant by its place in the plan, and what the session was told,
 /// the messages of each answer being numbered from 0.
@@ -106,13 +117,7 @@ pub fn run<R: Threads + Wait + Sync>(
     }
     let (plan, programs) = read_programs(alloc, input)?;
     let records = live(rt, alloc, &plan, &programs, &OpenGate)?;
-    let events = inspect(alloc, &plan, &records)?;
-    if !are_in(&plan, events.as_slice()) {
-        return Err(Fault::Other);
-    }
     let mut out = Vec::new(alloc);
-    write_script(&plan, events.as_slice(), &mut out)?;
-    out.extend_from_slice(b"answers\n")?;
-    put_sessions(alloc, &plan, &records, &mut out)?;
+    put_run(alloc, &plan, &records, &mut out)?;
     Ok(out)
 }

@@ -5,7 +5,7 @@ ghost use Rattle.gq_phase.specs.Best.{copied_number};
 ghost use Rattle.gq_phase.specs.Standing.{IsGoing};
 
 use crate::Fault;
-use crate::calls::{retry, tell, tell_refused};
+use crate::calls::{retry, tell};
 use bytes::Bytes;
 use gq_grid::{Grid, MOST_SERVERS, ServerSet};
 use gq_phase::{Heard, Messages, Operation, Who};
@@ -95,22 +95,39 @@ fn hear_all(
     Ok(heard)
 }
 
+fn send_again(operation: &mut Operation, up: ServerSet, out: &mut Vec<u8>) -> Result<(), Fault>
+    requires { IsGoing operation.old }
+    ensures { operation.new ≡ operation.old }
+{
+    let again = retry!(out, "Operation::resend", operation, operation.resend(up));
+    tell(out, &again)?;
+    Ok(())
+}
+
+fn one_by_one(
+    alloc: Global,
+    messages: &Messages,
+    out: &mut Vec<u8>,
+) -> Result<Vec<Message>, Fault> {
+    let each = retry!(out, "Messages::to_vec", messages, messages.to_vec(alloc));
+    Ok(each)
+}
+
 // Sends once more, and then has all messages replied to until the operation is done.
 fn end(
     alloc: Global,
-    mut operation: Operation,
+    operation: &mut Operation,
     asks: Messages,
     up: ServerSet,
     out: &mut Vec<u8>,
 ) -> Result<(), Fault>
-    requires { IsGoing operation }
+    requires { IsGoing operation.old }
 {
-    let again = retry!(out, "Operation::resend", &operation, operation.resend(up));
-    tell(out, &again)?;
+    send_again(operation, up, out)?;
     let mut messages = asks;
     for _ in 0..4 {
-        let each = retry!(out, "Messages::to_vec", &messages, messages.to_vec(alloc));
-        match hear_all(&mut operation, each.as_slice(), up, out)? {
+        let each = one_by_one(alloc, &messages, out)?;
+        match hear_all(operation, each.as_slice(), up, out)? {
             Heard::Next { messages: next, .. } => messages = next,
             _ => return Ok(()),
         }
@@ -123,37 +140,37 @@ pub fn write(alloc: Global, out: &mut Vec<u8>) -> Result<(), Fault> {
     let grid = grid()?;
     let up = ServerSet::all(&grid);
     let content = Bytes::copy_from_slice(alloc, b"content")?;
-    let (operation, asks) = retry!(
+    let (mut operation, asks) = retry!(
         out,
         "Operation::write",
         &content,
         Operation::write(alloc, &grid, WHO, 7, FILE, &content, up)
     );
-    end(alloc, operation, asks, up, out)
+    end(alloc, &mut operation, asks, up, out)
 }
 
 /// A read.
 pub fn read(alloc: Global, out: &mut Vec<u8>) -> Result<(), Fault> {
     let grid = grid()?;
     let up = ServerSet::all(&grid);
-    let (operation, asks) = retry!(
+    let (mut operation, asks) = retry!(
         out,
         "Operation::read",
         &grid,
         Operation::read(alloc, &grid, WHO, 7, FILE, up)
     );
-    end(alloc, operation, asks, up, out)
+    end(alloc, &mut operation, asks, up, out)
 }
 
 /// A listing of two files.
 pub fn list(alloc: Global, out: &mut Vec<u8>) -> Result<(), Fault> {
     let grid = grid()?;
     let up = ServerSet::all(&grid);
-    let (operation, asks) = retry!(
+    let (mut operation, asks) = retry!(
         out,
         "Operation::list",
         &grid,
         Operation::list(alloc, &grid, WHO, 7, 0, 2, up)
     );
-    end(alloc, operation, asks, up, out)
+    end(alloc, &mut operation, asks, up, out)
 }

@@ -5,7 +5,7 @@ ghost use Rattle.gq_tag.specs.Tag.{to_server};
 ghost use Rattle.gq_session.specs.Fitting.{IsChange, IsRequest};
 
 use crate::Fault;
-use crate::calls::{retry, tell, tell_refused};
+use crate::calls::{retry, tell};
 use bytes::Bytes;
 use gq_cell::{Cell, CellRefused, Letter, Served, Share};
 use gq_desk::{Name, Plan, PlanFault, TenantRow, VolumeRow};

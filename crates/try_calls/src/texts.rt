@@ -5,14 +5,14 @@ ghost use Rattle.std.specs.List.{All};
 ghost use Rattle.gq_model.specs.Events.{IsIn};
 
 use crate::Fault;
-use crate::calls::{retry, tell, tell_refused};
+use crate::calls::{retry, tell, tell_kept};
 use crate::play::first_line;
 use bytes::Bytes;
 use gq_cli::{ProgramFault, read_programs};
 use gq_desk::Plan;
 use gq_phase::Outcome;
 use gq_script::{MOST_INPUT, read_line, read_plan, write_answer, write_script};
-use gq_session::{fits, sessions_of};
+use gq_session::{Programs, SessionId, fits, sessions_of};
 use gq_tag::{StoredCopy, Tag};
 use gq_world::{Answer, Event};
 use std::alloc::Global;
@@ -25,8 +25,7 @@ pub fn plan(alloc: Global, script: &[u8], out: &mut Vec<u8>) -> Result<(Plan, us
     if let Ok(read) = read_plan(alloc, script) {
         return Ok(read);
     }
-    tell_refused(out, "read_plan")?;
-    tell(out, &())?;
+    tell_kept(out, "read_plan", &())?;
     let read = read_plan(alloc, script)?;
     Ok(read)
 }
@@ -93,21 +92,37 @@ fn put_script(alloc: Global, plan: &Plan, events: &[Event], out: &mut Vec<u8>) -
     Ok(())
 }
 
-/// Reads the programs of a live run, and asks whether they fit the plan.
-pub fn programs(alloc: Global, input: &[u8], out: &mut Vec<u8>) -> Result<(), Fault> {
+// The programs of an input, and their plan.
+fn read(alloc: Global, input: &[u8], out: &mut Vec<u8>) -> Result<(Plan, Programs), Fault> {
     if input.len() > MOST_INPUT {
         return Err(Fault::Usage);
     }
-    let (plan, programs) = retry!(
+    let read = retry!(
         out,
         "read_programs",
         &(),
         read_programs(alloc, input),
         ProgramFault::Memory
     );
-    let ids = retry!(out, "sessions_of", &(), sessions_of(alloc, &plan));
-    let fit = retry!(out, "fits", &(), fits(alloc, &plan, &programs));
-    tell(out, &(plan, programs, ids, fit))?;
+    Ok(read)
+}
+
+fn ids(alloc: Global, plan: &Plan, out: &mut Vec<u8>) -> Result<Vec<SessionId>, Fault> {
+    let ids = retry!(out, "sessions_of", &(), sessions_of(alloc, plan));
+    Ok(ids)
+}
+
+fn fit(alloc: Global, plan: &Plan, programs: &Programs, out: &mut Vec<u8>) -> Result<bool, Fault> {
+    let fit = retry!(out, "fits", &(), fits(alloc, plan, programs));
+    Ok(fit)
+}
+
+/// Reads the programs of a live run, and asks whether they fit the plan.
+pub fn programs(alloc: Global, input: &[u8], out: &mut Vec<u8>) -> Result<(), Fault> {
+    let (plan, programs) = read(alloc, input, out)?;
+    let ids = ids(alloc, &plan, out)?;
+    let fit = fit(alloc, &plan, &programs, out)?;
+    tell(out, &(&plan, &programs, &ids, fit))?;
     Ok(())
 }
 

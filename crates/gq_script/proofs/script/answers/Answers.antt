@@ -17,7 +17,7 @@ use Rattle.gq_script.proofs.script.answers.Goals as goal
 pub loop-rest-init : goal.loop-rest-init
 loop-rest-init c = record {
   grid = ap (λ (held : Held). held.grid) c.new-quorum.ensures ∙ (c.grid.ensures ∙ ap (λ (p : CheckedPlan). p.grid) c.plan.ensures);
-  kept = rw (c.new-text.ensures.items) (keeps_first c.args.plan None c.in_ok-world.world.tables (lines_of c.args.lines.now) c.in_ok-world.ensures.plan c.in_ok-world.ensures.stands);
+  kept = rw (c.new-text.ensures.items) (keeps_first c.args.world.now.tables.plan None c.args.world.now.tables (lines_of c.args.lines.now) refl c.requires);
 }
 
 pub loop-rest-preserved : goal.loop-rest-preserved
@@ -28,7 +28,7 @@ loop-rest-preserved c =
     c.in_ok-event.ensures.event ∙ (ap (λ (p : CheckedPlan). event_of_words p (first ∷ words)) c.plan-in-loop-rest.ensures ∙ ap (event_of_words plan) (sym c.cut_line.ensures.words)) in
     record {
       grid = c.write_next_answer.ensures.grid ∙ c.loop-rest.invariant.grid ∙ sym (ap (λ (p : CheckedPlan). p.grid) c.step.ensures.plan);
-      kept = keeps_more c.args.plan None c.loop-rest.world.tables c.step.new.self.tables [] [] [] []
+      kept = keeps_more c.args.world.now.tables.plan None c.loop-rest.world.tables c.step.new.self.tables [] [] [] []
           text c.write_next_answer.new.out.items line _ _ _ e c.in-Ok.answer c.loop-rest.invariant.kept c.cut_line.ensures.lines c.step.ensures.plan reads
           (λ before stands. c.in-Ok.ensures.answer before stands ∙ ap (answer_to plan before) reads)
           (λ before stands. subst (λ (x : Event). Stands c.step.new.self.tables (before ++ x ∷ [])) reads (c.in-Ok.ensures.stands before stands))
@@ -41,6 +41,6 @@ loop-rest-preserved c =
 
 pub returns : goal.returns
 returns c =
-    let all = keeps_all c.args.plan None c.loop-rest.world.tables [] [] c.loop-rest.text.items c.loop-rest.rest.now (lines_of c.args.lines.now) c.loop-rest.invariant.kept
+    let all = keeps_all c.args.world.now.tables.plan None c.loop-rest.world.tables [] [] c.loop-rest.text.items c.loop-rest.rest.now (lines_of c.args.lines.now) c.loop-rest.invariant.kept
     (eqb-true (length c.loop-rest.rest.now) 0 (sym c.is_empty.ensures ∙ c.loop-rest-test.false)) in
     all.0

@@ -6,7 +6,7 @@ use Rattle.gq_script.proofs.script.answers.Given as goal
 abbrev pub invariant-loop-rest : goal.invariant-loop-rest
 invariant-loop-rest l = record {
   grid : l.quorum.grid ≡ l.world.tables.plan.grid;
-  kept : Keeps l.fn.plan None l.world.tables [] [] l.text.items (lines_of l.rest) (lines_of l.fn.lines);
+  kept : Keeps l.fn.world.tables.plan None l.world.tables [] [] l.text.items (lines_of l.rest) (lines_of l.fn.lines);
 }
 
 abbrev pub decreases-loop-rest : goal.decreases-loop-rest
