@@ -146,7 +146,7 @@ fn output_of_lines(
         mut text,
         events,
         answers,
-    } = answer_lines(alloc, &mut world, lines, Some(file.tenant))?;
+    } = answer_lines(alloc, &mut world, lines, file.tenant)?;
     put_order(
         alloc,
         &mut text,

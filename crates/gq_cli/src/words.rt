@@ -29,7 +29,7 @@ pub enum Request<'a> {
 }
 
 /// Why the words of a command line ask for nothing to be run.
-#[derive(Debug, Drop)]
+#[derive(Drop)]
 pub enum Usage {
     /// Help or the version, which was asked for, for standard output, or what is wrong with the words, for standard error.
     Shown(Error),

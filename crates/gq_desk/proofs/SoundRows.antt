@@ -1,17 +1,19 @@
 -- Rows without a fault: each is found by its name, and its numbers are in their ranges.
-use Rattle.std.proofs.Common.{◌≡◌, ◌∙◌, ℕ, zero, suc, ◌+◌, List, [], ◌∷◌, ◌++◌, length, length-append, Option, Some, None, Bool, true, false, cond, refl, sym, ap, subst, arith}
-use Rattle.std.specs.Prelude.{slice_get, nat_le}
+use Rattle.std.proofs.Common.{◌≡◌, ◌∙◌, ℕ, zero, suc, ◌+◌, ◌≤◌, List, [], ◌∷◌, ◌++◌, length, length-append, Option, Some, None, Bool, true, false, cond, refl, sym, ap, subst, arith}
+use Rattle.std.specs.Prelude.{slice_get, nat_le, not}
 use Rattle.std.specs.List.{list_any, position_from}
 use Rattle.std.specs.Option.{option_or}
 use Rattle.std.specs.Str.{bytes_eq}
 use Rattle.std.proofs.lemmas.Bool.{or_parts}
+use Rattle.std.proofs.lemmas.Bool.Decides.{nat_tests}
 use Rattle.std.proofs.lemmas.List.Folds.{list_any-append}
 use Rattle.std.proofs.lemmas.Slice.Eq.{bytes_eq-Decides}
-use Rattle.gq_desk.specs.Plans.{is_of, number_fault, row_fault, rows_fault, table_fault, plan_fault}
+use Rattle.gq_desk.specs.CheckedPlan.{CheckedPlan, row_at}
+use Rattle.gq_desk.specs.Plans.{is_in, is_of, number_fault, row_fault, rows_fault, table_fault, plan_fault}
 use Rattle.gq_desk.specs.declared.plans.TenantRow.{TenantRow}
 use Rattle.gq_desk.specs.declared.plans.PlanFault.{PlanFault}
 use Rattle.gq_desk.specs.declared.plans.PlanFault.TheVariants.{TooMany, SameName}
-use Rattle.gq_desk.specs.declared.limits.TheConstants.{MOST_TENANTS}
+use Rattle.gq_desk.specs.declared.limits.TheConstants.{MOST_SESSIONS, MOST_TENANTS}
 
 pub same_word : (word : List ℕ) → bytes_eq word word ≡ true
 same_word word = (bytes_eq-Decides word word).1 refl
@@ -96,6 +98,20 @@ row_numbers blocks rows t row none at =
     let place : 0 + t ≡ t = omega arith in
     let P : ℕ → Type 0 = λ n. number_fault n row ≡ None in
     subst P place (numbers_from [] rows t row (or_none (rows_fault [] rows) (table_fault blocks rows) none).0 at)
+
+within_few : (sessions : ℕ) → not (is_in 1 MOST_SESSIONS sessions) ≡ false → sessions ≤ MOST_SESSIONS
+within_few sessions is = grind (arith, nat_tests)
+
+pub row_few : (t : ℕ) (row : TenantRow) → number_fault t row ≡ None → row.sessions ≤ MOST_SESSIONS
+row_few t row none = within_few row.sessions (unless_none _ _ _ (unless_none _ _ _ none).1).0
+
+-- a plan gives a tenant few sessions, and nobody none
+pub few_sessions : (plan : CheckedPlan) → plan_fault plan.blocks plan.rows ≡ None → (t : ℕ) → (row_at plan t).sessions ≤ MOST_SESSIONS
+few_sessions plan none t = go (slice_get plan.rows t) refl
+  where
+    go : (row : Option TenantRow) → slice_get plan.rows t ≡ row → (row_at plan t).sessions ≤ MOST_SESSIONS
+    go None at = rw at (omega arith)
+    go (Some row) at = rw at (row_few t row (row_numbers plan.blocks plan.rows t row none at))
 
 -- ---- words
 

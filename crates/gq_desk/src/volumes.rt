@@ -20,7 +20,7 @@ pub struct VolumeRow {
 }
 
 /// Volumes in order.
-#[derive(Debug, Drop)]
+#[derive(Drop)]
 pub struct VolumeRows {
     pub items: Vec<VolumeRow>,
 }
@@ -52,7 +52,7 @@ pub enum OpenRefused {
 }
 
 // A tenant's volumes, and how many blocks of its share no volume takes.
-#[derive(Debug, Drop)]
+#[derive(Drop)]
 struct Account {
     share: u32,
     free: u32,
@@ -122,7 +122,7 @@ impl Account {
 }
 
 /// The volumes of all tenants. Of each tenant they take no more blocks than its share, whatever the others open.
-#[derive(Debug, Drop)]
+#[derive(Drop)]
 pub struct Desk {
     accounts: Vec<Account>,
 }

@@ -20,7 +20,7 @@ use Rattle.gq_model.specs.declared.events.Line.TheVariants.{NewVolume, Deliver, 
 use Rattle.gq_model.specs.Events.{answer_to, past_at}
 use Rattle.gq_model.specs.Trace.{questions, own_message_at}
 use Rattle.gq_model.specs.Told.{Told, Opened, Began, Replied, Round, Resent, ServerOk}
-use Rattle.gq_world.specs.Said.{said_in}
+use Rattle.gq_model.specs.Said.{said_in}
 use Rattle.gq_session.specs.Changed.{entry_line}
 use Rattle.gq_session.specs.Fitting.{plan_sessions, IsRequestOf}
 use Rattle.gq_session.specs.declared.fitting.SessionId.{SessionId}

@@ -3,9 +3,9 @@
 ghost use Rattle.std.specs.Prelude.{◌≡◌, true};
 ghost use Rattle.gq_tag.specs.View.{body_of};
 
+use gq_model::Said;
 use gq_phase::{Outcome, Row};
 use gq_tag::{Body, BodyView, Message, MessageView};
-use gq_world::Said;
 
 // Whether these are the same rows.
 fn are_rows(one: &[Row], two: &[Row]) -> bool

@@ -9,7 +9,7 @@ use gq_session::{Entries, Journal, Records, SessionEntry};
 use std::alloc::{AllocError, Global};
 
 /// A server's stop or return.
-#[derive(Clone, Copy, Debug, PartialEq, Eq)]
+#[derive(Clone, Copy, PartialEq, Eq)]
 pub struct Flip {
     pub stamp: u64,
     pub up: bool,

@@ -12,9 +12,8 @@ use crate::mismatch::Mismatch;
 use crate::steps::{Origin, Step};
 use crate::tape::Tape;
 use gq_cell::{BoardEntry, CellEntry, Letter};
-use gq_model::{Answer, Event, Line, ServerLine};
+use gq_model::{Answer, Event, Line, ServerLine, said_of};
 use gq_session::{Did, Records, SessionEntry, SessionId, is_request_of};
-use gq_world::said_of;
 use std::alloc::AllocError;
 
 // The board's change.

@@ -1,6 +1,6 @@
 //! The records' run.
 
-ghost use Rattle.std.specs.Prelude.{◌≡◌, ◌++◌, ◌∷◌, [], map, All, IfOk, OnOk};
+ghost use Rattle.std.specs.Prelude.{◌≡◌, ◌*◌, ◌++◌, ◌∷◌, [], length, map, All, IfOk, OnOk};
 ghost use Rattle.gq_model.specs.Events.{IsIn};
 ghost use Rattle.gq_world.specs.Tables.{Stands};
 ghost use Rattle.gq_session.specs.Fitting.{plan_sessions};
@@ -74,6 +74,29 @@ fn play_all(
     Ok(())
 }
 
+// Plays the records on a new tape: the volumes are opened, and then all steps are played, in order.
+fn play_records(
+    alloc: Global,
+    tape: &mut Tape,
+    records: &Records,
+    ids: &[SessionId],
+) -> Result<(), Mismatch>
+    requires events { tape.old.events.items ≡ [] }
+    requires firsts { tape.old.firsts.items ≡ [] }
+    requires stands { Stands tape.old.world.tables [] }
+    requires ids { ids.now ≡ plan_sessions tape.old.world.tables.plan }
+    requires servers { length records.now.cells.items ≡ tape.old.world.tables.plan.grid.rows * tape.old.world.tables.plan.grid.cols }
+    requires sessions { length records.now.sessions.items ≡ length ids.now }
+    ensures { OnOk result (IsRunOf tape.old.world.tables.plan records.now tape.new.events.items) }
+{
+    open_all(tape, records.volumes.as_slice())?;
+    if !all_climb(records) || !all_flips(alloc, records)? {
+        return Err(Mismatch::Stamp);
+    }
+    let order = in_order(alloc, records)?;
+    play_all(tape, records, ids, order.as_slice())
+}
+
 /// The events of the run that the records are: the openings of their volumes, and then one event for each change of the board,
 /// each step of a session and each letter served, in order of stamp and place. Each is answered as it was recorded, for each
 /// tenant as in its run by itself. A fault tells, in the order of [`Mismatch`], why the records are no such run; it is of the
@@ -87,11 +110,6 @@ pub fn inspect(alloc: Global, plan: &Plan, records: &Records) -> Result<Vec<Even
         return Err(Mismatch::Shape);
     }
     let mut tape = Tape::new(alloc, plan)?;
-    open_all(&mut tape, records.volumes.as_slice())?;
-    if !all_climb(records) || !all_flips(alloc, records)? {
-        return Err(Mismatch::Stamp);
-    }
-    let order = in_order(alloc, records)?;
-    play_all(&mut tape, records, ids.as_slice(), order.as_slice())?;
+    play_records(alloc, &mut tape, records, ids.as_slice())?;
     Ok(tape.close())
 }

@@ -9,7 +9,7 @@ use gq_session::{Entries, Journal, Records, SessionEntry};
 use std::alloc::{AllocError, Global};
 
 /// The list that a step is of.
-#[derive(Clone, Copy, Debug, PartialEq, Eq, PartialOrd, Ord)]
+#[derive(Clone, Copy, PartialEq, Eq, PartialOrd, Ord)]
 pub enum Origin {
     Board,
     Session(usize),
@@ -17,7 +17,7 @@ pub enum Origin {
 }
 
 /// A step of the records: its stamp, where it was (0 is the board, `s + 1` is server `s`), and where its entry stands.
-#[derive(Clone, Copy, Debug, PartialEq, Eq, PartialOrd, Ord)]
+#[derive(Clone, Copy, PartialEq, Eq, PartialOrd, Ord)]
 pub struct Step {
     pub stamp: u64,
     pub place: usize,

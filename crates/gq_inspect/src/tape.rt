@@ -17,7 +17,7 @@ use gq_world::World;
 use std::alloc::{AllocError, Global};
 
 /// The messages that a step sent: its stamp and place, its tenant, the number of the first message, and how many they are.
-#[derive(Clone, Copy, Debug, PartialEq, Eq)]
+#[derive(Clone, Copy)]
 pub struct First {
     pub stamp: u64,
     pub place: usize,

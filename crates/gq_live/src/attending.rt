@@ -1,11 +1,12 @@
 //! A session's thread.
 ghost use Rattle.gq_session.specs.Faults.{NoGate};
 
-use crate::starts::{Mailboxes, Note, Seat};
-use crossbeam_channel::{Receiver, SendError, Sender};
+use crate::starts::{Mailboxes, Note, Seat, post};
+use crossbeam_channel::{Receiver, Sender};
 use gq_cell::Letter;
 use gq_grid::Grid;
 use gq_session::{Agenda, LiveFault, Outbox, Session};
+use gq_tag::Message;
 use std::alloc::Global;
 use std::sync::{Mutex, Wait};
 
@@ -23,7 +24,29 @@ pub(crate) struct SessionEnd {
     pub ghost no_gate: { NoGate result },
 }
 
-// Sends the letters of a step. One to a closed mailbox is dropped.
+// Sends the message of this index of a step as a letter to its server. One to a closed mailbox is dropped.
+fn send<R: Wait>(
+    rt: &R,
+    servers: &[Sender<Letter>],
+    stamp: u64,
+    index: usize,
+    message: Message,
+) -> Result<(), LiveFault>
+    ensures { NoGate result }
+{
+    let (Some(to), Ok(index)) = (servers.get(message.server as usize), u32::try_from(index)) else {
+        return Err(LiveFault::Letter);
+    };
+    let letter = Letter {
+        place: 0,
+        stamp,
+        index,
+        message,
+    };
+    post(rt, to, letter)
+}
+
+// Sends the letters of a step.
 fn send_all<R: Wait>(
     rt: &R,
     alloc: Global,
@@ -32,25 +55,9 @@ fn send_all<R: Wait>(
 ) -> Result<(), LiveFault>
     ensures { NoGate result }
 {
-    let Outbox {
-        stamp,
-        messages,
-        ..
-    } = outbox;
-    for (index, message) in messages.to_vec(alloc)?.into_iter().enumerate() {
-        let (Some(to), Ok(index)) = (servers.get(message.server as usize), u32::try_from(index))
-        else {
-            return Err(LiveFault::Letter);
-        };
-        let letter = Letter {
-            place: 0,
-            stamp,
-            index,
-            message,
-        };
-        if let Err(SendError::OutOfMemory(_)) = to.send(rt, letter) {
-            return Err(LiveFault::Memory);
-        }
+    let messages = outbox.messages.to_vec(alloc)?;
+    for (index, message) in messages.into_iter().enumerate() {
+        send(rt, servers, outbox.stamp, index, message)?;
     }
     Ok(())
 }
@@ -130,6 +137,33 @@ fn go_on<R: Wait>(
     send_all(rt, alloc, servers, outbox)
 }
 
+// Does what a note is for. False where the session has to quit.
+fn take_note<R: Wait>(
+    rt: &R,
+    alloc: Global,
+    agenda: &Mutex<Agenda>,
+    servers: &[Sender<Letter>],
+    session: &mut Session,
+    note: Note,
+) -> Result<bool, LiveFault>
+    ensures { NoGate result }
+{
+    match note {
+        Note::Quit => return Ok(false),
+        Note::Returned(letter) => {
+            if session.is_current(&letter.message) {
+                let sent = retry(rt, agenda, session)?;
+                go_on(rt, alloc, agenda, servers, session, sent)?;
+            }
+        }
+        Note::Letter(letter) => {
+            let heard = hear(rt, agenda, session, letter)?;
+            go_on(rt, alloc, agenda, servers, session, heard)?;
+        }
+    }
+    Ok(true)
+}
+
 // Goes on until the operation has ended. False where the session has to quit.
 fn end_operation<R: Wait>(
     rt: &R,
@@ -145,18 +179,11 @@ fn end_operation<R: Wait>(
         if !session.is_busy() {
             return Ok(true);
         }
-        match inbox.recv(rt) {
-            Err(_) | Ok(Note::Quit) => return Ok(false),
-            Ok(Note::Returned(letter)) => {
-                if session.is_current(&letter.message) {
-                    let sent = retry(rt, agenda, session)?;
-                    go_on(rt, alloc, agenda, servers, session, sent)?;
-                }
-            }
-            Ok(Note::Letter(letter)) => {
-                let heard = hear(rt, agenda, session, letter)?;
-                go_on(rt, alloc, agenda, servers, session, heard)?;
-            }
+        let Ok(note) = inbox.recv(rt) else {
+            return Ok(false);
+        };
+        if !take_note(rt, alloc, agenda, servers, session, note)? {
+            return Ok(false);
         }
     }
     unreachable!()

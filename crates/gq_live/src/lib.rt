@@ -11,9 +11,9 @@ mod starts;
 pub use gq_cell::{
     Board, BoardEntry, Cell, CellEntry, CellRefused, ChangeRefused, Letter, Served, Share, laws,
 };
+pub use gq_model::Said;
 pub use gq_session::{
     Did, Entries, Gate, GaveUp, Journal, Lines, LiveFault, MOST_REQUESTS, OpenGate, Opening,
     Programs, Records, SessionEntry, SessionId, fits, sessions_of,
 };
-pub use gq_world::Said;
 pub use run::live;

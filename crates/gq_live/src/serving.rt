@@ -5,8 +5,8 @@ ghost use Rattle.gq_store.specs.Copies.{empty_store, store_accounts};
 ghost use Rattle.gq_session.specs.Faults.{NoGate};
 
 use crate::ends::{CellRecord, GatedEnd};
-use crate::starts::{Note, Order, ServerInbox, Site};
-use crossbeam_channel::{Receiver, SendError};
+use crate::starts::{Note, Order, ServerInbox, Site, post};
+use crossbeam_channel::Receiver;
 use gq_cell::{Cell, CellRefused, Letter, Served, Share};
 use gq_desk::{Desk, OpenRefused, Plan};
 use gq_session::{Agenda, Gate, LiveFault, Opening, change_cell};
@@ -58,10 +58,7 @@ fn send<G: Gate, R: Wait>(
     ensures { NoGate result }
 {
     match site.mailboxes.of(tenant, session) {
-        Some(to) => match to.send(rt, note) {
-            Err(SendError::OutOfMemory(_)) => Err(LiveFault::Memory),
-            _ => Ok(()),
-        },
+        Some(to) => post(rt, to, note),
         None => Err(LiveFault::Letter),
     }
 }

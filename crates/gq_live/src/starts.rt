@@ -6,13 +6,23 @@ ghost use Rattle.gq_session.specs.Faults.{NoGate};
 ghost use Rattle.gq_session.specs.Fitting.{IsRequest, IsTenants};
 ghost use Rattle.gq_live.specs.Openings.{TellsOfVolume, desk_with, opening_fault, place_if, refused_volume};
 
-use crossbeam_channel::{Receiver, Sender};
+use crossbeam_channel::{Receiver, SendError, Sender};
 use gq_cell::Letter;
 use gq_desk::{Desk, OpenRefused, Plan, VolumeRow};
 use gq_model::Line;
 use gq_session::{Agenda, Gate, Lines, LiveFault, Opening};
 use std::alloc::{AllocError, Global};
 use std::sync::{Mutex, Wait};
+
+// Sends a letter or a note to a mailbox. To one that is closed it is dropped.
+pub(crate) fn post<T: Drop, R: Wait>(rt: &R, to: &Sender<T>, sent: T) -> Result<(), LiveFault>
+    ensures { NoGate result }
+{
+    match to.send(rt, sent) {
+        Err(SendError::OutOfMemory(_)) => Err(LiveFault::Memory),
+        _ => Ok(()),
+    }
+}
 
 // ---- servers
 
@@ -123,7 +133,7 @@ impl Mailboxes {
     pub(crate) fn quit<R: Wait>(&self, rt: &R) {
         for sessions in &self.tenants {
             for to in sessions {
-                let _ = to.send(rt, Note::Quit);
+                let _ = post(rt, to, Note::Quit);
             }
         }
     }
@@ -192,7 +202,7 @@ pub(crate) fn open_all(alloc: Global, plan: &Plan, volumes: &[Opening]) -> Resul
 
 // A mailbox that had a note keeps room for one: a session that waits can be told to quit where memory is wanting.
 fn make_room<R: Wait>(rt: &R, to: &Sender<Note>, inbox: &Receiver<Note>) -> Result<(), AllocError> {
-    if to.send(rt, Note::Quit).is_err() || inbox.recv(rt).is_err() {
+    if post(rt, to, Note::Quit).is_err() || inbox.recv(rt).is_err() {
         return Err(AllocError);
     }
     Ok(())

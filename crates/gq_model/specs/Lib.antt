@@ -3,3 +3,4 @@ pub mod Trace
 pub mod Lone
 pub mod Events
 pub mod Shown
+pub mod Said

@@ -3,5 +3,7 @@
 #![tactic(auto)]
 
 mod events;
+mod said;
 
 pub use events::{Answer, Event, Line, Refusal, ServerLine, ServerRefusal};
+pub use said::{Said, said_of};

@@ -8,7 +8,7 @@ use Rattle.gq_desk.specs.declared.plans.TenantRow.{TenantRow}
 use Rattle.gq_desk.specs.CheckedPlan.{CheckedPlan, row_at}
 use Rattle.gq_desk.specs.declared.limits.TheConstants.{MOST_SESSIONS}
 use Rattle.gq_desk.specs.Plans.{is_in, number_fault, plan_fault}
-use Rattle.gq_desk.proofs.SoundRows.{row_numbers, unless_none}
+use Rattle.gq_desk.proofs.SoundRows.{few_sessions}
 use Rattle.gq_model.specs.declared.events.Event.{Event}
 use Rattle.gq_model.specs.declared.events.Event.TheVariants.{Tenant, Server}
 use Rattle.gq_model.specs.declared.events.Line.{Line}
@@ -37,19 +37,8 @@ small row k few is =
     let high = leb-true k row.sessions both.1 in
     lt-ltb k 256 (omega (arith, high))
 
--- a plan gives a tenant few sessions, and nobody none
-within_few : (sessions : ℕ) → not (is_in 1 MOST_SESSIONS sessions) ≡ false → sessions < 256
-within_few sessions is = grind (arith, nat_tests)
-
-row_few : (t : ℕ) (row : TenantRow) → number_fault t row ≡ None → row.sessions < 256
-row_few t row none = within_few row.sessions (unless_none _ _ _ (unless_none _ _ _ none).1).0
-
-pub few_sessions : (plan : CheckedPlan) → plan_fault plan.blocks plan.rows ≡ None → HasFewSessions plan
-few_sessions plan none t = go (slice_get plan.rows t) refl
-  where
-    go : (row : Option TenantRow) → slice_get plan.rows t ≡ row → (row_at plan t).sessions < 256
-    go None at = rw at (omega arith)
-    go (Some row) at = rw at (row_few t row (row_numbers plan.blocks plan.rows t row none at))
+pub few_bytes : (plan : CheckedPlan) → plan_fault plan.blocks plan.rows ≡ None → HasFewSessions plan
+few_bytes plan none t = let few = few_sessions plan none t in omega (arith, few)
 
 -- an operation begins where the line is not spent and the session is there
 not_spent : (spent : Bool) (step : Step) (op first count : ℕ) → (if spent then quiet (Refused Spent) else step).told ≡ Began op first count → step.told ≡ Began op first count

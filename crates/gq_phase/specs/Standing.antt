@@ -32,6 +32,11 @@ heard_as tenant HeardNoted = Noted
 heard_as tenant (HeardNext round tag messages) = Next round tag (map (message_of tenant) messages)
 heard_as tenant (HeardDone outcome) = Done outcome
 
+-- the messages that are sent
+abbrev pub messages_of : Heard → List Message
+messages_of (Next round tag messages) = messages
+messages_of _ = []
+
 -- ---- what a value stands for
 
 -- what the session was asked to do with the file
@@ -70,6 +75,11 @@ pub record StandsFor (grid : Grid) (tenant : ℕ) (code : Code) (o : Operation) 
 -- the session's own last number
 abbrev pub floor_of : Code → ℕ
 floor_of code = code.floor
+
+-- that of a session with this operation, or with this last number and none
+abbrev pub last_number : ℕ → Option Code → ℕ
+last_number floor None = floor
+last_number floor (Some code) = floor_of code
 
 abbrev pub IsGoing : Code → Type 0
 IsGoing code = code.done ≡ false

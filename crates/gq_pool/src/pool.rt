@@ -5,7 +5,6 @@ ghost use Rattle.gq_pool.specs.Blocks.{blocks_for, content_of};
 use crate::BLOCK_BYTES;
 use crate::stack::{Block, Stack};
 use std::alloc::{AllocError, Global};
-use std::fmt::{self, Debug, Formatter, Write};
 use std::marker::Model;
 use thiserror::Error;
 
@@ -45,22 +44,6 @@ impl Model for Chain {
     ghost view = { λ c. content_of c.len c.blocks };
 
     ghost invariant = { λ c. (length c.blocks ≡ blocks_for c.len) × (length (content_of c.len c.blocks) ≡ c.len) };
-}
-
-// The number of free blocks.
-impl Debug for Pool {
-    fn fmt<W: Write>(&self, f: &mut Formatter<W>) -> fmt::Result {
-        f.debug_struct("Pool").field("free", &self.free()).finish()
-    }
-}
-
-// The number of bytes of the content.
-impl Debug for Chain {
-    fn fmt<W: Write>(&self, f: &mut Formatter<W>) -> fmt::Result {
-        f.debug_struct("Chain")
-            .field("len", &self.len)
-            .finish_non_exhaustive()
-    }
 }
 
 impl Chain {

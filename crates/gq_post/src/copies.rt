@@ -12,7 +12,7 @@ use gq_tag::{Body, BodyView, StoredCopy, Tag};
 use slab::Slab;
 
 // A copy, and how many envelopes name its place.
-#[derive(Debug, Drop)]
+#[derive(Drop)]
 pub(crate) struct SharedCopy {
     pub(crate) copy: StoredCopy,
     pub(crate) users: usize,

@@ -15,7 +15,7 @@ use std::alloc::{AllocError, Global};
 use std::marker::Model;
 
 // What an envelope says.
-#[derive(Clone, Copy, Debug)]
+#[derive(Clone, Copy)]
 pub(crate) enum Says {
     Lost,
     Ask,
@@ -50,7 +50,7 @@ impl Says {
 }
 
 // A message without its copy.
-#[derive(Clone, Copy, Debug)]
+#[derive(Clone, Copy)]
 pub(crate) struct Envelope {
     pub(crate) op: u32,
     pub(crate) round: u32,
@@ -106,7 +106,7 @@ impl Envelope {
 }
 
 // What the envelopes of a round, and the answers to them, have in common. It takes 20 bytes.
-#[derive(Clone, Copy, Debug)]
+#[derive(Clone, Copy)]
 pub(crate) struct Heading {
     pub(crate) op: u32,
     pub(crate) round: u32,
@@ -134,7 +134,7 @@ impl Heading {
 }
 
 // An envelope as it lies in its lane: what is its own, and the place of its heading. It takes 12 bytes.
-#[derive(Clone, Copy, Debug)]
+#[derive(Clone, Copy)]
 pub(crate) struct Slip {
     pub(crate) heading: u32,
     pub(crate) place: u32,
@@ -207,7 +207,7 @@ fn push_slips(
 }
 
 // The envelopes of a tenant in order of sending, lost ones included.
-#[derive(Debug, Drop)]
+#[derive(Drop)]
 pub(crate) struct Envelopes {
     headings: Vec<Heading>,
     slips: Vec<Slip>,

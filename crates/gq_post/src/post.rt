@@ -23,7 +23,7 @@ pub struct Unsent {
 }
 
 /// A reply that was sent: its number, and a hint at where its copy lies.
-#[derive(Clone, Copy, Debug)]
+#[derive(Clone, Copy)]
 pub struct CopySent {
     pub number: u64,
     pub hint: usize,
@@ -32,7 +32,7 @@ pub struct CopySent {
 /// The messages of all tenants: for each tenant a lane of its messages in order of sending, numbered from 0. A message stays
 /// until it is lost; its number is then nobody's. Messages may share a copy, whose place serves the next message of any
 /// tenant once the last of them is lost.
-#[derive(Debug, Drop)]
+#[derive(Drop)]
 pub struct Post {
     copies: Slab<SharedCopy>,
     lanes: Vec<Envelopes>,

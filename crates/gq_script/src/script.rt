@@ -154,19 +154,19 @@ fn keep(
     Ok(())
 }
 
-/// Answers the lines of a text after the plan, by a new world. Of the events those are kept that the tenant sees, where one
-/// is given: its own lines and the server lines, which are a run by themselves. What is kept takes memory for each of them.
+/// Answers the lines of a text after the plan, by a new world. Of the events those are kept that the tenant sees: its own
+/// lines and the server lines, which are a run by themselves. What is kept takes memory for each of them.
 pub fn answer_lines(
     alloc: Global,
     world: &mut World,
     lines: &[u8],
-    tenant: Option<u8>,
+    tenant: u8,
 ) -> Result<Answered, AllocError>
     requires { Stands world.old.tables [] }
     ensures plan { world.new.tables.plan ≡ world.old.tables.plan }
     ensures text { IfOk result (λ told. told.text.items ≡ joined (output_lines world.old.tables.plan (lines_of lines.now))) }
     ensures events { IfOk result (λ told. told.events.items ≡
-        seen_events tenant (map (event_of world.old.tables.plan) (lines_of lines.now))) }
+        seen_events (Some tenant) (map (event_of world.old.tables.plan) (lines_of lines.now))) }
     ensures run { IfOk result (λ told. IsRun world.old.tables.plan told.events.items told.answers.items) }
 {
     let mut events = Vec::new(alloc);
@@ -181,9 +181,7 @@ pub fn answer_lines(
             return Err(AllocError);
         };
         write_next_answer(world.plan(), &event, &answer, &mut quorum, &mut text)?;
-        if let Some(seer) = tenant {
-            keep(seer, event, answer, &mut events, &mut answers)?;
-        }
+        keep(tenant, event, answer, &mut events, &mut answers)?;
         rest = after;
     }
     Ok(Answered {

@@ -8,7 +8,7 @@ use std::io;
 use std::io::{Read, Write};
 
 /// A reader or a writer that remembers whether a read or a write failed, or a write of some bytes took none.
-#[derive(Debug, Drop)]
+#[derive(Drop)]
 pub struct Watched<R> {
     inner: R,
     failed: bool,

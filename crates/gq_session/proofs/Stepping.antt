@@ -4,7 +4,7 @@ use Rattle.gq_grid.specs.Grid.{Servers}
 use Rattle.gq_tag.specs.declared.Message.{Message}
 use Rattle.gq_cell.specs.declared.letter.Letter.{Letter}
 use Rattle.gq_model.specs.declared.events.Line.{Line}
-use Rattle.gq_world.specs.declared.said.Said.{Said}
+use Rattle.gq_model.specs.declared.said.Said.{Said}
 use Rattle.gq_session.specs.Sessions.{Sitting, AsksNext, HearsLetter, Retries, is_stuck}
 use Rattle.gq_session.specs.Works.{AsksAs, HearsIn, RetriesIn}
 use Rattle.gq_session.specs.declared.records.Did.TheVariants.{Asked, Heard, Retried}

@@ -5,8 +5,8 @@ use Rattle.gq_cell.specs.Stamps.{stamp_after}
 use Rattle.gq_cell.specs.declared.letter.Letter.{Letter}
 use Rattle.gq_model.specs.declared.events.Line.{Line}
 use Rattle.gq_tag.specs.declared.Message.{Message}
-use Rattle.gq_world.specs.declared.said.Said.{Said}
-use Rattle.gq_world.specs.declared.said.Said.TheVariants.{Round, Refused}
+use Rattle.gq_model.specs.declared.said.Said.{Said}
+use Rattle.gq_model.specs.declared.said.Said.TheVariants.{Round, Refused}
 use Rattle.gq_session.specs.Works.{Home, Work, AsksAs, HearsIn, RetriesIn, IsAskFault, IsHearFault}
 use Rattle.gq_session.specs.declared.records.Did.{Did}
 use Rattle.gq_session.specs.declared.records.Did.TheVariants.{Asked, Heard, Retried}

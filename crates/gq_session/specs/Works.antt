@@ -21,10 +21,10 @@ use Rattle.gq_model.specs.declared.events.Line.{Line}
 use Rattle.gq_model.specs.declared.events.Line.TheVariants.{Write, Read, List as ListFiles}
 use Rattle.gq_model.specs.declared.events.Refusal.{Refusal}
 use Rattle.gq_model.specs.declared.events.Refusal.TheVariants.{Busy, Idle, NoVolume, NoFile, TooLong, NoQuorum}
-use Rattle.gq_world.specs.Asking.{last_number}
-use Rattle.gq_world.specs.Saying.{messages_of}
-use Rattle.gq_world.specs.declared.said.Said.{Said}
-use Rattle.gq_world.specs.declared.said.Said.TheVariants.{Began, Stale, Noted, Round, Done, Resent, Abandoned, Refused}
+use Rattle.gq_phase.specs.Standing.{last_number}
+use Rattle.gq_phase.specs.Standing.{messages_of}
+use Rattle.gq_model.specs.declared.said.Said.{Said}
+use Rattle.gq_model.specs.declared.said.Said.TheVariants.{Began, Stale, Noted, Round, Done, Resent, Abandoned, Refused}
 use Rattle.gq_session.specs.declared.records.LiveFault.{LiveFault}
 use Rattle.gq_session.specs.declared.records.LiveFault.TheVariants.{Memory, Stamps, Letter}
 

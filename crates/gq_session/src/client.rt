@@ -18,12 +18,11 @@ use crate::records::LiveFault;
 use bytes::Bytes;
 use gq_desk::VolumeRow;
 use gq_grid::{Grid, ServerSet};
-use gq_model::{Line, Refusal};
+use gq_model::{Line, Refusal, Said};
 use gq_phase::{BeginRefused, Heard, Operation, ResendRefused};
 use gq_pool::BLOCK_BYTES;
 use gq_round::{Messages, Who};
 use gq_tag::{Body, FileId, Message};
-use gq_world::Said;
 use std::alloc::Global;
 
 /// What was said in a step, and the messages that it sent.
@@ -84,7 +83,7 @@ fn fits_round(message: &Message) -> bool
 }
 
 // Why a request began no operation.
-#[derive(Clone, Copy, Debug, PartialEq, Eq)]
+#[derive(Clone, Copy, PartialEq, Eq)]
 enum NotBegun {
     // It is refused.
     Refused(Refusal),
@@ -337,34 +336,23 @@ impl Client {
         if !self.is_reply(message) {
             return Err(LiveFault::Letter);
         }
-        let Some(mut operation) = self.current.take() else {
+        let Some(operation) = &mut self.current else {
             return Ok(quiet(&self.grid, Said::Stale));
         };
         if copied_number(&message.body) == u64::MAX || operation.floor() == u64::MAX {
-            self.current = Some(operation);
             return Err(LiveFault::Stamps);
         }
-        match operation.hear(message, up) {
-            Err(_) => {
-                self.current = Some(operation);
-                Err(LiveFault::Memory)
-            }
-            Ok(Heard::Stale) => {
-                self.current = Some(operation);
-                Ok(quiet(&self.grid, Said::Stale))
-            }
-            Ok(Heard::Noted) => {
-                self.current = Some(operation);
-                Ok(quiet(&self.grid, Said::Noted))
-            }
-            Ok(
-                Heard::Next {
-                    round,
-                    tag,
-                    messages,
-                },
-            ) => {
-                self.current = Some(operation);
+        let Ok(heard) = operation.hear(message, up) else {
+            return Err(LiveFault::Memory);
+        };
+        match heard {
+            Heard::Stale => Ok(quiet(&self.grid, Said::Stale)),
+            Heard::Noted => Ok(quiet(&self.grid, Said::Noted)),
+            Heard::Next {
+                round,
+                tag,
+                messages,
+            } => {
                 self.round = round;
                 Ok(Step {
                     said: Said::Round {
@@ -375,8 +363,9 @@ impl Client {
                     messages,
                 })
             }
-            Ok(Heard::Done(outcome)) => {
+            Heard::Done(outcome) => {
                 self.floor = operation.floor();
+                self.current = None;
                 Ok(quiet(&self.grid, Said::Done(outcome)))
             }
         }

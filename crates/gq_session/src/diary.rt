@@ -4,8 +4,7 @@ ghost use Rattle.gq_session.specs.Asked.{asked_of, asks};
 ghost use Rattle.gq_session.specs.Fitting.{IsRequest};
 
 use crate::records::{Did, SessionEntry};
-use gq_model::Line;
-use gq_world::Said;
+use gq_model::{Line, Said};
 use std::alloc::{AllocError, Global};
 
 /// A session's requests, and its steps so far, which asked the first of the requests, in order.

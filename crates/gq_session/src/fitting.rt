@@ -32,7 +32,7 @@ fn add_sessions(all: &mut Vec<SessionId>, tenant: u8, count: u32) -> Result<(), 
 }
 
 /// All sessions of the plan, those of the first tenant first, which is the order of the lists in programs and records.
-#[tactic(auto, using(gq_world::proofs::Starting::row_few))]
+#[tactic(auto, using(gq_desk::proofs::SoundRows::row_few))]
 pub fn sessions_of(alloc: Global, plan: &Plan) -> Result<Vec<SessionId>, AllocError>
     ensures { IfOk result (λ all. all.items ≡ plan_sessions plan.now) }
 {

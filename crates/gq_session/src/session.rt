@@ -17,10 +17,9 @@ use crate::records::{Did, LiveFault, SessionEntry};
 use gq_cell::Letter;
 use gq_desk::VolumeRow;
 use gq_grid::Grid;
-use gq_model::Line;
+use gq_model::{Line, Said};
 use gq_round::Messages;
 use gq_tag::Message;
-use gq_world::Said;
 use std::alloc::Global;
 use std::marker::Model;
 

@@ -13,7 +13,6 @@ use gq_desk::{Plan, TenantRow};
 use gq_pool::Pool;
 use gq_tag::{Body, FileId, Message, StoredCopy, Tag};
 use std::alloc::{AllocError, Global};
-use std::fmt::{self, Debug, Formatter, Write};
 use std::marker::Model;
 use thiserror::Error;
 
@@ -62,16 +61,6 @@ impl Model for ServerStore {
     ghost view = { λ s. record { blocks = s.blocks; tenants = s.tenants.items } };
 
     ghost invariant = { λ s. Balanced s.blocks s.pool s.tenants.items };
-}
-
-// The number of blocks in all, and of those that no copy takes.
-impl Debug for ServerStore {
-    fn fmt<W: Write>(&self, f: &mut Formatter<W>) -> fmt::Result {
-        f.debug_struct("ServerStore")
-            .field("blocks", &self.blocks)
-            .field("free", &self.pool.free())
-            .finish_non_exhaustive()
-    }
 }
 
 impl Drop for ServerStore {

@@ -13,7 +13,7 @@ use Rattle.gq_post.specs.Lanes.{lane_at, message_at}
 use Rattle.gq_phase.specs.declared.operation.Operation.{Operation as Code}
 use Rattle.gq_phase.specs.declared.ResendRefused.TheVariants.{NoQuorum as NoneUp}
 use Rattle.gq_phase.specs.Phase.{Task, Operation, is_collect, round_quorum, resent}
-use Rattle.gq_phase.specs.Standing.{StandsFor, ResendsAs, RefusesAs}
+use Rattle.gq_phase.specs.Standing.{StandsFor, ResendsAs, RefusesAs, last_number}
 use Rattle.gq_phase.specs.Laws.{SameQuorums}
 use Rattle.gq_model.specs.declared.events.Refusal.{Refusal}
 use Rattle.gq_model.specs.declared.events.Refusal.TheVariants.{NoSession, Idle, NoQuorum}
@@ -23,7 +23,7 @@ use Rattle.gq_model.specs.Trace.{Own, State, Session, Known, operation, operatio
 use Rattle.gq_model.specs.Lone.{Step, Cause, first_cause, session_causes, idle, no_quorum, quiet, line_step, retry_step}
 use Rattle.gq_world.specs.declared.sessions.Seat.{Seat}
 use Rattle.gq_world.specs.Tables.{Tables, Agrees, SeatAgrees, Sits, IsReady, seats_at, seat_in}
-use Rattle.gq_world.specs.Asking.{idle_causes, last_number, rested_seat, rested_tables}
+use Rattle.gq_world.specs.Asking.{idle_causes, rested_seat, rested_tables}
 use Rattle.gq_world.specs.Saying.{with_sent}
 use Rattle.gq_world.specs.Seats.{IsAtWork, SeatResends, SeatRefuses}
 use Rattle.gq_world.specs.Machine.{Acts, TellsLine, acted, state_after}

@@ -17,7 +17,7 @@ use Rattle.gq_post.specs.Lanes.{lane_at, message_at}
 use Rattle.gq_phase.specs.declared.Heard.{Heard}
 use Rattle.gq_phase.specs.declared.operation.Operation.{Operation as Code}
 use Rattle.gq_phase.specs.Phase.{Task, Reply, Operation, Heard as Saying, HeardStale, HeardNoted, HeardNext, HeardDone}
-use Rattle.gq_phase.specs.Standing.{heard_as}
+use Rattle.gq_phase.specs.Standing.{heard_as, messages_of}
 use Rattle.gq_model.specs.declared.events.Line.TheVariants.{Deliver}
 use Rattle.gq_model.specs.Told.{Told}
 use Rattle.gq_model.specs.Trace.{Own, Entry, State, Session, Known, changed, own_message_at, held, operation, operation_with, session_by, heard_deed, brought_by, floor_by}
@@ -26,7 +26,7 @@ use Rattle.gq_phase.specs.Laws.{SameQuorums}
 use Rattle.gq_world.specs.declared.sessions.Seat.{Seat}
 use Rattle.gq_world.specs.Tables.{Tables, Agrees, SeatAgrees, Sits, seats_at, seat_in}
 use Rattle.gq_world.specs.Seats.{SeatHears, said_by, operation_after, last_of}
-use Rattle.gq_world.specs.Saying.{with_sent, messages_of, heard_told}
+use Rattle.gq_world.specs.Saying.{with_sent, heard_told}
 use Rattle.gq_world.specs.Machine.{Acts, TellsLine, acted, state_after}
 use Rattle.gq_world.proofs.Hearing.{said_by_up}
 use Rattle.gq_world.proofs.Lanes.{sent_count, sent_messages, new_not_lost, lane_there, quorums_in}

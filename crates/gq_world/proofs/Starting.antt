@@ -13,10 +13,8 @@ use Rattle.gq_grid.specs.Sets.{servers}
 use Rattle.gq_grid.specs.declared.ServerSet.{ServerSet}
 use Rattle.gq_grid.specs.declared.TheConstants.{MOST_SERVERS}
 use Rattle.gq_tag.specs.Tag.{File, file_of, first_copy}
-use Rattle.gq_desk.specs.declared.plans.TenantRow.{TenantRow}
 use Rattle.gq_desk.specs.declared.limits.TheConstants.{MOST_SESSIONS}
-use Rattle.gq_desk.specs.Plans.{is_in, number_fault, plan_fault}
-use Rattle.gq_desk.proofs.SoundRows.{row_numbers, unless_none}
+use Rattle.gq_desk.specs.declared.plans.TenantRow.{TenantRow}
 use Rattle.gq_desk.specs.CheckedPlan.{CheckedPlan, nobody, row_at}
 use Rattle.gq_desk.specs.Volumes.{Account, no_account, account_at}
 use Rattle.gq_post.specs.Lanes.{lane_at, message_at}
@@ -58,17 +56,6 @@ seats_are : (rows : List TenantRow) (t : ℕ) → t < length rows → seats_at (
 seats_are [] t within = absurd (omega arith)
 seats_are (row ∷ rows) zero within = refl
 seats_are (row ∷ rows) (suc t) within = seats_are rows t (omega arith)
-
-within_few : (sessions : ℕ) → not (is_in 1 MOST_SESSIONS sessions) ≡ false → sessions ≤ MOST_SESSIONS
-within_few sessions is = grind (arith, nat_tests)
-
-pub row_few : (t : ℕ) (row : TenantRow) → number_fault t row ≡ None → row.sessions ≤ MOST_SESSIONS
-row_few t row none = within_few row.sessions (unless_none _ _ _ (unless_none _ _ _ none).1).0
-
-pub few_sessions : (plan : CheckedPlan) → plan_fault plan.blocks plan.rows ≡ None → FewSessions plan
-few_sessions plan none t within =
-    let there = slice_get-get_or plan.rows t nobody within in
-    rw there (row_few t (get_or plan.rows t nobody) (row_numbers plan.blocks plan.rows t (get_or plan.rows t nobody) none there))
 
 -- ---- the stores
 

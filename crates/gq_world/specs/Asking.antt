@@ -6,7 +6,7 @@ use Rattle.gq_desk.specs.CheckedPlan.{row_at}
 use Rattle.gq_desk.specs.Plans.{is_in}
 use Rattle.gq_desk.specs.Volumes.{account_at, limit_of}
 use Rattle.gq_phase.specs.declared.operation.Operation.{Operation as Code}
-use Rattle.gq_phase.specs.Standing.{floor_of}
+use Rattle.gq_phase.specs.Standing.{last_number}
 use Rattle.gq_model.specs.declared.events.Refusal.TheVariants.{NoSession, Busy, Idle, NoVolume, NoFile, TooLong}
 use Rattle.gq_model.specs.Lone.{Cause}
 use Rattle.gq_world.specs.declared.sessions.Seat.{Seat}
@@ -40,11 +40,6 @@ idle_causes w t k =
 -- the seat with one operation more
 abbrev pub busy_seat : Seat → Code → Seat
 busy_seat seat code = record { op = seat.op + 1; floor = seat.floor; operation = Some code }
-
--- the session's own last number
-abbrev pub last_number : ℕ → Option Code → ℕ
-last_number floor None = floor
-last_number floor (Some code) = floor_of code
 
 -- the seat without its operation, whose last number it keeps
 abbrev pub rested_seat : Seat → Seat

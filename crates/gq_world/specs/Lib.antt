@@ -4,7 +4,6 @@ pub mod Bounds
 pub mod Machine
 pub mod Response
 pub mod Running
-pub mod Said
 pub mod Saying
 pub mod Seats
 pub mod Tables

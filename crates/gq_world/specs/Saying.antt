@@ -10,11 +10,6 @@ use Rattle.gq_model.specs.Told.{Told, Stale as IsStale, Noted as IsNoted, Round,
 abbrev pub with_sent : List Lane → ℕ → List Message → List Lane
 with_sent lanes t messages = slice_set lanes t (lane_at lanes t ++ map Some messages)
 
--- the messages that are sent
-abbrev pub messages_of : Heard → List Message
-messages_of (Next round tag messages) = messages
-messages_of _ = []
-
 -- what is told, so many messages having been sent before
 abbrev pub heard_told : ℕ → Heard → Told
 heard_told first Stale = IsStale

@@ -9,7 +9,7 @@ use gq_grid::{Choice, Grid, ServerSet};
 use std::marker::Model;
 
 // The servers of a grid that are up. The quorum is chosen when a server changes, and not when it is asked for.
-#[derive(Debug, Drop)]
+#[derive(Drop)]
 pub struct Chooser {
     grid: Grid,
     up: ServerSet,

@@ -4,7 +4,6 @@
 mod adding;
 mod chooser;
 mod replies;
-mod said;
 mod sending;
 mod sessions;
 mod tables;
@@ -12,5 +11,4 @@ mod world;
 
 pub use gq_laws::laws;
 pub use gq_model::{Answer, Event, Line, Refusal, ServerLine, ServerRefusal};
-pub use said::{Said, said_of};
 pub use world::{Ended, World};

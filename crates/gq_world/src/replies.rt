@@ -15,7 +15,7 @@ use gq_tag::{BodyView, FileId, MessageView, Tag};
 use std::alloc::AllocError;
 
 /// What a server answers: that it stored, or its copy of this tag, of which the content is elsewhere.
-#[derive(Clone, Copy, Debug)]
+#[derive(Clone, Copy)]
 pub(crate) enum Response {
     Stored(Put),
     Copy(Tag),

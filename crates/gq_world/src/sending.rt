@@ -3,7 +3,8 @@
 ghost use Rattle.std.specs.Prelude.{◌≡◌, ◌<◌, length, IfOk, OnOk};
 ghost use Rattle.gq_post.specs.Lanes.{lane_at};
 ghost use Rattle.gq_model.specs.Shown.{shown};
-ghost use Rattle.gq_world.specs.Saying.{with_sent, messages_of, heard_told};
+ghost use Rattle.gq_phase.specs.Standing.{messages_of};
+ghost use Rattle.gq_world.specs.Saying.{with_sent, heard_told};
 
 use gq_model::Answer;
 use gq_phase::Heard;

@@ -12,7 +12,7 @@ use std::alloc::{AllocError, Global};
 use std::marker::Model;
 
 /// A session: how many operations it began, its operation if it has one, and its own last number while it has none.
-#[derive(Debug, Drop)]
+#[derive(Drop)]
 pub(crate) struct Seat {
     pub(crate) op: u32,
     pub(crate) floor: u64,
@@ -20,7 +20,7 @@ pub(crate) struct Seat {
 }
 
 /// The sessions of a tenant. Session `k` has place `k - 1`.
-#[derive(Debug, Drop)]
+#[derive(Drop)]
 pub(crate) struct Seats {
     pub(crate) items: Vec<Seat>,
 }

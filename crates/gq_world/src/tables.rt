@@ -32,7 +32,7 @@ use std::marker::Model;
 
 /// The tables of all tenants. No call undoes anything where memory is wanting: the tables then have their shape, and stand
 /// for nothing.
-#[derive(Debug, Drop)]
+#[derive(Drop)]
 pub(crate) struct Core {
     alloc: Global,
     plan: Plan,

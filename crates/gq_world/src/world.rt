@@ -20,7 +20,7 @@ use thiserror::Error;
 
 /// The tenants of a plan and its servers. What it has for a tenant depends on that tenant's lines and the server lines
 /// alone.
-#[derive(Debug, Drop)]
+#[derive(Drop)]
 pub struct World {
     tables: Core,
     ended: bool,

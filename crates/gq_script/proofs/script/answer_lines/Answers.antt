@@ -1,4 +1,4 @@
-use Rattle.std.proofs.Common.{append-nil, ◌≡◌, ◌∙◌, [], ◌∷◌, ◌++◌, ap, sym, subst, refl, length}
+use Rattle.std.proofs.Common.{◌≡◌, ◌∙◌, [], ◌∷◌, ◌++◌, ap, sym, subst, refl, length}
 use Rattle.std.proofs.lemmas.Bool.{eqb-true}
 use Rattle.gq_desk.specs.CheckedPlan.{CheckedPlan}
 use Rattle.gq_model.specs.declared.events.Event.{Event}
@@ -11,17 +11,13 @@ use Rattle.gq_script.specs.Words.{words_after}
 use Rattle.gq_script.specs.Output.{answer_line}
 use Rattle.gq_script.specs.QuorumText.{Held}
 use Rattle.gq_script.proofs.Answering.{keeps_first, keeps_more, keeps_all}
-use Rattle.gq_script.specs.Seeing.{seen_events, is_seen}
-use Rattle.gq_model.specs.declared.events.Answer.{Answer}
-use Rattle.std.specs.Prelude.{ℕ, List, Option, Some, None, if◌then◌else◌}
+use Rattle.std.specs.Prelude.{Some}
 use Rattle.gq_script.proofs.script.answer_lines.Goals as goal
-use Rattle.gq_script.proofs.script.answer_lines.Goals.{in-Some+in_ok-keep, in_default-tenant}
 
 pub loop-rest-init : goal.loop-rest-init
 loop-rest-init c = record {
-  same = refl;
   grid = ap (λ (held : Held). held.grid) c.new-quorum.ensures ∙ (c.grid.ensures ∙ ap (λ (p : CheckedPlan). p.grid) c.plan.ensures);
-  kept = rw (c.new-events.ensures.items, c.new-answers.ensures.items, c.new-text.ensures.items) (keeps_first c.args.world.now.tables.plan c.args.tenant c.args.world.now.tables (lines_of c.args.lines.now) refl c.requires);
+  kept = rw (c.new-events.ensures.items, c.new-answers.ensures.items, c.new-text.ensures.items) (keeps_first c.args.world.now.tables.plan (Some c.args.tenant) c.args.world.now.tables (lines_of c.args.lines.now) refl c.requires);
 }
 
 pub loop-rest-preserved : goal.loop-rest-preserved
@@ -30,26 +26,9 @@ loop-rest-preserved c =
     let line = first ++ c.cut_line.result.1.now in let e = c.in_ok-event.event in let text = c.loop-rest.text.items in
     let reads : e ≡ event_of plan line =
     c.in_ok-event.ensures.event ∙ (ap (λ (p : CheckedPlan). event_of_words p (first ∷ words)) c.plan-in-loop-rest.ensures ∙ ap (event_of_words plan) (sym c.cut_line.ensures.words)) in
-    let Kept_for : Option ℕ → List Event → List Answer → Type 0 = λ t events answers.
-    (events ≡ c.loop-rest.events.items ++ seen_events t (e ∷ [])) × (answers ≡ (if is_seen t e then c.loop-rest.answers.items ++ c.in-Ok.answer ∷ [] else c.loop-rest.answers.items)) in
-    let kept : Kept_for c.args.tenant c.match-tenant.events.items c.match-tenant.answers.items =
-    elim c.match-tenant.branch [
-      | in-Some+in_ok-keep w ↦
-          let seer : Some w.in-Some.seer ≡ c.args.tenant = sym w.in-Some.is ∙ c.loop-rest.invariant.same in
-          let more : Kept_for (Some w.in-Some.seer) c.match-tenant.events.items c.match-tenant.answers.items = (rw w.events-is w.in_ok-keep.ensures.events, rw w.answers-is w.in_ok-keep.ensures.answers) in
-          subst (λ t. Kept_for t c.match-tenant.events.items c.match-tenant.answers.items) seer more
-      | in_default-tenant w ↦
-          let nobody : None ≡ c.args.tenant = sym w.in_default-tenant.is ∙ c.loop-rest.invariant.same in
-          let same : Kept_for None c.match-tenant.events.items c.match-tenant.answers.items = (rw w.events-is (sym (append-nil c.loop-rest.events.items)), rw w.answers-is refl) in
-          subst (λ t. Kept_for t c.match-tenant.events.items c.match-tenant.answers.items) nobody same
-    ] in
     record {
       grid = c.write_next_answer.ensures.grid ∙ c.loop-rest.invariant.grid ∙ sym (ap (λ (p : CheckedPlan). p.grid) c.step.ensures.plan);
-      same = elim c.match-tenant.branch [
-        | in-Some+in_ok-keep w ↦ w.tenant-is ∙ sym w.in-Some.is ∙ c.loop-rest.invariant.same
-        | in_default-tenant w ↦ w.tenant-is ∙ c.loop-rest.invariant.same
-      ];
-      kept = keeps_more c.args.world.now.tables.plan c.args.tenant c.loop-rest.world.tables c.step.new.self.tables c.loop-rest.events.items c.match-tenant.events.items c.loop-rest.answers.items c.match-tenant.answers.items
+      kept = keeps_more c.args.world.now.tables.plan (Some c.args.tenant) c.loop-rest.world.tables c.step.new.self.tables c.loop-rest.events.items c.keep.new.events.items c.loop-rest.answers.items c.keep.new.answers.items
           text c.write_next_answer.new.out.items line _ _ _ e c.in-Ok.answer c.loop-rest.invariant.kept c.cut_line.ensures.lines c.step.ensures.plan reads
           (λ before stands. c.in-Ok.ensures.answer before stands ∙ ap (answer_to plan before) reads)
           (λ before stands. subst (λ (x : Event). Stands c.step.new.self.tables (before ++ x ∷ [])) reads (c.in-Ok.ensures.stands before stands))
@@ -57,12 +36,12 @@ loop-rest-preserved c =
           ∙ ap (λ (p : CheckedPlan). text ++ answer_line p e (shown c.in-Ok.answer)) (c.plan-in-loop-rest-2.ensures ∙ c.step.ensures.plan)
           ∙ ap (λ told. text ++ answer_line plan e told) (c.in-Ok.ensures.answer before stands)
           ∙ ap (λ (x : Event). text ++ answer_line plan x (answer_to plan before x)) reads)
-          (kept.0) (kept.1);
+          c.in_ok-keep.ensures.events c.in_ok-keep.ensures.answers;
     }
 
 pub returns : goal.returns
 returns c =
     let plan = c.args.world.now.tables.plan in
-    let all = keeps_all plan c.args.tenant c.loop-rest.world.tables c.loop-rest.events.items c.loop-rest.answers.items c.loop-rest.text.items c.loop-rest.rest.now (lines_of c.args.lines.now) c.loop-rest.invariant.kept
+    let all = keeps_all plan (Some c.args.tenant) c.loop-rest.world.tables c.loop-rest.events.items c.loop-rest.answers.items c.loop-rest.text.items c.loop-rest.rest.now (lines_of c.args.lines.now) c.loop-rest.invariant.kept
     (eqb-true (length c.loop-rest.rest.now) 0 (sym c.is_empty.ensures ∙ c.loop-rest-test.false)) in
     record { plan = c.loop-rest.invariant.kept.plan_is; text = all.0; events = all.1; run = all.2 }

@@ -17,7 +17,8 @@ use Rattle.gq_model.specs.declared.events.Line.TheVariants.{Deliver}
 use Rattle.gq_model.specs.Shown.{shown}
 use Rattle.gq_world.specs.declared.sessions.Seat.{Seat}
 use Rattle.gq_world.specs.Tables.{Tables, IsReady, IsShaped, seats_at, seat_in, store_at}
-use Rattle.gq_world.specs.Saying.{with_sent, messages_of, heard_told}
+use Rattle.gq_phase.specs.Standing.{messages_of}
+use Rattle.gq_world.specs.Saying.{with_sent, heard_told}
 use Rattle.gq_world.specs.Response.{body_in}
 use Rattle.gq_desk.specs.Volumes.{limit_of}
 use Rattle.gq_world.specs.Seats.{SeatHears, FloorIsBelow}

@@ -1,8 +1,8 @@
 -- What a session is told, without the numbers of messages.
 use Rattle.std.specs.Prelude.{Option, Some, None}
 use Rattle.gq_model.specs.Told.{Told, Began, Stale, Noted, Round, Done, Resent, Abandoned, Refused}
-use Rattle.gq_world.specs.declared.said.Said.{Said}
-use Rattle.gq_world.specs.declared.said.Said.TheVariants.{Began as SaidBegan, Stale as SaidStale, Noted as SaidNoted, Round as SaidRound, Done as SaidDone, Resent as SaidResent, Abandoned as SaidAbandoned, Refused as SaidRefused}
+use Rattle.gq_model.specs.declared.said.Said.{Said}
+use Rattle.gq_model.specs.declared.said.Said.TheVariants.{Began as SaidBegan, Stale as SaidStale, Noted as SaidNoted, Round as SaidRound, Done as SaidDone, Resent as SaidResent, Abandoned as SaidAbandoned, Refused as SaidRefused}
 
 -- what is told as its session is told it, none of what is told to no session
 abbrev pub said_in : Told → Option Said

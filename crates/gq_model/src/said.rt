@@ -2,16 +2,16 @@
 
 ghost use Rattle.std.specs.Prelude.{◌≡◌, IfOk};
 ghost use Rattle.gq_model.specs.Shown.{shown};
-ghost use Rattle.gq_world.specs.Said.{said_in};
+ghost use Rattle.gq_model.specs.Said.{said_in};
 
-use gq_model::{Answer, Refusal};
+use crate::{Answer, Refusal};
 use gq_phase::Outcome;
 use gq_tag::Tag;
 use std::alloc::AllocError;
 
 /// What a session is told, with the count of the messages that were sent in place of their numbers, which depend on what
 /// the tenant's other sessions sent before.
-#[derive(Debug, Drop)]
+#[derive(Drop)]
 pub enum Said {
     /// The operation of this number begins.
     Began {
