@@ -15,10 +15,13 @@ mod watched;
 mod words;
 
 pub use canonical::write_script;
-pub use input::read_line;
-pub use lines::first_line;
-pub use output::write_answer;
+pub use input::{read_cut_line, read_line};
+pub use lines::{cut_line, first_line};
+pub use output::{write_answer, write_next_answer};
 pub use pieces::{Piece, put_words};
 pub use plan_text::{PlanText, TextFault, read_plan};
-pub use script::{Answered, MOST_INPUT, RunFault, answer_lines, read_whole, run, write_whole};
+pub use quorum_text::QuorumText;
+pub use script::{
+    Answered, MOST_INPUT, RunFault, answer_lines, answers_of, read_whole, run, write_whole,
+};
 pub use watched::Watched;

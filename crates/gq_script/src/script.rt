@@ -214,8 +214,8 @@ fn answers(alloc: Global, world: &mut World, lines: &[u8]) -> Result<Vec<u8>, Al
     Ok(text)
 }
 
-// The answers of a new world of the plan.
-fn answers_of(alloc: Global, plan: Plan, lines: &[u8]) -> Result<Vec<u8>, AllocError>
+/// The answers of a new world of the plan to the lines of a text after the plan.
+pub fn answers_of(alloc: Global, plan: Plan, lines: &[u8]) -> Result<Vec<u8>, AllocError>
     ensures { IfOk result (λ text. text.items ≡ joined (output_lines plan (lines_of lines.now))) }
 {
     let mut world = World::new(alloc, plan)?;

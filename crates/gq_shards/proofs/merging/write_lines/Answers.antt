@@ -1,0 +1,50 @@
+use Rattle.std.proofs.Common.{refl, ℕ, ◌<◌, ◌≤◌, ◌+◌, List, arith, length, get_or, drop}
+use Rattle.std.proofs.lemmas.List.{drop_all}
+use Rattle.std.proofs.lemmas.Result.{on_err_weaker}
+use Rattle.gq_shards.specs.declared.merging.Place.{Place}
+use Rattle.gq_shards.specs.Shards.{waiting, AreTold}
+use Rattle.gq_shards.proofs.Passing.{on_err}
+use Rattle.gq_shards.proofs.Lefts.{IsNext, first_place, step_within, step_more, step_part, going_last}
+use Rattle.gq_shards.proofs.merging.write_lines.Goals as goal
+
+-- the line of this turn is the next of its shard
+next_here : (g : _) (c : goal.After-next_line-arg-1 g) (lines : List (List ℕ)) → AreTold c.args.marks.now lines c.args.all.now
+    → IsNext c.args.all.now c.loop-mark.places c.args.marks.now lines c.loop-mark.mark-index c.saturating_sub-shard.result c.index-all-shard.result (get_or c.loop-mark.places c.saturating_sub-shard.result first_place)
+next_here g c lines told = record {
+  told_all = told;
+  below = c.loop-mark-test.true;
+  shard = c.saturating_sub-shard.ensures;
+  is = c.index-all-shard.is;
+  at = refl;
+}
+
+within : (g : _) (c : goal.After-next_line-arg-1 g) → let place : Place = get_or c.loop-mark.places c.saturating_sub-shard.result first_place in
+    (place.line < length c.index-all-shard.result.lengths.items) × (place.byte + get_or c.index-all-shard.result.lengths.items place.line 0 ≤ length c.index-all-shard.result.text.items)
+within g c =
+    let lines = c.requires.told.0 in
+    let told = c.requires.told.1 in
+    step_within _ _ _ _ _ _ lines _ _ _ _ (c.loop-mark.invariant.going lines told) (next_here g c lines told)
+
+pub next_line-requires-clause-line : goal.next_line-requires-clause-line
+next_line-requires-clause-line g c = let here = within g c in omega (arith, here.0)
+
+pub next_line-requires-clause-bytes : goal.next_line-requires-clause-bytes
+next_line-requires-clause-bytes g c = let here = within g c in omega (arith, here.1)
+
+pub returns-in_err-put-clause-prefix : goal.returns-in_err-put-clause-prefix
+returns-in_err-put-clause-prefix g c = on_err c.from_residual.result (λ lines told.
+    step_part _ _ _ (waiting c.loop-mark.chunk) c.next_line.result.0.now _ _ _ lines _ _ c.index-all-shard.result _ c.next_line.result.1 (c.loop-mark.invariant.going lines told)
+    (record { told_all = told; below = c.loop-mark-test.true; shard = c.saturating_sub-shard.ensures; is = c.index-all-shard.is; at = refl }) c.next_line.ensures c.in_err-put.ensures.prefix)
+
+pub loop-mark-preserved : goal.loop-mark-preserved
+loop-mark-preserved g c = record {
+  fine = c.in_ok-put.ensures.fine;
+  going = λ lines told.
+      step_more _ _ _ (waiting c.loop-mark.chunk) (waiting c.put.new.self) c.next_line.result.0.now _ _ _ lines _ _ c.index-all-shard.result _ c.next_line.result.1 (c.loop-mark.invariant.going lines told)
+      (record { told_all = told; below = c.loop-mark-test.true; shard = c.saturating_sub-shard.ensures; is = c.index-all-shard.is; at = refl }) c.next_line.ensures c.in_ok-put.ensures.ok;
+}
+
+pub returns-clause-prefix : goal.returns-clause-prefix
+returns-clause-prefix g c = on_err_weaker c.flush.result (λ part lines told.
+    going_last _ _ _ (waiting c.loop-mark.chunk) _ _ _ (drop c.loop-mark.mark-index lines) lines (c.loop-mark.invariant.going lines told)
+    (drop_all c.loop-mark.mark-index lines (omega (arith, told.size, c.loop-mark-test.false))) part) c.flush.ensures.prefix

@@ -1,0 +1,117 @@
+-- Lines dealt out to shards, of which each answers some tenants.
+use Rattle.std.specs.Prelude.{◌≡◌, ℕ, ◌+◌, ◌-◌, ◌%◌, ◌<◌, ◌≤◌, List, [], ◌∷◌, ◌++◌, Bool, ◌==◌, ◌||◌, map, length, slice_index_or, if◌then◌else◌, Option, Result, Ok, Err, IfOk, take, drop}
+use Rattle.std.specs.Io.KnownBytes.{Appends}
+use Rattle.gq_shards.specs.declared.answering.Answers.{Answers}
+use Rattle.gq_shards.specs.declared.answering.Answers.TheVariants.{One, Shards}
+use Rattle.gq_shards.specs.declared.chunk.Chunk.{Chunk}
+use Rattle.gq_shards.specs.declared.merging.Place.{Place}
+use Rattle.gq_shards.specs.declared.telling.Told.{Told}
+use Rattle.gq_desk.specs.CheckedPlan.{CheckedPlan, row_at}
+use Rattle.gq_desk.specs.declared.plans.TenantRow.{TenantRow}
+use Rattle.gq_model.specs.declared.events.Event.{Event}
+use Rattle.gq_model.specs.declared.events.Event.TheVariants.{Tenant, Server, Stray}
+use Rattle.gq_script.specs.declared.script.RunFault.{RunFault}
+use Rattle.gq_script.specs.declared.script.RunFault.TheVariants.{Memory, Write}
+use Rattle.gq_script.specs.Words.{words_after}
+use Rattle.gq_script.specs.Input.{event_of_words, event_of}
+use Rattle.gq_model.specs.Events.{answer_to}
+use Rattle.gq_script.specs.Output.{answer_line}
+use Rattle.gq_script.specs.Lines.{lines_of}
+use Rattle.gq_script.specs.PlanText.{Reading, plan_of}
+use Rattle.gq_script.specs.Out.{joined, output_lines}
+
+-- which of so many shards answers the tenant at place t
+abbrev pub shard_of : ℕ → ℕ → ℕ
+shard_of shards t = t % shards
+
+-- whose an event is: 0 is a server line, which all shards see, and n + 1 is of shard n alone
+abbrev pub mark_of : ℕ → Event → ℕ
+mark_of shards (Tenant t line) = shard_of shards t + 1
+mark_of shards (Server line) = 0
+mark_of shards Stray = 1
+
+-- the event of a line that is cut behind its first word
+abbrev pub event_cut : CheckedPlan → List ℕ → List ℕ → Event
+event_cut plan first rest = event_of_words plan (first ∷ words_after rest)
+
+-- its answer line, after these events
+abbrev pub line_cut : CheckedPlan → List Event → List ℕ → List ℕ → List ℕ
+line_cut plan before first rest = answer_line plan (event_cut plan first rest) (answer_to plan before (event_cut plan first rest))
+
+-- the marks of lines
+abbrev pub marks_of : CheckedPlan → ℕ → List (List ℕ) → List ℕ
+marks_of plan shards lines = map (λ line. mark_of shards (event_of plan line)) lines
+
+-- the shard tells the answer to a line of this mark; it sees the line
+abbrev pub tells : ℕ → ℕ → Bool
+tells shard mark = mark - 1 == shard
+
+abbrev pub sees : ℕ → ℕ → Bool
+sees shard mark = mark == 0 || tells shard mark
+
+-- of lines with these marks, those that the shard tells
+abbrev pub of_shard : ℕ → List ℕ → List (List ℕ) → List (List ℕ)
+of_shard shard (mark ∷ marks) (line ∷ lines) = if tells shard mark then line ∷ of_shard shard marks lines else of_shard shard marks lines
+of_shard shard _ _ = []
+
+-- the row, where the tenant is the shard's; else the least row of its name
+abbrev pub part_row : Bool → TenantRow → TenantRow
+part_row mine row = if mine then row else record { name = row.name; share = 1; sessions = 1; steps = 1 }
+
+-- the rows from place t on, as the shard has them
+abbrev pub part_rows : ℕ → ℕ → ℕ → List TenantRow → List TenantRow
+part_rows shards shard t [] = []
+part_rows shards shard t (row ∷ rows) = part_row (shard_of shards t == shard) row ∷ part_rows shards shard (t + 1) rows
+
+-- the plan of a shard: all tenants stand at their places by their names, its own with their rows
+pub record IsPart (shards shard : ℕ) (plan part : CheckedPlan) : Type 0 where
+  pub grid : part.grid ≡ plan.grid
+  pub names : map (λ (row : TenantRow). row.name) part.rows ≡ map (λ (row : TenantRow). row.name) plan.rows
+  pub rows : (t : ℕ) → shard_of shards t ≡ shard → row_at part t ≡ row_at plan t
+
+-- a text and the lengths of its lines
+pub record IsText (text lengths : List ℕ) (lines : List (List ℕ)) : Type 0 where
+  pub bytes : text ≡ joined lines
+  pub counts : lengths ≡ map length lines
+
+-- what is left of a shard's text behind a place, where these lines are
+pub record IsLeft (told : Told) (place : Place) (lines : List (List ℕ)) : Type 0 where
+  pub within : place.byte ≤ length told.text.items
+  pub text : IsText (drop place.byte told.text.items) (drop place.line told.lengths.items) lines
+
+-- each shard that had memory told its own of the lines with these marks
+abbrev pub EachTold : {E : Type 0} → List ℕ → List (List ℕ) → List (Result Told E) → Type 0
+EachTold {E} marks lines tried = (k : ℕ) (d : Result Told E) → k < length tried → IfOk (slice_index_or tried k d) (λ told. IsText told.text.items told.lengths.items (of_shard k marks lines))
+
+-- each line has a mark, each mark a shard, and each shard told its own of the lines
+pub record AreTold (marks : List ℕ) (lines : List (List ℕ)) (all : List Told) : Type 0 where
+  pub size : length lines ≡ length marks
+  pub shards : (i : ℕ) → i < length marks → slice_index_or marks i 0 - 1 < length all
+  pub texts : (k : ℕ) (d : Told) → k < length all → IsText (slice_index_or all k d).text.items (slice_index_or all k d).lengths.items (of_shard k marks lines)
+
+-- these lines, as one world wrote them or as the shards told them
+abbrev pub AreAnswers : Answers → List (List ℕ) → Type 0
+AreAnswers (One text) lines = text.items ≡ joined lines
+AreAnswers (Shards marks all) lines = AreTold marks.items lines all.items
+
+-- what waits in a chunk to be written
+abbrev pub waiting : Chunk → List ℕ
+waiting chunk = take chunk.filled chunk.bytes.items
+
+-- of a text a part was appended, and the rest is left
+abbrev pub Passes : Option (List ℕ) → Option (List ℕ) → List ℕ → List ℕ → Type 0
+Passes old new text left = (sent : List ℕ) × Appends old new sent × (text ≡ sent ++ left)
+
+-- a fault of writing, or want of memory
+abbrev pub IsWritingFault : RunFault → Type 0
+IsWritingFault Memory = Unit {0}
+IsWritingFault Write = Unit {0}
+IsWritingFault _ = ⊥
+
+-- the output's lines, where the plan is accepted
+abbrev pub lines_from : Reading (CheckedPlan × List (List ℕ)) → List (List ℕ)
+lines_from (Ok read) = output_lines read.0 read.1
+lines_from (Err fault) = []
+
+abbrev pub out_lines : List ℕ → List (List ℕ)
+out_lines input = lines_from (plan_of (lines_of input))

@@ -1,0 +1,127 @@
+//! The answers to the lines of a script, by one world or by shards.
+
+ghost use Rattle.std.specs.Prelude.{◌≡◌, ◌≤◌, ℕ, List, Ok, map, vec_len, false, true, IfOk, IfErr, OnOk, IsErrOf};
+ghost use Rattle.std.specs.Io.KnownBytes.{Appends};
+ghost use Rattle.gq_desk.specs.declared.limits.TheConstants.{MOST_TENANTS};
+ghost use Rattle.gq_script.specs.declared.script.RunFault.{RunFault};
+ghost use Rattle.gq_script.specs.Lines.{lines_of};
+ghost use Rattle.gq_script.specs.Out.{joined, output_lines};
+ghost use Rattle.gq_script.specs.Watched.{inner_of, has_failed, AppendsPrefix};
+ghost use Rattle.gq_shards.specs.Shards.{marks_of, AreTold, EachTold, AreAnswers, IsWritingFault};
+
+use crate::marks::marks_in_threads;
+use crate::merging::write_told;
+use crate::telling::{Told, told_by};
+use gq_desk::Plan;
+use gq_script::{RunFault, Watched, answers_of, write_whole};
+use std::alloc::{AllocError, Global};
+use std::io::Write;
+use std::thread;
+use std::thread::Threads;
+
+/// The answers to the lines of a script.
+#[derive(Drop)]
+pub enum Answers {
+    /// Their text, by one world.
+    One(Vec<u8>),
+    /// Whose each line is, and what each shard tells.
+    Shards(Vec<u8>, Vec<Told>),
+}
+
+// All values, where each was made.
+fn all_of(alloc: Global, tried: Vec<Result<Told, AllocError>>) -> Result<Vec<Told>, AllocError>
+    ensures { IfOk result (λ all. map Ok all.items ≡ tried.items) }
+{
+    let mut all = Vec::new(alloc);
+    for told in tried {
+        all.push(told?)?;
+    }
+    Ok(all)
+}
+
+// What each shard tells, each in a thread of its own where one can be made.
+fn tried_in_threads<T: Threads + Sync>(
+    rt: &T,
+    alloc: Global,
+    plan: &Plan,
+    shards: usize,
+    marks: &[u8],
+    lines: &[u8],
+) -> Result<Vec<Result<Told, AllocError>>, AllocError>
+    requires some { 1 ≤ shards }
+    requires marks { marks.now ≡ marks_of plan.now shards (lines_of lines.now) }
+    ensures size { IfOk result (λ tried. vec_len tried ≡ shards) }
+    ensures told { IfOk result (λ tried. EachTold marks.now (output_lines plan.now (lines_of lines.now)) tried.items) }
+{
+    thread::map_indices(
+        rt,
+        alloc,
+        shards,
+        &|shard| told_by(alloc, plan, shards, shard, marks, lines),
+    )
+}
+
+// What the shards tell.
+fn told_in_threads<T: Threads + Sync>(
+    rt: &T,
+    alloc: Global,
+    plan: &Plan,
+    shards: usize,
+    marks: &[u8],
+    lines: &[u8],
+) -> Result<Vec<Told>, AllocError>
+    requires some { 1 ≤ shards }
+    requires marks { marks.now ≡ marks_of plan.now shards (lines_of lines.now) }
+    ensures { IfOk result (λ all. AreTold marks.now (output_lines plan.now (lines_of lines.now)) all.items) }
+{
+    let tried = tried_in_threads(rt, alloc, plan, shards, marks, lines)?;
+    all_of(alloc, tried)
+}
+
+/// The answers to the lines of a text after the plan, by so many shards, but no more than there are tenants. Fewer than two
+/// are one world.
+pub fn answers_in_shards<T: Threads + Sync>(
+    rt: &T,
+    alloc: Global,
+    plan: Plan,
+    shards: usize,
+    lines: &[u8],
+) -> Result<Answers, AllocError>
+    ensures { IfOk result (λ answers. AreAnswers answers (output_lines plan (lines_of lines.now))) }
+{
+    let shards = shards.min(plan.tenants());
+    if shards < 2 {
+        return Ok(Answers::One(answers_of(alloc, plan, lines)?));
+    }
+    let marks = marks_in_threads(rt, alloc, &plan, shards, lines)?;
+    let told = told_in_threads(rt, alloc, &plan, shards, marks.as_slice(), lines)?;
+    Ok(Answers::Shards(marks, told))
+}
+
+/// Writes the lines of answers. The faults are `Memory`, before the first write, and `Write`, after a prefix was written.
+pub fn write_answers<W: Write>(
+    alloc: Global,
+    writer: &mut Watched<W>,
+    answers: &Answers,
+) -> Result<(), RunFault>
+    requires fine { has_failed writer.old ≡ false }
+    requires answers { (lines : List (List ℕ)) × AreAnswers answers.now lines }
+    ensures ok { OnOk result ((lines : List (List ℕ)) → AreAnswers answers.now lines →
+        Appends (W.contents (inner_of writer.old)) (W.contents (inner_of writer.new)) (joined lines)) }
+    ensures fine { OnOk result (has_failed writer.new ≡ false) }
+    ensures fault { IfErr result IsWritingFault }
+    ensures failed { IsErrOf result RunFault.Write → has_failed writer.new ≡ true }
+    ensures nothing { IsErrOf result RunFault.Memory → writer.new ≡ writer.old }
+    ensures prefix { IsErrOf result RunFault.Write → (lines : List (List ℕ)) → AreAnswers answers.now lines →
+        AppendsPrefix (W.contents (inner_of writer.old)) (W.contents (inner_of writer.new)) (joined lines) }
+{
+    match answers {
+        Answers::One(text) => write_whole(writer, text.as_slice()),
+        Answers::Shards(marks, told) => write_told(
+            alloc,
+            writer,
+            marks.as_slice(),
+            told.as_slice(),
+        ),
+    }
+}

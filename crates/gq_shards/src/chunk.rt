@@ -1,0 +1,97 @@
+//! Bytes that wait to be written together.
+
+ghost use Rattle.std.specs.Prelude.{◌≡◌, ◌+◌, ◌≤◌, ◌++◌, [], false, true, length, vec_len, IfOk, IfErr, OnOk, OnErr};
+ghost use Rattle.std.specs.Io.KnownBytes.{Appends};
+ghost use Rattle.gq_script.specs.declared.script.RunFault.{RunFault};
+ghost use Rattle.gq_script.specs.Watched.{inner_of, has_failed, AppendsPrefix};
+
+use gq_script::{RunFault, Watched, write_whole};
+use std::alloc::{AllocError, Global};
+use std::io::Write;
+
+/// Bytes that wait to be written together. It takes its memory when it is made, so that none is wanted between two writes.
+#[derive(Drop)]
+pub struct Chunk {
+    pub bytes: Vec<u8>,
+    pub filled: usize,
+    ghost within: { filled ≤ vec_len bytes },
+}
+
+impl Chunk {
+    ghost use Rattle.gq_shards.specs.Shards.{waiting, Passes};
+
+    /// No byte waits, and there is room for so many.
+    pub fn new(alloc: Global, room: usize) -> Result<Chunk, AllocError>
+        ensures { IfOk result (λ chunk. waiting chunk ≡ []) }
+    {
+        let bytes = vec![in alloc; 0u8; room]?;
+        Ok(Chunk { bytes, filled: 0 })
+    }
+
+    /// Writes what waits. After `Write` a prefix of it was written.
+    pub fn flush<W: Write>(&mut self, writer: &mut Watched<W>) -> Result<(), RunFault>
+        requires { has_failed writer.old ≡ false }
+        ensures ok { OnOk result (Appends (W.contents (inner_of writer.old))
+            (W.contents (inner_of writer.new)) (waiting self.old)) }
+        ensures empty { OnOk result (waiting self.new ≡ []) }
+        ensures fine { OnOk result (has_failed writer.new ≡ false) }
+        ensures fault { IfErr result (λ e. e ≡ RunFault.Write) }
+        ensures failed { OnErr result (has_failed writer.new ≡ true) }
+        ensures prefix { OnErr result (AppendsPrefix (W.contents (inner_of writer.old))
+            (W.contents (inner_of writer.new)) (waiting self.old)) }
+    {
+        write_whole(writer, &self.bytes[..self.filled])?;
+        self.filled = 0;
+        Ok(())
+    }
+
+    /// Takes the bytes behind those that wait. Where there is no room for them, what waits is written first, and bytes that no
+    /// chunk has room for are written at once. After `Write` a prefix of all these was written.
+    #[inline(always)]
+    pub fn put<W: Write>(&mut self, writer: &mut Watched<W>, bytes: &[u8]) -> Result<(), RunFault>
+        requires { has_failed writer.old ≡ false }
+        ensures ok { OnOk result (Passes (W.contents (inner_of writer.old))
+            (W.contents (inner_of writer.new)) (waiting self.old ++ bytes.now) (waiting self.new)) }
+        ensures fine { OnOk result (has_failed writer.new ≡ false) }
+        ensures fault { IfErr result (λ e. e ≡ RunFault.Write) }
+        ensures failed { OnErr result (has_failed writer.new ≡ true) }
+        ensures prefix { OnErr result (AppendsPrefix (W.contents (inner_of writer.old))
+            (W.contents (inner_of writer.new)) (waiting self.old ++ bytes.now)) }
+    {
+        if bytes.len() > self.bytes.len() - self.filled {
+            return self.put_far(writer, bytes);
+        }
+        self.take(bytes);
+        Ok(())
+    }
+
+    // Takes bytes for which there is room.
+    #[inline(always)]
+    fn take(&mut self, bytes: &[u8])
+        requires { self.old.filled + length bytes.now ≤ vec_len self.old.bytes }
+        ensures { waiting self.new ≡ waiting self.old ++ bytes.now }
+    {
+        let end = self.filled + bytes.len();
+        self.bytes[self.filled..end].copy_from_slice(bytes);
+        self.filled = end;
+    }
+
+    // Writes what waits, and then takes the bytes, or writes them too.
+    fn put_far<W: Write>(&mut self, writer: &mut Watched<W>, bytes: &[u8]) -> Result<(), RunFault>
+        requires { has_failed writer.old ≡ false }
+        ensures ok { OnOk result (Passes (W.contents (inner_of writer.old))
+            (W.contents (inner_of writer.new)) (waiting self.old ++ bytes.now) (waiting self.new)) }
+        ensures fine { OnOk result (has_failed writer.new ≡ false) }
+        ensures fault { IfErr result (λ e. e ≡ RunFault.Write) }
+        ensures failed { OnErr result (has_failed writer.new ≡ true) }
+        ensures prefix { OnErr result (AppendsPrefix (W.contents (inner_of writer.old))
+            (W.contents (inner_of writer.new)) (waiting self.old ++ bytes.now)) }
+    {
+        self.flush(writer)?;
+        if bytes.len() > self.bytes.len() {
+            return write_whole(writer, bytes);
+        }
+        self.take(bytes);
+        Ok(())
+    }
+}

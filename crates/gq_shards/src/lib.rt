@@ -1,0 +1,13 @@
+//! A run in shards: the tenants of a plan are dealt out, each shard answers its own, side by side, and the lines of the
+//! answers are put together again.
+#![tactic(auto)]
+
+mod answering;
+mod chunk;
+mod marks;
+mod merging;
+mod parts;
+mod run;
+mod telling;
+
+pub use run::{SHORT, run_in_shards};

@@ -1,0 +1,131 @@
+//! What one shard tells.
+
+ghost use Rattle.std.specs.Prelude.{◌≡◌, ◌≤◌, ◌∷◌, ◌++◌, [], true, false, List, length, IfOk, OnOk};
+ghost use Rattle.gq_model.specs.declared.events.Event.{Event};
+ghost use Rattle.gq_model.specs.Events.{IsIn};
+ghost use Rattle.gq_world.specs.Tables.{Stands};
+ghost use Rattle.gq_model.specs.Shown.{shown};
+ghost use Rattle.gq_script.specs.Lines.{lines_of};
+ghost use Rattle.gq_script.specs.Output.{answer_line};
+ghost use Rattle.gq_script.specs.Out.{output_lines};
+ghost use Rattle.gq_shards.specs.Shards.{event_cut, line_cut, marks_of, of_shard, sees, tells, IsText};
+
+use crate::parts::part_of;
+use gq_desk::Plan;
+use gq_model::{Answer, Event};
+use gq_script::{QuorumText, cut_line, read_cut_line, write_next_answer};
+use gq_world::World;
+use std::alloc::{AllocError, Global};
+
+/// The lines that a shard tells: their text, and the length of each.
+#[derive(Drop)]
+pub struct Told {
+    pub text: Vec<u8>,
+    pub lengths: Vec<u32>,
+}
+
+// Appends the line of the answer to an event.
+#[inline(always)]
+fn tell(
+    plan: &Plan,
+    event: &Event,
+    answer: &Answer,
+    quorum: &mut QuorumText,
+    text: &mut Vec<u8>,
+    lengths: &mut Vec<u32>,
+) -> Result<(), AllocError>
+    requires event { IsIn plan.now event.now }
+    requires grid { quorum.old.grid ≡ plan.now.grid }
+    ensures grid { quorum.new.grid ≡ quorum.old.grid }
+    ensures text { OnOk result (text.new.items ≡ text.old.items ++ answer_line plan.now event.now (shown answer.now)) }
+    ensures lengths { OnOk result (lengths.new.items ≡
+        lengths.old.items ++ length (answer_line plan.now event.now (shown answer.now)) ∷ []) }
+{
+    let start = text.len();
+    write_next_answer(plan, event, answer, quorum, text)?;
+    let Ok(length) = u32::try_from(text.len() - start) else {
+        return Err(AllocError);
+    };
+    lengths.push(length)?;
+    Ok(())
+}
+
+// Answers a line of this mark where the shard sees it, and tells the answer where the line is its own.
+#[inline(always)]
+fn next(
+    alloc: Global,
+    world: &mut World,
+    shard: usize,
+    mark: u8,
+    first: &[u8],
+    words: &[u8],
+    quorum: &mut QuorumText,
+    text: &mut Vec<u8>,
+    lengths: &mut Vec<u32>,
+) -> Result<(), AllocError>
+    requires grid { quorum.old.grid ≡ world.old.tables.plan.grid }
+    ensures grid { quorum.new.grid ≡ quorum.old.grid }
+    ensures plan { world.new.tables.plan ≡ world.old.tables.plan }
+    ensures unseen { OnOk result (sees shard mark ≡ false →
+        (world.new ≡ world.old) × (text.new.items ≡ text.old.items) × (lengths.new.items ≡ lengths.old.items)) }
+    ensures silent { OnOk result (tells shard mark ≡ false →
+        (text.new.items ≡ text.old.items) × (lengths.new.items ≡ lengths.old.items)) }
+    ensures stands { OnOk result (sees shard mark ≡ true → (before : List Event) → Stands world.old.tables before →
+        Stands world.new.tables (before ++ event_cut world.old.tables.plan first.now words.now ∷ [])) }
+    ensures text { OnOk result (tells shard mark ≡ true → (before : List Event) → Stands world.old.tables before →
+        text.new.items ≡ text.old.items ++ line_cut world.old.tables.plan before first.now words.now) }
+    ensures lengths { OnOk result (tells shard mark ≡ true → (before : List Event) → Stands world.old.tables before →
+        lengths.new.items ≡ lengths.old.items ++ length (line_cut world.old.tables.plan before first.now words.now) ∷ []) }
+{
+    let mine = mark.saturating_sub(1) as usize == shard;
+    if mark == 0 || mine {
+        let event = read_cut_line(alloc, first, words, world.plan())?;
+        let Ok(answer) = world.step(&event) else {
+            return Err(AllocError);
+        };
+        if mine {
+            tell(world.plan(), &event, &answer, quorum, text, lengths)?;
+        }
+        drop(event);
+        drop(answer);
+    }
+    Ok(())
+}
+
+/// Answers the lines that the shard sees, and tells the answers to its own.
+pub fn told_by(
+    alloc: Global,
+    plan: &Plan,
+    shards: usize,
+    shard: usize,
+    marks: &[u8],
+    lines: &[u8],
+) -> Result<Told, AllocError>
+    requires some { 1 ≤ shards }
+    requires marks { marks.now ≡ marks_of plan.now shards (lines_of lines.now) }
+    ensures { IfOk result (λ told. IsText told.text.items told.lengths.items
+        (of_shard shard marks.now (output_lines plan.now (lines_of lines.now)))) }
+{
+    let part = part_of(alloc, plan, shards, shard)?;
+    let mut world = World::new(alloc, part)?;
+    let mut text = Vec::new(alloc);
+    let mut lengths = Vec::new(alloc);
+    let mut quorum = QuorumText::new(alloc, *world.plan().grid());
+    let mut rest = lines;
+    for mark in marks {
+        let (first, words, after) = cut_line(rest);
+        next(
+            alloc,
+            &mut world,
+            shard,
+            *mark,
+            first,
+            words,
+            &mut quorum,
+            &mut text,
+            &mut lengths,
+        )?;
+        rest = after;
+    }
+    Ok(Told { text, lengths })
+}
