@@ -17,7 +17,7 @@ use std::io::Write;
 const CHUNK: usize = 65_536;
 
 // Where the next line of a shard is.
-#[derive(Clone, Copy, Debug, Drop)]
+#[derive(Clone, Copy, Drop)]
 pub struct Place {
     pub line: usize,
     pub byte: usize,
