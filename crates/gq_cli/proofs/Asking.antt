@@ -18,25 +18,21 @@ both : (a b : Kinds) → or_else a b ≡ [] → (a ≡ []) × (b ≡ [])
 both [] b none = (refl, none)
 both (k ∷ ks) b none = absurd (cc)
 
--- the command as it is built, and its subcommands that take no word
+-- the command as it is built, and its subcommand that takes no word
 abbrev pub top : Shape
 top = (built gridfs).top
-
-abbrev run_built : Shape
-run_built = slice_index_or (built gridfs).subs 0 top
 
 abbrev live_built : Shape
 live_built = slice_index_or (built gridfs).subs 2 top
 
--- whose words are read: those of `run`, of `live`, or of the command
-abbrev level : Option Bool → Shape
-level (Some true) = run_built
-level (Some false) = live_built
-level None = top
+-- whose words are read: those of `live`, or of the command
+abbrev level : (is_live : Bool) → Shape
+level true = live_built
+level false = top
 
 -- ---- flags: each asks for help or for the version, so each use of one is wrong
 
-abbrev rules : Option Bool → List Rule
+abbrev rules : Bool → List Rule
 rules which = (level which).rules
 
 -- the flag takes no value, and its use is wrong
@@ -47,10 +43,9 @@ abbrev EachIsWrong : List Rule → List Rule → Type 0
 EachIsWrong flags [] = ⊤
 EachIsWrong flags (flag ∷ rest) = IsWrong flags flag × EachIsWrong flags rest
 
-each_is_wrong : (which : Option Bool) → EachIsWrong (rules which) (rules which)
-each_is_wrong (Some true) = ((refl, λ none. cc), tt)
-each_is_wrong (Some false) = ((refl, λ none. cc), tt)
-each_is_wrong None = ((refl, λ none. cc), ((refl, λ none. cc), tt))
+each_is_wrong : (which : Bool) → EachIsWrong (rules which) (rules which)
+each_is_wrong true = ((refl, λ none. cc), tt)
+each_is_wrong false = ((refl, λ none. cc), ((refl, λ none. cc), tt))
 
 found_is_wrong : (flags : List Rule) (test : Rule → Bool) (rest : List Rule) → EachIsWrong flags rest → IfSome (find test rest) (IsWrong flags)
 found_is_wrong flags test [] each = tt
@@ -60,7 +55,7 @@ found_is_wrong flags test (flag ∷ rest) each = by (test flag) (found_is_wrong 
     by true later = each.0
     by false later = later
 
-flag_is_wrong : (which : Option Bool) (test : Rule → Bool) → IfSome (find test (rules which)) (IsWrong (rules which))
+flag_is_wrong : (which : Bool) (test : Rule → Bool) → IfSome (find test (rules which)) (IsWrong (rules which))
 flag_is_wrong which test = found_is_wrong (rules which) test (rules which) (each_is_wrong which)
 
 -- what `--name` comes to
@@ -82,30 +77,29 @@ short_is_wrong flags (Some flag) rest next wrong none =
     wrong.1 (both _ _ (sym told ∙ none)).0
 
 -- flags with nothing wrong have no first character
-no_character : (which : Option Bool) (first : Option ℕ) (flags : Text) (next : Text → ℕ → Held → Kinds) → bundle_step_fault (rules which) false first flags 0 nothing_held next ≡ [] → first ≡ None
+no_character : (which : Bool) (first : Option ℕ) (flags : Text) (next : Text → ℕ → Held → Kinds) → bundle_step_fault (rules which) false first flags 0 nothing_held next ≡ [] → first ≡ None
 no_character which None flags next none = refl
 no_character which (Some x) flags next none = absurd (short_is_wrong (rules which) (arg_by_short (rules which) x) _ _ (flag_is_wrong which _) none)
 
-no_flag : (which : Option Bool) (k : ℕ) (flags : Text) → slice_get (chars flags) 0 ≡ None → bundle_met (rules which) (suc k) flags 0 plain nothing_held ≡ (nothing_held, plain)
+no_flag : (which : Bool) (k : ℕ) (flags : Text) → slice_get (chars flags) 0 ≡ None → bundle_met (rules which) (suc k) flags 0 plain nothing_held ≡ (nothing_held, plain)
 unfolding bundle_met
 no_flag which k flags is = rw is refl
 
 -- a word that no positional takes is wrong
-stray_is_wrong : (which : Option Bool) → step_fault (level which) 1 nothing_held value ≢ []
-stray_is_wrong (Some true) none = cc
-stray_is_wrong (Some false) none = cc
-stray_is_wrong None none = cc
+stray_is_wrong : (which : Bool) → step_fault (level which) 1 nothing_held value ≢ []
+stray_is_wrong true none = cc
+stray_is_wrong false none = cc
 
 -- what a word comes to that names no subcommand and is not `--`, by how it is taken apart
-abbrev of_short : Option Bool → Text → Option Text → Kinds
+abbrev of_short : Bool → Text → Option Text → Kinds
 of_short which word flags = or_else (option_map_or (λ f. bundle_fault (rules which) false f nothing_held) flags [])
     (step_fault (level which) 1 (short_or_plain (rules which) idle word flags nothing_held).0 (short_or_plain (rules which) idle word flags nothing_held).1)
 
-abbrev of_long : Option Bool → Text → Option (Text × Option Text) → Kinds
+abbrev of_long : Bool → Text → Option (Text × Option Text) → Kinds
 of_long which word found = or_else (flag_word_fault (rules which) false found word nothing_held)
     (step_fault (level which) 1 (long_or_other (rules which) idle word found nothing_held).0 (long_or_other (rules which) idle word found nothing_held).1)
 
-of_short_is_wrong : (which : Option Bool) (word : Text) (flags : Option Text) → of_short which word flags ≢ []
+of_short_is_wrong : (which : Bool) (word : Text) (flags : Option Text) → of_short which word flags ≢ []
 unfolding flags_fault bundle_met
 of_short_is_wrong which word None none = stray_is_wrong which none
 of_short_is_wrong which word (Some []) none = stray_is_wrong which none
@@ -115,7 +109,7 @@ of_short_is_wrong which word (Some (x ∷ xs)) none =
     stray_is_wrong which (sym (ap (λ (met : Held × Outcome). step_fault (level which) 1 (after_flag (rules which) idle word met.0 met.1).0 (after_flag (rules which) idle word met.0 met.1).1)
     (no_flag which (length xs) (x ∷ xs) first)) ∙ parts.1)
 
-of_long_is_wrong : (which : Option Bool) (word : Text) (found : Option (Text × Option Text)) → of_long which word found ≢ []
+of_long_is_wrong : (which : Bool) (word : Text) (found : Option (Text × Option Text)) → of_long which word found ≢ []
 of_long_is_wrong which word None none = of_short_is_wrong which word (short_of word) none
 of_long_is_wrong which word (Some p) none =
     long_is_wrong (rules which) (arg_by_long (rules which) p.0) p.1 (flag_is_wrong which _) (both _ _ none).0
@@ -130,22 +124,18 @@ abbrev trailing_walk : Walk
 trailing_walk = record start { is_trailing = true }
 
 -- a word that names no subcommand and is not `--` is wrong
-other_is_wrong : (which : Option Bool) (names : Names) (word : Text) → subcommand_met names idle word ≡ None → bytes_eq word (codes "--") ≡ false → turn_fault (level which) names start word ≢ []
-other_is_wrong (Some true) names word no_name no_dashes none = of_long_is_wrong (Some true) word (long_of word) (sym same ∙ none)
+other_is_wrong : (which : Bool) (names : Names) (word : Text) → subcommand_met names idle word ≡ None → bytes_eq word (codes "--") ≡ false → turn_fault (level which) names start word ≢ []
+other_is_wrong true names word no_name no_dashes none = of_long_is_wrong true word (long_of word) (sym same ∙ none)
   where
-    same : turn_fault (level (Some true)) names start word ≡ of_long (Some true) word (long_of word)
+    same : turn_fault (level true) names start word ≡ of_long true word (long_of word)
     same = rw (no_name, no_dashes) refl
-other_is_wrong (Some false) names word no_name no_dashes none = of_long_is_wrong (Some false) word (long_of word) (sym same ∙ none)
+other_is_wrong false names word no_name no_dashes none = of_long_is_wrong false word (long_of word) (sym same ∙ none)
   where
-    same : turn_fault (level (Some false)) names start word ≡ of_long (Some false) word (long_of word)
-    same = rw (no_name, no_dashes) refl
-other_is_wrong None names word no_name no_dashes none = of_long_is_wrong None word (long_of word) (sym same ∙ none)
-  where
-    same : turn_fault (level None) names start word ≡ of_long None word (long_of word)
+    same : turn_fault (level false) names start word ≡ of_long false word (long_of word)
     same = rw (no_name, no_dashes) refl
 
 -- `--` makes the words behind it values
-dashes_trail : (which : Option Bool) (names : Names) (word : Text) → subcommand_met names idle word ≡ None → bytes_eq word (codes "--") ≡ true → walked (rules which) names start word ≡ trailing_walk
+dashes_trail : (which : Bool) (names : Names) (word : Text) → subcommand_met names idle word ≡ None → bytes_eq word (codes "--") ≡ true → walked (rules which) names start word ≡ trailing_walk
 unfolding walked
 dashes_trail which names word no_name dashes = rw (no_name, dashes) refl
 
@@ -154,24 +144,23 @@ unfolding walk_fault
 turns s names w word words none = both (turn_fault s names w word) (walk_fault s names (walked s.rules names w word) words) none
 
 -- of which there may be none
-nothing_trails : (which : Option Bool) (names : Names) (words : List Text) → walk_fault (level which) names trailing_walk words ≡ [] → words ≡ []
+nothing_trails : (which : Bool) (names : Names) (words : List Text) → walk_fault (level which) names trailing_walk words ≡ [] → words ≡ []
 nothing_trails which names [] none = refl
-nothing_trails (Some true) names (word ∷ words) none = absurd (stray_is_wrong (Some true) (turns (level (Some true)) names trailing_walk word words none).0)
-nothing_trails (Some false) names (word ∷ words) none = absurd (stray_is_wrong (Some false) (turns (level (Some false)) names trailing_walk word words none).0)
-nothing_trails None names (word ∷ words) none = absurd (stray_is_wrong None (turns (level None) names trailing_walk word words none).0)
+nothing_trails true names (word ∷ words) none = absurd (stray_is_wrong true (turns (level true) names trailing_walk word words none).0)
+nothing_trails false names (word ∷ words) none = absurd (stray_is_wrong false (turns (level false) names trailing_walk word words none).0)
 
 same_bytes : (a b : Text) → bytes_eq a b ≡ true → a ≡ b
 same_bytes a b is = (bytes_eq-Decides a b).0 is
 
--- the words behind `run` and behind `live`: none, or `--` alone
-behind_word : (is_run : Bool) (words : List Text) → walk_fault (level (Some is_run)) [] start words ≡ [] → (words ≡ []) ⊎ (words ≡ codes "--" ∷ [])
-behind_word is_run [] none = inl refl
-behind_word is_run (word ∷ words) none = by (bytes_eq word (codes "--")) refl
+-- the words behind `live`: none, or `--` alone
+behind_live : (words : List Text) → walk_fault live_built [] start words ≡ [] → (words ≡ []) ⊎ (words ≡ codes "--" ∷ [])
+behind_live [] none = inl refl
+behind_live (word ∷ words) none = by (bytes_eq word (codes "--")) refl
   where
     by : (t : Bool) → bytes_eq word (codes "--") ≡ t → (word ∷ words ≡ []) ⊎ (word ∷ words ≡ codes "--" ∷ [])
-    by false is = absurd (other_is_wrong (Some is_run) [] word refl is (turns (level (Some is_run)) [] start word words none).0)
+    by false is = absurd (other_is_wrong true [] word refl is (turns live_built [] start word words none).0)
     by true is =
-        let rest : words ≡ [] = nothing_trails (Some is_run) [] words (ap (λ (w : Walk). walk_fault (level (Some is_run)) [] w words) (sym (dashes_trail (Some is_run) [] word refl is)) ∙ (turns (level (Some is_run)) [] start word words none).1) in
+        let rest : words ≡ [] = nothing_trails true [] words (ap (λ (w : Walk). walk_fault live_built [] w words) (sym (dashes_trail true [] word refl is)) ∙ (turns live_built [] start word words none).1) in
         inr (ap (λ ws. word ∷ ws) rest ∙ ap (λ (w : Text). w ∷ []) (same_bytes word (codes "--") is))
 
 -- ---- the whole command line
@@ -179,15 +168,15 @@ behind_word is_run (word ∷ words) none = by (bytes_eq word (codes "--")) refl
 abbrev pub names : Names
 names = names_of (built gridfs)
 
--- a first word that is `run`
-run_is_met : (word : Text) → bytes_eq (codes "run") word ≡ true → walked top.rules names start word ≡ record start { stopped = Some (codes "run", []) }
-unfolding walked
-run_is_met word is = rw is refl
-
--- or `live`
+-- a first word that is `live`
 live_is_met : (word : Text) → bytes_eq (codes "run") word ≡ false → bytes_eq (codes "order") word ≡ false → bytes_eq (codes "live") word ≡ true → walked top.rules names start word ≡ record start { stopped = Some (codes "live", []) }
 unfolding walked
 live_is_met word run order is = rw (run, order, is) refl
+
+-- or `run`
+pub run_is_met : walked top.rules names start (codes "run") ≡ record start { stopped = Some (codes "run", []) }
+unfolding walked
+run_is_met = refl
 
 -- or `order`
 pub order_is_met : walked top.rules names start (codes "order") ≡ record start { stopped = Some (codes "order", []) }
@@ -204,15 +193,9 @@ rest_is_kept (word ∷ words) name own w = rest_is_kept words name (own ++ word 
 at_level : (s : Shape) (subs : Names) (h : Held) (words : List Text) (is_entered : Bool) (under : Kinds) → level_fault s subs h words is_entered under ≡ [] → (walk_fault s subs (walk_from h) words ≡ []) × (under ≡ [])
 at_level s subs h words is_entered under none = let parts = both _ _ none in (parts.0, (both _ _ parts.1).0)
 
--- the word of a subcommand that takes none
-abbrev name_of : Bool → Text
-name_of true = codes "run"
-name_of false = codes "live"
-
 -- what is wrong behind the place where the walk stopped
-stopped_at : (is_run : Bool) (stop : Option (Text × List Text)) (words : List Text) → stop ≡ Some (name_of is_run, words) → entered_fault (built gridfs) stop ≡ level_fault (level (Some is_run)) [] nothing_held words false []
-stopped_at true stop words is = rw is refl
-stopped_at false stop words is = rw is refl
+stopped_at : (stop : Option (Text × List Text)) (words : List Text) → stop ≡ Some (codes "live", words) → entered_fault (built gridfs) stop ≡ level_fault live_built [] nothing_held words false []
+stopped_at stop words is = rw is refl
 
 dashes_alone : (word : Text) → bytes_eq (codes "run") word ≡ false → bytes_eq (codes "order") word ≡ false → bytes_eq (codes "live") word ≡ false → bytes_eq (codes "help") word ≡ false → bytes_eq word (codes "--") ≡ true → built_fault (built gridfs) nothing_held (word ∷ []) ≡ MissingSubcommand ∷ []
 unfolding clap_on_literals
@@ -222,18 +205,22 @@ dashes_alone word run order live help dashes = rw (run, order, live, help, dashe
 abbrev pub Alone : Text → List Text → Type 0
 Alone word words = (words ≡ word ∷ []) ⊎ (words ≡ word ∷ codes "--" ∷ [])
 
+-- behind the word come others
+abbrev pub Behind : Text → List Text → Type 0
+Behind word words = (own : List Text) × (words ≡ word ∷ own)
+
 -- what the words ask for, that come behind the program's name
 abbrev pub Asks : List Text → Type 0
-Asks words = Alone (codes "run") words ⊎ (Alone (codes "live") words ⊎ ((own : List Text) × (words ≡ codes "order" ∷ own)))
+Asks words = Behind (codes "run") words ⊎ (Alone (codes "live") words ⊎ Behind (codes "order") words)
 
--- behind a word that names a subcommand which takes none
-alone_by : (is_run : Bool) (word : Text) (words : List Text) → built_fault (built gridfs) nothing_held (word ∷ words) ≡ [] → bytes_eq (name_of is_run) word ≡ true → walked top.rules names start word ≡ record start { stopped = Some (name_of is_run, []) } → Alone (name_of is_run) (word ∷ words)
-alone_by is_run word words none same met =
+-- behind the word `live`
+alone_by : (word : Text) (words : List Text) → built_fault (built gridfs) nothing_held (word ∷ words) ≡ [] → bytes_eq (codes "live") word ≡ true → walked top.rules names start word ≡ record start { stopped = Some (codes "live", []) } → Alone (codes "live") (word ∷ words)
+alone_by word words none same met =
     let stop = (walk top.rules names nothing_held (word ∷ words)).stopped in
-    let stops : stop ≡ Some (name_of is_run, words) = ap (λ (w : Walk). (fold (walked top.rules names) w words).stopped) met ∙ rest_is_kept words (name_of is_run) [] start in
-    let under : level_fault (level (Some is_run)) [] nothing_held words false [] ≡ [] = sym (stopped_at is_run stop words stops) ∙ (at_level _ _ _ _ _ _ none).1 in
-    let named : word ≡ name_of is_run = sym (same_bytes (name_of is_run) word same) in
-    elim (behind_word is_run words (at_level _ _ _ _ false [] under).0) [
+    let stops : stop ≡ Some (codes "live", words) = ap (λ (w : Walk). (fold (walked top.rules names) w words).stopped) met ∙ rest_is_kept words (codes "live") [] start in
+    let under : level_fault live_built [] nothing_held words false [] ≡ [] = sym (stopped_at stop words stops) ∙ (at_level _ _ _ _ _ _ none).1 in
+    let named : word ≡ codes "live" = sym (same_bytes (codes "live") word same) in
+    elim (behind_live words (at_level _ _ _ _ false [] under).0) [
       | inl no_more ↦ inl (ap₂ (λ w ws. w ∷ ws) named no_more)
       | inr dashed ↦ inr (ap₂ (λ w ws. w ∷ ws) named dashed)
     ]
@@ -241,21 +228,21 @@ alone_by is_run word words none same met =
 asks_by : (word : Text) (words : List Text) → built_fault (built gridfs) nothing_held (word ∷ words) ≡ [] → (is_run is_order is_live is_help is_dashes : Bool) → bytes_eq (codes "run") word ≡ is_run → bytes_eq (codes "order") word ≡ is_order
     → bytes_eq (codes "live") word ≡ is_live → bytes_eq (codes "help") word ≡ is_help → bytes_eq word (codes "--") ≡ is_dashes → Asks (word ∷ words)
 asks_by word words none true is_order is_live is_help is_dashes run order live help dashes =
-    inl (alone_by true word words none run (run_is_met word run))
+    inl (words, ap (λ (w : Text). w ∷ words) (sym (same_bytes (codes "run") word run)))
 asks_by word words none false true is_live is_help is_dashes run order live help dashes =
     inr (inr (words, ap (λ (w : Text). w ∷ words) (sym (same_bytes (codes "order") word order))))
 asks_by word words none false false true is_help is_dashes run order live help dashes =
-    inr (inl (alone_by false word words none live (live_is_met word run order live)))
+    inr (inl (alone_by word words none live (live_is_met word run order live)))
 asks_by word words none false false false true is_dashes run order live help dashes =
     let told : turn_fault top names start word ≡ DisplayHelp ∷ InvalidSubcommand ∷ [] = rw (run, order, live, help) refl in
     let nothing = sym told ∙ (turns top names start word words (at_level _ _ _ _ _ _ none).0).0 in
     absurd (cc)
 asks_by word words none false false false false false run order live help dashes =
-    absurd (other_is_wrong None names word (rw (run, order, live, help) refl) dashes (turns top names start word words (at_level _ _ _ _ _ _ none).0).0)
+    absurd (other_is_wrong false names word (rw (run, order, live, help) refl) dashes (turns top names start word words (at_level _ _ _ _ _ _ none).0).0)
 asks_by word [] none false false false false true run order live help dashes = let nothing = sym (dashes_alone word run order live help dashes) ∙ none in absurd (cc)
 asks_by word (x ∷ words) none false false false false true run order live help dashes =
     let trail = turns top names start word (x ∷ words) (at_level _ _ _ _ _ _ none).0 in
-    let nothing : x ∷ words ≡ [] = nothing_trails None names (x ∷ words) (ap (λ (w : Walk). walk_fault top names w (x ∷ words)) (sym (dashes_trail None names word (rw (run, order, live, help) refl) dashes)) ∙ trail.1) in
+    let nothing : x ∷ words ≡ [] = nothing_trails false names (x ∷ words) (ap (λ (w : Walk). walk_fault top names w (x ∷ words)) (sym (dashes_trail false names word (rw (run, order, live, help) refl) dashes)) ∙ trail.1) in
     absurd (cc)
 
 -- with no words there is no subcommand

@@ -5,3 +5,4 @@ pub mod Living
 pub mod Naming
 pub mod Ordering
 pub mod Programming
+pub mod Subcommands

@@ -10,7 +10,7 @@ use Rattle.clap.proofs.OnLiterals.{clap_on_literals}
 use Rattle.gq_cli.specs.declared.words.Request.{Request}
 use Rattle.gq_cli.specs.declared.words.Request.TheVariants.{Run, Order, Live}
 use Rattle.gq_cli.specs.Words.{AsksForLive, AsksToRun, AsksToOrder, IsAskedBy, IsOf, gridfs}
-use Rattle.gq_cli.proofs.Asking.{Asks, names, order_is_met, rest_is_kept, start, top}
+use Rattle.gq_cli.proofs.Asking.{Asks, names, order_is_met, rest_is_kept, run_is_met, start, top}
 
 -- the name of a subcommand with its matches
 abbrev first_part : Text × List Row → Text
@@ -28,15 +28,10 @@ pub rules_are_exact : is_simple_and_free gridfs ≡ true
 rules_are_exact = refl
 
 pub run_is_named : (words : List Text) → AsksToRun words → named words ≡ Some (codes "run")
-unfolding clap_on_literals
-run_is_named words (inl is) = ap named_by is ∙ alone
+run_is_named words (own, is) = ap named_by is ∙ ap (λ stop. option_map first_part (entered (built gridfs) stop)) stops
   where
-    alone : named_by (codes "run" ∷ []) ≡ Some (codes "run")
-    alone = refl
-run_is_named words (inr is) = ap named_by is ∙ dashed
-  where
-    dashed : named_by (codes "run" ∷ codes "--" ∷ []) ≡ Some (codes "run")
-    dashed = refl
+    stops : (walk top.rules names nothing_held (codes "run" ∷ own)).stopped ≡ Some (codes "run", own)
+    stops = ap (λ (w : Walk). (fold (walked top.rules names) w own).stopped) run_is_met ∙ rest_is_kept own (codes "run") [] start
 
 pub live_is_named : (words : List Text) → AsksForLive words → named words ≡ Some (codes "live")
 unfolding clap_on_literals
@@ -65,9 +60,9 @@ found_is_named words m is = name_of_rows _ _ _ ∙ ap (option_map first_part) (i
 
 -- what is asked for, by what the words name
 pub asked_by : (words : List Text) (name : Option Text) (request : Request) → Asks (drop 1 words) → name ≡ named words → IsOf name request → IsAskedBy words request
-asked_by words name Run (inl run) is other = run
-asked_by words name Run (inr (inl live)) is other = absurd (other.1 (is ∙ live_is_named words live))
-asked_by words name Run (inr (inr order)) is other = absurd (other.0 (is ∙ order_is_named words order))
+asked_by words name (Run jobs) (inl run) is other = run
+asked_by words name (Run jobs) (inr (inl live)) is other = absurd (other.1 (is ∙ live_is_named words live))
+asked_by words name (Run jobs) (inr (inr order)) is other = absurd (other.0 (is ∙ order_is_named words order))
 asked_by words name (Order tenant volume file) (inl run) is same = let apart : Some (codes "run") ≡ Some (codes "order") = sym (run_is_named words run) ∙ (sym is ∙ same) in absurd (cc)
 asked_by words name (Order tenant volume file) (inr (inl live)) is same = let apart : Some (codes "live") ≡ Some (codes "order") = sym (live_is_named words live) ∙ (sym is ∙ same) in absurd (cc)
 asked_by words name (Order tenant volume file) (inr (inr order)) is same = order

@@ -13,9 +13,12 @@ use Rattle.gq_cli.specs.declared.words.Request.TheVariants.{Run, Order, Live}
 use Rattle.gq_cli.specs.declared.words.Usage.{Usage}
 use Rattle.gq_cli.specs.declared.words.Usage.TheVariants.{Shown, Memory}
 
--- the subcommand `run`, which takes no word
+-- the subcommand `run`, which may be given a number of threads below 2^32
+abbrev pub jobs_rule : Rule
+jobs_rule = record (new_rule (codes "JOBS")) { short = Some 106; long = Some (codes "jobs"); action = Some Set; parser = Some (Signed (pos 0) (pos 4294967295)) }
+
 abbrev pub run_shape : Shape
-run_shape = new_shape (codes "run")
+run_shape = record (new_shape (codes "run")) { rules = jobs_rule ∷ [] }
 
 -- the subcommand `order`, which takes a name and two numbers below 2^32, each of which has to be given
 abbrev pub name_rule : Rule
@@ -45,10 +48,11 @@ faults_in words = fault_of gridfs words
 abbrev pub IsAlone : Text → List Text → Type 0
 IsAlone word words = (drop 1 words ≡ word ∷ []) ⊎ (drop 1 words ≡ word ∷ codes "--" ∷ [])
 
--- they ask to run, and they ask for a live run
+-- they ask to run: `run`, behind which come its own words
 abbrev pub AsksToRun : List Text → Type 0
-AsksToRun words = IsAlone (codes "run") words
+AsksToRun words = (own : List Text) × (drop 1 words ≡ codes "run" ∷ own)
 
+-- they ask for a live run
 abbrev pub AsksForLive : List Text → Type 0
 AsksForLive words = IsAlone (codes "live") words
 
@@ -58,13 +62,13 @@ AsksToOrder words = (own : List Text) × (drop 1 words ≡ codes "order" ∷ own
 
 -- what was asked for is what the words ask for
 abbrev pub IsAskedBy : List Text → Request → Type 0
-IsAskedBy words Run = AsksToRun words
+IsAskedBy words (Run jobs) = AsksToRun words
 IsAskedBy words (Order name volume file) = AsksToOrder words
 IsAskedBy words Live = AsksForLive words
 
 -- what is asked for is that of the subcommand of this name
 abbrev pub IsOf : Option Text → Request → Type 0
-IsOf name Run = (name ≢ Some (codes "order")) × (name ≢ Some (codes "live"))
+IsOf name (Run jobs) = (name ≢ Some (codes "order")) × (name ≢ Some (codes "live"))
 IsOf name (Order tenant volume file) = name ≡ Some (codes "order")
 IsOf name Live = name ≡ Some (codes "live")
 

@@ -7,7 +7,7 @@ ghost use Rattle.clap.specs.Walk.{rule_of};
 ghost use Rattle.clap.specs.declared.builder.command.Command.TheViews.{out-Command as fields_of};
 ghost use Rattle.clap.specs.Walk.{Text, texts};
 ghost use Rattle.clap.specs.declared.error.kind.ErrorKind.TheVariants.{DisplayHelp, DisplayVersion};
-ghost use Rattle.gq_cli.specs.Words.{AsksForLive, AsksToRun, IsAskedBy, IsMemory, IsOf, ShownFor, Shows, gridfs, name_rule, number_rule, order_shape};
+ghost use Rattle.gq_cli.specs.Words.{AsksForLive, IsAlone, IsAskedBy, IsMemory, IsOf, ShownFor, Shows, gridfs, name_rule, number_rule, jobs_rule, order_shape, run_shape};
 
 use clap::error::ErrorKind;
 use clap::{Arg, ArgAction, ArgMatches, Command, Error};
@@ -16,8 +16,10 @@ use std::alloc::{AllocError, Global};
 /// What a command line asks for.
 #[derive(Clone, Copy, Debug, PartialEq, Eq)]
 pub enum Request<'a> {
-    /// Answer the lines of a script.
-    Run,
+    /// Answer the lines of a script, by so many threads; 0 is as many as there are cores.
+    Run {
+        jobs: u32,
+    },
     /// The same, and tell the order of the operations on a file of the tenant of this name.
     Order {
         name: &'a str,
@@ -137,6 +139,19 @@ fn number<'a>(alloc: Global, id: &'a str, help: &'a str) -> Arg<'a>
         .help(help)
 }
 
+// The number of threads, which may be left out.
+fn jobs<'a>(alloc: Global) -> Arg<'a>
+    ensures rule { rule_of result ≡ jobs_rule }
+    ensures local { result.global ≡ false }
+{
+    Arg::new(alloc, "JOBS")
+        .short('j')
+        .long("jobs")
+        .action(ArgAction::Set)
+        .value_parser(clap::value_parser!(u32))
+        .help("The threads that answer the lines; 0 for as many as there are cores [default: 1]")
+}
+
 // The tenant's name, which has to be given.
 fn name<'a>(alloc: Global) -> Arg<'a>
     ensures rule { rule_of result ≡ name_rule }
@@ -154,6 +169,21 @@ fn subcommand<'a>(alloc: Global, name: &'a str, about: &'a str, help: &'a str) -
     ensures local { (fields_of result).has_globals ≡ false }
 {
     Command::new(alloc, name).about(about).after_help(help)
+}
+
+// The subcommand `run`.
+fn run<'a>(alloc: Global) -> Result<Command<'a>, AllocError>
+    ensures shape { IfOk result (λ c. (app_of c).top ≡ run_shape) }
+    ensures local { IfOk result (λ c. (fields_of c).has_globals ≡ false) }
+{
+    let run = subcommand(
+        alloc,
+        "run",
+        "Read a script from standard input, and write one line of answer for each of its lines",
+        INPUT,
+    )
+    .arg(jobs(alloc))?;
+    Ok(run)
 }
 
 // The subcommand `order`.
@@ -177,12 +207,6 @@ fn order<'a>(alloc: Global) -> Result<Command<'a>, AllocError>
 fn command<'a>(alloc: Global) -> Result<Command<'a>, AllocError>
     ensures app { IfOk result (λ c. app_of c ≡ gridfs) }
 {
-    let run = subcommand(
-        alloc,
-        "run",
-        "Read a script from standard input, and write one line of answer for each of its lines",
-        INPUT,
-    );
     let live = subcommand(
         alloc,
         "live",
@@ -196,10 +220,18 @@ fn command<'a>(alloc: Global) -> Result<Command<'a>, AllocError>
         .version(VERSION)
         .after_help(INPUT)
         .subcommand_required(true)
-        .subcommand(run)?
+        .subcommand(run(alloc)?)?
         .subcommand(order(alloc)?)?
         .subcommand(live)?;
     Ok(gridfs)
+}
+
+// How many threads the words behind `run` ask for.
+fn jobs_of<'a>(run: Option<&ArgMatches<'a>>) -> u32 {
+    match run {
+        Some(run) => run.get_one::<u32>("JOBS").unwrap_or(1),
+        None => 1,
+    }
 }
 
 // What a parse of the words found. clap has refused words of `order` that leave one of the three out, or that give a number
@@ -211,7 +243,9 @@ fn request_of<'a>(matches: &ArgMatches<'a>) -> Request<'a>
         return Request::Live;
     }
     let Some(order) = matches.subcommand_matches("order") else {
-        return Request::Run;
+        return Request::Run {
+            jobs: jobs_of(matches.subcommand_matches("run")),
+        };
     };
     Request::Order {
         name: order.get_str("NAME").unwrap_or(""),
@@ -222,10 +256,10 @@ fn request_of<'a>(matches: &ArgMatches<'a>) -> Request<'a>
 
 /// Reads the words of a command line, of which the first is the program's name. Words that ask for help or for the version,
 /// or that are no request, give the text to show, whose exit status is its own (0 where it was asked for, else 2); where
-/// memory is wanting, that is told before any text. Behind `run` and `live` no word may come but `--`, by which clap ends the options.
+/// memory is wanting, that is told before any text. Behind `live` no word may come but `--`, by which clap ends the options.
 pub fn read_words<'a>(alloc: Global, words: &'a [&'a str]) -> Result<Request<'a>, Usage>
     ensures request { IfOk result (IsAskedBy (texts words.entry.now)) }
-    ensures run { AsksToRun (texts words.entry.now) → IfErr result IsMemory }
+    ensures run { IsAlone (codes "run") (texts words.entry.now) → IfErr result IsMemory }
     ensures live { AsksForLive (texts words.entry.now) → IfErr result IsMemory }
     ensures shown { IfErr result (ShownFor (texts words.entry.now)) }
     ensures help { (program : Text) → texts words.entry.now ≡ program ∷ codes "--help" ∷ [] → IsErrAnd result (Shows DisplayHelp) }

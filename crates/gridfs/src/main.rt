@@ -3,13 +3,14 @@
 
 use gq_cli::{LiveRunFault, OrderFault, Request, Usage, live_run, order_run, read_words};
 use gq_live::{LiveFault, OpenGate};
-use gq_script::{RunFault, Watched, run};
+use gq_script::{RunFault, Watched};
+use gq_shards::{SHORT, run_in_shards};
 use std::alloc::{AllocError, Global};
 use std::fmt::Display;
 use std::process::ExitCode;
 use std::sync::Wait;
 use std::thread::Threads;
-use std::{env, io};
+use std::{env, io, thread};
 
 // A fault of the input, of reading or of writing.
 const FAULT: u8 = 1;
@@ -54,6 +55,17 @@ fn words_of<'a>(alloc: Global, given: &'a Vec<String>) -> Result<Vec<&'a str>, A
     given.iter().map(|word| word.as_str()).collect(alloc)
 }
 
+// How many shards a number of jobs is: 0 is one for each core, where it is known how many there are.
+fn shards_of(rt: &impl Threads, jobs: u32) -> usize {
+    if jobs > 0 {
+        return jobs as usize;
+    }
+    match thread::available_parallelism(rt) {
+        Ok(cores) => cores.get(),
+        Err(_) => 1,
+    }
+}
+
 // Does what was asked for, on the standard streams.
 fn answered<R: Input + Print + Eprint + Threads + Wait + Sync>(
     rt: &R,
@@ -63,10 +75,13 @@ fn answered<R: Input + Print + Eprint + Threads + Wait + Sync>(
     let mut reader = Watched::new(rt.reader());
     let mut writer = Watched::new(io::writer(rt));
     match request {
-        Request::Run => match run(alloc, &mut reader, &mut writer) {
-            Ok(()) => ExitCode::SUCCESS,
-            Err(fault) => told(rt, &fault, run_status(&fault)),
-        },
+        Request::Run { jobs } => {
+            let shards = shards_of(rt, jobs);
+            match run_in_shards(rt, alloc, shards, SHORT, &mut reader, &mut writer) {
+                Ok(()) => ExitCode::SUCCESS,
+                Err(fault) => told(rt, &fault, run_status(&fault)),
+            }
+        }
         Request::Order { name, volume, file } => {
             match order_run(alloc, &mut reader, &mut writer, name, volume, file) {
                 Ok(()) => ExitCode::SUCCESS,

@@ -18,7 +18,9 @@
 //! `stream READ_EACH READ_ALL WRITE_EACH WRITE_ALL END run` runs a script between a reader that gives at most so many bytes
 //! a call and fails after so many in all, and a writer that takes at most so many; where END is `fails` it fails after
 //! these, where it is `none` it takes none. It prints what the writer took. With `order NAME VOLUME FILE` in place of `run`
-//! it asks for the order of the operations on a file too.
+//! it asks for the order of the operations on a file too, and with `shards N` it runs the script in so many shards.
+//!
+//! `shards N` runs a script in so many shards on the standard streams, also a short one.
 //!
 //! The status is 0, 1 after a fault of the input, of reading or of writing, 2 where the words are none of these, and 3
 //! where memory was wanting.
@@ -38,7 +40,8 @@ mod texts;
 use gq_cli::{OrderFault, ProgramFault};
 use gq_inspect::Mismatch;
 use gq_live::LiveFault;
-use gq_script::{PlanText, RunFault};
+use gq_script::{PlanText, RunFault, Watched};
+use gq_shards::run_in_shards;
 use std::alloc::{AllocError, AllocFailed};
 use std::io::{Read, Write};
 use std::process::ExitCode;
@@ -165,8 +168,9 @@ fn input(rt: &HostRuntime) -> Result<Vec<u8>, Fault> {
 }
 
 // Does what is asked for between the reader and the writer. What the writer took comes into `out`.
-fn between(
+fn between<R: Threads + Sync>(
     rt: &HostRuntime,
+    threads: &R,
     source: Source,
     sink: Sink,
     request: &[String],
@@ -175,6 +179,12 @@ fn between(
     match request {
         [run] if run.as_str() == "run" => {
             let (bytes, ended) = streams::run_between(rt.alloc(), source, sink);
+            *out = bytes;
+            Ok(ended?)
+        }
+        [shards, count] if shards.as_str() == "shards" => {
+            let shards = number(count)?;
+            let (bytes, ended) = streams::shards_between(threads, rt.alloc(), shards, source, sink);
             *out = bytes;
             Ok(ended?)
         }
@@ -197,7 +207,12 @@ fn between(
 }
 
 // The same with the reader and the writer that the words name; the reader gives standard input.
-fn stream(rt: &HostRuntime, words: &[String], out: &mut Vec<u8>) -> Result<(), Fault> {
+fn stream<R: Threads + Sync>(
+    rt: &HostRuntime,
+    threads: &R,
+    words: &[String],
+    out: &mut Vec<u8>,
+) -> Result<(), Fault> {
     let [
         read_each,
         read_all,
@@ -213,7 +228,7 @@ fn stream(rt: &HostRuntime, words: &[String], out: &mut Vec<u8>) -> Result<(), F
     let source = Source::new(script.as_slice(), number(read_each)?, number(read_all)?);
     let fails = end.as_str() == "fails";
     let sink = Sink::new(rt.alloc(), number(write_each)?, number(write_all)?, fails);
-    between(rt, source, sink, request, out)
+    between(rt, threads, source, sink, request, out)
 }
 
 // Goes the way that the words name, and gives what is printed.
@@ -236,7 +251,19 @@ fn go<R: Threads + Wait + Sync>(
             Ok(())
         }
         ("calls", [part]) => calls::make(rt.alloc(), part.as_str(), input(rt)?.as_slice(), out),
-        ("stream", words) => stream(rt, words, out),
+        ("stream", words) => stream(rt, threads, words, out),
+        ("shards", [count]) => {
+            let mut reader = Watched::new(rt.reader());
+            let mut writer = Watched::new(io::writer(rt));
+            Ok(run_in_shards(
+                threads,
+                rt.alloc(),
+                number(count)?,
+                0,
+                &mut reader,
+                &mut writer,
+            )?)
+        }
         (way, [most]) => store::make(rt.alloc(), way, number(most)?, out),
         _ => Err(Fault::Usage),
     }

@@ -2,9 +2,11 @@
 
 use gq_cli::{OrderFault, order_run};
 use gq_script::{RunFault, Watched, run};
+use gq_shards::run_in_shards;
 use std::alloc::Global;
 use std::io;
 use std::io::{Read, Write};
+use std::thread::Threads;
 
 /// Gives at most so many bytes a call, and fails after so many in all.
 #[derive(Drop)]
@@ -80,7 +82,21 @@ pub fn run_between(alloc: Global, source: Source, sink: Sink) -> (Vec<u8>, Resul
     (writer.into_inner().held, ended)
 }
 
-/// The same with the order of the operations on the file of the tenant of this name behind it.
+/// The same in so many shards, also of a short input.
+pub fn shards_between<T: Threads + Sync>(
+    rt: &T,
+    alloc: Global,
+    shards: usize,
+    source: Source,
+    sink: Sink,
+) -> (Vec<u8>, Result<(), RunFault>) {
+    let mut reader = Watched::new(source);
+    let mut writer = Watched::new(sink);
+    let ended = run_in_shards(rt, alloc, shards, 0, &mut reader, &mut writer);
+    (writer.into_inner().held, ended)
+}
+
+/// Runs the script with the order of the operations on the file of the tenant of this name behind it.
 pub fn order_between(
     alloc: Global,
     source: Source,

@@ -1,9 +1,7 @@
 use Rattle.std.proofs.Common.{◌∙◌, ap, ap₂, true}
-use Rattle.clap.specs.Simple.{App, Shape, app_of_fields, on_top, with_subcommand}
+use Rattle.clap.specs.Simple.{App, app_of_fields, on_top, with_subcommand}
+use Rattle.gq_cli.proofs.Subcommands.{top_of}
 use Rattle.gq_cli.proofs.words.command.Goals as goal
-
-abbrev top_of : App → Shape
-top_of a = a.top
 
 abbrev with_version : App → App
 with_version a = on_top (λ s. record s { has_version = true }) a
@@ -15,6 +13,6 @@ pub returns : goal.returns
 returns c =
     let bare = ap app_of_fields c.after_help.ensures ∙ (ap app_of_fields c.version.ensures ∙ ap with_version (ap app_of_fields c.about.ensures ∙ c.new.ensures.app)) in
     let top = ap app_of_fields c.subcommand_required.ensures ∙ ap with_need bare in
-    let with_run = c.in_ok-subcommand.ensures.shape c.subcommand-run.ensures.local ∙ ap₂ with_subcommand top (ap top_of c.subcommand-run.ensures.app) in
+    let with_run = c.in_ok-subcommand.ensures.shape c.in_ok-run.ensures.local ∙ ap₂ with_subcommand top c.in_ok-run.ensures.shape in
     let with_order = c.in_ok-subcommand-2.ensures.shape c.in_ok-order.ensures.local ∙ ap₂ with_subcommand with_run c.in_ok-order.ensures.shape in
     record { app = c.in_ok-gridfs.ensures.shape c.subcommand-live.ensures.local ∙ ap₂ with_subcommand with_order (ap top_of c.subcommand-live.ensures.app) }

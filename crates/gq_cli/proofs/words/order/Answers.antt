@@ -1,12 +1,7 @@
-use Rattle.std.proofs.Common.{refl, ◌≡◌, ◌∙◌, ◌||◌, Bool, ap, ap₂, false}
-use Rattle.clap.specs.Simple.{App, Shape, with_rule}
+use Rattle.std.proofs.Common.{◌∙◌, ap, ap₂}
+use Rattle.clap.specs.Simple.{with_rule}
+use Rattle.gq_cli.proofs.Subcommands.{neither, top_of}
 use Rattle.gq_cli.proofs.words.order.Goals as goal
-
-neither : (a b new : Bool) → new ≡ (a || b) → a ≡ false → b ≡ false → new ≡ false
-neither a b new is x y = is ∙ rw (x, y) refl
-
-abbrev top_of : App → Shape
-top_of a = a.top
 
 pub returns : goal.returns
 returns c =
