@@ -1,18 +1,13 @@
-//! Tests of the crates above the world by their public calls: scripts, the command line, and live runs with their records. Those
-//! of the crates below stand in `gq_tests`.
+//! Tests of the crates above the world by their public calls: live runs under gates that hold their threads, forged records, and
+//! what no input of the program brings about. What an input shows is a case of `tests/cases`. The tests of the crates below stand
+//! in `gq_tests`.
 #![tactic(auto)]
 
 #[cfg(test)]
-mod cli;
+mod gates;
 #[cfg(test)]
 mod live;
 #[cfg(test)]
-mod live_run;
-#[cfg(test)]
-mod order;
-#[cfg(test)]
-mod programs;
-#[cfg(test)]
 mod replay;
 #[cfg(test)]
-mod script;
+mod texts;

@@ -1,12 +1,10 @@
 //! A cell and a board, step by step.
 ghost use Rattle.std.specs.Prelude.{◌≡◌, [], ◌∷◌};
-ghost use Rattle.gq_tag.specs.Tag.{to_server};
 
-use bytes::Bytes;
 use gq_cell::{Board, Cell, CellEntry, CellRefused, ChangeRefused, Letter, Served, Share};
 use gq_desk::{Name, Plan, TenantRow};
 use gq_grid::Grid;
-use gq_tag::{Body, FileId, Message, StoredCopy, Tag};
+use gq_tag::{Body, FileId, Message, StoredCopy};
 use std::alloc::Global;
 use std::marker::Brand;
 use std::process::Abort;
@@ -61,24 +59,34 @@ fn ask(stamp: u64) -> Letter
     letter(stamp, Body::Ask)
 }
 
-// The stamp of the reply to an ask, which has to be the first copy.
-fn stamp_of_reply<L: Ledger>(
+// An ask at this stamp is replied to with the first copy, at that stamp.
+fn replies<L: Ledger>(
     rt: &impl Abort,
     cell: &mut Cell<L>,
     share: &mut Share<L>,
     stamp: u64,
-) -> u64
+    told: u64,
+)
     requires { cell.old.server ≡ 0 }
     ensures { cell.new.server ≡ 0 }
 {
-    match cell.serve(share, &ask(stamp)).expect(rt, "served") {
-        Served::Reply(reply) => {
-            assert_eq!(rt; reply.place, 1);
-            assert_eq!(rt; reply.message.body, Body::Copy(StoredCopy::first()));
-            reply.stamp
+    match cell.serve(share, &ask(stamp)) {
+        Ok(Served::Reply(reply)) => {
+            assert!(rt; reply.place == 1 && reply.stamp == told);
+            assert!(rt; reply.message.body == Body::Copy(StoredCopy::first()));
         }
-        Served::Down => 0,
+        _ => panic!(rt; "no reply"),
     }
+}
+
+fn stops<L: Ledger>(rt: &impl Abort, cell: &mut Cell<L>, share: &mut Share<L>)
+    requires { cell.old.server ≡ 0 }
+{
+    let late = ask(u64::MAX);
+    assert!(rt; cell.serve(share, &late) == Err(CellRefused::Stamps));
+    assert!(rt; cell.up() && cell.last() < 10);
+    assert!(rt; cell.set_up(false, 10).is_ok());
+    assert!(rt; cell.serve(share, &late) == Ok(Served::Down));
 }
 
 fn cell_steps<L: Ledger>(rt: &impl Abort, alloc: Global, blank: Blank)
@@ -88,25 +96,13 @@ fn cell_steps<L: Ledger>(rt: &impl Abort, alloc: Global, blank: Blank)
 {
     let plan = plan_of_ann(rt, alloc);
     let (mut cell, mut one, two) = Cell::<L>::new(alloc, &plan, 0, blank).expect(rt, "memory");
-    assert!(rt; cell.up());
-    assert_eq!(rt; cell.last(), 0);
-    assert_eq!(rt; cell.serve(&mut one, &ask(1)), Err(CellRefused::File));
     cell.add_files(0, 2, 2).expect(rt, "memory");
-    assert_eq!(rt; stamp_of_reply(rt, &mut cell, &mut one, 7), 8);
-    assert_eq!(rt; stamp_of_reply(rt, &mut cell, &mut one, 3), 9);
-    assert_eq!(rt; cell.journal().len(), 2);
-    assert_eq!(rt; one.count(), 2);
-    let late = ask(u64::MAX);
-    assert_eq!(rt; cell.serve(&mut one, &late), Err(CellRefused::Stamps));
-    assert!(rt; cell.up() && cell.last() < 10);
-    cell.set_up(false, 10).expect(rt, "memory");
-    assert_eq!(rt; cell.serve(&mut one, &late), Ok(Served::Down));
-    assert_eq!(rt; cell.journal().len(), 3);
-    assert_eq!(rt; one.count(), 2);
-    assert_eq!(rt; two.count(), 0);
+    replies(rt, &mut cell, &mut one, 7, 8);
+    replies(rt, &mut cell, &mut one, 3, 9);
+    stops(rt, &mut cell, &mut one);
+    assert!(rt; one.count() == 2 && two.count() == 0);
     let journal = cell.close(one, two);
-    assert_eq!(rt; journal.len(), 3);
-    assert_eq!(rt; journal[2], CellEntry::Stop { stamp: 10 });
+    assert!(rt; journal.len() == 3 && journal[2] == CellEntry::Stop { stamp: 10 });
 }
 
 #[test]
@@ -114,59 +110,23 @@ fn records_what_a_cell_does(rt: HostRuntime) {
     cell_steps::<Brand>(&rt, rt.alloc(), Blank::new(2));
 }
 
-fn store_steps<L: Ledger>(rt: &impl Abort, alloc: Global, blank: Blank, bytes: Bytes)
-    requires name { blank.name ≡ L.name }
-    requires parts { blank.parts ≡ L.parts }
-    requires two { L.parts ≡ 2 }
+// What a board of one server does, step by step.
+fn board_steps(rt: &impl Abort, board: &mut Board)
+    requires { board.old.grid ≡ record { rows = 1; cols = 1 } }
 {
-    let plan = plan_of_ann(rt, alloc);
-    let (mut cell, one, mut two) = Cell::<L>::new(alloc, &plan, 0, blank).expect(rt, "memory");
-    cell.add_files(0, 2, 2).expect(rt, "memory");
-    let tag = Tag {
-        number: 1,
-        session: 1,
-    };
-    let stored = letter(5, Body::Store(StoredCopy { tag, bytes }));
-    match cell.serve(&mut two, &stored).expect(rt, "served") {
-        Served::Reply(reply) => assert_eq!(rt; reply.message.body, Body::Stored),
-        Served::Down => assert!(rt; false),
-    }
-    match cell.serve(&mut two, &ask(5)).expect(rt, "served") {
-        Served::Reply(reply) => assert!(rt; matches!(reply.message.body, Body::Copy(_))),
-        Served::Down => assert!(rt; false),
-    }
-    let long = StoredCopy {
-        tag,
-        bytes: Bytes::from_static(&[0; 129]),
-    };
-    assert_eq!(rt;
-        cell.serve(&mut two, &letter(5, Body::Store(long))),
-        Err(CellRefused::Long)
-    );
-    assert_eq!(rt; (one.count(), two.count()), (0, 2));
-    assert_eq!(rt; cell.close(one, two).len(), 2);
-}
-
-#[test]
-fn refuses_a_content_that_is_too_long(rt: HostRuntime) {
-    store_steps::<Brand>(
-        &rt,
-        rt.alloc(),
-        Blank::new(2),
-        Bytes::from_static(&[7; 128]),
-    );
+    assert!(rt; board.stamp(41) == Some(42));
+    assert!(rt; board.stamp(0) == Some(43));
+    assert!(rt; board.change(0, true, 0) == Err(ChangeRefused::Same));
+    assert!(rt; board.change(0, false, 50) == Ok(51));
+    assert!(rt; !board.up().has(0));
+    assert!(rt; board.entries().len() == 1);
+    assert!(rt; board.stamp(u64::MAX).is_none());
 }
 
 #[test]
 fn stamps_what_a_board_does(rt: HostRuntime) {
     let grid = Grid::new(1, 1).expect(&rt, "a grid");
     let mut board = Board::new(rt.alloc(), &grid);
-    assert_eq!(rt; board.stamp(41), Some(42));
-    assert_eq!(rt; board.stamp(0), Some(43));
-    assert_eq!(rt; board.change(0, true, 0), Err(ChangeRefused::Same));
-    assert_eq!(rt; board.change(0, false, 50), Ok(51));
-    assert!(rt; !board.up().has(0));
-    assert_eq!(rt; board.entries().len(), 1);
-    assert_eq!(rt; board.stamp(u64::MAX), None);
-    assert_eq!(rt; board.close().len(), 1);
+    board_steps(&rt, &mut board);
+    assert!(rt; board.close().len() == 1);
 }

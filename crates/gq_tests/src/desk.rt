@@ -28,97 +28,114 @@ fn plan_of(alloc: Global, rows: &[TenantRow]) -> Result<Plan, PlanFault>
     }
 }
 
-#[test]
-fn accepts_names_of_letters_alone(rt: HostRuntime) {
-    for name in [b"a".as_slice(), b"abcdefghijklmnop", b"servers"] {
-        match Name::new(name) {
-            Some(held) => assert!(rt; held.as_bytes() == name),
-            None => panic!(rt; "no name: {name:?}"),
-        }
-    }
-    for word in [
-        b"".as_slice(),
-        b"abcdefghijklmnopq",
-        b"server",
-        b"Ann",
-        b"ann1",
-        b"a b",
-        b"ann\r",
-    ] {
-        assert!(rt; Name::new(word).is_none(), "{word:?}");
+fn is_name(word: &[u8]) -> bool {
+    match Name::new(word) {
+        Some(name) => name.as_bytes() == word,
+        None => false,
     }
 }
 
-// A plan of ann, who has 3 blocks of 4, and a second tenant.
-fn plan_with(
+#[test]
+fn accepts_names_of_letters_alone(rt: HostRuntime) {
+    for (word, accepted) in [
+        (b"a".as_slice(), true),
+        (b"abcdefghijklmnop", true),
+        (b"servers", true),
+        (b"", false),
+        (b"abcdefghijklmnopq", false),
+        (b"server", false),
+        (b"Ann", false),
+        (b"ann1", false),
+        (b"a b", false),
+        (b"ann\r", false),
+    ] {
+        assert!(rt; is_name(word) == accepted, "{word:?}");
+    }
+}
+
+// What is wrong with a plan of ann, who has 3 blocks of 4, and a second tenant.
+fn fault_with(
     rt: &impl Abort,
     alloc: Global,
     name: &[u8],
     share: u32,
     sessions: u32,
     steps: u32,
-) -> Result<Plan, PlanFault> {
+) -> Option<PlanFault> {
     let rows = [
         row(rt, b"ann", 3, 1, 10),
         row(rt, name, share, sessions, steps),
     ];
-    plan_of(alloc, &rows)
+    plan_of(alloc, &rows).err()
 }
 
-// A plan of so many tenants, each with its own name of two letters.
-fn plan_of_many(
+#[test]
+fn tells_the_first_fault(rt: HostRuntime) {
+    for (name, share, sessions, steps, fault) in [
+        (b"ann".as_slice(), 0, 0, 0, PlanFault::SameName { row: 1 }),
+        (b"bob", 0, 0, 0, PlanFault::ZeroShare { row: 1 }),
+        (b"bob", 2, 17, 0, PlanFault::Sessions { row: 1 }),
+        (b"bob", 2, 16, 0, PlanFault::Steps { row: 1 }),
+        (b"bob", 2, 1, 1, PlanFault::OverBlocks { sum: 5, blocks: 4 }),
+    ] {
+        assert!(rt; fault_with(&rt, rt.alloc(), name, share, sessions, steps) == Some(fault));
+    }
+}
+
+// What is wrong with a plan of so many tenants, each with its own name of two letters.
+fn fault_of_many(
     rt: &impl Abort,
     alloc: Global,
     tenants: u8,
-) -> Result<Result<Plan, PlanFault>, AllocError> {
+) -> Result<Option<PlanFault>, AllocError> {
     let mut rows = Vec::new(alloc);
     for number in 0..tenants {
         let name = [b'a' + number / 26, b'a' + number % 26];
         rows.push(row(rt, &name, 1, 1, 1))?;
     }
-    Ok(plan_of(alloc, rows.as_slice()))
-}
-
-#[test]
-fn tells_the_first_fault(rt: HostRuntime) {
-    let told = plan_with(&rt, rt.alloc(), b"ann", 0, 0, 0);
-    assert!(rt; matches!(told, Err(PlanFault::SameName { row: 1 })));
-    let told = plan_with(&rt, rt.alloc(), b"bob", 0, 0, 0);
-    assert!(rt; matches!(told, Err(PlanFault::ZeroShare { row: 1 })));
-    let told = plan_with(&rt, rt.alloc(), b"bob", 2, 17, 0);
-    assert!(rt; matches!(told, Err(PlanFault::Sessions { row: 1 })));
-    let told = plan_with(&rt, rt.alloc(), b"bob", 2, 16, 0);
-    assert!(rt; matches!(told, Err(PlanFault::Steps { row: 1 })));
-    let told = plan_with(&rt, rt.alloc(), b"bob", 2, 1, 1);
-    assert!(rt; matches!(told, Err(PlanFault::OverBlocks { sum: 5, blocks: 4 })));
+    Ok(plan_of(alloc, rows.as_slice()).err())
 }
 
 #[test]
 fn counts_the_tenants(rt: HostRuntime) -> Result<(), Fail> {
-    let told = plan_of_many(&rt, rt.alloc(), 0)?;
-    assert!(rt; matches!(told, Err(PlanFault::NoTenant)));
-    let told = plan_of_many(&rt, rt.alloc(), 64)?;
-    assert!(rt; matches!(told, Err(PlanFault::OverBlocks { sum: 64, blocks: 4 })));
-    let told = plan_of_many(&rt, rt.alloc(), 65)?;
-    assert!(rt; matches!(told, Err(PlanFault::TooMany { row: 64 })));
+    for (tenants, fault) in [
+        (0, PlanFault::NoTenant),
+        (64, PlanFault::OverBlocks { sum: 64, blocks: 4 }),
+        (65, PlanFault::TooMany { row: 64 }),
+    ] {
+        assert!(rt; fault_of_many(&rt, rt.alloc(), tenants)? == Some(fault));
+    }
     Ok(())
 }
 
-#[test]
-fn finds_tenants_by_name_also_in_a_copy(rt: HostRuntime) -> Result<(), Fail> {
-    let rows = [row(&rt, b"ann", 1, 1, 1), row(&rt, b"bob", 3, 1, 1)];
-    let carl = Name::new(b"carl").ok_or("a name")?;
-    let plan = plan_of(rt.alloc(), &rows).ok().ok_or("a plan")?;
-    let copy = plan.copy()?;
-    for plan in [&plan, &copy] {
-        assert_eq!(rt; plan.find(&rows[1].name), Some(1));
-        assert_eq!(rt; plan.find(&carl), None);
-        assert_eq!(rt; plan.find_word(b"bob"), Some(1));
-        assert_eq!(rt; plan.find_word(b"bo"), None);
-        assert_eq!(rt; (plan.tenants(), plan.blocks()), (2, 4));
-        assert_eq!(rt; plan.row(1).share, 3);
+// The place of the tenant of that name.
+fn place_of(rt: &impl Abort, plan: &Plan, name: &[u8]) -> Option<u8> {
+    plan.find(&Name::new(name).expect(rt, "a name"))
+}
+
+// The plan has ann with one block and bob with three.
+fn has_ann_and_bob(rt: &impl Abort, plan: &Plan) {
+    assert!(rt; plan.find_word(b"bob") == Some(1) && plan.find_word(b"bo").is_none());
+    assert!(rt; place_of(rt, plan, b"bob") == Some(1) && place_of(rt, plan, b"eve").is_none());
+    assert!(rt; plan.tenants() == 2 && plan.blocks() == 4);
+    assert!(rt; plan.row(1).share == 3);
+}
+
+fn has_ann_and_bob_also_in_a_copy(rt: &impl Abort, plan: &Plan) {
+    has_ann_and_bob(rt, plan);
+    match plan.copy() {
+        Ok(copy) => has_ann_and_bob(rt, &copy),
+        Err(_) => panic!(rt; "memory"),
     }
-    Ok(())
+}
+
+#[test]
+fn finds_tenants_by_name_also_in_a_copy(rt: HostRuntime) {
+    let rows = [row(&rt, b"ann", 1, 1, 1), row(&rt, b"bob", 3, 1, 1)];
+    match plan_of(rt.alloc(), &rows) {
+        Ok(plan) => has_ann_and_bob_also_in_a_copy(&rt, &plan),
+        Err(fault) => panic!(rt; "{fault}"),
+    }
 }
 
 // The desk of ann with a share of 3 blocks and bob with one.
@@ -140,48 +157,60 @@ fn open(desk: &mut Desk, tenant: u8, files: u32, blocks: u32) -> Result<u32, Ope
     desk.open_volume(tenant, files, blocks)
 }
 
-#[test]
-fn opens_volumes_inside_each_share(rt: HostRuntime) -> Result<(), Fail> {
-    let mut desk = desk_of_two(&rt, rt.alloc())?;
-    assert_eq!(rt;
-        open(&mut desk, 1, 2, 1),
-        Err(OpenRefused::Share { free: 1 })
+fn has_two_full_shares(rt: &impl Abort, desk: &Desk)
+    requires { length desk.now ≡ 2 }
+{
+    assert!(rt; desk.free(0) == 0 && desk.free(1) == 0);
+    assert!(rt; desk.volumes(0).len() == 2);
+    assert!(rt;
+        desk.volumes(1)
+            == [VolumeRow {
+                files: 1,
+                blocks: 1
+            }]
+            .as_slice()
     );
-    assert_eq!(rt; open(&mut desk, 1, 65, 1), Err(OpenRefused::Size));
-    assert_eq!(rt; open(&mut desk, 1, 1, 17), Err(OpenRefused::Size));
-    assert_eq!(rt; open(&mut desk, 1, 1, 1), Ok(0));
-    assert_eq!(rt; (desk.free(0), desk.free(1)), (3, 0));
-    assert_eq!(rt; open(&mut desk, 0, 2, 1), Ok(0));
-    assert_eq!(rt; open(&mut desk, 0, 1, 1), Ok(1));
-    assert_eq!(rt; (desk.free(0), desk.volumes(0).len()), (0, 2));
-    assert_eq!(rt;
-        desk.volumes(1),
-        [VolumeRow {
-            files: 1,
-            blocks: 1
-        }]
-        .as_slice()
-    );
-    Ok(())
+}
+
+fn opens_inside_each_share(rt: &impl Abort, desk: &mut Desk)
+    requires { length desk.old ≡ 2 }
+{
+    assert!(rt; open(desk, 1, 2, 1) == Err(OpenRefused::Share { free: 1 }));
+    assert!(rt; open(desk, 1, 65, 1) == Err(OpenRefused::Size));
+    assert!(rt; open(desk, 1, 1, 17) == Err(OpenRefused::Size));
+    assert!(rt; open(desk, 1, 1, 1) == Ok(0));
+    assert!(rt; open(desk, 0, 2, 1) == Ok(0));
+    assert!(rt; open(desk, 0, 1, 1) == Ok(1));
+    has_two_full_shares(rt, desk);
 }
 
 #[test]
-fn limits_files_that_are_there(rt: HostRuntime) -> Result<(), Fail> {
+fn opens_volumes_inside_each_share(rt: HostRuntime) -> Result<(), Fail> {
     let mut desk = desk_of_two(&rt, rt.alloc())?;
-    assert_eq!(rt; open(&mut desk, 0, 1, 3), Ok(0));
-    let limits = [
+    opens_inside_each_share(&rt, &mut desk);
+    Ok(())
+}
+
+fn limits_files(rt: &impl Abort, desk: &Desk) {
+    for (tenant, volume, file, limit) in [
         (0, 0, 0, Some(192)),
         (0, 0, 1, None),
         (0, 1, 0, None),
         (2, 0, 0, None),
-    ];
-    for (tenant, volume, file, limit) in limits {
+    ] {
         let id = FileId {
             tenant,
             volume,
             file,
         };
-        assert_eq!(rt; desk.limit(id), limit);
+        assert!(rt; desk.limit(id) == limit);
     }
+}
+
+#[test]
+fn limits_files_that_are_there(rt: HostRuntime) -> Result<(), Fail> {
+    let mut desk = desk_of_two(&rt, rt.alloc())?;
+    assert!(rt; open(&mut desk, 0, 1, 3) == Ok(0));
+    limits_files(&rt, &desk);
     Ok(())
 }

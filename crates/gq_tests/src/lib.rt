@@ -1,6 +1,7 @@
-//! Tests of the crates up to the world, and of the operations in its runs, by their public calls: what no contract says, such as
-//! worked cases as a whole, and that a call finds memory where there is memory. Those of the crates above stand in `gq_run_tests`.
-//! Tests stand apart, since a crate with tests is proved a second time with them, and in two crates, which are proved side by side.
+//! Tests of the crates below the world and of the order of operations, by their public calls: what no contract says, as that a
+//! call finds memory where there is memory, and what no input of the program shows. What one shows is a case of `tests/cases`. The
+//! tests of live runs stand in `gq_run_tests`. Tests stand apart, since a crate with tests is proved a second time with them, and
+//! in two crates, which are proved side by side.
 #![tactic(auto)]
 
 #[cfg(test)]
@@ -10,14 +11,12 @@ mod desk;
 #[cfg(test)]
 mod grid;
 #[cfg(test)]
-mod operations;
+mod order;
 #[cfg(test)]
-mod phase;
+mod pool;
 #[cfg(test)]
 mod post;
 #[cfg(test)]
 mod store;
 #[cfg(test)]
 mod tag;
-#[cfg(test)]
-mod world;

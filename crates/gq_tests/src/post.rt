@@ -1,9 +1,9 @@
 //! Lanes side by side.
+ghost use Rattle.std.specs.Prelude.{◌≡◌, ◌<◌, length};
 
-use gq_grid::{Grid, ServerSet};
 use gq_post::Post;
-use gq_round::{Messages, RoundMessage, Who};
-use gq_tag::{Body, FileId, Message, MessageView, Tag};
+use gq_tag::{Body, FileId, Message};
+use std::process::Abort;
 use std::test::Fail;
 
 // A message that is known by the number of its operation.
@@ -23,100 +23,46 @@ fn message(tenant: u8, op: u32) -> Message {
     }
 }
 
-fn op(found: Option<MessageView<'_>>) -> Option<u32> {
-    found.map(|message| message.op)
+fn send(rt: &impl Abort, post: &mut Post, tenant: u8, op: u32)
+    requires { length post.old ≡ 2 }
+    ensures { length post.new ≡ 2 }
+{
+    assert!(rt; tenant < 2 && post.sent(tenant) == u64::from(op));
+    assert!(rt; post.send(tenant, message(tenant, op)).ok() == Some(u64::from(op)));
+}
+
+// Sends a message of each tenant, and loses both where the number is odd.
+fn send_both(rt: &impl Abort, post: &mut Post, number: u32)
+    requires { length post.old ≡ 2 }
+    ensures { length post.new ≡ 2 }
+{
+    send(rt, post, 0, number);
+    send(rt, post, 1, number);
+    if number % 2 == 1 {
+        assert!(rt; post.lose(0, u64::from(number)) && post.lose(1, u64::from(number)));
+        assert!(rt; !post.lose(0, u64::from(number)));
+    }
+}
+
+// Which operation the tenant's message of that number is of.
+fn op(post: &Post, tenant: u8, number: u32) -> Option<u32>
+    requires { (tenant < 2) × (length post.now ≡ 2) }
+{
+    post.get(tenant, u64::from(number))
+        .map(|message| message.op)
 }
 
 #[test]
 fn numbers_each_tenants_messages_apart(rt: HostRuntime) -> Result<(), Fail> {
     let mut post = Post::new(rt.alloc(), 2)?;
-    assert_eq!(rt; post.send(0, message(0, 10)).ok(), Some(0));
-    assert_eq!(rt; post.send(1, message(1, 11)).ok(), Some(0));
-    assert!(rt; post.lose(0, 0));
-    assert_eq!(rt; op(post.get(0, 0)), None);
-    assert_eq!(rt; post.send(1, message(1, 12)).ok(), Some(1));
-    assert_eq!(rt; op(post.get(1, 1)), Some(12));
-    assert_eq!(rt; op(post.get(0, 0)), None);
-    assert!(rt; !post.lose(0, 0));
-    assert_eq!(rt; post.send(0, message(0, 13)).ok(), Some(1));
-    assert_eq!(rt; op(post.get(1, 2)), None);
-    assert_eq!(rt; (post.sent(0), post.sent(1)), (2, 2));
-    Ok(())
-}
-
-#[test]
-fn gives_each_tenant_the_lane_of_a_post_of_its_own(rt: HostRuntime) -> Result<(), Fail> {
-    let mut both = Post::new(rt.alloc(), 2)?;
-    let mut alone = Post::new(rt.alloc(), 1)?;
     for number in 0..1000u32 {
-        for tenant in 0..2u8 {
-            assert_eq!(rt;
-                both.send(tenant, message(tenant, number)).ok(),
-                Some(u64::from(number))
-            );
-        }
-        assert_eq!(rt;
-            alone.send(0, message(0, number)).ok(),
-            Some(u64::from(number))
-        );
-        if number % 2 == 1 {
-            for tenant in 0..2u8 {
-                assert!(rt; both.lose(tenant, u64::from(number)));
-            }
-            assert!(rt; alone.lose(0, u64::from(number)));
-        }
+        send_both(&rt, &mut post, number);
     }
-    for number in 0..1001u64 {
-        let held = op(alone.get(0, number));
-        assert_eq!(rt; held.is_some(), number % 2 == 0 && number < 1000);
-        for tenant in 0..2u8 {
-            assert_eq!(rt; op(both.get(tenant, number)), held);
-        }
+    send(&rt, &mut post, 1, 1000);
+    for number in 0..1000u32 {
+        let held = if number % 2 == 0 { Some(number) } else { None };
+        assert!(rt; op(&post, 0, number) == held && op(&post, 1, number) == held);
     }
-    Ok(())
-}
-
-#[test]
-fn sends_a_round(rt: HostRuntime) -> Result<(), Fail> {
-    let grid = Grid::new(1, 2)?;
-    let mut post = Post::new(rt.alloc(), 1)?;
-    let ask = RoundMessage {
-        who: Who {
-            tenant: 0,
-            session: 1,
-            op: 5,
-        },
-        round: 1,
-        file: FileId {
-            tenant: 0,
-            volume: 0,
-            file: 0,
-        },
-        body: Body::Ask,
-    };
-    let asks = Messages::to_quorum(ask, &grid, Some(ServerSet::all(&grid)));
-    assert_eq!(rt; post.send_all(0, asks)?, 0);
-    assert_eq!(rt; post.sent(0), 2);
-    assert_eq!(rt; op(post.get(0, 1)), Some(5));
-    Ok(())
-}
-
-#[test]
-fn answers_a_message(rt: HostRuntime) -> Result<(), Fail> {
-    let mut post = Post::new(rt.alloc(), 1)?;
-    assert_eq!(rt; post.send(0, message(0, 5)).ok(), Some(0));
-    assert_eq!(rt; post.reply_stored(0, 0)?, 1);
-    Ok(())
-}
-
-#[test]
-fn answers_a_message_with_a_copy(rt: HostRuntime) -> Result<(), Fail> {
-    let mut post = Post::new(rt.alloc(), 1)?;
-    assert_eq!(rt; post.send(0, message(0, 5)).ok(), Some(0));
-    let tag = Tag {
-        number: 1,
-        session: 1,
-    };
-    assert_eq!(rt; post.reply_copy(0, 0, tag, b"hi", 0)?.number, 1);
+    assert!(rt; op(&post, 0, 1000).is_none() && op(&post, 1, 1000) == Some(1000));
     Ok(())
 }

@@ -1,14 +1,14 @@
 //! A store of four blocks and one tenant; that a store is let go within something larger, and may go to another thread.
-ghost use Rattle.std.specs.Prelude.{◌≡◌, ℕ, [], ◌∷◌, IfOk, IsTrue};
+ghost use Rattle.std.specs.Prelude.{◌≡◌, ℕ, [], ◌∷◌, IsSome, IsTrue};
 ghost use Rattle.gq_tag.specs.Tag.{to_server};
-ghost use Rattle.gq_store.specs.Copies.{store_accounts};
+ghost use Rattle.gq_store.specs.Copies.{file_limit, store_accounts};
 
 use bytes::Bytes;
 use gq_desk::{MOST_BLOCKS, Name, Plan, TenantRow};
 use gq_grid::Grid;
 use gq_store::*;
 use gq_tag::{Body, FileId, Message, StoredCopy, Tag};
-use std::alloc::{AllocError, Global};
+use std::alloc::Global;
 use std::marker::Send;
 use std::process::Abort;
 use std::test::Fail;
@@ -70,13 +70,11 @@ fn message(file: FileId, body: Body) -> Message
     }
 }
 
-fn store_body(alloc: Global, tag: Tag, bytes: &[u8]) -> Result<Body, AllocError>
-    ensures { IfOk result (λ body. IsTrue (to_server body)) }
-{
-    Ok(Body::Store(StoredCopy {
+fn copy(tag: Tag, bytes: &'static [u8]) -> StoredCopy {
+    StoredCopy {
         tag,
-        bytes: Bytes::copy_from_slice(alloc, bytes)?,
-    }))
+        bytes: Bytes::from_static(bytes),
+    }
 }
 
 // The store after four puts, of which three are kept.
@@ -84,23 +82,23 @@ fn store_after_puts(rt: &impl Abort, alloc: Global) -> ServerStore
     ensures { store_accounts result ≡ record { share = 4; volumes = record { files = 2; blocks = 2 } ∷ [] } ∷ [] }
 {
     let mut store = store_of_two_files(rt, alloc);
-    assert_eq!(rt; store.free(), 4);
-    assert_eq!(rt; store.tag(FIRST), Tag::first());
-    assert_eq!(rt; store.put(FIRST, tag(1, 1), &[7; 128]), Put::Kept);
-    assert_eq!(rt; store.free(), 2);
-    assert_eq!(rt; store.put(FIRST, tag(1, 1), &[]), Put::Older);
-    assert_eq!(rt; store.free(), 2);
-    assert_eq!(rt; store.put(SECOND, tag(1, 0), &[8; 65]), Put::Kept);
-    assert_eq!(rt; store.free(), 0);
-    assert_eq!(rt; store.put(FIRST, tag(1, 2), &[]), Put::Kept);
-    assert_eq!(rt; store.free(), 2);
+    assert!(rt; store.free() == 4);
+    assert!(rt; store.tag(FIRST) == Tag::first());
+    assert!(rt; store.put(FIRST, tag(1, 1), &[7; 128]) == Put::Kept);
+    assert!(rt; store.free() == 2);
+    assert!(rt; store.put(FIRST, tag(1, 1), &[]) == Put::Older);
+    assert!(rt; store.free() == 2);
+    assert!(rt; store.put(SECOND, tag(1, 0), &[8; 65]) == Put::Kept);
+    assert!(rt; store.free() == 0);
+    assert!(rt; store.put(FIRST, tag(1, 2), &[]) == Put::Kept);
+    assert!(rt; store.free() == 2);
     store
 }
 
 #[test]
 fn keeps_the_greatest_copy(rt: HostRuntime) {
     let store = store_after_puts(&rt, rt.alloc());
-    assert_eq!(rt; store.len(SECOND), 65);
+    assert!(rt; store.len(SECOND) == 65);
     store.close();
 }
 
@@ -109,10 +107,25 @@ fn gives_the_content(rt: HostRuntime) {
     let mut store = store_of_two_files(&rt, rt.alloc());
     store.put(SECOND, tag(1, 0), b"abc");
     let mut out = [0; 3];
-    assert_eq!(rt; store.len(SECOND), 3);
+    assert!(rt; store.len(SECOND) == 3);
     store.get(SECOND, &mut out);
-    assert_eq!(rt; out, *b"abc");
-    assert_eq!(rt; store.tag(SECOND), tag(1, 0));
+    assert!(rt; out == *b"abc");
+    assert!(rt; store.tag(SECOND) == tag(1, 0));
+}
+
+// What is read is this, in place of what was there.
+fn reads(
+    rt: &impl Abort,
+    store: &ServerStore,
+    file: FileId,
+    out: &mut Vec<u8>,
+    tag: Tag,
+    content: &[u8],
+)
+    requires { IsSome (file_limit store.now file) }
+{
+    assert!(rt; store.read(file, out) == Ok(tag));
+    assert!(rt; out.as_slice() == content);
 }
 
 #[test]
@@ -120,54 +133,55 @@ fn reads_the_content_in_place_of_what_was_there(rt: HostRuntime) -> Result<(), F
     let mut store = store_of_two_files(&rt, rt.alloc());
     let mut out = Vec::from_slice(rt.alloc(), b"longer than that")?;
     store.put(SECOND, tag(1, 0), b"abc");
-    assert_eq!(rt; store.read(SECOND, &mut out)?, tag(1, 0));
-    assert_eq!(rt; out.as_slice(), b"abc".as_slice());
+    reads(&rt, &store, SECOND, &mut out, tag(1, 0), b"abc");
     store.put(SECOND, tag(2, 0), &[7; 65]);
-    assert_eq!(rt; store.read(SECOND, &mut out)?, tag(2, 0));
-    assert_eq!(rt; out.as_slice(), [7; 65].as_slice());
-    assert_eq!(rt; store.read(FIRST, &mut out)?, tag(0, 0));
-    assert_eq!(rt; out.len(), 0);
+    reads(&rt, &store, SECOND, &mut out, tag(2, 0), &[7; 65]);
+    reads(&rt, &store, FIRST, &mut out, tag(0, 0), &[]);
     Ok(())
 }
 
 #[test]
 fn has_a_hint_beside_each_file(rt: HostRuntime) {
     let mut store = store_of_two_files(&rt, rt.alloc());
-    assert_eq!(rt; store.hint(SECOND), 0);
+    assert!(rt; store.hint(SECOND) == 0);
     store.leave_hint(SECOND, 7);
     store.put(SECOND, tag(1, 0), b"abc");
-    assert_eq!(rt; (store.hint(FIRST), store.hint(SECOND)), (0, 7));
+    assert!(rt; (store.hint(FIRST), store.hint(SECOND)) == (0, 7));
+}
+
+// The body of the reply.
+fn served(store: &mut ServerStore, file: FileId, body: Body) -> Result<Body, ServeRefused>
+    requires { IsTrue (to_server body) }
+    ensures { store_accounts store.new ≡ store_accounts store.old }
+{
+    match store.serve(&message(file, body)) {
+        Ok(reply) => Ok(reply.body),
+        Err(refused) => Err(refused),
+    }
 }
 
 #[test]
-fn serves(rt: HostRuntime) -> Result<(), Fail> {
+fn serves(rt: HostRuntime) {
     let mut store = store_after_puts(&rt, rt.alloc());
     let other_volume = FileId {
         tenant: 0,
         volume: 1,
         file: 0,
     };
-    let unknown = store.serve(&message(other_volume, Body::Ask));
-    assert_eq!(rt; unknown, Err(ServeRefused::File));
-    let long = message(FIRST, store_body(rt.alloc(), tag(2, 1), &[9; 129])?);
-    assert_eq!(rt; store.serve(&long), Err(ServeRefused::Long));
-    let late = message(FIRST, store_body(rt.alloc(), tag(1, 1), &[9; 64])?);
-    assert_eq!(rt; store.serve(&late), Ok(message(FIRST, Body::Stored)));
-    assert_eq!(rt; store.tag(FIRST), tag(1, 2));
-    Ok(())
+    assert!(rt; served(&mut store, other_volume, Body::Ask) == Err(ServeRefused::File));
+    let long = Body::Store(copy(tag(2, 1), &[9; 129]));
+    assert!(rt; served(&mut store, FIRST, long) == Err(ServeRefused::Long));
+    let late = Body::Store(copy(tag(1, 1), &[9; 64]));
+    assert!(rt; served(&mut store, FIRST, late) == Ok(Body::Stored));
+    assert!(rt; store.tag(FIRST) == tag(1, 2));
 }
 
 #[test]
-fn serves_the_copy(rt: HostRuntime) -> Result<(), Fail> {
+fn serves_the_copy(rt: HostRuntime) {
     let mut store = store_of_two_files(&rt, rt.alloc());
     store.put(SECOND, tag(1, 0), b"abc");
-    let copy = StoredCopy {
-        tag: tag(1, 0),
-        bytes: Bytes::from_static(b"abc"),
-    };
-    let answer = store.serve(&message(SECOND, Body::Ask));
-    assert_eq!(rt; answer, Ok(message(SECOND, Body::Copy(copy))));
-    Ok(())
+    let told = Body::Copy(copy(tag(1, 0), b"abc"));
+    assert!(rt; served(&mut store, SECOND, Body::Ask) == Ok(told));
 }
 
 #[derive(Drop)]

@@ -1,9 +1,31 @@
+//! The order of tags, and which messages go to a server.
+
 use bytes::Bytes;
 use gq_tag::*;
-use std::test::Fail;
+use std::process::Abort;
 
 fn tag(number: u64, session: u8) -> Tag {
     Tag { number, session }
+}
+
+fn copy(tag: Tag, content: &'static [u8]) -> StoredCopy {
+    StoredCopy {
+        tag,
+        bytes: Bytes::from_static(content),
+    }
+}
+
+fn is_less(less: Tag, greater: Tag) -> bool {
+    less < greater
+        && greater > less
+        && less != greater
+        && less.cmp(&greater).is_lt()
+        && greater.cmp(&less).is_gt()
+        && less.cmp(&less).is_eq()
+}
+
+fn is_newer(newest: &StoredCopy, older: &StoredCopy) -> bool {
+    newer(newest, older) && !newer(older, newest) && !newer(older, older)
 }
 
 #[test]
@@ -14,55 +36,39 @@ fn tags_are_compared_by_number_first(rt: HostRuntime) {
         (tag(1, 16), tag(2, 1)),
         (tag(1, 16), tag(2, 0)),
     ] {
-        assert!(rt; less < greater && greater > less && less != greater);
-        assert!(rt;
-            less.cmp(&greater).is_lt() && greater.cmp(&less).is_gt() && less.cmp(&less).is_eq()
-        );
-        let older = StoredCopy {
-            tag: less,
-            bytes: Bytes::new(),
-        };
-        let newest = StoredCopy {
-            tag: greater,
-            bytes: Bytes::new(),
-        };
-        assert!(rt; newer(&newest, &older) && !newer(&older, &newest) && !newer(&older, &older));
+        assert!(rt; is_less(less, greater));
+        assert!(rt; is_newer(&copy(greater, b""), &copy(less, b"")));
     }
-    assert_eq!(rt; Tag::first(), tag(0, 0));
-    assert_eq!(rt; StoredCopy::first().tag, tag(0, 0));
-    assert!(rt; StoredCopy::first().bytes.is_empty());
-    assert_eq!(rt; Tag::after(7, 3), tag(8, 3));
+    assert!(rt; Tag::first() == tag(0, 0) && Tag::after(7, 3) == tag(8, 3));
+    assert!(rt; StoredCopy::first() == copy(tag(0, 0), b""));
+}
+
+// The body is its clone, and goes to a server, or not.
+fn goes(rt: &impl Abort, body: Body, to_server: bool) {
+    match body.clone() {
+        Ok(again) => assert!(rt; again == body),
+        Err(_) => panic!(rt; "memory"),
+    }
+    let message = Message {
+        tenant: 0,
+        session: 1,
+        op: 1,
+        round: 1,
+        server: 0,
+        file: FileId {
+            tenant: 0,
+            volume: 0,
+            file: 0,
+        },
+        body,
+    };
+    assert!(rt; message.to_server() == to_server);
 }
 
 #[test]
-fn asks_and_stores_go_to_a_server(rt: HostRuntime) -> Result<(), Fail> {
-    let alloc = rt.alloc();
-    let copy = StoredCopy {
-        tag: tag(1, 1),
-        bytes: Bytes::copy_from_slice(alloc, b"abc")?,
-    };
-    for (body, goes) in [
-        (Body::Ask, true),
-        (Body::Copy(copy.clone()?), false),
-        (Body::Store(copy.clone()?), true),
-        (Body::Stored, false),
-    ] {
-        let again = body.clone()?;
-        assert!(rt; again == body);
-        let message = Message {
-            tenant: 0,
-            session: 1,
-            op: 1,
-            round: 1,
-            server: 0,
-            file: FileId {
-                tenant: 0,
-                volume: 0,
-                file: 0,
-            },
-            body,
-        };
-        assert_eq!(rt; message.to_server(), goes);
-    }
-    Ok(())
+fn asks_and_stores_go_to_a_server(rt: HostRuntime) {
+    goes(&rt, Body::Ask, true);
+    goes(&rt, Body::Copy(copy(tag(1, 1), b"abc")), false);
+    goes(&rt, Body::Store(copy(tag(1, 1), b"abc")), true);
+    goes(&rt, Body::Stored, false);
 }

@@ -16,10 +16,10 @@ use gq_model::Event;
 use gq_script::{PlanText, read_line, read_plan, write_script};
 use memchr::memchr;
 use std::alloc::{AllocError, Global};
+use std::fmt::{Display, Error as FormatError, Formatter, Write as FormatWrite};
 use std::io;
 use std::io::{Read, Write};
 use std::process::ExitCode;
-use thiserror::Error;
 
 // A fault of the plan, of reading or of writing.
 const FAULT: u8 = 1;
@@ -27,31 +27,47 @@ const FAULT: u8 = 1;
 const MEMORY: u8 = 3;
 
 // Why no script was written.
-#[derive(Debug, Drop, Error)]
+#[derive(Clone, Copy)]
 enum Fault {
-    // The plan is at fault, or memory is wanting.
-    #[error("{0}")]
+    // The plan is at fault. It is not `Memory`.
     Plan(PlanText),
     // A stream failed.
-    #[error("{0}")]
-    Stream(io::Error),
+    Stream,
+    // Memory is wanting.
+    Memory,
+}
+
+impl Display for Fault {
+    fn fmt<W: FormatWrite>(&self, f: &mut Formatter<W>) -> Result<(), FormatError> {
+        match self {
+            Fault::Plan(fault) => fault.fmt(f),
+            Fault::Stream => f.write_str("a stream failed"),
+            Fault::Memory => f.write_str("out of memory"),
+        }
+    }
 }
 
 impl From<PlanText> for Fault {
     fn from(fault: PlanText) -> Fault {
-        Fault::Plan(fault)
+        match fault {
+            PlanText::Memory => Fault::Memory,
+            _ => Fault::Plan(fault),
+        }
     }
 }
 
 impl From<AllocError> for Fault {
     fn from(_error: AllocError) -> Fault {
-        Fault::Plan(PlanText::Memory)
+        Fault::Memory
     }
 }
 
 impl From<io::Error> for Fault {
     fn from(error: io::Error) -> Fault {
-        Fault::Stream(error)
+        match error.kind() {
+            io::ErrorKind::OutOfMemory => Fault::Memory,
+            _ => Fault::Stream,
+        }
     }
 }
 
@@ -104,12 +120,9 @@ fn rewrite(rt: &HostRuntime) -> Result<(), Fault> {
 }
 
 // The status of a fault.
-fn status(fault: &Fault) -> ExitCode {
+fn status(fault: Fault) -> ExitCode {
     match fault {
-        Fault::Plan(PlanText::Memory) => ExitCode::from(MEMORY),
-        Fault::Stream(error) if error.kind() == io::ErrorKind::OutOfMemory => ExitCode::from(
-            MEMORY,
-        ),
+        Fault::Memory => ExitCode::from(MEMORY),
         _ => ExitCode::from(FAULT),
     }
 }
@@ -119,7 +132,7 @@ fn main(rt: HostRuntime) -> ExitCode {
         Ok(()) => ExitCode::SUCCESS,
         Err(fault) => {
             let _ = eprintln!(rt; "rewrite_script: {fault}");
-            status(&fault)
+            status(fault)
         }
     }
 }

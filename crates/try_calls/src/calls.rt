@@ -12,9 +12,8 @@ use gq_post::Post;
 use gq_store::ServerStore;
 use gq_tag::{Body, FileId, Message, Tag};
 use gq_world::World;
-use std::alloc::Global;
+use std::alloc::{AllocError, Global};
 use std::fmt::Debug;
-use std::io;
 use std::io::Write;
 
 // Room for all that is told, so that telling takes no memory between the calls.
@@ -26,26 +25,27 @@ const FILE: FileId = FileId {
     file: 1,
 };
 
-/// Tells what can be seen of a value.
-pub fn tell<T: Debug>(out: &mut Vec<u8>, seen: &T) -> io::Result<()> {
-    writeln!(out, "{seen:?}")
+/// Tells what can be seen of a value. There is room for it ([`make`] reserves that); were there none, it would be missing in
+/// what is told.
+pub fn tell<T: Debug>(out: &mut Vec<u8>, seen: &T) {
+    let _ = writeln!(out, "{seen:?}");
 }
 
 /// Tells that memory was refused to a call.
-pub fn tell_refused(out: &mut Vec<u8>, call: &str) -> io::Result<()> {
-    writeln!(out, "refused {call}")
+pub fn tell_refused(out: &mut Vec<u8>, call: &str) {
+    let _ = writeln!(out, "refused {call}");
 }
 
 /// Tells that memory was refused to a call, and what can be seen of the value then.
-pub fn tell_kept<T: Debug>(out: &mut Vec<u8>, call: &str, seen: &T) -> io::Result<()> {
-    tell_refused(out, call)?;
-    tell(out, seen)
+pub fn tell_kept<T: Debug>(out: &mut Vec<u8>, call: &str, seen: &T) {
+    tell_refused(out, call);
+    tell(out, seen);
 }
 
 // What a call gives that is made once more, after memory was refused to it, which is told.
 macro_rules! again {
     ($out:ident, $call:literal, $seen:expr, $make:expr) => {{
-        $crate::calls::tell_kept($out, $call, $seen)?;
+        $crate::calls::tell_kept($out, $call, $seen);
         match $make {
             Ok(value) => value,
             Err(_) => return Err(Fault::Memory),
@@ -59,14 +59,14 @@ pub(crate) use again;
 // so is named.
 macro_rules! retry {
     ($out:ident, $call:literal, $seen:expr, $make:expr) => {{
-        tell($out, $seen)?;
+        tell($out, $seen);
         match $make {
             Ok(value) => value,
             Err(_) => $crate::calls::again!($out, $call, $seen, $make),
         }
     }};
     ($out:ident, $call:literal, $seen:expr, $make:expr, $wanting:pat) => {{
-        tell($out, $seen)?;
+        tell($out, $seen);
         match $make {
             Ok(value) => value,
             Err($wanting) => $crate::calls::again!($out, $call, $seen, $make),
@@ -117,7 +117,7 @@ fn plan(alloc: Global, row: TenantRow, out: &mut Vec<u8>) -> Result<Plan, Fault>
 // A plan's copy. (Each call that is retried stands in a function that owns little: a proof follows each way out of it.)
 fn copy(plan: &Plan, out: &mut Vec<u8>) -> Result<(), Fault> {
     let copy = retry!(out, "Plan::copy", &plan.rows(), plan.copy());
-    tell(out, &copy)?;
+    tell(out, &copy);
     Ok(())
 }
 
@@ -136,7 +136,7 @@ fn open(desk: &mut Desk, blocks: u32, out: &mut Vec<u8>) -> Result<(), Fault>
         &(desk.volumes(0), desk.free(0), desk.limit(FILE)),
         desk.open_volume(0, 1, blocks)
     );
-    tell(out, &number)?;
+    tell(out, &number);
     Ok(())
 }
 
@@ -153,7 +153,7 @@ fn open_three(desk: &mut Desk, out: &mut Vec<u8>) -> Result<(), Fault>
     open(desk, 1, out)?;
     open(desk, 2, out)?;
     open(desk, 3, out)?;
-    tell(out, &(desk.volumes(0), desk.free(0), desk.limit(FILE)))?;
+    tell(out, &(desk.volumes(0), desk.free(0), desk.limit(FILE)));
     Ok(())
 }
 
@@ -167,7 +167,7 @@ fn pool(alloc: Global, out: &mut Vec<u8>) -> Result<(), Fault> {
     let pool = retry!(out, "Pool::new", &(), Pool::new(alloc, 5));
     let free = pool.free();
     pool.close();
-    tell(out, &free)?;
+    tell(out, &free);
     Ok(())
 }
 
@@ -235,8 +235,8 @@ fn store(alloc: Global, out: &mut Vec<u8>) -> Result<(), Fault> {
         &(store.free(), store.len(FILE), store.tag(FILE)),
         store.serve(&ask)
     );
-    tell(out, &(store.free(), store.len(FILE), store.tag(FILE)))?;
-    tell(out, &reply)?;
+    tell(out, &(store.free(), store.len(FILE), store.tag(FILE)));
+    tell(out, &reply);
     Ok(())
 }
 
@@ -245,12 +245,12 @@ fn send(post: &mut Post, op: u32, out: &mut Vec<u8>) -> Result<(), Fault>
     ensures { length post.new ≡ length post.old }
 {
     let last = u64::from(op).saturating_sub(1);
-    tell(out, &(post.sent(0), post.get(0, last)))?;
+    tell(out, &(post.sent(0), post.get(0, last)));
     let number = match post.send(0, message(op)) {
         Ok(number) => number,
         Err(unsent) => {
-            tell_refused(out, "Post::send")?;
-            tell(out, &(post.sent(0), post.get(0, last)))?;
+            tell_refused(out, "Post::send");
+            tell(out, &(post.sent(0), post.get(0, last)));
             // (the message comes back)
             match post.send(0, unsent.message) {
                 Ok(number) => number,
@@ -258,7 +258,7 @@ fn send(post: &mut Post, op: u32, out: &mut Vec<u8>) -> Result<(), Fault>
             }
         }
     };
-    tell(out, &number)?;
+    tell(out, &number);
     Ok(())
 }
 
@@ -267,26 +267,23 @@ fn post(alloc: Global, out: &mut Vec<u8>) -> Result<(), Fault> {
     for op in 0..20u32 {
         send(&mut post, op, out)?;
     }
-    tell(out, &(post.sent(0), post.get(0, 0)))?;
+    tell(out, &(post.sent(0), post.get(0, 0)));
     Ok(())
 }
 
 // A world of a copy of the plan, which is given up where memory is refused.
-fn world_of(alloc: Global, plan: &Plan, out: &mut Vec<u8>) -> Result<World, Fault> {
-    let world = retry!(
-        out,
-        "World::new",
-        &plan.rows(),
-        World::new(alloc, plan.copy()?)
-    );
-    Ok(world)
+fn world_of(alloc: Global, plan: &Plan) -> Result<World, AllocError> {
+    World::new(alloc, plan.copy()?)
+}
+
+fn new_world(alloc: Global, plan: &Plan, out: &mut Vec<u8>) -> Result<(), Fault> {
+    let world = retry!(out, "World::new", &plan.rows(), world_of(alloc, plan));
+    tell(out, &world.plan());
+    Ok(())
 }
 
 fn world(alloc: Global, out: &mut Vec<u8>) -> Result<(), Fault> {
-    let plan = plan(alloc, row()?, out)?;
-    let world = world_of(alloc, &plan, out)?;
-    tell(out, &world.plan())?;
-    Ok(())
+    new_world(alloc, &plan(alloc, row()?, out)?, out)
 }
 
 /// Makes the calls of the part of that name; those on texts with the script.

@@ -98,7 +98,7 @@ fn serve<L: Ledger>(
         cell.serve(share, &store),
         CellRefused::Memory
     );
-    tell(out, &served)?;
+    tell(out, &served);
     let ask = letter(2, Body::Ask);
     let served = retry!(
         out,
@@ -107,26 +107,32 @@ fn serve<L: Ledger>(
         cell.serve(share, &ask),
         CellRefused::Memory
     );
-    tell(out, &served)?;
+    tell(out, &served);
     Ok(())
 }
 
-// The server stops or returns, so many times.
+// The server stops or returns.
+fn set_up_once<L: Ledger>(cell: &mut Cell<L>, out: &mut Vec<u8>) -> Result<(), Fault> {
+    let up = !cell.up();
+    let last = cell.last();
+    if last == u64::MAX {
+        return Err(Fault::Usage);
+    }
+    retry!(
+        out,
+        "Cell::set_up",
+        &(cell.journal(), cell.last(), cell.up()),
+        cell.set_up(up, last + 1)
+    );
+    Ok(())
+}
+
+// The same so many times.
 fn set_up<L: Ledger>(cell: &mut Cell<L>, out: &mut Vec<u8>) -> Result<(), Fault> {
     for _ in 0..TIMES {
-        let up = !cell.up();
-        let last = cell.last();
-        if last == u64::MAX {
-            return Err(Fault::Usage);
-        }
-        retry!(
-            out,
-            "Cell::set_up",
-            &(cell.journal(), cell.last(), cell.up()),
-            cell.set_up(up, last + 1)
-        );
+        set_up_once(cell, out)?;
     }
-    tell(out, &(cell.journal(), cell.last(), cell.up()))?;
+    tell(out, &(cell.journal(), cell.last(), cell.up()));
     Ok(())
 }
 
@@ -157,7 +163,7 @@ fn on_a_new_cell<L: Ledger>(
     );
     serve(alloc, &mut cell, &mut one, out)?;
     set_up(&mut cell, out)?;
-    tell(out, &(one.count(), two.count(), cell.close(one, two)))?;
+    tell(out, &(one.count(), two.count(), cell.close(one, two)));
     Ok(true)
 }
 
@@ -175,33 +181,42 @@ fn on_a_cell(alloc: Global, plan: &Plan, out: &mut Vec<u8>) -> Result<bool, Faul
 /// A cell.
 pub fn cell(alloc: Global, out: &mut Vec<u8>) -> Result<(), Fault> {
     let plan = plan(alloc)?;
-    tell(out, &plan)?;
+    tell(out, &plan);
     if on_a_cell(alloc, &plan, out)? {
         return Ok(());
     }
-    tell_refused(out, "Cell::new")?;
-    tell(out, &plan)?;
+    tell_refused(out, "Cell::new");
+    tell(out, &plan);
     if on_a_cell(alloc, &plan, out)? {
         return Ok(());
     }
     Err(Fault::Memory)
 }
 
+// The server stops or returns on the board.
+fn change(board: &mut Board, seen: u64, out: &mut Vec<u8>) -> Result<(), Fault>
+    requires { board.old.grid ≡ record { rows = 1; cols = 1 } }
+    ensures { board.new.grid ≡ board.old.grid }
+{
+    let up = !board.up().has(0);
+    let stamp = retry!(
+        out,
+        "Board::change",
+        &(board.entries(), board.up()),
+        board.change(0, up, seen),
+        ChangeRefused::Memory
+    );
+    tell(out, &stamp);
+    Ok(())
+}
+
 /// A board.
 pub fn board(alloc: Global, out: &mut Vec<u8>) -> Result<(), Fault> {
     let mut board = Board::new(alloc, &grid()?);
     for seen in 0..TIMES {
-        let up = !board.up().has(0);
-        let stamp = retry!(
-            out,
-            "Board::change",
-            &(board.entries(), board.up()),
-            board.change(0, up, 7 * seen),
-            ChangeRefused::Memory
-        );
-        tell(out, &stamp)?;
+        change(&mut board, 7 * seen, out)?;
     }
     // (the next stamp tells the last)
-    tell(out, &(board.stamp(0), board.close()))?;
+    tell(out, &(board.stamp(0), board.close()));
     Ok(())
 }

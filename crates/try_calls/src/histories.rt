@@ -17,25 +17,33 @@ const FILE: FileId = FileId {
     file: 0,
 };
 
-// What a world of the plan answers to the events.
-fn answers(alloc: Global, plan: &Plan, events: &[Event]) -> Result<Vec<Answer>, Fault>
-    requires { All (IsIn plan.now) events.now }
+// Appends what the world answers to the events.
+fn answer_each(world: &mut World, events: &[Event], answers: &mut Vec<Answer>) -> Result<(), Fault>
+    requires { All (IsIn world.old.tables.plan) events.now }
 {
-    let mut world = World::new(alloc, plan.copy()?)?;
-    let mut answers = Vec::new(alloc);
     for event in events {
         match world.step(event) {
             Ok(answer) => answers.push(answer)?,
             Err(_) => return Err(Fault::Memory),
         }
     }
+    Ok(())
+}
+
+// What a world of the plan answers to the events.
+fn answers(alloc: Global, plan: &Plan, events: &[Event]) -> Result<Vec<Answer>, Fault>
+    requires { All (IsIn plan.now) events.now }
+{
+    let mut world = World::new(alloc, plan.copy()?)?;
+    let mut answers = Vec::new(alloc);
+    answer_each(&mut world, events, &mut answers)?;
     Ok(answers)
 }
 
 // What a session was told by the answer.
 fn say(answer: &Answer, out: &mut Vec<u8>) -> Result<(), Fault> {
     let said = retry!(out, "said_of", answer, said_of(answer));
-    tell(out, &said)?;
+    tell(out, &said);
     Ok(())
 }
 
@@ -57,7 +65,7 @@ fn ops(
 
 fn put_order(alloc: Global, ops: &[Op], out: &mut Vec<u8>) -> Result<(), Fault> {
     let places = retry!(out, "order", &ops, order(alloc, ops));
-    tell(out, &(places.as_slice(), check_order(ops, &places)))?;
+    tell(out, &(places.as_slice(), check_order(ops, &places)));
     Ok(())
 }
 

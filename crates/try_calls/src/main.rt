@@ -42,14 +42,14 @@ use gq_inspect::Mismatch;
 use gq_live::LiveFault;
 use gq_script::{PlanText, RunFault, Watched};
 use gq_shards::run_in_shards;
-use std::alloc::{AllocError, AllocFailed};
+use std::alloc::{AllocError, AllocFailed, Global};
+use std::fmt::{Display, Error as FormatError, Formatter, Write as FormatWrite};
 use std::io::{Read, Write};
 use std::process::ExitCode;
 use std::sync::Wait;
 use std::thread::Threads;
 use std::{env, io};
 use streams::{Sink, Source};
-use thiserror::Error;
 
 // A fault of the input, of reading or of writing.
 const FAULT: u8 = 1;
@@ -58,36 +58,43 @@ const USAGE: u8 = 2;
 // Memory is wanting.
 const MEMORY: u8 = 3;
 
-// Why the calls were not made to their end.
-#[derive(Debug, Drop, Error)]
+// Why the calls were not made to their end. (It owns nothing, so that a call that is tried leaves nothing to let go.)
+#[derive(Clone, Copy)]
 enum Fault {
     // The words name no way.
-    #[error("the words name no way")]
     Usage,
     // A call has a fault that it should not have.
-    #[error("another fault than want of memory")]
     Other,
     // The plan is at fault.
-    #[error("{0}")]
     Plan(PlanText),
     // The programs are at fault.
-    #[error("{0}")]
     Programs(ProgramFault),
     // The live run gave no records.
-    #[error("{0}")]
     Live(LiveFault),
     // The records are no run.
-    #[error("{0}")]
     Records(Mismatch),
     // The run ended early.
-    #[error("{0}")]
     Run(OrderFault),
     // A standard stream failed.
-    #[error("{0}")]
-    Stream(io::Error),
-    // Memory is wanting.
-    #[error("out of memory")]
+    Stream,
+    // Memory is wanting. No other fault tells so.
     Memory,
+}
+
+impl Display for Fault {
+    fn fmt<W: FormatWrite>(&self, f: &mut Formatter<W>) -> Result<(), FormatError> {
+        match self {
+            Fault::Usage => f.write_str("the words name no way"),
+            Fault::Other => f.write_str("another fault than want of memory"),
+            Fault::Plan(fault) => fault.fmt(f),
+            Fault::Programs(fault) => fault.fmt(f),
+            Fault::Live(fault) => fault.fmt(f),
+            Fault::Records(fault) => fault.fmt(f),
+            Fault::Run(fault) => fault.fmt(f),
+            Fault::Stream => f.write_str("a standard stream failed"),
+            Fault::Memory => f.write_str("out of memory"),
+        }
+    }
 }
 
 impl From<AllocError> for Fault {
@@ -104,43 +111,61 @@ impl<T: Drop> From<AllocFailed<T>> for Fault {
 
 impl From<PlanText> for Fault {
     fn from(fault: PlanText) -> Fault {
-        Fault::Plan(fault)
+        match fault {
+            PlanText::Memory => Fault::Memory,
+            _ => Fault::Plan(fault),
+        }
     }
 }
 
 impl From<ProgramFault> for Fault {
     fn from(fault: ProgramFault) -> Fault {
-        Fault::Programs(fault)
+        match fault {
+            ProgramFault::Memory => Fault::Memory,
+            _ => Fault::Programs(fault),
+        }
     }
 }
 
 impl From<LiveFault> for Fault {
     fn from(fault: LiveFault) -> Fault {
-        Fault::Live(fault)
+        match fault {
+            LiveFault::Memory => Fault::Memory,
+            _ => Fault::Live(fault),
+        }
     }
 }
 
 impl From<Mismatch> for Fault {
     fn from(fault: Mismatch) -> Fault {
-        Fault::Records(fault)
+        match fault {
+            Mismatch::Memory => Fault::Memory,
+            _ => Fault::Records(fault),
+        }
     }
 }
 
 impl From<RunFault> for Fault {
     fn from(fault: RunFault) -> Fault {
-        Fault::Run(OrderFault::Run(fault))
+        Fault::from(OrderFault::Run(fault))
     }
 }
 
 impl From<OrderFault> for Fault {
     fn from(fault: OrderFault) -> Fault {
-        Fault::Run(fault)
+        match fault {
+            OrderFault::Run(RunFault::Memory) => Fault::Memory,
+            _ => Fault::Run(fault),
+        }
     }
 }
 
 impl From<io::Error> for Fault {
     fn from(error: io::Error) -> Fault {
-        Fault::Stream(error)
+        match error.kind() {
+            io::ErrorKind::OutOfMemory => Fault::Memory,
+            _ => Fault::Stream,
+        }
     }
 }
 
@@ -167,42 +192,44 @@ fn input(rt: &HostRuntime) -> Result<Vec<u8>, Fault> {
     Ok(text)
 }
 
-// Does what is asked for between the reader and the writer. What the writer took comes into `out`.
-fn between<R: Threads + Sync>(
-    rt: &HostRuntime,
-    threads: &R,
-    source: Source,
-    sink: Sink,
-    request: &[String],
-    out: &mut Vec<u8>,
-) -> Result<(), Fault> {
-    match request {
-        [run] if run.as_str() == "run" => {
-            let (bytes, ended) = streams::run_between(rt.alloc(), source, sink);
-            *out = bytes;
-            Ok(ended?)
-        }
-        [shards, count] if shards.as_str() == "shards" => {
-            let shards = number(count)?;
-            let (bytes, ended) = streams::shards_between(threads, rt.alloc(), shards, source, sink);
-            *out = bytes;
-            Ok(ended?)
-        }
+// What is run between a reader and a writer.
+#[derive(Clone, Copy)]
+enum Run<'a> {
+    Plain,
+    Shards(usize),
+    // With the order of the operations on a file of the tenant of this name.
+    Order(&'a str, u32, u32),
+}
+
+// What the words ask to be run.
+fn run_of<'a>(words: &'a [String]) -> Result<Run<'a>, Fault> {
+    match words {
+        [run] if run.as_str() == "run" => Ok(Run::Plain),
+        [shards, count] if shards.as_str() == "shards" => Ok(Run::Shards(number(count)?)),
         [order, name, volume, file] if order.as_str() == "order" => {
-            let volume = place(volume)?;
-            let file = place(file)?;
-            let (bytes, ended) = streams::order_between(
-                rt.alloc(),
-                source,
-                sink,
-                name.as_str(),
-                volume,
-                file,
-            );
-            *out = bytes;
-            Ok(ended?)
+            Ok(Run::Order(name.as_str(), place(volume)?, place(file)?))
         }
         _ => Err(Fault::Usage),
+    }
+}
+
+// Does what is asked for between the reader and the writer. What the writer took comes into `out`.
+fn between<R: Threads + Sync>(
+    threads: &R,
+    alloc: Global,
+    source: Source,
+    sink: Sink,
+    asked: Run<'_>,
+    out: &mut Vec<u8>,
+) -> Result<(), Fault> {
+    match asked {
+        Run::Plain => Ok(streams::run_between(alloc, source, sink, out)?),
+        Run::Shards(shards) => Ok(streams::shards_between(
+            threads, alloc, shards, source, sink, out,
+        )?),
+        Run::Order(name, volume, file) => Ok(streams::order_between(
+            alloc, source, sink, name, volume, file, out,
+        )?),
     }
 }
 
@@ -224,11 +251,28 @@ fn stream<R: Threads + Sync>(
     else {
         return Err(Fault::Usage);
     };
-    let script = input(rt)?;
-    let source = Source::new(script.as_slice(), number(read_each)?, number(read_all)?);
+    let asked = run_of(request)?;
+    let (read_each, read_all) = (number(read_each)?, number(read_all)?);
+    let (write_each, write_all) = (number(write_each)?, number(write_all)?);
     let fails = end.as_str() == "fails";
-    let sink = Sink::new(rt.alloc(), number(write_each)?, number(write_all)?, fails);
-    between(rt, threads, source, sink, request, out)
+    let script = input(rt)?;
+    let source = Source::new(script.as_slice(), read_each, read_all);
+    let sink = Sink::new(rt.alloc(), write_each, write_all, fails);
+    between(threads, rt.alloc(), source, sink, asked, out)
+}
+
+// Runs a script in so many shards on the standard streams.
+fn shards<R: Threads + Sync>(rt: &HostRuntime, threads: &R, count: usize) -> Result<(), Fault> {
+    let mut reader = Watched::new(rt.reader());
+    let mut writer = Watched::new(io::writer(rt));
+    Ok(run_in_shards(
+        threads,
+        rt.alloc(),
+        count,
+        0,
+        &mut reader,
+        &mut writer,
+    )?)
 }
 
 // Goes the way that the words name, and gives what is printed.
@@ -252,36 +296,17 @@ fn go<R: Threads + Wait + Sync>(
         }
         ("calls", [part]) => calls::make(rt.alloc(), part.as_str(), input(rt)?.as_slice(), out),
         ("stream", words) => stream(rt, threads, words, out),
-        ("shards", [count]) => {
-            let mut reader = Watched::new(rt.reader());
-            let mut writer = Watched::new(io::writer(rt));
-            Ok(run_in_shards(
-                threads,
-                rt.alloc(),
-                number(count)?,
-                0,
-                &mut reader,
-                &mut writer,
-            )?)
-        }
+        ("shards", [count]) => shards(rt, threads, number(count)?),
         (way, [most]) => store::make(rt.alloc(), way, number(most)?, out),
         _ => Err(Fault::Usage),
     }
 }
 
 // The status of a fault.
-fn status(fault: &Fault) -> ExitCode {
+fn status(fault: Fault) -> ExitCode {
     match fault {
         Fault::Usage => ExitCode::from(USAGE),
-        Fault::Memory
-        | Fault::Plan(PlanText::Memory)
-        | Fault::Programs(ProgramFault::Memory)
-        | Fault::Live(LiveFault::Memory)
-        | Fault::Records(Mismatch::Memory)
-        | Fault::Run(OrderFault::Run(RunFault::Memory)) => ExitCode::from(MEMORY),
-        Fault::Stream(error) if error.kind() == io::ErrorKind::OutOfMemory => ExitCode::from(
-            MEMORY,
-        ),
+        Fault::Memory => ExitCode::from(MEMORY),
         _ => ExitCode::from(FAULT),
     }
 }
@@ -300,7 +325,7 @@ fn main(rt: HostRuntime) -> ExitCode {
         Ok(()) => ExitCode::SUCCESS,
         Err(fault) => {
             let _ = eprintln!(rt; "try_calls: {fault}");
-            status(&fault)
+            status(fault)
         }
     }
 }

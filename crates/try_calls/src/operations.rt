@@ -77,7 +77,7 @@ fn hear(
         operation,
         operation.hear(&reply, up)
     );
-    tell(out, &heard)?;
+    tell(out, &heard);
     Ok(heard)
 }
 
@@ -100,7 +100,7 @@ fn send_again(operation: &mut Operation, up: ServerSet, out: &mut Vec<u8>) -> Re
     ensures { operation.new ≡ operation.old }
 {
     let again = retry!(out, "Operation::resend", operation, operation.resend(up));
-    tell(out, &again)?;
+    tell(out, &again);
     Ok(())
 }
 

@@ -59,17 +59,34 @@ fn put_free(world: &World, out: &mut Vec<u8>) -> Result<(), AllocError> {
     Ok(())
 }
 
-/// The answers to the lines of a script, and then a line of how many blocks of each server are free.
-pub fn play(alloc: Global, script: &[u8]) -> Result<Vec<u8>, Fault> {
-    let (plan, place) = read_plan(alloc, script)?;
-    let mut world = World::new(alloc, plan)?;
-    let mut out = Vec::new(alloc);
-    let mut rest = &script[place..];
+// Steps the world by each of the lines, and appends the answers.
+fn answer_all(
+    alloc: Global,
+    world: &mut World,
+    lines: &[u8],
+    out: &mut Vec<u8>,
+) -> Result<(), AllocError> {
+    let mut rest = lines;
     while !rest.is_empty() {
         let (line, after) = first_line(rest);
-        answer(alloc, &mut world, line, &mut out)?;
+        answer(alloc, world, line, out)?;
         rest = after;
     }
-    put_free(&world, &mut out)?;
+    Ok(())
+}
+
+// Appends the answers to the lines of a script, and then a line of how many blocks of each server are free.
+fn put_play(alloc: Global, script: &[u8], out: &mut Vec<u8>) -> Result<(), Fault> {
+    let (plan, place) = read_plan(alloc, script)?;
+    let mut world = World::new(alloc, plan)?;
+    answer_all(alloc, &mut world, &script[place..], out)?;
+    put_free(&world, out)?;
+    Ok(())
+}
+
+/// The answers to the lines of a script, and then a line of how many blocks of each server are free. At a fault nothing is given.
+pub fn play(alloc: Global, script: &[u8]) -> Result<Vec<u8>, Fault> {
+    let mut out = Vec::new(alloc);
+    put_play(alloc, script, &mut out)?;
     Ok(out)
 }

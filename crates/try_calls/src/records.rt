@@ -245,7 +245,7 @@ fn inspected(
         inspect(alloc, &plan, &records),
         Mismatch::Memory
     );
-    tell(out, &events)?;
+    tell(out, &events);
     Ok(())
 }
 

@@ -74,12 +74,18 @@ impl Write for Sink {
     }
 }
 
-/// Runs the script that the reader gives. What the writer took, and how the run ended.
-pub fn run_between(alloc: Global, source: Source, sink: Sink) -> (Vec<u8>, Result<(), RunFault>) {
+/// Runs the script that the reader gives. What the writer took comes into `out`, however the run ended.
+pub fn run_between(
+    alloc: Global,
+    source: Source,
+    sink: Sink,
+    out: &mut Vec<u8>,
+) -> Result<(), RunFault> {
     let mut reader = Watched::new(source);
     let mut writer = Watched::new(sink);
     let ended = run(alloc, &mut reader, &mut writer);
-    (writer.into_inner().held, ended)
+    *out = writer.into_inner().held;
+    ended
 }
 
 /// The same in so many shards, also of a short input.
@@ -89,11 +95,13 @@ pub fn shards_between<T: Threads + Sync>(
     shards: usize,
     source: Source,
     sink: Sink,
-) -> (Vec<u8>, Result<(), RunFault>) {
+    out: &mut Vec<u8>,
+) -> Result<(), RunFault> {
     let mut reader = Watched::new(source);
     let mut writer = Watched::new(sink);
     let ended = run_in_shards(rt, alloc, shards, 0, &mut reader, &mut writer);
-    (writer.into_inner().held, ended)
+    *out = writer.into_inner().held;
+    ended
 }
 
 /// Runs the script with the order of the operations on the file of the tenant of this name behind it.
@@ -104,9 +112,11 @@ pub fn order_between(
     name: &str,
     volume: u32,
     file: u32,
-) -> (Vec<u8>, Result<(), OrderFault>) {
+    out: &mut Vec<u8>,
+) -> Result<(), OrderFault> {
     let mut reader = Watched::new(source);
     let mut writer = Watched::new(sink);
     let ended = order_run(alloc, &mut reader, &mut writer, name, volume, file);
-    (writer.into_inner().held, ended)
+    *out = writer.into_inner().held;
+    ended
 }

@@ -21,11 +21,11 @@ use std::alloc::Global;
 pub fn plan(alloc: Global, script: &[u8], out: &mut Vec<u8>) -> Result<(Plan, usize), Fault>
     ensures { IfOk result (λ read. read.1 ≤ length script.now) }
 {
-    tell(out, &())?;
+    tell(out, &());
     if let Ok(read) = read_plan(alloc, script) {
         return Ok(read);
     }
-    tell_kept(out, "read_plan", &())?;
+    tell_kept(out, "read_plan", &());
     let read = read_plan(alloc, script)?;
     Ok(read)
 }
@@ -44,7 +44,7 @@ pub fn events(
     while !rest.is_empty() {
         let (line, after) = first_line(rest);
         let event = retry!(out, "read_line", plan, read_line(alloc, line, plan));
-        tell(out, &event)?;
+        tell(out, &event);
         events.push(event)?;
         rest = after;
     }
@@ -73,7 +73,7 @@ fn put_answer(alloc: Global, plan: &Plan, out: &mut Vec<u8>) -> Result<(), Fault
         &text,
         write_answer(plan, &Event::Stray, &answer, &mut text)
     );
-    tell(out, &text)?;
+    tell(out, &text);
     Ok(())
 }
 
@@ -88,7 +88,7 @@ fn put_script(alloc: Global, plan: &Plan, events: &[Event], out: &mut Vec<u8>) -
         &text,
         write_script(plan, events, &mut text)
     );
-    tell(out, &text)?;
+    tell(out, &text);
     Ok(())
 }
 
@@ -117,13 +117,22 @@ fn fit(alloc: Global, plan: &Plan, programs: &Programs, out: &mut Vec<u8>) -> Re
     Ok(fit)
 }
 
+fn tell_programs(
+    alloc: Global,
+    plan: &Plan,
+    programs: &Programs,
+    out: &mut Vec<u8>,
+) -> Result<(), Fault> {
+    let fit = fit(alloc, plan, programs, out)?;
+    let ids = ids(alloc, plan, out)?;
+    tell(out, &(plan, programs, &ids, fit));
+    Ok(())
+}
+
 /// Reads the programs of a live run, and asks whether they fit the plan.
 pub fn programs(alloc: Global, input: &[u8], out: &mut Vec<u8>) -> Result<(), Fault> {
     let (plan, programs) = read(alloc, input, out)?;
-    let ids = ids(alloc, &plan, out)?;
-    let fit = fit(alloc, &plan, &programs, out)?;
-    tell(out, &(&plan, &programs, &ids, fit))?;
-    Ok(())
+    tell_programs(alloc, &plan, &programs, out)
 }
 
 /// Reads a script, and writes an answer and the script's canonical form, each behind a text that is there.

@@ -1,0 +1,35 @@
+//! What is told of records that are no run. No input of the program brings it about.
+
+use gq_cli::{LiveRunFault, NamedMismatch};
+use gq_desk::Name;
+use gq_inspect::Mismatch;
+use std::alloc::{AllocError, Global};
+use std::test::Fail;
+
+// What is told of it, of a tenant of that name.
+fn told(alloc: Global, mismatch: Mismatch, name: Option<Name>) -> Result<String, AllocError> {
+    let fault = LiveRunFault::Mismatch(NamedMismatch { mismatch, name });
+    format!(in alloc; "{fault}")
+}
+
+#[test]
+fn prints_a_mismatch(rt: HostRuntime) -> Result<(), Fail> {
+    let receipt = Mismatch::Receipt {
+        server: 3,
+        place: 7,
+    };
+    let answer = Mismatch::Answer {
+        tenant: 2,
+        session: 1,
+        at: 9,
+    };
+    for (mismatch, name, text) in [
+        (Mismatch::Stamp, None, "mismatch stamp"),
+        (receipt, None, "mismatch receipt 3 7"),
+        (answer, None, "mismatch answer 2 1 9"),
+        (answer, Name::new(b"ann"), "mismatch answer ann 1 9"),
+    ] {
+        assert!(rt; told(rt.alloc(), mismatch, name)?.as_str() == text);
+    }
+    Ok(())
+}
