@@ -14,7 +14,7 @@ mod script;
 mod watched;
 mod words;
 
-pub use canonical::write_script;
+pub use canonical::{put_tenant_line, write_script};
 pub use input::read_line;
 pub use lines::first_line;
 pub use output::write_answer;
