@@ -1,5 +1,5 @@
 -- Lines that are answered until an operation of their session is done complete the operation that it had before them.
-use Rattle.std.proofs.Common.{◌≡◌, ◌⊎◌, ◌∙◌, ℕ, ◌<◌, ◌≤◌, Bool, rules, true, false, List, [], ◌∷◌, ◌++◌, Option, Some, None, length, length-drop, take, drop, map, suc, Ok, Err, Result, refl, sym, ap, subst, append_assoc, append-nil, All, arith}
+use Rattle.std.proofs.Common.{◌≡◌, ◌∙◌, ℕ, ◌<◌, ◌≤◌, Bool, true, false, List, [], ◌∷◌, ◌++◌, Option, Some, None, length, length-drop, take, drop, map, suc, Ok, Err, Result, refl, sym, ap, subst, append_assoc, append-nil, All, arith}
 use Rattle.std.specs.List.{position_from}
 use Rattle.std.specs.Prelude.{cond, not, ◌==◌, ◌&&◌, ◌-◌, min, nat_le, option_map, slice_get, unwrap_or, is_ok, if◌then◌else◌, IfOk, IfErr, OnOk}
 use Rattle.std.proofs.lemmas.List.{map-append, take_all}
@@ -14,7 +14,7 @@ use Rattle.gq_desk.specs.declared.plans.TenantRow.{TenantRow}
 use Rattle.gq_desk.specs.declared.volumes.VolumeRow.{VolumeRow}
 use Rattle.gq_phase.specs.declared.Outcome.{Outcome}
 use Rattle.gq_phase.specs.declared.Outcome.TheVariants.{Wrote, Gave, Listed}
-use Rattle.gq_phase.specs.Phase.{Task, Writing, Reading, Listing, Operation, Heard, HeardStale, HeardNoted, HeardNext, HeardDone, is_current, ends_round, round_quorum, resent, round_done, hear, hear_current, with_reply}
+use Rattle.gq_phase.specs.Phase.{Task, Writing, Reading, Listing, Operation, Heard, HeardStale, HeardNoted, HeardNext, HeardDone, is_current, ends_round, round_quorum, round_done, hear, with_reply}
 use Rattle.gq_model.specs.declared.events.Event.{Event}
 use Rattle.gq_model.specs.declared.events.Event.TheVariants.{Tenant}
 use Rattle.gq_model.specs.declared.events.Line.{Line}
@@ -22,13 +22,13 @@ use Rattle.gq_model.specs.declared.events.Line.TheVariants.{Deliver, Retry}
 use Rattle.gq_model.specs.declared.events.Refusal.{Refusal}
 use Rattle.gq_model.specs.declared.events.Refusal.TheVariants.{Spent, NoSession, Idle, NoQuorum, NoMessage}
 use Rattle.gq_model.specs.Told.{Told, Replied, IsDown, Stale, Noted, Round, Done, Resent, Refused}
-use Rattle.gq_model.specs.Trace.{Turn, Own, Trace, Past, State, Session, Deed, Elsewhere, Hears, Moves, heard_deed, delivered_deed, session, session_by, volumes, questions, operation, operation_with, own_message_at}
-use Rattle.gq_model.specs.Lone.{Step, quiet, after, said, told_from, step_at, is_refusal, first_cause, session_causes, session_step, retry_step, asked_step, heard_step, hear_step, serve_step, deliver_step, line_step, unless, entry_of, trace_after}
+use Rattle.gq_model.specs.Trace.{Own, Trace, Past, State, Session, Deed, Elsewhere, Hears, Moves, heard_deed, delivered_deed, session, session_by, volumes, questions, operation, operation_with, own_message_at}
+use Rattle.gq_model.specs.Lone.{quiet, after, said, told_from, is_refusal, first_cause, session_causes, retry_step, asked_step, heard_step, deliver_step, line_step, unless}
 use Rattle.gq_model.specs.Events.{past_at, answer_to}
 use Rattle.gq_laws.specs.Tenants.{answers_from}
 use Rattle.gq_laws.specs.Progress.{IsOutcomeOf}
 use Rattle.gq_laws.proofs.Remaining.{LeadsOn, round_leads}
-use Rattle.gq_laws.proofs.Completing.{HasOperation, has_operation}
+use Rattle.gq_laws.proofs.Completing.{has_operation}
 use Rattle.gq_world.specs.Tables.{Tables, Stands}
 use Rattle.gq_script.specs.Words.{Word}
 use Rattle.gq_script.specs.Lines.{lines_of}

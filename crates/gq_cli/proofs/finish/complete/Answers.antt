@@ -1,12 +1,10 @@
-use Rattle.std.proofs.Common.{◌≡◌, ◌∙◌, List, subst}
+use Rattle.std.proofs.Common.{◌≡◌, ◌∙◌, subst}
 use Rattle.gq_desk.specs.CheckedPlan.{CheckedPlan}
-use Rattle.gq_model.specs.declared.events.Event.{Event}
-use Rattle.gq_model.specs.declared.events.Line.TheVariants.{Deliver, Retry}
+use Rattle.gq_model.specs.declared.events.Line.TheVariants.{Deliver}
 use Rattle.gq_model.specs.declared.events.Event.TheVariants.{Tenant}
 use Rattle.gq_model.specs.declared.events.Refusal.TheVariants.{Spent, Idle}
 use Rattle.gq_model.specs.Events.{answer_to}
 use Rattle.gq_model.specs.Told.{Refused}
-use Rattle.gq_world.specs.Tables.{Stands}
 use Rattle.gq_cli.proofs.Finishing.{Answers, Going, first_goes, next_goes, stops_first, stops_next}
 use Rattle.gq_cli.proofs.finish.complete.Goals as goal
 

@@ -1,4 +1,4 @@
-use Rattle.std.proofs.Common.{◌≡◌, ◌∙◌, ◌++◌, ℕ, List, ap, subst, sym}
+use Rattle.std.proofs.Common.{◌∙◌, ◌++◌, ℕ, List, ap, subst, sym}
 use Rattle.std.specs.Prelude.{drop}
 use Rattle.std.specs.List.{position_from}
 use Rattle.gq_desk.specs.Plans.{is_of}

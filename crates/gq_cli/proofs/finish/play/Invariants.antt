@@ -1,4 +1,4 @@
-use Rattle.std.proofs.Common.{◌≡◌, length}
+use Rattle.std.proofs.Common.{length}
 use Rattle.gq_script.specs.Lines.{lines_of}
 use Rattle.gq_cli.proofs.Finishing.{Plays}
 use Rattle.gq_cli.proofs.finish.play.Given as goal

@@ -1,4 +1,4 @@
-use Rattle.std.proofs.Common.{◌≡◌, ◌∙◌, subst, sym, map}
+use Rattle.std.proofs.Common.{◌∙◌, subst, sym, map}
 use Rattle.gq_desk.specs.CheckedPlan.{CheckedPlan}
 use Rattle.gq_world.specs.Tables.{Stands}
 use Rattle.gq_script.specs.Input.{event_of}
