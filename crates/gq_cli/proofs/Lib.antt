@@ -1,5 +1,6 @@
 pub mod Faults
 pub mod Asking
+pub mod Finishing
 pub mod Gathering
 pub mod Living
 pub mod Naming

@@ -1,3 +1,4 @@
+pub mod Finishing
 pub mod Gathering
 pub mod Live
 pub mod LiveRuns

@@ -9,7 +9,7 @@ use Rattle.clap.specs.declared.builder.action.ArgAction.TheVariants.{Set}
 use Rattle.clap.specs.declared.builder.value_parser.ValueParser.TheVariants.{Signed}
 use Rattle.clap.specs.declared.error.kind.ErrorKind.{ErrorKind}
 use Rattle.gq_cli.specs.declared.words.Request.{Request}
-use Rattle.gq_cli.specs.declared.words.Request.TheVariants.{Run, Order, Live}
+use Rattle.gq_cli.specs.declared.words.Request.TheVariants.{Run, Order, Finish, Live}
 use Rattle.gq_cli.specs.declared.words.Usage.{Usage}
 use Rattle.gq_cli.specs.declared.words.Usage.TheVariants.{Shown, Memory}
 
@@ -30,15 +30,19 @@ number_rule id = record (new_rule id) { required = true; action = Some Set; pars
 abbrev pub order_shape : Shape
 order_shape = record (new_shape (codes "order")) { rules = name_rule ∷ number_rule (codes "VOLUME") ∷ number_rule (codes "FILE") ∷ [] }
 
+-- the subcommand `finish`, which takes a name and a number below 2^32, both of which have to be given
+abbrev pub finish_shape : Shape
+finish_shape = record (new_shape (codes "finish")) { rules = name_rule ∷ number_rule (codes "SESSION") ∷ [] }
+
 -- the subcommand `live`, which takes no word
 abbrev pub live_shape : Shape
 live_shape = new_shape (codes "live")
 
 -- the command line: `gridfs`, which has a version and wants one of its subcommands
 abbrev pub gridfs : App
-gridfs = with_subcommand (with_subcommand (with_subcommand
+gridfs = with_subcommand (with_subcommand (with_subcommand (with_subcommand
     (on_top (λ top. record top { has_version = true; subcommand_required = true }) (new_app (codes "gridfs")))
-    run_shape) order_shape) live_shape
+    run_shape) order_shape) finish_shape) live_shape
 
 -- what is wrong with the words, the program's name first; a call for help or for the version counts
 abbrev pub faults_in : List Text → Kinds
@@ -60,16 +64,22 @@ AsksForLive words = IsAlone (codes "live") words
 abbrev pub AsksToOrder : List Text → Type 0
 AsksToOrder words = (own : List Text) × (drop 1 words ≡ codes "order" ∷ own)
 
+-- they ask for the lines that complete an operation: `finish`, behind which come its own words
+abbrev pub AsksToFinish : List Text → Type 0
+AsksToFinish words = (own : List Text) × (drop 1 words ≡ codes "finish" ∷ own)
+
 -- what was asked for is what the words ask for
 abbrev pub IsAskedBy : List Text → Request → Type 0
 IsAskedBy words (Run jobs) = AsksToRun words
 IsAskedBy words (Order name volume file) = AsksToOrder words
+IsAskedBy words (Finish name session) = AsksToFinish words
 IsAskedBy words Live = AsksForLive words
 
 -- what is asked for is that of the subcommand of this name
 abbrev pub IsOf : Option Text → Request → Type 0
-IsOf name (Run jobs) = (name ≢ Some (codes "order")) × (name ≢ Some (codes "live"))
+IsOf name (Run jobs) = (name ≢ Some (codes "order")) × (name ≢ Some (codes "finish")) × (name ≢ Some (codes "live"))
 IsOf name (Order tenant volume file) = name ≡ Some (codes "order")
+IsOf name (Finish tenant session) = name ≡ Some (codes "finish")
 IsOf name Live = name ≡ Some (codes "live")
 
 -- the text shown is about what is wrong with the words

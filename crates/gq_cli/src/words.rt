@@ -7,7 +7,7 @@ ghost use Rattle.clap.specs.Walk.{rule_of};
 ghost use Rattle.clap.specs.declared.builder.command.Command.TheViews.{out-Command as fields_of};
 ghost use Rattle.clap.specs.Walk.{Text, texts};
 ghost use Rattle.clap.specs.declared.error.kind.ErrorKind.TheVariants.{DisplayHelp, DisplayVersion};
-ghost use Rattle.gq_cli.specs.Words.{AsksForLive, IsAlone, IsAskedBy, IsMemory, IsOf, ShownFor, Shows, gridfs, name_rule, number_rule, jobs_rule, order_shape, run_shape};
+ghost use Rattle.gq_cli.specs.Words.{AsksForLive, IsAlone, IsAskedBy, IsMemory, IsOf, ShownFor, Shows, finish_shape, gridfs, name_rule, number_rule, jobs_rule, order_shape, run_shape};
 
 use clap::error::ErrorKind;
 use clap::{Arg, ArgAction, ArgMatches, Command, Error};
@@ -25,6 +25,11 @@ pub enum Request<'a> {
         name: &'a str,
         volume: u32,
         file: u32,
+    },
+    /// Write the lines that complete the operation of a session of the tenant of this name.
+    Finish {
+        name: &'a str,
+        session: u32,
     },
     /// Run the programs of an input in threads, and write the run as a script.
     Live,
@@ -127,6 +132,21 @@ A fault of the input is told by one line on standard error, with the number of t
 all steps, `live` where the line is of another kind, names a session that its tenant has not or a server that the grid has
 not, `open` where the volume can't be opened. Nothing is written then.";
 
+const FINISH: &str = "\
+The lines that are written complete the operation that the session has at the end of the script: a retry of the session, and
+deliveries of messages to servers and back, in order. The script with these lines behind it is one on which `gridfs run` ends
+with the operation's line `done`. Where the script's last line has no newline, one is written first.
+
+On the script of `gridfs run --help` without its last two lines, `gridfs finish ann 1` writes:
+
+    ann retry 1
+    ann deliver 3
+    ann deliver 4
+
+Where the operation can't be completed, that is told by one line on standard error, and nothing is written: `no operation` where
+the session has none, `no row up`, `no column up` or `no row and no column up` where its round needs one, `too few steps` where
+the tenant has not so many steps left.";
+
 // A whole number that has to be given.
 fn number<'a>(alloc: Global, id: &'a str, help: &'a str) -> Arg<'a>
     ensures rule { rule_of result ≡ number_rule id.entry.now }
@@ -203,6 +223,26 @@ fn order<'a>(alloc: Global) -> Result<Command<'a>, AllocError>
     Ok(order)
 }
 
+// The subcommand `finish`.
+fn finish<'a>(alloc: Global) -> Result<Command<'a>, AllocError>
+    ensures shape { IfOk result (λ c. (app_of c).top ≡ finish_shape) }
+    ensures local { IfOk result (λ c. (fields_of c).has_globals ≡ false) }
+{
+    let finish = subcommand(
+        alloc,
+        "finish",
+        "Write the lines that complete the operation of a session of the tenant",
+        FINISH,
+    )
+    .arg(name(alloc))?
+    .arg(number(
+        alloc,
+        "SESSION",
+        "The number of the tenant's session, from 1",
+    ))?;
+    Ok(finish)
+}
+
 // The command line.
 fn command<'a>(alloc: Global) -> Result<Command<'a>, AllocError>
     ensures app { IfOk result (λ c. app_of c ≡ gridfs) }
@@ -222,6 +262,7 @@ fn command<'a>(alloc: Global) -> Result<Command<'a>, AllocError>
         .subcommand_required(true)
         .subcommand(run(alloc)?)?
         .subcommand(order(alloc)?)?
+        .subcommand(finish(alloc)?)?
         .subcommand(live)?;
     Ok(gridfs)
 }
@@ -234,13 +275,19 @@ fn jobs_of<'a>(run: Option<&ArgMatches<'a>>) -> u32 {
     }
 }
 
-// What a parse of the words found. clap has refused words of `order` that leave one of the three out, or that give a number
+// What a parse of the words found. clap has refused words of `order` and of `finish` that leave one out, or that give a number
 // in another form.
 fn request_of<'a>(matches: &ArgMatches<'a>) -> Request<'a>
     ensures { IsOf (subcommand_name_of matches.now) result }
 {
     if matches.subcommand_matches("live").is_some() {
         return Request::Live;
+    }
+    if let Some(finish) = matches.subcommand_matches("finish") {
+        return Request::Finish {
+            name: finish.get_str("NAME").unwrap_or(""),
+            session: finish.get_one::<u32>("SESSION").unwrap_or(0),
+        };
     }
     let Some(order) = matches.subcommand_matches("order") else {
         return Request::Run {

@@ -8,6 +8,7 @@ use Rattle.std.proofs.lemmas.List.{length-append, length-map}
 use Rattle.std.proofs.lemmas.List.Elements.{All-nil, All-cons, All-head, All-tail, All-append}
 use Rattle.gq_desk.specs.CheckedPlan.{CheckedPlan, nobody, row_at}
 use Rattle.gq_desk.specs.declared.plans.TenantRow.{TenantRow}
+use Rattle.gq_phase.specs.declared.Outcome.{Outcome}
 use Rattle.gq_phase.specs.Phase.{Operation}
 use Rattle.gq_model.specs.declared.events.Event.{Event}
 use Rattle.gq_model.specs.declared.events.Event.TheVariants.{Tenant}
@@ -18,7 +19,7 @@ use Rattle.gq_model.specs.Trace.{Turn, Own, Serving, Past, operation, start, tas
 use Rattle.gq_model.specs.Lone.{is_refusal, told_from, said, past_of, first_operation}
 use Rattle.gq_model.specs.Events.{turn_of, own, past_at, answer_to}
 use Rattle.gq_laws.specs.Tenants.{answers_from}
-use Rattle.gq_laws.specs.Progress.{deliveries_left, QuorumsUp, state_after, StepsLeft, Completes, TenantCompletes}
+use Rattle.gq_laws.specs.Progress.{deliveries_left, IsOutcomeOf, QuorumsUp, state_after, StepsLeft, Completes, TenantCompletes}
 use Rattle.gq_laws.proofs.AllTenants.{past_more}
 use Rattle.gq_laws.proofs.Asking.{all_requests_complete}
 use Rattle.gq_laws.proofs.CompletingAmong.{all_tenants_complete}
@@ -28,7 +29,7 @@ use Rattle.gq_script.specs.Input.{event_of}
 use Rattle.gq_script.specs.Canonical.{IsPlan, FitsLine}
 use Rattle.gq_script.specs.Out.{joined, out}
 use Rattle.gq_script.specs.Alone.{is_own, turn_from, turns_of, Accepts}
-use Rattle.gq_script.specs.Completing.{told_line, CompletesBehind, AllInputsComplete, AllInputRequestsComplete}
+use Rattle.gq_script.specs.Completing.{told_line, CompletesBy, CompletesBehind, AllInputsComplete, AllInputRequestsComplete}
 use Rattle.gq_script.proofs.PlanNames.{HasPlace, has_place}
 use Rattle.gq_script.proofs.Sights.{Sight, sight}
 use Rattle.gq_script.proofs.PlanIs.{plan_is, RowFits, row_of_plan, small_grid}
@@ -56,20 +57,28 @@ deliveries_fit row (n ∷ numbers) fits has =
     let steps = fits.steps in
     All-cons FitsLine (Deliver n) (map Deliver numbers) (omega (arith, low, steps)) (deliveries_fit row numbers fits (All-tail (HasNumber row) (Deliver n) (map Deliver numbers) has))
 
+-- the next lines of a tenant are told what its run alone says
+pub next_told : (plan : CheckedPlan) (t : ℕ) (lines : List Line) (events : List Event) → answers_from plan events (map (Tenant t) lines) ≡ told_from plan.grid (row_at plan t) (past_at plan t events) (map Own lines)
+next_told plan t [] events = refl
+next_told plan t (line ∷ lines) events =
+    ap (λ later. answer_to plan events (Tenant t line) ∷ later)
+    (next_told plan t lines (events ++ Tenant t line ∷ []) ∙ ap (λ p. told_from plan.grid (row_at plan t) p (map Own lines)) (past_more plan t events (Tenant t line) (Some (Own line)) (rw (eq-eqb t t refl) refl)))
+
 -- ---- texts
 
--- what completes an operation of a tenant, said of texts
-behind : (input : List ℕ) (plan : CheckedPlan) (lines : List (List ℕ)) (t : ℕ) (o : Operation) (line : Line) → Accepts input plan lines → t < length plan.rows → (RowFits (row_at plan t) → HasNumber (row_at plan t) line → FitsLine line)
-    → TenantCompletes plan (map (event_of plan) lines) t o line → CompletesBehind input plan.grid (row_at plan t).name o line
-behind input plan lines t o line accepts within fits c = record {
-  numbers = c.alone.numbers;
-  few = c.alone.few;
-  outcome = c.alone.outcome;
-  its = c.alone.its;
+-- what completes an operation of a tenant by these deliveries, said of texts
+pub behind_by : (input : List ℕ) (plan : CheckedPlan) (lines : List (List ℕ)) (t : ℕ) (o : Operation) (line : Line) (numbers : List ℕ) (before : List Told) (outcome : Outcome) → Accepts input plan lines → t < length plan.rows
+    → (RowFits (row_at plan t) → HasNumber (row_at plan t) line → FitsLine line)
+    → IsOutcomeOf o outcome → All (λ told. is_refusal told ≡ false) before
+    → answers_from plan (map (event_of plan) lines) (map (Tenant t) (line ∷ map Deliver numbers)) ≡ before ++ Done outcome ∷ []
+    → CompletesBy input plan.grid (row_at plan t).name o line numbers
+behind_by input plan lines t o line numbers before outcome accepts within fits its none told = record {
+  outcome = outcome;
+  its = its;
   before = before;
   each = each;
-  accepted = none_refused plan.grid row.name before c.alone.accepted (All-front (λ told. is_stray told ≡ false) before (Done c.alone.outcome ∷ []) owned);
-  output = longer_out input plan lines t more accepts.read within all_fit ∙ ap (λ tolds. out input ++ joined (map (told_line plan.grid row.name) tolds)) c.told;
+  accepted = none_refused plan.grid row.name before none (All-front (λ told. is_stray told ≡ false) before (Done outcome ∷ []) owned);
+  output = longer_out input plan lines t more accepts.read within all_fit ∙ ap (λ tolds. out input ++ joined (map (told_line plan.grid row.name) tolds)) told;
   small = λ small. record { small = small; plan = subst IsOk (sym (longer_read input plan lines row.name more accepts.read)) refl };
 }
   where
@@ -80,13 +89,10 @@ behind input plan lines t o line accepts within fits c = record {
     events = map (event_of plan) lines
 
     deliveries : List Line
-    deliveries = map Deliver c.alone.numbers
+    deliveries = map Deliver numbers
 
     more : List Line
     more = line ∷ deliveries
-
-    before : List Told
-    before = c.alone.before
 
     past : Past
     past = past_at plan t events
@@ -103,27 +109,39 @@ behind input plan lines t o line accepts within fits c = record {
     row_is : RowFits row
     row_is = row_of_plan plan is t within
 
+    alone : told_from plan.grid row past (map Own more) ≡ before ++ Done outcome ∷ []
+    alone = sym (next_told plan t more events) ∙ told
+
     fine : All (λ told. is_refusal told ≡ false) (told_from plan.grid row past (map Own more))
-    fine = subst (All (λ told. is_refusal told ≡ false)) (sym c.alone.told)
-        (All-append (λ told. is_refusal told ≡ false) before (Done c.alone.outcome ∷ []) c.alone.accepted (All-cons (λ told. is_refusal told ≡ false) (Done c.alone.outcome) [] refl (All-nil (λ told. is_refusal told ≡ false))))
+    fine = subst (All (λ told. is_refusal told ≡ false)) (sym alone)
+        (All-append (λ told. is_refusal told ≡ false) before (Done outcome ∷ []) none (All-cons (λ told. is_refusal told ≡ false) (Done outcome) [] refl (All-nil (λ told. is_refusal told ≡ false))))
 
-    owned : All (λ told. is_stray told ≡ false) (before ++ Done c.alone.outcome ∷ [])
-    owned = subst (All (λ told. is_stray told ≡ false)) c.alone.told (all_own plan.grid row more past small)
+    owned : All (λ told. is_stray told ≡ false) (before ++ Done outcome ∷ [])
+    owned = subst (All (λ told. is_stray told ≡ false)) alone (all_own plan.grid row more past small)
 
-    numbers : All (HasNumber row) more
-    numbers = all_numbers plan.grid row more past small few fine
+    has_numbers : All (HasNumber row) more
+    has_numbers = all_numbers plan.grid row more past small few fine
 
     all_fit : All FitsLine more
-    all_fit = All-cons FitsLine line deliveries (fits row_is (All-head (HasNumber row) line deliveries numbers)) (deliveries_fit row c.alone.numbers row_is (All-tail (HasNumber row) line deliveries numbers))
+    all_fit = All-cons FitsLine line deliveries (fits row_is (All-head (HasNumber row) line deliveries has_numbers)) (deliveries_fit row numbers row_is (All-tail (HasNumber row) line deliveries has_numbers))
 
-    each : length before ≡ length c.alone.numbers
+    each : length before ≡ length numbers
     each =
-        let told = ap length c.told in
+        let told_too = ap length told in
         let answers = length-answers plan (map (Tenant t) more) events in
         let lines = length-map more (Tenant t) in
-        let sent = length-map c.alone.numbers Deliver in
-        let last = length-append before (Done c.alone.outcome ∷ []) in
-        omega (arith, told, answers, lines, sent, last)
+        let sent = length-map numbers Deliver in
+        let last = length-append before (Done outcome ∷ []) in
+        omega (arith, told_too, answers, lines, sent, last)
+
+-- what completes an operation of a tenant, said of texts
+behind : (input : List ℕ) (plan : CheckedPlan) (lines : List (List ℕ)) (t : ℕ) (o : Operation) (line : Line) → Accepts input plan lines → t < length plan.rows → (RowFits (row_at plan t) → HasNumber (row_at plan t) line → FitsLine line)
+    → TenantCompletes plan (map (event_of plan) lines) t o line → CompletesBehind input plan.grid (row_at plan t).name o line
+behind input plan lines t o line accepts within fits c = record {
+  numbers = c.alone.numbers;
+  few = c.alone.few;
+  completes = behind_by input plan lines t o line c.alone.numbers c.alone.before c.alone.outcome accepts within fits c.alone.its c.alone.accepted c.told;
+}
 
 -- ---- the tenant of a row
 
@@ -166,13 +184,6 @@ all_inputs_complete input plan lines row k o accepts member has may = of_row P i
     at_place : (t : ℕ) → t < length plan.rows → P (row_at plan t) (own t (map (event_of plan) lines))
     at_place t within has up steps =
         behind input plan lines t o (Retry k) accepts within (λ fits low. let sessions = fits.sessions in omega (arith, sessions, low)) (all_tenants_complete plan (map (event_of plan) lines) t k o has up steps)
-
--- the next lines of a tenant are told what its run alone says
-next_told : (plan : CheckedPlan) (t : ℕ) (lines : List Line) (events : List Event) → answers_from plan events (map (Tenant t) lines) ≡ told_from plan.grid (row_at plan t) (past_at plan t events) (map Own lines)
-next_told plan t [] events = refl
-next_told plan t (line ∷ lines) events =
-    ap (λ later. answer_to plan events (Tenant t line) ∷ later)
-    (next_told plan t lines (events ++ Tenant t line ∷ []) ∙ ap (λ p. told_from plan.grid (row_at plan t) p (map Own lines)) (past_more plan t events (Tenant t line) (Some (Own line)) (rw (eq-eqb t t refl) refl)))
 
 pub all_input_requests_complete : AllInputRequestsComplete
 all_input_requests_complete input plan lines row k line task accepts member asked may = of_row P input plan lines row accepts member at_place asked.begins asked.accepted may.up may.steps

@@ -41,11 +41,9 @@ told_line grid name told = line_text name (told_words grid told)
 abbrev pub IsRefusal : Word → List ℕ → Type 0
 IsRefusal name line = (rest : List ℕ) × (line ≡ name ++ codes " refused" ++ rest)
 
--- the operation comes to its end by this line of the tenant behind the input, and by deliveries behind it
-pub record CompletesBehind (input : List ℕ) (grid : Grid) (name : Word) (o : Operation) (line : Line) : Type 0 where
-  -- the messages of these numbers are delivered, and they are few
-  pub numbers : List ℕ
-  pub few : length numbers ≤ deliveries_left grid o
+-- the operation comes to its end by this line of the tenant behind the input, and behind it by deliveries of the messages of
+-- these numbers
+pub record CompletesBy (input : List ℕ) (grid : Grid) (name : Word) (o : Operation) (line : Line) (numbers : List ℕ) : Type 0 where
   -- the last of the lines is answered by how this operation ended
   pub outcome : Outcome
   pub its : IsOutcomeOf o outcome
@@ -57,6 +55,12 @@ pub record CompletesBehind (input : List ℕ) (grid : Grid) (name : Word) (o : O
   pub output : out (longer input name (line ∷ map Deliver numbers)) ≡ out input ++ joined (map (told_line grid name) (before ++ Done outcome ∷ []))
   -- the longer input is accepted, unless it is longer than any input may be
   pub small : length (longer input name (line ∷ map Deliver numbers)) ≤ MOST_INPUT → IsAccepted (longer input name (line ∷ map Deliver numbers))
+
+-- there are such messages, and they are few
+pub record CompletesBehind (input : List ℕ) (grid : Grid) (name : Word) (o : Operation) (line : Line) : Type 0 where
+  pub numbers : List ℕ
+  pub few : length numbers ≤ deliveries_left grid o
+  pub completes : CompletesBy input grid name o line numbers
 
 -- what the questions to the tenant's run say after the lines
 abbrev pub state_of : Grid → TenantRow → List (List ℕ) → State

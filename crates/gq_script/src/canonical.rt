@@ -110,8 +110,8 @@ fn put_write(
     )
 }
 
-// Appends the line of a tenant of this name.
-fn put_tenant_line(out: &mut Vec<u8>, name: &[u8], line: &Line) -> Result<(), AllocError>
+/// Appends the canonical line of a tenant of this name, or a part of it where memory is refused.
+pub fn put_tenant_line(out: &mut Vec<u8>, name: &[u8], line: &Line) -> Result<(), AllocError>
     ensures ok { OnOk result (out.new.items ≡ out.old.items ++ line_text name.now (line_words line.now)) }
     ensures err { OnErr result (Extends out.old.items out.new.items) }
     ensures fits { FitsLine line.now }

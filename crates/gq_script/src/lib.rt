@@ -14,7 +14,7 @@ mod script;
 mod watched;
 mod words;
 
-pub use canonical::write_script;
+pub use canonical::{put_tenant_line, write_script};
 pub use input::{read_cut_line, read_line};
 pub use lines::{cut_line, first_line};
 pub use output::{write_answer, write_next_answer};

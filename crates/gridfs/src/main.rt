@@ -1,7 +1,10 @@
 //! The program: the words, the standard streams and the runtime go down, and a status comes back.
 #![tactic(auto)]
 
-use gq_cli::{LiveRunFault, OrderFault, Request, Usage, live_run, order_run, read_words};
+use gq_cli::{
+    FinishFault, LiveRunFault, OrderFault, Request, Usage, finish_run, live_run, order_run,
+    read_words,
+};
 use gq_live::{LiveFault, OpenGate};
 use gq_script::{RunFault, Watched};
 use gq_shards::{SHORT, run_in_shards};
@@ -32,6 +35,13 @@ fn order_status(fault: &OrderFault) -> u8 {
     match fault {
         OrderFault::Run(fault) => run_status(fault),
         OrderFault::Name => FAULT,
+    }
+}
+
+fn finish_status(fault: &FinishFault) -> u8 {
+    match fault {
+        FinishFault::Run(fault) => run_status(fault),
+        _ => FAULT,
     }
 }
 
@@ -86,6 +96,12 @@ fn answered<R: Input + Print + Eprint + Threads + Wait + Sync>(
             match order_run(alloc, &mut reader, &mut writer, name, volume, file) {
                 Ok(()) => ExitCode::SUCCESS,
                 Err(fault) => told(rt, &fault, order_status(&fault)),
+            }
+        }
+        Request::Finish { name, session } => {
+            match finish_run(alloc, &mut reader, &mut writer, name, session) {
+                Ok(()) => ExitCode::SUCCESS,
+                Err(fault) => told(rt, &fault, finish_status(&fault)),
             }
         }
         Request::Live => match live_run(rt, alloc, &mut reader, &mut writer, &OpenGate) {

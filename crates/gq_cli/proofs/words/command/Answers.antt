@@ -15,4 +15,5 @@ returns c =
     let top = ap app_of_fields c.subcommand_required.ensures ∙ ap with_need bare in
     let with_run = c.in_ok-subcommand.ensures.shape c.in_ok-run.ensures.local ∙ ap₂ with_subcommand top c.in_ok-run.ensures.shape in
     let with_order = c.in_ok-subcommand-2.ensures.shape c.in_ok-order.ensures.local ∙ ap₂ with_subcommand with_run c.in_ok-order.ensures.shape in
-    record { app = c.in_ok-gridfs.ensures.shape c.subcommand-live.ensures.local ∙ ap₂ with_subcommand with_order (ap top_of c.subcommand-live.ensures.app) }
+    let with_finish = c.in_ok-subcommand-3.ensures.shape c.in_ok-finish.ensures.local ∙ ap₂ with_subcommand with_order c.in_ok-finish.ensures.shape in
+    record { app = c.in_ok-gridfs.ensures.shape c.subcommand-live.ensures.local ∙ ap₂ with_subcommand with_finish (ap top_of c.subcommand-live.ensures.app) }
