@@ -1,7 +1,1 @@
-pub mod Finishing
-pub mod Gathering
-pub mod Live
-pub mod LiveRuns
-pub mod Orders
-pub mod Programs
 pub mod Words

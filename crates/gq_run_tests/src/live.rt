@@ -1,7 +1,7 @@
 //! Live runs of texts, under gates.
 
 use crate::gates::{Counting, Meeting, Overtaking, Shut};
-use gq_cli::{LiveRunFault, live_run, read_programs};
+use gq_runs::{LiveRunFault, live_run, read_programs};
 use gq_desk::Plan;
 use gq_inspect::{Mismatch, inspect};
 use gq_live::{CellEntry, Entries, Gate, Journal, LiveFault, OpenGate, Records, Said, live};

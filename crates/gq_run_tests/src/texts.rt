@@ -1,6 +1,6 @@
 //! What is told of records that are no run. No input of the program brings it about.
 
-use gq_cli::{LiveRunFault, NamedMismatch};
+use gq_runs::{LiveRunFault, NamedMismatch};
 use gq_desk::Name;
 use gq_inspect::Mismatch;
 use std::alloc::{AllocError, Global};

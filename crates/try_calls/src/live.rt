@@ -4,7 +4,7 @@ ghost use Rattle.std.specs.Prelude.{◌≡◌, All, true};
 ghost use Rattle.gq_model.specs.Events.{IsIn};
 
 use crate::Fault;
-use gq_cli::read_programs;
+use gq_runs::read_programs;
 use gq_desk::Plan;
 use gq_inspect::inspect;
 use gq_live::{OpenGate, Records, Said, SessionEntry, live, sessions_of};

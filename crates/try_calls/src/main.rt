@@ -37,7 +37,7 @@ mod store;
 mod streams;
 mod texts;
 
-use gq_cli::{OrderFault, ProgramFault};
+use gq_runs::{OrderFault, ProgramFault};
 use gq_inspect::Mismatch;
 use gq_live::LiveFault;
 use gq_script::{PlanText, RunFault, Watched};

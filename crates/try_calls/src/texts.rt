@@ -8,7 +8,7 @@ use crate::Fault;
 use crate::calls::{retry, tell, tell_kept};
 use crate::play::first_line;
 use bytes::Bytes;
-use gq_cli::{ProgramFault, read_programs};
+use gq_runs::{ProgramFault, read_programs};
 use gq_desk::Plan;
 use gq_phase::Outcome;
 use gq_script::{MOST_INPUT, read_line, read_plan, write_answer, write_script};

@@ -1,0 +1,5 @@
+pub mod Finishing
+pub mod Gathering
+pub mod Living
+pub mod Ordering
+pub mod Programming

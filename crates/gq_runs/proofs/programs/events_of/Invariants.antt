@@ -1,0 +1,16 @@
+use Rattle.std.proofs.Common.{◌≡◌, ◌≤◌, ◌+◌, ◌++◌, length, map}
+use Rattle.std.specs.List.{All}
+use Rattle.gq_model.specs.Events.{IsIn}
+use Rattle.gq_script.specs.Input.{event_of}
+use Rattle.gq_script.specs.Lines.{lines_of}
+use Rattle.gq_runs.proofs.programs.events_of.Given as goal
+
+abbrev pub invariant-loop-rest : goal.invariant-loop-rest
+invariant-loop-rest l = record {
+  events : l.events.items ++ map (event_of l.plan) (lines_of l.rest) ≡ map (event_of l.plan) (lines_of l.fn.text);
+  within : All (IsIn l.plan) l.events.items;
+  few : length l.events.items + length l.rest ≤ length l.fn.text;
+}
+
+abbrev pub decreases-loop-rest : goal.decreases-loop-rest
+decreases-loop-rest l = length l.rest

@@ -1,0 +1,7 @@
+use Rattle.gq_runs.specs.Programs.{opening_of}
+use Rattle.gq_runs.proofs.Programming.{one_picked}
+use Rattle.gq_runs.proofs.programs.volumes_of.Goals as goal
+
+pub loop-event-preserved : goal.loop-event-preserved
+loop-event-preserved c =
+    one_picked opening_of c.args.events.now c.loop-event.event-index _ _ c.loop-event.volumes.items c.keep.new.items.items c.loop-event-test.true c.event-item.is c.opening_of.ensures c.loop-event.invariant c.in_ok-keep.ensures

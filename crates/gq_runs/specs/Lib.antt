@@ -1,0 +1,7 @@
+pub mod Finishing
+pub mod Gathering
+pub mod Live
+pub mod LiveRuns
+pub mod Orders
+pub mod Programs
+pub mod Requests

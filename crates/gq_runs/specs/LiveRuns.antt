@@ -1,0 +1,100 @@
+-- What a live run writes, and its faults.
+use Rattle.std.specs.Prelude.{ℕ, ◌≡◌, ◌≢◌, ◌<◌, List, map, length, Option, Some, None}
+use Rattle.std.specs.Io.KnownBytes.{Appends}
+use Rattle.gq_desk.specs.CheckedPlan.{CheckedPlan, row_at}
+use Rattle.gq_model.specs.declared.events.Event.{Event}
+use Rattle.gq_session.specs.declared.records.Programs.{Programs}
+use Rattle.gq_session.specs.declared.records.Records.{Records}
+use Rattle.gq_session.specs.declared.records.LiveFault.TheVariants.{Memory as LiveMemory, Gate}
+use Rattle.gq_inspect.specs.Replay.{IsRunOf}
+use Rattle.gq_inspect.specs.declared.mismatch.Mismatch.{Mismatch as MismatchIs}
+use Rattle.gq_inspect.specs.declared.mismatch.Mismatch.TheVariants.{Answer, Memory as MismatchMemory}
+use Rattle.gq_script.specs.Canonical.{IsScriptOf, script_text}
+use Rattle.gq_script.specs.Input.{event_of}
+use Rattle.gq_script.specs.Lines.{lines_of}
+use Rattle.gq_script.specs.PlanText.{plan_of}
+use Rattle.gq_script.specs.Watched.{AppendsPrefix}
+use Rattle.gq_script.specs.declared.script.TheConstants.{MOST_INPUT}
+use Rattle.gq_runs.specs.Programs.{IsProgramsOf, fault_of}
+use Rattle.gq_runs.specs.Live.{IsRecordOf, KeepsInput}
+use Rattle.gq_runs.specs.declared.live.LiveRunFault.{LiveRunFault}
+use Rattle.gq_runs.specs.declared.live.LiveRunFault.TheVariants.{Read, TooBig, Program, Live, Mismatch, Memory, Write}
+
+-- the events are the run that some records of a live run of the programs tell
+pub record IsRunOfPrograms (plan : CheckedPlan) (programs : Programs) (events : List Event) : Type 0 where
+  pub records : Records
+  pub recorded : IsRecordOf plan programs records
+  pub run : IsRunOf plan records events
+
+-- the text is the script of such a run, and gives the plan and the events when it is read again
+pub record IsScriptOfRun (plan : CheckedPlan) (programs : Programs) (text : List ℕ) : Type 0 where
+  pub events : List Event
+  pub run : IsRunOfPrograms plan programs events
+  pub is : text ≡ script_text plan events
+  pub back : IsScriptOf text plan events
+
+-- the text is the script of a live run of the input's programs, which keeps the input's opens, each session's requests in
+-- order, and of the server lines some, in order
+pub record IsLiveScript (input : List ℕ) (script : List ℕ) : Type 0 where
+  pub plan : CheckedPlan
+  pub programs : Programs
+  pub reads : IsProgramsOf input plan programs
+  pub of : IsScriptOfRun plan programs script
+  pub keeps : KeepsInput plan (map (event_of plan) reads.lines) of.events
+
+-- such a script was appended, or a prefix of one
+abbrev pub AppendsLive : List ℕ → Option (List ℕ) → Option (List ℕ) → Type 0
+AppendsLive input old new = (script : List ℕ) × IsLiveScript input script × Appends old new script
+
+abbrev pub AppendsLivePrefix : List ℕ → Option (List ℕ) → Option (List ℕ) → Type 0
+AppendsLivePrefix input old new = (script : List ℕ) × IsLiveScript input script × AppendsPrefix old new script
+
+-- ---- faults
+
+-- the input gives programs
+abbrev pub GivesPrograms : List ℕ → Type 0
+GivesPrograms input = fault_of (plan_of (lines_of input)) ≡ None
+
+-- a fault of reading
+abbrev pub IsFaultOfReading : LiveRunFault → Type 0
+IsFaultOfReading Read = Unit {0}
+IsFaultOfReading TooBig = Unit {0}
+IsFaultOfReading Memory = Unit {0}
+IsFaultOfReading _ = ⊥
+
+-- a fault of the threads, of the inspection or of the memory; want of memory is told one way only
+abbrev pub IsFaultOfRun : LiveRunFault → Type 0
+IsFaultOfRun (Live fault) = fault ≢ LiveMemory
+IsFaultOfRun (Mismatch named) = named.mismatch ≢ MismatchMemory
+IsFaultOfRun Memory = Unit {0}
+IsFaultOfRun _ = ⊥
+
+-- a fault behind the reading: the first one of the input, or one of its run
+abbrev pub IsFaultOfScript : List ℕ → LiveRunFault → Type 0
+IsFaultOfScript input (Program fault) = fault_of (plan_of (lines_of input)) ≡ Some fault
+IsFaultOfScript input (Live fault) = (fault ≢ LiveMemory) × GivesPrograms input
+IsFaultOfScript input (Mismatch named) = (named.mismatch ≢ MismatchMemory) × GivesPrograms input
+IsFaultOfScript input Memory = Unit {0}
+IsFaultOfScript input _ = ⊥
+
+-- any fault
+abbrev pub IsFaultOf : List ℕ → LiveRunFault → Type 0
+IsFaultOf input Read = Unit {0}
+IsFaultOf input TooBig = MOST_INPUT < length input
+IsFaultOf input Write = GivesPrograms input
+IsFaultOf input fault = IsFaultOfScript input fault
+
+-- the name beside a mismatch is that of the tenant's row, where it is of a session's step
+abbrev pub IsNamed : CheckedPlan → MismatchIs → Option (List ℕ) → Type 0
+IsNamed plan (Answer tenant session at) name = tenant < length plan.rows → name ≡ Some (row_at plan tenant).name
+IsNamed plan _ name = name ≡ None
+
+-- this mismatch is told, with its name
+abbrev pub IsMismatchOf : CheckedPlan → MismatchIs → LiveRunFault → Type 0
+IsMismatchOf plan mismatch (Mismatch named) = (named.mismatch ≡ mismatch) × IsNamed plan mismatch named.name
+IsMismatchOf plan mismatch _ = ⊥
+
+-- it is not that the gate gave up
+abbrev pub NoGateFault : LiveRunFault → Type 0
+NoGateFault (Live fault) = fault ≢ Gate
+NoGateFault _ = Unit {0}

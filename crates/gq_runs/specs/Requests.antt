@@ -1,0 +1,48 @@
+-- What a request asks to be written, and the statuses of its faults.
+use Rattle.std.specs.Prelude.{ℕ, ◌≡◌, ◌×◌, List, Option}
+use Rattle.std.specs.Io.KnownBytes.{Appends}
+use Rattle.gq_cli.specs.declared.words.Request.{Request}
+use Rattle.gq_cli.specs.declared.words.Request.TheVariants.{Run, Order, Finish, Live}
+use Rattle.gq_script.specs.Out.{out}
+use Rattle.gq_script.specs.declared.script.RunFault.{RunFault}
+use Rattle.gq_script.specs.declared.script.RunFault.TheVariants.{Memory, Write}
+use Rattle.gq_session.specs.declared.records.LiveFault.TheVariants.{Memory as LiveMemory, Thread, Gate, Stamps, Letter}
+use Rattle.gq_runs.specs.Orders.{order_out}
+use Rattle.gq_runs.specs.Finishing.{FinishOf}
+use Rattle.gq_runs.specs.LiveRuns.{AppendsLive}
+use Rattle.gq_runs.specs.declared.order.OrderFault.TheVariants.{Run as OrderRun}
+use Rattle.gq_runs.specs.declared.finish.FinishFault.TheVariants.{Run as FinishRun}
+use Rattle.gq_runs.specs.declared.live.LiveRunFault.TheVariants.{Memory as LiveRunMemory, Write as LiveWrite, Live as LiveThreads, Mismatch}
+use Rattle.gq_runs.specs.declared.requests.RequestFault.{RequestFault}
+use Rattle.gq_runs.specs.declared.requests.RequestFault.TheVariants.{Run as RunEnded, Order as OrderEnded, Finish as FinishEnded, Live as LiveEnded}
+use Rattle.gq_runs.specs.declared.requests.TheConstants.{FAULT, MEMORY, REFUSED}
+
+-- what the request asks for was appended: the output of the input; with the order of the operations on that file of that tenant;
+-- the lines that complete the operation of that session; the script of a live run
+abbrev pub Writes : Request → List ℕ → Option (List ℕ) → Option (List ℕ) → Type 0
+Writes (Run jobs) input old new = Appends old new (out input)
+Writes (Order name volume file) input old new = Appends old new (order_out input name.now (record { volume = volume; place = file }))
+Writes (Finish name session) input old new = (text : List ℕ) × FinishOf name.now session input text × Appends old new text
+Writes Live input old new = AppendsLive input old new
+
+-- a fault of writing
+abbrev pub IsWriting : RequestFault → Type 0
+IsWriting (RunEnded Write) = Unit {0}
+IsWriting (OrderEnded (OrderRun Write)) = Unit {0}
+IsWriting (FinishEnded (FinishRun Write)) = Unit {0}
+IsWriting (LiveEnded LiveWrite) = Unit {0}
+IsWriting fault = ⊥
+
+-- the status that the program ends with
+abbrev pub status_of : RequestFault → ℕ
+status_of (RunEnded Memory) = MEMORY
+status_of (OrderEnded (OrderRun Memory)) = MEMORY
+status_of (FinishEnded (FinishRun Memory)) = MEMORY
+status_of (LiveEnded LiveRunMemory) = MEMORY
+status_of (LiveEnded (LiveThreads LiveMemory)) = MEMORY
+status_of (LiveEnded (LiveThreads Thread)) = MEMORY
+status_of (LiveEnded (LiveThreads Gate)) = REFUSED
+status_of (LiveEnded (LiveThreads Stamps)) = REFUSED
+status_of (LiveEnded (LiveThreads Letter)) = REFUSED
+status_of (LiveEnded (Mismatch named)) = REFUSED
+status_of fault = FAULT

@@ -1,0 +1,133 @@
+//! What a command line asks for, done.
+
+ghost use Rattle.std.specs.Prelude.{◌≡◌, false, IfErr, IfSome, OnOk};
+ghost use Rattle.gq_script.specs.Watched.{inner_of, has_failed};
+ghost use Rattle.gq_runs.specs.Requests.{Writes, IsWriting, status_of};
+ghost use Rattle.gq_runs.specs.declared.requests.RequestFault.{RequestFault};
+
+use crate::finish::{FinishFault, finish_run};
+use crate::live::{LiveRunFault, live_run};
+use crate::order::{OrderFault, order_run};
+use gq_cli::Request;
+use gq_live::{LiveFault, OpenGate};
+use gq_script::{RunFault, Watched};
+use gq_shards::{SHORT, run_in_shards};
+use std::alloc::Global;
+use std::io::{Read, Write};
+use std::sync::Wait;
+use std::thread;
+use std::thread::Threads;
+use thiserror::Error;
+
+// A fault of the input, of reading or of writing, or what was asked for is not there.
+const FAULT: u8 = 1;
+// Memory is wanting, or a thread could not be started.
+const MEMORY: u8 = 3;
+// What a live run recorded, or the run itself, is not what it should be.
+const REFUSED: u8 = 4;
+
+/// Why a request ended early.
+#[derive(Clone, Copy, Debug, Error)]
+pub enum RequestFault {
+    /// A run did.
+    #[error("{0}")]
+    Run(RunFault),
+    /// A run with the order of a file's operations did.
+    #[error("{0}")]
+    Order(OrderFault),
+    /// The lines that complete an operation were not told.
+    #[error("{0}")]
+    Finish(FinishFault),
+    /// A live run did.
+    #[error("{0}")]
+    Live(LiveRunFault),
+}
+
+fn run_status(fault: &RunFault) -> u8
+    ensures { result ≡ status_of (RequestFault.Run fault.now) }
+{
+    match fault {
+        RunFault::Memory => MEMORY,
+        _ => FAULT,
+    }
+}
+
+fn live_status(fault: &LiveRunFault) -> u8
+    ensures { result ≡ status_of (RequestFault.Live fault.now) }
+{
+    match fault {
+        LiveRunFault::Memory | LiveRunFault::Live(LiveFault::Memory | LiveFault::Thread) => MEMORY,
+        LiveRunFault::Live(LiveFault::Gate | LiveFault::Stamps | LiveFault::Letter)
+        | LiveRunFault::Mismatch(_) => REFUSED,
+        _ => FAULT,
+    }
+}
+
+impl RequestFault {
+    /// The status that the program ends with.
+    pub fn status(&self) -> u8
+        ensures { result ≡ status_of self.now }
+    {
+        match self {
+            RequestFault::Run(fault)
+            | RequestFault::Order(OrderFault::Run(fault))
+            | RequestFault::Finish(FinishFault::Run(fault)) => run_status(fault),
+            RequestFault::Live(fault) => live_status(fault),
+            _ => FAULT,
+        }
+    }
+}
+
+// How many shards a number of jobs is: 0 is one for each core, where it is known how many there are.
+fn shards_of(rt: &impl Threads, jobs: u32) -> usize {
+    if jobs > 0 {
+        return jobs as usize;
+    }
+    match thread::available_parallelism(rt) {
+        Ok(cores) => cores.get(),
+        Err(_) => 1,
+    }
+}
+
+/// Does what a command line asks for between a reader and a writer. What is written is what the words ask for; the faults, and
+/// what was written at each, are those of [`gq_shards::run_in_shards`], [`crate::order_run`], [`crate::finish_run`] and
+/// [`crate::live_run`]. How many shards a run has depends on the machine where the words say 0, and no answer does.
+pub fn carry_out<T: Threads + Wait + Sync, R: Read, W: Write>(
+    rt: &T,
+    alloc: Global,
+    reader: &mut Watched<R>,
+    writer: &mut Watched<W>,
+    request: Request,
+) -> Result<(), RequestFault>
+    requires reader { has_failed reader.old ≡ false }
+    requires writer { has_failed writer.old ≡ false }
+    ensures ok { OnOk result (IfSome (R.remaining (inner_of reader.old)) (λ input.
+        Writes request input (W.contents (inner_of writer.old)) (W.contents (inner_of writer.new)))) }
+    ensures nothing { IfErr result (λ fault. (IsWriting fault → ⊥) → writer.new ≡ writer.old) }
+{
+    match request {
+        Request::Run { jobs } => {
+            let shards = shards_of(rt, jobs);
+            match run_in_shards(rt, alloc, shards, SHORT, reader, writer) {
+                Ok(()) => Ok(()),
+                Err(fault) => Err(RequestFault::Run(fault)),
+            }
+        }
+        Request::Order { name, volume, file } => {
+            match order_run(alloc, reader, writer, name, volume, file) {
+                Ok(()) => Ok(()),
+                Err(fault) => Err(RequestFault::Order(fault)),
+            }
+        }
+        Request::Finish { name, session } => {
+            match finish_run(alloc, reader, writer, name, session) {
+                Ok(()) => Ok(()),
+                Err(fault) => Err(RequestFault::Finish(fault)),
+            }
+        }
+        Request::Live => match live_run(rt, alloc, reader, writer, &OpenGate) {
+            Ok(()) => Ok(()),
+            Err(fault) => Err(RequestFault::Live(fault)),
+        },
+    }
+}
