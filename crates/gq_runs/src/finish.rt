@@ -58,7 +58,7 @@ pub enum FinishFault {
     /// No row is wholly up, and no column.
     #[error("no row and no column up")]
     Both,
-    /// The tenant has too few steps left.
+    /// The tenant's steps are spent before the operation is done, or were spent by the input.
     #[error("too few steps")]
     Steps,
 }
@@ -229,6 +229,7 @@ fn complete(world: &mut World, tenant: u8, session: u32, text: &mut Vec<u8>) -> 
             Err(stop) => return Err(stop),
         }
     }
+    // (The steps of the tenant are spent before.)
     Err(Stop::Quiet)
 }
 
@@ -352,7 +353,11 @@ fn output(alloc: Global, input: &[u8], name: &str, session: u32) -> Result<Vec<u
 }
 
 /// Reads the whole input as [`gq_script::run`] does, plays it, and writes the lines that complete the operation which a
-/// session of the tenant of this name then has: a retry of the session, and deliveries of messages.
+/// session of the tenant of this name then has: a retry of the session, and deliveries of messages. Where the last line of
+/// the input misses its newline, it is written first. Behind the input these lines are answered until the operation is
+/// done, and none of them is refused. `Name` and `Session` are told after each fault of the plan, before a line is
+/// answered; `Steps`, `Idle` and the faults of servers by the answers to the lines that were tried. After each fault but
+/// `Write` nothing was written, after that a prefix of the lines.
 pub fn finish_run<R: Read, W: Write>(
     alloc: Global,
     reader: &mut Watched<R>,
