@@ -15,7 +15,11 @@ fn status(rt: &impl Abort, told: Result<Request, Usage>) -> (i32, bool) {
 #[test]
 fn reads_the_words(rt: HostRuntime) {
     let run = ["gridfs", "run"];
-    assert!(rt; matches!(read_words(rt.alloc(), run.as_slice()), Ok(Request::Run)));
+    assert!(rt; matches!(read_words(rt.alloc(), run.as_slice()), Ok(Request::Run { jobs: 1 })));
+    let jobs = ["gridfs", "run", "--jobs", "4"];
+    assert!(rt; matches!(read_words(rt.alloc(), jobs.as_slice()), Ok(Request::Run { jobs: 4 })));
+    let cores = ["gridfs", "run", "-j0"];
+    assert!(rt; matches!(read_words(rt.alloc(), cores.as_slice()), Ok(Request::Run { jobs: 0 })));
     let help = ["gridfs", "--help"];
     assert_eq!(rt;
         status(&rt, read_words(rt.alloc(), help.as_slice())),
