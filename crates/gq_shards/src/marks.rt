@@ -37,7 +37,7 @@ fn marks_of(alloc: Global, plan: &Plan, shards: usize, lines: &[u8]) -> Result<V
     requires most { shards ≤ MOST_TENANTS }
     ensures { IfOk result (λ marks. marks.items ≡ marks_of plan.now shards (lines_of lines.now)) }
 {
-    let mut marks = Vec::new(alloc);
+    let mut marks = Vec::with_capacity(alloc, lines.len() / 8)?;
     let mut rest = lines;
     while !rest.is_empty() {
         let (first, _, after) = cut_line(rest);

@@ -92,7 +92,8 @@ fn next(
     Ok(())
 }
 
-/// Answers the lines that the shard sees, and tells the answers to its own.
+/// Answers the lines that the shard sees, and tells the answers to its own. The lists begin with the room that a shard's part of
+/// the lines may need: a short list that grows is copied from place to place, and leaves holes in memory behind.
 pub fn told_by(
     alloc: Global,
     plan: &Plan,
@@ -107,9 +108,9 @@ pub fn told_by(
         (of_shard shard marks.now (output_lines plan.now (lines_of lines.now)))) }
 {
     let part = part_of(alloc, plan, shards, shard)?;
+    let mut text = Vec::with_capacity(alloc, lines.len() / shards)?;
+    let mut lengths = Vec::with_capacity(alloc, marks.len() / shards)?;
     let mut world = World::new(alloc, part)?;
-    let mut text = Vec::new(alloc);
-    let mut lengths = Vec::new(alloc);
     let mut quorum = QuorumText::new(alloc, *world.plan().grid());
     let mut rest = lines;
     for mark in marks {

@@ -16,7 +16,7 @@ loop-mark-init c =
     let part : IsPart c.args.shards c.args.shard c.args.plan.now c.in_ok-world.world.tables.plan = subst (IsPart c.args.shards c.args.shard c.args.plan.now) (sym c.in_ok-world.ensures.plan) c.in_ok-part.ensures in
     record {
       grid = ap (λ (held : Held). held.grid) c.new-quorum.ensures ∙ (c.grid.ensures ∙ ap (λ (p : CheckedPlan). p.grid) c.plan.ensures);
-      told = rw (c.new-text.ensures.items, c.new-lengths.ensures.items) (tells_first c.args.shards c.args.shard c.args.plan.now c.in_ok-world.world.tables c.args.marks.now (lines_of c.args.lines.now) part c.in_ok-world.ensures.stands c.requires.marks);
+      told = rw (c.in_ok-text.ensures.items, c.in_ok-lengths.ensures.items) (tells_first c.args.shards c.args.shard c.args.plan.now c.in_ok-world.world.tables c.args.marks.now (lines_of c.args.lines.now) part c.in_ok-world.ensures.stands c.requires.marks);
     }
 
 pub loop-mark-preserved : goal.loop-mark-preserved
