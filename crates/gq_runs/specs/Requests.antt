@@ -1,5 +1,5 @@
 -- What a request asks to be written, and the statuses of its faults.
-use Rattle.std.specs.Prelude.{ℕ, ◌≡◌, ◌×◌, List, Option}
+use Rattle.std.specs.Prelude.{ℕ, List, Option}
 use Rattle.std.specs.Io.KnownBytes.{Appends}
 use Rattle.gq_cli.specs.declared.words.Request.{Request}
 use Rattle.gq_cli.specs.declared.words.Request.TheVariants.{Run, Order, Finish, Live}

@@ -102,7 +102,7 @@ pub fn carry_out<T: Threads + Wait + Sync, R: Read, W: Write>(
     requires reader { has_failed reader.old ≡ false }
     requires writer { has_failed writer.old ≡ false }
     ensures ok { OnOk result (IfSome (R.remaining (inner_of reader.old)) (λ input.
-        Writes request input (W.contents (inner_of writer.old)) (W.contents (inner_of writer.new)))) }
+        Writes request.entry input (W.contents (inner_of writer.old)) (W.contents (inner_of writer.new)))) }
     ensures nothing { IfErr result (λ fault. (IsWriting fault → ⊥) → writer.new ≡ writer.old) }
 {
     match request {
