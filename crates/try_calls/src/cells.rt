@@ -1,6 +1,7 @@
 //! The calls of a cell and of a board that take memory.
 
-ghost use Rattle.std.specs.Prelude.{◌≡◌, [], ◌∷◌, IfOk};
+ghost use Rattle.std.specs.Prelude.{◌≡◌, [], ◌∷◌, IfOk, IsTrue};
+ghost use Rattle.gq_tag.specs.Tag.{to_server};
 
 use crate::Fault;
 use crate::calls::{retry, tell, tell_refused};
@@ -75,6 +76,28 @@ fn letter(stamp: u64, body: Body) -> Letter
     }
 }
 
+// A letter is served.
+fn serve_one<L: Ledger>(
+    cell: &mut Cell<L>,
+    share: &mut Share<L>,
+    letter: &Letter,
+    out: &mut Vec<u8>,
+) -> Result<(), Fault>
+    requires here { letter.now.message.server ≡ cell.old.server }
+    requires asks { IsTrue (to_server letter.now.message.body) }
+    ensures { cell.new.server ≡ cell.old.server }
+{
+    let served = retry!(
+        out,
+        "Cell::serve",
+        &(cell.journal(), cell.last(), cell.up(), share.count()),
+        cell.serve(share, letter),
+        CellRefused::Memory
+    );
+    tell(out, &served);
+    Ok(())
+}
+
 // A store and then an ask are served.
 fn serve<L: Ledger>(
     alloc: Global,
@@ -84,31 +107,12 @@ fn serve<L: Ledger>(
 ) -> Result<(), Fault>
     requires { cell.old.server ≡ 0 }
 {
-    let store = letter(
-        5,
-        Body::Store(StoredCopy {
-            tag: Tag::after(0, 1),
-            bytes: Bytes::copy_from_slice(alloc, b"content")?,
-        }),
-    );
-    let served = retry!(
-        out,
-        "Cell::serve",
-        &(cell.journal(), cell.last(), cell.up(), share.count()),
-        cell.serve(share, &store),
-        CellRefused::Memory
-    );
-    tell(out, &served);
-    let ask = letter(2, Body::Ask);
-    let served = retry!(
-        out,
-        "Cell::serve",
-        &(cell.journal(), cell.last(), cell.up(), share.count()),
-        cell.serve(share, &ask),
-        CellRefused::Memory
-    );
-    tell(out, &served);
-    Ok(())
+    let copy = StoredCopy {
+        tag: Tag::after(0, 1),
+        bytes: Bytes::copy_from_slice(alloc, b"content")?,
+    };
+    serve_one(cell, share, &letter(5, Body::Store(copy)), out)?;
+    serve_one(cell, share, &letter(2, Body::Ask), out)
 }
 
 // The server stops or returns.

@@ -69,14 +69,32 @@ fn put_order(alloc: Global, ops: &[Op], out: &mut Vec<u8>) -> Result<(), Fault> 
     Ok(())
 }
 
+// Tells what each session was told, and the operations on the first file in their order.
+fn tell_history(
+    alloc: Global,
+    plan: &Plan,
+    events: &[Event],
+    answers: &[Answer],
+    out: &mut Vec<u8>,
+) -> Result<(), Fault> {
+    for answer in answers {
+        say(answer, out)?;
+    }
+    let ops = ops(alloc, plan, events, answers, out)?;
+    put_order(alloc, &ops, out)
+}
+
+// The same of what a world answers to the events.
+fn run(alloc: Global, plan: &Plan, events: &[Event], out: &mut Vec<u8>) -> Result<(), Fault>
+    requires { All (IsIn plan.now) events.now }
+{
+    let answers = answers(alloc, plan, events)?;
+    tell_history(alloc, plan, events, &answers, out)
+}
+
 /// Runs a script, and tells what each session was told, and the operations on the first file in their order.
 pub fn make(alloc: Global, script: &[u8], out: &mut Vec<u8>) -> Result<(), Fault> {
     let (plan, place) = texts::plan(alloc, script, out)?;
     let events = texts::events(alloc, &plan, &script[place..], out)?;
-    let answers = answers(alloc, &plan, &events)?;
-    for answer in &answers {
-        say(answer, out)?;
-    }
-    let ops = ops(alloc, &plan, &events, &answers, out)?;
-    put_order(alloc, &ops, out)
+    run(alloc, &plan, &events, out)
 }
