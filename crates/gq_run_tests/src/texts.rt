@@ -1,8 +1,8 @@
 //! What is told of records that are no run. No input of the program brings it about.
 
-use gq_runs::{LiveRunFault, NamedMismatch};
 use gq_desk::Name;
 use gq_inspect::Mismatch;
+use gq_runs::{LiveRunFault, NamedMismatch};
 use std::alloc::{AllocError, Global};
 use std::test::Fail;
 

@@ -4,11 +4,11 @@ ghost use Rattle.std.specs.Prelude.{◌≡◌, All, true};
 ghost use Rattle.gq_model.specs.Events.{IsIn};
 
 use crate::Fault;
-use gq_runs::read_programs;
 use gq_desk::Plan;
 use gq_inspect::inspect;
 use gq_live::{OpenGate, Records, Said, SessionEntry, live, sessions_of};
 use gq_model::{Answer, Event, Line};
+use gq_runs::read_programs;
 use gq_script::{MOST_INPUT, write_answer, write_script};
 use std::alloc::{AllocError, Global};
 use std::io::Write;

@@ -37,9 +37,9 @@ mod store;
 mod streams;
 mod texts;
 
-use gq_runs::{OrderFault, ProgramFault};
 use gq_inspect::Mismatch;
 use gq_live::LiveFault;
+use gq_runs::{OrderFault, ProgramFault};
 use gq_script::{PlanText, RunFault, Watched};
 use gq_shards::run_in_shards;
 use std::alloc::{AllocError, AllocFailed, Global};
@@ -265,14 +265,7 @@ fn stream<R: Threads + Sync>(
 fn shards<R: Threads + Sync>(rt: &HostRuntime, threads: &R, count: usize) -> Result<(), Fault> {
     let mut reader = Watched::new(rt.reader());
     let mut writer = Watched::new(io::writer(rt));
-    Ok(run_in_shards(
-        threads,
-        rt.alloc(),
-        count,
-        0,
-        &mut reader,
-        &mut writer,
-    )?)
+    Ok(run_in_shards(threads, rt.alloc(), count, 0, &mut reader, &mut writer)?)
 }
 
 // Goes the way that the words name, and gives what is printed.
