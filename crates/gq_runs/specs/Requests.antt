@@ -4,7 +4,6 @@ use Rattle.std.specs.Io.KnownBytes.{Appends}
 use Rattle.gq_cli.specs.declared.words.Request.{Request}
 use Rattle.gq_cli.specs.declared.words.Request.TheVariants.{Run, Order, Finish, Live}
 use Rattle.gq_script.specs.Out.{out}
-use Rattle.gq_script.specs.declared.script.RunFault.{RunFault}
 use Rattle.gq_script.specs.declared.script.RunFault.TheVariants.{Memory, Write}
 use Rattle.gq_session.specs.declared.records.LiveFault.TheVariants.{Memory as LiveMemory, Thread, Gate, Stamps, Letter}
 use Rattle.gq_runs.specs.Orders.{order_out}
