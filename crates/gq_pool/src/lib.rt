@@ -11,9 +11,8 @@
 mod node;
 mod nodes;
 mod pool;
+mod spent;
 mod stack;
-#[cfg(test)]
-mod tests;
 
 /// The bytes of a block.
 pub const BLOCK_BYTES: usize = 64;
