@@ -2,7 +2,6 @@
 
 ghost use Rattle.std.specs.Prelude.{◌≡◌, ◌≤◌, ℕ, List, Ok, map, vec_len, false, true, IfOk, IfErr, OnOk, IsErrOf};
 ghost use Rattle.std.specs.Io.KnownBytes.{Appends};
-ghost use Rattle.gq_desk.specs.declared.limits.TheConstants.{MOST_TENANTS};
 ghost use Rattle.gq_script.specs.declared.script.RunFault.{RunFault};
 ghost use Rattle.gq_script.specs.Lines.{lines_of};
 ghost use Rattle.gq_script.specs.Out.{joined, output_lines};
