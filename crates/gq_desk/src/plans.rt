@@ -10,12 +10,13 @@ use crate::names::Name;
 use crate::rows::Rows;
 use gq_grid::Grid;
 use std::alloc::{AllocError, Global};
+use std::fmt::{self, Debug, Formatter, Write};
 use std::marker::Model;
 use thiserror::Error;
 
 /// What the plan says of a tenant: its name, its share in blocks of every server, the number of its sessions, and how many
 /// lines it may send.
-#[derive(Clone, Copy, Drop)]
+#[derive(Clone, Copy, Debug, Drop)]
 pub struct TenantRow {
     pub name: Name,
     pub share: u32,
@@ -71,6 +72,16 @@ impl Model for Plan {
     ghost view = { λ p. record { grid = p.grid; blocks = p.blocks; rows = p.rows } };
 
     ghost invariant = { λ p. IsSound p.blocks p.rows };
+}
+
+impl Debug for Plan {
+    fn fmt<W: Write>(&self, f: &mut Formatter<W>) -> fmt::Result {
+        f.debug_struct("Plan")
+            .field("grid", &self.grid)
+            .field("blocks", &self.blocks)
+            .field("rows", &self.rows())
+            .finish()
+    }
 }
 
 // The first number of the row that is out of its range.

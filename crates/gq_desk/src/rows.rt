@@ -11,7 +11,7 @@ use std::alloc::{AllocError, Global};
 use std::marker::Model;
 
 // Rows in order. A name is found without a walk, by its number.
-#[derive(Drop)]
+#[derive(Debug, Drop)]
 pub struct Rows {
     rows: Vec<TenantRow>,
     numbers: IndexSet<u128>,

@@ -20,7 +20,7 @@ pub struct VolumeRow {
 }
 
 /// Volumes in order.
-#[derive(Drop)]
+#[derive(Debug, Drop)]
 pub struct VolumeRows {
     pub items: Vec<VolumeRow>,
 }

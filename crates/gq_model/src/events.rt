@@ -10,7 +10,7 @@ use gq_tag::Tag;
 use std::alloc::AllocError;
 
 /// A line of the input after `go`, read.
-#[derive(Drop)]
+#[derive(Debug, Drop)]
 pub enum Event {
     /// A line of the tenant at this place in the plan.
     Tenant { tenant: u8, line: Line },
@@ -170,7 +170,7 @@ pub enum ServerRefusal {
 }
 
 /// What is answered to a line. Messages that are sent are told by the number of the first and how many they are.
-#[derive(Drop)]
+#[derive(Debug, Drop)]
 pub enum Answer {
     /// The chosen quorum.
     Quorum(Choice),

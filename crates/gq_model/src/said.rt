@@ -11,7 +11,7 @@ use std::alloc::AllocError;
 
 /// What a session is told, with the count of the messages that were sent in place of their numbers, which depend on what
 /// the tenant's other sessions sent before.
-#[derive(Drop)]
+#[derive(Debug, Drop)]
 pub enum Said {
     /// The operation of this number begins.
     Began {

@@ -13,7 +13,7 @@ use std::alloc::AllocError;
 use std::marker::Model;
 
 /// The earliest copy of greatest tag, if one was heard. A greater number than its tag's is left.
-#[derive(Drop)]
+#[derive(Debug, Drop)]
 pub struct Best {
     copy: Option<StoredCopy>,
 }

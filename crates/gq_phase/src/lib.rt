@@ -29,7 +29,7 @@ pub struct Row {
 }
 
 /// The files of a volume, from file 0 on.
-#[derive(Drop)]
+#[derive(Debug, Drop)]
 pub struct Rows {
     pub items: Vec<Row>,
 }
@@ -54,7 +54,7 @@ impl Clone for Rows {
 }
 
 /// How an operation ended. A clone shares the content that a read gave.
-#[derive(Drop)]
+#[derive(Debug, Drop)]
 pub enum Outcome {
     /// A write is done under the tag.
     Wrote {
@@ -101,7 +101,7 @@ impl Clone for Outcome {
 }
 
 /// What an operation says to a message of its session.
-#[derive(Drop)]
+#[derive(Debug, Drop)]
 pub enum Heard {
     /// The message is of another operation or round, or the operation is done.
     Stale,

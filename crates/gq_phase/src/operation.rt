@@ -25,7 +25,7 @@ use std::alloc::{AllocError, Global};
 use std::mem;
 
 // What the session was asked to do.
-#[derive(Drop)]
+#[derive(Debug, Drop)]
 enum Task {
     Write(Bytes),
     Read,
@@ -35,7 +35,9 @@ enum Task {
 /// The operation of a session: which round it is in, and what it has to know of what was heard. Its size does not
 /// grow with what it hears, but for one row for each file that a listing has collected.
 #[derive(Drop)]
+#[derive_where(Debug)]
 pub struct Operation {
+    #[derive_where(skip)]
     alloc: Global,
     grid: Grid,
     who: Who,

@@ -21,7 +21,7 @@ pub struct Who {
 }
 
 /// What the messages of a round have in common: all but the server that each goes to. Rounds are numbered from 1.
-#[derive(Drop)]
+#[derive(Debug, Drop)]
 pub struct RoundMessage {
     pub who: Who,
     pub round: u32,
@@ -31,7 +31,7 @@ pub struct RoundMessage {
 
 /// A round's messages: its message to each server of the grid that is in one set and not in another. Contracts see the
 /// messages, in rising number of their servers; what they have in common is there once.
-#[derive(Drop)]
+#[derive(Debug, Drop)]
 pub struct Messages {
     pub message: RoundMessage,
     pub grid: Grid,

@@ -9,7 +9,7 @@ use std::marker::Model;
 use thiserror::Error;
 
 /// The requests of one session, in order.
-#[derive(Drop)]
+#[derive(Debug, Drop)]
 pub struct Lines {
     pub items: Vec<Line>,
 }
@@ -33,7 +33,7 @@ pub struct Opening {
 
 /// What is to be done: the volumes, each session's requests (the sessions of the first tenant first), and the servers'
 /// stops and returns.
-#[derive(Drop)]
+#[derive(Debug, Drop)]
 pub struct Programs {
     pub volumes: Vec<Opening>,
     pub sessions: Vec<Lines>,
@@ -41,7 +41,7 @@ pub struct Programs {
 }
 
 /// What a session did.
-#[derive(Drop)]
+#[derive(Debug, Drop)]
 pub enum Did {
     /// It asked the request.
     Asked(Line),
@@ -54,7 +54,7 @@ pub enum Did {
 }
 
 /// A step of a session, in a hold of the board's lock, and what was said to it.
-#[derive(Drop)]
+#[derive(Debug, Drop)]
 pub struct SessionEntry {
     pub stamp: u64,
     pub did: Did,
@@ -62,7 +62,7 @@ pub struct SessionEntry {
 }
 
 /// A server's journal.
-#[derive(Drop)]
+#[derive(Debug, Drop)]
 pub struct Journal {
     pub items: Vec<CellEntry>,
 }
@@ -77,7 +77,7 @@ impl Model for Journal {
 }
 
 /// A session's steps, in order.
-#[derive(Drop)]
+#[derive(Debug, Drop)]
 pub struct Entries {
     pub items: Vec<SessionEntry>,
 }
@@ -92,7 +92,7 @@ impl Model for Entries {
 }
 
 /// What was done: the volumes, each server's journal, the board's changes, and each session's steps.
-#[derive(Drop)]
+#[derive(Debug, Drop)]
 pub struct Records {
     pub volumes: Vec<Opening>,
     pub cells: Vec<Journal>,

@@ -191,7 +191,7 @@ impl Message {
 }
 
 /// What a message says, its copy lent.
-#[derive(Clone, Copy)]
+#[derive(Clone, Copy, Debug)]
 pub enum BodyView<'a> {
     /// Asks for the file's copy.
     Ask,
@@ -219,7 +219,7 @@ impl<'a> BodyView<'a> {
 
 /// A message whose copy is lent by whoever has it, as the post has the copies of many messages once. Contracts see the
 /// message.
-#[derive(Drop)]
+#[derive(Debug, Drop)]
 pub struct MessageView<'a> {
     pub tenant: u8,
     pub session: u8,

@@ -6,9 +6,10 @@ ghost use Rattle.gq_model.specs.Events.{IsIn};
 use crate::calls::{retry, tell};
 use crate::{Fault, texts};
 use gq_desk::Plan;
+use gq_model::said_of;
 use gq_order::{Op, check_order, operations, order};
 use gq_tag::FileId;
-use gq_world::{Answer, Event, World, said_of};
+use gq_world::{Answer, Event, World};
 use std::alloc::Global;
 
 const FILE: FileId = FileId {
