@@ -1,4 +1,4 @@
-"""How far a command is that proves crates, told on standard error; and which crates there are."""
+"""How far a command is that proves crates, told on standard error; which crates there are, and how many are proved at once."""
 
 import os
 import shutil
@@ -6,6 +6,15 @@ import sys
 import time
 
 TOP = os.path.dirname(os.path.dirname(os.path.abspath(__file__)))
+# What the check of one crate is planned to take.
+BYTES_OF_A_CHECK = 3_500_000_000
+
+
+def at_once():
+    """How many crates can be proved side by side here, by the processors and the memory."""
+    with open("/proc/meminfo") as lines:
+        free = next(1024 * int(it.split()[1]) for it in lines if it.startswith("MemAvailable:"))
+    return max(1, min(len(os.sched_getaffinity(0)), free // BYTES_OF_A_CHECK))
 
 
 def crates_below(program=None):
