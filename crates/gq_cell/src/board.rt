@@ -8,6 +8,7 @@ ghost use Rattle.gq_cell.specs.Stamps.{stamp_after};
 ghost use Rattle.gq_cell.specs.Boards.{up_of, change_fault, with_change};
 
 use gq_grid::{Grid, ServerSet};
+use gq_memory::{OutOfMemory, RoomInVec};
 use std::alloc::Global;
 use std::marker::Model;
 use thiserror::Error;
@@ -21,7 +22,7 @@ pub struct BoardEntry {
 }
 
 /// Why a server isn't changed. The causes are tested in this order.
-#[derive(Clone, Copy, Debug, PartialEq, Eq, Error)]
+#[derive(Debug, Drop, Error)]
 pub enum ChangeRefused {
     /// The server is so already.
     #[error("same")]
@@ -31,7 +32,7 @@ pub enum ChangeRefused {
     Stamps,
     /// Memory is wanting.
     #[error("out of memory")]
-    Memory,
+    Memory(OutOfMemory),
 }
 
 /// Which servers are up: those that the changes so far leave, at first all. It gives out the stamps of the sessions' steps
@@ -128,9 +129,9 @@ impl Board {
         ensures stamp { IfOk result (λ stamp. stamp ≡ stamp_after self.old.last seen) }
         ensures changed { IfOk result (λ stamp. self.new ≡ with_change stamp server up self.old) }
         ensures allowed { OnOk result (change_fault self.old server up seen ≡ None) }
-        ensures refused { IfErr result (λ fault. fault ≢ ChangeRefused.Memory
+        ensures refused { IfErr result (λ fault. fault ≢ ChangeRefused.Memory tt
             → change_fault self.old server up seen ≡ Some fault) }
-        ensures memory { IsErrOf result ChangeRefused.Memory → change_fault self.old server up seen ≡ None }
+        ensures memory { IsErrOf result (ChangeRefused.Memory tt) → change_fault self.old server up seen ≡ None }
         ensures same { OnErr result (self.new ≡ self.old) }
     {
         let _servers = self.grid.servers();
@@ -141,8 +142,8 @@ impl Board {
         if above == u64::MAX {
             return Err(ChangeRefused::Stamps);
         }
-        if self.entries.reserve(1).is_err() {
-            return Err(ChangeRefused::Memory);
+        if let Err(refused) = self.entries.make_room(1) {
+            return Err(ChangeRefused::Memory(refused));
         }
         let stamp = above + 1;
         self.up = with_flag(self.up, server, up);

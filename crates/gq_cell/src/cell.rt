@@ -12,9 +12,10 @@ ghost use Rattle.gq_cell.specs.Serving.{Serves, cell_fault, with_entry};
 
 use crate::letter::{CellEntry, Letter};
 use gq_desk::Plan;
-use gq_store::{ServerStore, reply};
+use gq_memory::{OutOfMemory, RoomInVec};
+use gq_store::{ServeRefused, ServerStore, reply};
 use gq_tag::{Body, Message};
-use std::alloc::{AllocError, Global};
+use std::alloc::Global;
 use std::marker::Model;
 use std::sync::ledger;
 use std::sync::ledger::{Blank, Book, Ledger};
@@ -74,7 +75,7 @@ pub enum Served {
 }
 
 /// Why a letter isn't served. The causes are tested in this order.
-#[derive(Clone, Copy, Debug, PartialEq, Eq, Error)]
+#[derive(Debug, Drop, Error)]
 pub enum CellRefused {
     /// No greater stamp is left.
     #[error("no stamp left")]
@@ -87,7 +88,7 @@ pub enum CellRefused {
     Long,
     /// Memory is wanting.
     #[error("out of memory")]
-    Memory,
+    Memory(OutOfMemory),
 }
 
 impl<L: Ledger> Share<L> {
@@ -126,13 +127,13 @@ impl<L: Ledger> Cell<L> {
     /// The cell of a server of the plan, which is up and has done nothing, and a share for each of its two workers, which
     /// have counted nothing.
     ///
-    /// `AllocError` is want of memory: the blank is then given up.
+    /// `OutOfMemory` is want of memory: the blank is then given up.
     pub fn new(
         alloc: Global,
         plan: &Plan,
         server: u8,
         blank: Blank,
-    ) -> Result<(Cell<L>, Share<L>, Share<L>), AllocError>
+    ) -> Result<(Cell<L>, Share<L>, Share<L>), OutOfMemory>
         requires server { server < plan.now.grid.rows * plan.now.grid.cols }
         requires name { blank.name ≡ L.name }
         requires parts { blank.parts ≡ L.parts }
@@ -165,8 +166,8 @@ impl<L: Ledger> Cell<L> {
     /// Adds the tenant's next volume, as [`ServerStore::add_files`] does: each new file has its first copy. The journal
     /// stays.
     ///
-    /// `AllocError` is want of memory: the cell is then as it was.
-    pub fn add_files(&mut self, tenant: u8, files: u32, blocks: u32) -> Result<(), AllocError>
+    /// `OutOfMemory` is want of memory: the cell is then as it was.
+    pub fn add_files(&mut self, tenant: u8, files: u32, blocks: u32) -> Result<(), OutOfMemory>
         requires tenant { tenant < length self.old.accounts }
         requires share { files * blocks ≤ free_of (account_at self.old.accounts tenant) }
         ensures added { OnOk result (self.new ≡ record self.old {
@@ -235,9 +236,9 @@ impl<L: Ledger> Cell<L> {
         ensures served { IfOk result (λ done. Serves letter.now self.old self.new share.old share.new done) }
         ensures down { is_up self.old.journal ≡ false → OnOk result (self.new ≡ self.old) }
         ensures allowed { OnOk result (is_up self.old.journal ≡ true → cell_fault self.old letter.now ≡ None) }
-        ensures refused { IfErr result (λ fault. fault ≢ CellRefused.Memory
+        ensures refused { IfErr result (λ fault. fault ≢ CellRefused.Memory tt
             → cell_fault self.old letter.now ≡ Some fault) }
-        ensures memory { IsErrOf result CellRefused.Memory → cell_fault self.old letter.now ≡ None }
+        ensures memory { IsErrOf result (CellRefused.Memory tt) → cell_fault self.old letter.now ≡ None }
         ensures up { OnErr result (is_up self.old.journal ≡ true) }
         ensures same { OnErr result ((self.new ≡ self.old) × (share.new ≡ share.old)) }
     {
@@ -254,7 +255,7 @@ impl<L: Ledger> Cell<L> {
         };
         match replied {
             Ok(reply) => Ok(Served::Reply(reply)),
-            Err(_) => Err(CellRefused::Memory),
+            Err(refused) => Err(CellRefused::Memory(refused)),
         }
     }
 
@@ -264,7 +265,7 @@ impl<L: Ledger> Cell<L> {
         share: &mut Share<L>,
         letter: &Letter,
         stamp: u64,
-    ) -> Result<Letter, AllocError>
+    ) -> Result<Letter, OutOfMemory>
         requires here { letter.now.message.server ≡ self.old.server }
         requires ask { letter.now.message.body ≡ Body.Ask }
         requires allowed { fault_in (limit_of self.old.accounts letter.now.message.file) letter.now.message.body ≡ None }
@@ -275,13 +276,15 @@ impl<L: Ledger> Cell<L> {
         ensures counted { OnOk result (share.new ≡ share.old + 1) }
         ensures same { OnErr result ((self.new ≡ self.old) × (share.new ≡ share.old)) }
     {
-        let letter_kept = letter.clone()?;
-        self.journal.reserve(1)?;
-        let Ok(message) = self.store.serve(&letter.message) else {
-            return Err(AllocError);
+        let letter_kept = letter.share()?;
+        self.journal.make_room(1)?;
+        let message = match self.store.serve(&letter.message) {
+            Ok(message) => message,
+            Err(ServeRefused::Memory(refused)) => return Err(refused),
+            Err(_) => unreachable!(),
         };
         let told = answer(self.server, stamp, message);
-        let reply_kept = told.clone()?;
+        let reply_kept = told.share()?;
         count_one(&mut self.served, share);
         self.last = stamp;
         self.journal.push_reserved(CellEntry::Served {
@@ -297,7 +300,7 @@ impl<L: Ledger> Cell<L> {
         share: &mut Share<L>,
         letter: &Letter,
         stamp: u64,
-    ) -> Result<Letter, AllocError>
+    ) -> Result<Letter, OutOfMemory>
         requires here { letter.now.message.server ≡ self.old.server }
         requires store { (copy : StoredCopy) × (letter.now.message.body ≡ Body.Store copy) }
         requires allowed { fault_in (limit_of self.old.accounts letter.now.message.file) letter.now.message.body ≡ None }
@@ -308,8 +311,8 @@ impl<L: Ledger> Cell<L> {
         ensures counted { OnOk result (share.new ≡ share.old + 1) }
         ensures same { OnErr result ((self.new ≡ self.old) × (share.new ≡ share.old)) }
     {
-        let heard = letter.clone()?;
-        self.journal.reserve(1)?;
+        let heard = letter.share()?;
+        self.journal.make_room(1)?;
         let Ok(acknowledged) = self.store.serve(&letter.message) else {
             unreachable!()
         };
@@ -326,14 +329,14 @@ impl<L: Ledger> Cell<L> {
 
     /// Stops the server, or brings it back, at a stamp above the last: one entry more.
     ///
-    /// `AllocError` is want of memory: the cell is then as it was.
-    pub fn set_up(&mut self, up: bool, stamp: u64) -> Result<(), AllocError>
+    /// `OutOfMemory` is want of memory: the cell is then as it was.
+    pub fn set_up(&mut self, up: bool, stamp: u64) -> Result<(), OutOfMemory>
         requires differs { is_up self.old.journal ≢ up }
         requires stamp { last_of self.old.journal < stamp }
         ensures set { OnOk result (self.new ≡ with_entry (if up then CellEntry.Back stamp else CellEntry.Stop stamp) self.old) }
         ensures same { OnErr result (self.new ≡ self.old) }
     {
-        self.journal.reserve(1)?;
+        self.journal.make_room(1)?;
         self.up = up;
         self.last = stamp;
         if up {

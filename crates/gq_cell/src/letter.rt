@@ -1,9 +1,9 @@
 //! Letters, and the entries of a journal.
 
-ghost use Rattle.std.specs.Prelude.{◌≡◌};
+ghost use Rattle.std.specs.Prelude.{◌≡◌, IfOk};
 
+use gq_memory::OutOfMemory;
 use gq_tag::Message;
-use std::alloc::AllocError;
 
 /// A message, and the step that sent it: where it was (0 is the board, `s + 1` is server `s`), its stamp, and as which of
 /// its messages, from 0. A clone shares the content.
@@ -26,15 +26,16 @@ pub enum CellEntry {
     Back { stamp: u64 },
 }
 
-impl Clone for Letter {
-    ghost is_clone = { λ a b. b ≡ a };
-
-    fn clone(&self) -> Result<Letter, AllocError> {
+impl Letter {
+    /// The same letter, which shares the content.
+    pub fn share(&self) -> Result<Letter, OutOfMemory>
+        ensures { IfOk result (λ same. same ≡ self.now) }
+    {
         Ok(Letter {
             place: self.place,
             stamp: self.stamp,
             index: self.index,
-            message: self.message.clone()?,
+            message: self.message.share()?,
         })
     }
 }

@@ -53,7 +53,7 @@ abbrev pub IsRefusedFor : Option OpenFault → OpenRefused → Type 0
 IsRefusedFor fault Size = fault ≡ Some WrongSize
 IsRefusedFor fault Volumes = fault ≡ Some NoVolumeLeft
 IsRefusedFor fault (Share free) = fault ≡ Some (OverShare free)
-IsRefusedFor fault Memory = fault ≡ None
+IsRefusedFor fault (Memory _) = fault ≡ None
 
 -- the account with one volume more
 abbrev pub with_volume : VolumeRow → Account → Account

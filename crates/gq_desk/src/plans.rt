@@ -9,7 +9,8 @@ use crate::limits::{MOST_BLOCKS, MOST_SESSIONS, MOST_STEPS, MOST_TENANTS};
 use crate::names::Name;
 use crate::rows::Rows;
 use gq_grid::Grid;
-use std::alloc::{AllocError, Global};
+use gq_memory::OutOfMemory;
+use std::alloc::Global;
 use std::fmt::{self, Debug, Formatter, Write};
 use std::marker::Model;
 use thiserror::Error;
@@ -25,7 +26,7 @@ pub struct TenantRow {
 }
 
 /// Why rows are no plan. A fault of a row names its place, from 0.
-#[derive(Clone, Copy, Debug, PartialEq, Eq, Error)]
+#[derive(Debug, Drop, Error)]
 pub enum PlanFault {
     /// There is no row.
     #[error("notenant")]
@@ -50,7 +51,7 @@ pub enum PlanFault {
     TooMany { row: usize },
     /// Memory is wanting.
     #[error("out of memory")]
-    Memory,
+    Memory(OutOfMemory),
 }
 
 /// A grid, the blocks of a server, and the rows of the tenants, in which [`Plan::check`] found no fault.
@@ -149,15 +150,15 @@ impl Plan {
         requires high { blocks ≤ MOST_BLOCKS }
         ensures ok { IfOk result (λ plan. plan ≡ record { grid = grid; blocks = blocks; rows = rows.now }) }
         ensures sound { OnOk result (plan_fault blocks rows.now ≡ None) }
-        ensures fault { IfErr result (λ fault. fault ≢ PlanFault.Memory → plan_fault blocks rows.now ≡ Some fault) }
+        ensures fault { IfErr result (λ fault. fault ≢ PlanFault.Memory tt → plan_fault blocks rows.now ≡ Some fault) }
     {
         let mut held = Rows::new(alloc);
         for row in rows {
             if let Some(fault) = row_fault(&held, row) {
                 return Err(fault);
             }
-            if held.push(*row).is_err() {
-                return Err(PlanFault::Memory);
+            if let Err(refused) = held.push(*row) {
+                return Err(PlanFault::Memory(refused));
             }
         }
         if held.as_slice().is_empty() {
@@ -177,8 +178,8 @@ impl Plan {
         })
     }
 
-    /// An equal plan. `AllocError` is want of memory.
-    pub fn copy(&self) -> Result<Plan, AllocError>
+    /// An equal plan. `OutOfMemory` is want of memory.
+    pub fn copy(&self) -> Result<Plan, OutOfMemory>
         ensures { IfOk result (λ plan. plan ≡ self.now) }
     {
         Ok(Plan {

@@ -6,8 +6,9 @@ ghost use Rattle.gq_desk.specs.Plans.{is_of, is_named};
 
 use crate::names::word_number;
 use crate::plans::TenantRow;
+use gq_memory::{GrowIndexSet, OutOfMemory, RoomInVec, set_copied, slice_copied};
 use indexmap::IndexSet;
-use std::alloc::{AllocError, Global};
+use std::alloc::Global;
 use std::marker::Model;
 
 // Rows in order. A name is found without a walk, by its number.
@@ -60,13 +61,13 @@ impl Rows {
     }
 
     // Adds a row of a new name.
-    pub fn push(&mut self, row: TenantRow) -> Result<(), AllocError>
+    pub fn push(&mut self, row: TenantRow) -> Result<(), OutOfMemory>
         requires { list_any (is_of row.name) self.old ≡ false }
         ensures ok { OnOk result (self.new ≡ self.old ++ row ∷ []) }
         ensures err { OnErr result (self.new ≡ self.old) }
     {
-        self.rows.reserve(1)?;
-        self.numbers.insert(row.name.number())?;
+        self.rows.make_room(1)?;
+        self.numbers.grow(row.name.number())?;
         self.rows.push_reserved(row);
         Ok(())
     }
@@ -80,12 +81,12 @@ impl Rows {
     }
 
     // The same rows.
-    pub fn copy(&self, alloc: Global) -> Result<Rows, AllocError>
+    pub fn copy(&self, alloc: Global) -> Result<Rows, OutOfMemory>
         ensures { IfOk result (λ rows. rows ≡ self.now) }
     {
         Ok(Rows {
-            rows: Vec::from_slice(alloc, self.rows.as_slice())?,
-            numbers: self.numbers.clone()?,
+            rows: slice_copied(alloc, self.rows.as_slice())?,
+            numbers: set_copied(&self.numbers)?,
         })
     }
 }

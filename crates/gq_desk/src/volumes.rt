@@ -6,9 +6,10 @@ ghost use Rattle.std.specs.List.{list_all};
 
 use crate::limits::{MOST_FILE_BLOCKS, MOST_VOLUMES};
 use crate::plans::Plan;
+use gq_memory::{GrowVec, OutOfMemory};
 use gq_pool::BLOCK_BYTES;
 use gq_tag::{FileId, MOST_FILES};
-use std::alloc::{AllocError, Global};
+use std::alloc::Global;
 use std::marker::Model;
 use thiserror::Error;
 
@@ -35,7 +36,7 @@ impl Model for VolumeRows {
 }
 
 /// Why a volume is not opened. The causes are tested in this order.
-#[derive(Clone, Copy, Debug, PartialEq, Eq, Error)]
+#[derive(Debug, Drop, Error)]
 pub enum OpenRefused {
     /// The files are not 1 to [`MOST_FILES`], or the blocks of a file not 1 to [`MOST_FILE_BLOCKS`].
     #[error("size")]
@@ -48,7 +49,7 @@ pub enum OpenRefused {
     Share { free: u32 },
     /// Memory is wanting.
     #[error("out of memory")]
-    Memory,
+    Memory(OutOfMemory),
 }
 
 // A tenant's volumes, and how many blocks of its share no volume takes.
@@ -108,14 +109,14 @@ impl Account {
     }
 
     // Adds a volume that no cause refuses, and answers its number.
-    fn open(&mut self, volume: VolumeRow) -> Result<u32, AllocError>
+    fn open(&mut self, volume: VolumeRow) -> Result<u32, OutOfMemory>
         requires { open_fault self.old volume ≡ None }
         ensures number { IfOk result (λ number. number ≡ length self.old.volumes) }
         ensures opened { OnOk result (self.new ≡ with_volume volume self.old) }
         ensures same { OnErr result (self.new ≡ self.old) }
     {
         let number = self.volumes.len();
-        self.volumes.push(volume)?;
+        self.volumes.grow(volume)?;
         self.free -= volume.files * volume.blocks;
         Ok(number as u32)
     }
@@ -137,13 +138,13 @@ impl Model for Desk {
 }
 
 impl Desk {
-    /// The desk of the plan's tenants: no volume is there, and each share is free. `AllocError` is want of memory.
-    pub fn new(alloc: Global, plan: &Plan) -> Result<Desk, AllocError>
+    /// The desk of the plan's tenants: no volume is there, and each share is free. `OutOfMemory` is want of memory.
+    pub fn new(alloc: Global, plan: &Plan) -> Result<Desk, OutOfMemory>
         ensures { IfOk result (λ d. d ≡ map (λ row. record { share = row.share; volumes = [] }) plan.now.rows) }
     {
         let mut accounts = Vec::new(alloc);
         for row in plan.rows() {
-            accounts.push(Account::new(alloc, row.share))?;
+            accounts.grow(Account::new(alloc, row.share))?;
         }
         Ok(Desk { accounts })
     }
@@ -165,7 +166,7 @@ impl Desk {
         }
         match account.open(volume) {
             Ok(number) => Ok(number),
-            Err(_) => Err(OpenRefused::Memory),
+            Err(refused) => Err(OpenRefused::Memory(refused)),
         }
     }
 

@@ -5,8 +5,9 @@ ghost use Rattle.gq_cell.specs.Journal.{stamp_of};
 ghost use Rattle.gq_inspect.specs.Lists.{is_above, BoardClimbs, SessionClimbs, JournalClimbs, AllClimb, HasFlips, AllFlips, flips, board_flips};
 
 use gq_cell::{BoardEntry, CellEntry};
+use gq_memory::{GrowVec, OutOfMemory};
 use gq_session::{Entries, Journal, Records, SessionEntry};
-use std::alloc::{AllocError, Global};
+use std::alloc::Global;
 
 /// A server's stop or return.
 #[derive(Clone, Copy, PartialEq, Eq)]
@@ -107,18 +108,18 @@ pub(crate) fn all_climb(records: &Records) -> bool
 }
 
 // The stops and returns of a journal.
-fn flips(alloc: Global, entries: &[CellEntry]) -> Result<Vec<Flip>, AllocError>
+fn flips(alloc: Global, entries: &[CellEntry]) -> Result<Vec<Flip>, OutOfMemory>
     ensures { IfOk result (λ all. all.items ≡ flips entries.now) }
 {
     let mut all = Vec::new(alloc);
     for entry in entries.iter() {
         match entry {
             CellEntry::Served { .. } => {}
-            CellEntry::Stop { stamp } => all.push(Flip {
+            CellEntry::Stop { stamp } => all.grow(Flip {
                 stamp: *stamp,
                 up: false,
             })?,
-            CellEntry::Back { stamp } => all.push(Flip {
+            CellEntry::Back { stamp } => all.grow(Flip {
                 stamp: *stamp,
                 up: true,
             })?,
@@ -132,13 +133,13 @@ fn board_flips(
     alloc: Global,
     server: usize,
     entries: &[BoardEntry],
-) -> Result<Vec<Flip>, AllocError>
+) -> Result<Vec<Flip>, OutOfMemory>
     ensures { IfOk result (λ all. all.items ≡ board_flips server entries.now) }
 {
     let mut all = Vec::new(alloc);
     for entry in entries.iter() {
         if entry.server as usize == server {
-            all.push(Flip {
+            all.grow(Flip {
                 stamp: entry.stamp,
                 up: entry.up,
             })?;
@@ -168,7 +169,7 @@ fn has_flips(
     board: &[BoardEntry],
     journal: &[CellEntry],
     server: usize,
-) -> Result<bool, AllocError>
+) -> Result<bool, OutOfMemory>
     ensures { IfOk result (λ is. is ≡ true → flips journal.now ≡ board_flips server board.now) }
 {
     let mine = flips(alloc, journal)?;
@@ -177,7 +178,7 @@ fn has_flips(
 }
 
 // Whether each server's stops and returns are the board's.
-pub(crate) fn all_flips(alloc: Global, records: &Records) -> Result<bool, AllocError>
+pub(crate) fn all_flips(alloc: Global, records: &Records) -> Result<bool, OutOfMemory>
     ensures { IfOk result (λ is. is ≡ true → AllFlips records.now) }
 {
     let cells = records.cells.as_slice();

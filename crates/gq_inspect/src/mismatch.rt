@@ -2,13 +2,13 @@
 
 ghost use Rattle.std.specs.Prelude.{◌≡◌};
 
+use gq_memory::OutOfMemory;
 use gq_world::Ended;
-use std::alloc::AllocError;
 use thiserror::Error;
 
 /// Why records are no run of the core. The shape is tested first, then the stamps of the lists; the others tell of the first
 /// step, in order of stamp and place, that differs.
-#[derive(Clone, Copy, Debug, PartialEq, Eq, Error)]
+#[derive(Debug, Drop, Error)]
 pub enum Mismatch {
     /// There is not one list for each server and each session of the plan, or a volume is refused.
     #[error("mismatch shape")]
@@ -28,17 +28,17 @@ pub enum Mismatch {
     Answer { tenant: u8, session: u8, at: usize },
     /// Memory is wanting.
     #[error("out of memory")]
-    Memory,
+    Memory(OutOfMemory),
 }
 
-impl From<AllocError> for Mismatch {
+impl From<OutOfMemory> for Mismatch {
     ghost use Rattle.std.specs.Prelude.{◌≡◌};
     ghost use Rattle.gq_inspect.specs.declared.mismatch.Mismatch.TheVariants.{Memory};
 
-    ghost from_gives = { λ _ e. e ≡ Memory };
+    ghost from_gives = { λ refused e. e ≡ Memory refused };
 
-    fn from(_e: AllocError) -> Mismatch {
-        Mismatch::Memory
+    fn from(refused: OutOfMemory) -> Mismatch {
+        Mismatch::Memory(refused)
     }
 }
 
@@ -46,9 +46,10 @@ impl From<Ended> for Mismatch {
     ghost use Rattle.std.specs.Prelude.{◌≡◌};
     ghost use Rattle.gq_inspect.specs.declared.mismatch.Mismatch.TheVariants.{Memory};
 
-    ghost from_gives = { λ _ e. e ≡ Memory };
+    ghost from_gives = { λ _ e. e ≡ Memory tt };
 
-    fn from(_e: Ended) -> Mismatch {
-        Mismatch::Memory
+    fn from(ended: Ended) -> Mismatch {
+        let Ended(refused) = ended;
+        Mismatch::Memory(refused)
     }
 }

@@ -12,9 +12,9 @@ use crate::mismatch::Mismatch;
 use crate::steps::{Origin, Step};
 use crate::tape::Tape;
 use gq_cell::{BoardEntry, CellEntry, Letter};
+use gq_memory::OutOfMemory;
 use gq_model::{Answer, Event, Line, ServerLine, said_of};
 use gq_session::{Did, Records, SessionEntry, SessionId, is_request_of};
-use std::alloc::AllocError;
 
 // The board's change.
 fn play_board(tape: &mut Tape, entry: &BoardEntry) -> Result<(), Mismatch>
@@ -37,7 +37,7 @@ fn play_board(tape: &mut Tape, entry: &BoardEntry) -> Result<(), Mismatch>
 }
 
 // The line that is what the session did. None where that can't be.
-fn deed(tape: &Tape, id: SessionId, did: &Did) -> Result<Option<Line>, AllocError>
+fn deed(tape: &Tape, id: SessionId, did: &Did) -> Result<Option<Line>, OutOfMemory>
     requires stands { Stands tape.now.world.tables tape.now.events.items }
     ensures { IfOk result (λ line. ForSome line (λ line. IsDeed tape.now.world.tables.plan (before_of tape.now) id did.now line)) }
 {
@@ -45,7 +45,7 @@ fn deed(tape: &Tape, id: SessionId, did: &Did) -> Result<Option<Line>, AllocErro
     Ok(match did {
         Did::Asked(line) => {
             if is_request_of(id.number, line) {
-                Some(line.clone()?)
+                Some(line.share()?)
             } else {
                 None
             }

@@ -5,8 +5,9 @@ ghost use Rattle.gq_inspect.specs.Steps.{board_steps, session_steps, served_step
 
 use crate::mismatch::Mismatch;
 use gq_cell::{BoardEntry, CellEntry};
+use gq_memory::{GrowVec, OutOfMemory, SortVec};
 use gq_session::{Entries, Journal, Records, SessionEntry};
-use std::alloc::{AllocError, Global};
+use std::alloc::Global;
 
 /// The list that a step is of.
 #[derive(Clone, Copy, PartialEq, Eq, PartialOrd, Ord)]
@@ -25,11 +26,11 @@ pub struct Step {
     pub at: usize,
 }
 
-fn add_board(all: &mut Vec<Step>, entries: &[BoardEntry]) -> Result<(), AllocError>
+fn add_board(all: &mut Vec<Step>, entries: &[BoardEntry]) -> Result<(), OutOfMemory>
     ensures { OnOk result (all.new.items ≡ all.old.items ++ board_steps 0 entries.now) }
 {
     for (at, entry) in entries.iter().enumerate() {
-        all.push(Step {
+        all.grow(Step {
             stamp: entry.stamp,
             place: 0,
             origin: Origin::Board,
@@ -43,11 +44,11 @@ fn add_session(
     all: &mut Vec<Step>,
     session: usize,
     entries: &[SessionEntry],
-) -> Result<(), AllocError>
+) -> Result<(), OutOfMemory>
     ensures { OnOk result (all.new.items ≡ all.old.items ++ session_steps session 0 entries.now) }
 {
     for (at, entry) in entries.iter().enumerate() {
-        all.push(Step {
+        all.grow(Step {
             stamp: entry.stamp,
             place: 0,
             origin: Origin::Session(session),
@@ -62,12 +63,12 @@ fn add_cell(
     place: usize,
     server: usize,
     entries: &[CellEntry],
-) -> Result<(), AllocError>
+) -> Result<(), OutOfMemory>
     ensures { OnOk result (all.new.items ≡ all.old.items ++ served_steps place server 0 entries.now) }
 {
     for (at, entry) in entries.iter().enumerate() {
         if let CellEntry::Served { reply, .. } = entry {
-            all.push(Step {
+            all.grow(Step {
                 stamp: reply.stamp,
                 place,
                 origin: Origin::Server(server),
@@ -78,7 +79,7 @@ fn add_cell(
     Ok(())
 }
 
-fn add_sessions(all: &mut Vec<Step>, sessions: &[Entries]) -> Result<(), AllocError>
+fn add_sessions(all: &mut Vec<Step>, sessions: &[Entries]) -> Result<(), OutOfMemory>
     ensures { OnOk result (all.new.items ≡ all.old.items ++ sessions_steps 0 sessions.now) }
 {
     for (session, entries) in sessions.iter().enumerate() {
@@ -87,7 +88,7 @@ fn add_sessions(all: &mut Vec<Step>, sessions: &[Entries]) -> Result<(), AllocEr
     Ok(())
 }
 
-fn add_cells(all: &mut Vec<Step>, cells: &[Journal]) -> Result<(), AllocError>
+fn add_cells(all: &mut Vec<Step>, cells: &[Journal]) -> Result<(), OutOfMemory>
     ensures { OnOk result (all.new.items ≡ all.old.items ++ cells_steps 0 cells.now) }
 {
     for (server, journal) in cells.iter().enumerate() {
@@ -97,7 +98,7 @@ fn add_cells(all: &mut Vec<Step>, cells: &[Journal]) -> Result<(), AllocError>
 }
 
 // All steps, list by list.
-fn steps_of(alloc: Global, records: &Records) -> Result<Vec<Step>, AllocError>
+fn steps_of(alloc: Global, records: &Records) -> Result<Vec<Step>, OutOfMemory>
     ensures { IfOk result (λ all. all.items ≡ steps records.now) }
 {
     let mut all = Vec::new(alloc);
@@ -135,7 +136,7 @@ pub(crate) fn in_order(alloc: Global, records: &Records) -> Result<Vec<Step>, Mi
     ensures { IfOk result (λ order. IsOrderOf records.now order.items) }
 {
     let mut order = steps_of(alloc, records)?;
-    order.sort()?;
+    order.sort_items()?;
     if !rise(order.as_slice()) {
         return Err(Mismatch::Stamp);
     }

@@ -11,10 +11,11 @@ use crate::alike::is_message;
 use crate::steps::Step;
 use gq_cell::Letter;
 use gq_desk::Plan;
+use gq_memory::{GrowVec, OutOfMemory};
 use gq_model::{Answer, Event};
 use gq_tag::Message;
-use gq_world::World;
-use std::alloc::{AllocError, Global};
+use gq_world::{Ended, World};
+use std::alloc::Global;
 
 /// The messages that a step sent: its stamp and place, its tenant, the number of the first message, and how many they are.
 #[derive(Clone, Copy)]
@@ -95,7 +96,7 @@ fn sends(first: &First, letter: &Letter) -> bool
 
 impl Tape {
     // No events, in the world of the plan.
-    pub(crate) fn new(alloc: Global, plan: &Plan) -> Result<Tape, AllocError>
+    pub(crate) fn new(alloc: Global, plan: &Plan) -> Result<Tape, OutOfMemory>
         ensures plan { IfOk result (λ tape. tape.world.tables.plan ≡ plan.now) }
         ensures stands { IfOk result (λ tape. Stands tape.world.tables []) }
         ensures events { IfOk result (λ tape. tape.events.items ≡ []) }
@@ -116,7 +117,7 @@ impl Tape {
     }
 
     // The event is the next.
-    pub(crate) fn play(&mut self, event: Event) -> Result<Answer, AllocError>
+    pub(crate) fn play(&mut self, event: Event) -> Result<Answer, OutOfMemory>
         requires tenant { IsIn self.old.world.tables.plan event }
         requires stands { Stands self.old.world.tables self.old.events.items }
         ensures answer { IfOk result (λ answer. shown answer ≡ answer_to self.old.world.tables.plan self.old.events.items event) }
@@ -125,21 +126,27 @@ impl Tape {
         ensures plan { self.new.world.tables.plan ≡ self.old.world.tables.plan }
         ensures firsts { self.new.firsts ≡ self.old.firsts }
     {
-        let Ok(answer) = self.world.step(&event) else {
-            return Err(AllocError);
+        let answer = match self.world.step(&event) {
+            Ok(answer) => answer,
+            Err(Ended(refused)) => return Err(refused),
         };
-        self.events.push(event)?;
+        self.events.grow(event)?;
         Ok(answer)
     }
 
     // The tenant's step sent what it was answered.
-    pub(crate) fn note(&mut self, step: Step, tenant: u8, answer: &Answer) -> Result<(), AllocError>
+    pub(crate) fn note(
+        &mut self,
+        step: Step,
+        tenant: u8,
+        answer: &Answer,
+    ) -> Result<(), OutOfMemory>
         ensures firsts { OnOk result (self.new.firsts.items ≡ self.old.firsts.items ++ sent_by step tenant (shown answer.now)) }
         ensures events { self.new.events ≡ self.old.events }
         ensures world { self.new.world ≡ self.old.world }
     {
         if let Some(first) = sent_by(step, tenant, answer) {
-            self.firsts.push(first)?;
+            self.firsts.grow(first)?;
         }
         Ok(())
     }

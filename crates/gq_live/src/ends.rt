@@ -7,6 +7,7 @@ ghost use Rattle.gq_live.specs.Runs.{AllLawful, AllAsked};
 
 use crate::attending::{Attendance, SessionEnd};
 use gq_cell::CellEntry;
+use gq_memory::RoomInVec;
 use gq_session::{Entries, Gate, Journal, Lines, LiveFault};
 use std::alloc::Global;
 use std::marker::{Model, PhantomData};
@@ -49,12 +50,32 @@ impl<T: Drop, G: Gate> GatedEnd<T, G> {
     }
 }
 
+// The number of the fault.
+fn rank(fault: &LiveFault) -> u8 {
+    match fault {
+        LiveFault::Memory(_) => 0,
+        LiveFault::Thread => 1,
+        LiveFault::Gate => 2,
+        LiveFault::Stamps => 3,
+        LiveFault::Volume(_) => 4,
+        LiveFault::Letter => 5,
+    }
+}
+
+// Whether the first fault is of a lesser number, of two volumes whether it tells of the one before.
+fn is_less(one: &LiveFault, two: &LiveFault) -> bool {
+    match (one, two) {
+        (LiveFault::Volume(a), LiveFault::Volume(b)) => *a < *b,
+        _ => rank(one) < rank(two),
+    }
+}
+
 // The fault of the lesser number.
 pub(crate) fn least(one: Option<LiveFault>, two: LiveFault) -> LiveFault
     ensures { ForSome one (λ fault. fault ≢ FaultIs.Gate) → two ≢ FaultIs.Gate → result ≢ FaultIs.Gate }
 {
     match one {
-        Some(one) if one < two => one,
+        Some(one) if is_less(&one, &two) => one,
         _ => two,
     }
 }
@@ -70,7 +91,7 @@ fn add_journal(all: &mut Vec<Journal>, record: CellRecord) -> Result<(), LiveFau
     if server as usize != all.len() {
         return Err(LiveFault::Letter);
     }
-    all.reserve(1)?;
+    all.make_room(1)?;
     all.push_reserved(Journal { items: journal });
     Ok(())
 }
@@ -120,7 +141,7 @@ fn add_entries(
     let Some(entries) = session.close(program.items.as_slice()) else {
         return Err(LiveFault::Letter);
     };
-    all.reserve(1)?;
+    all.make_room(1)?;
     all.push_reserved(Entries { items: entries });
     Ok(())
 }
@@ -162,22 +183,20 @@ pub(crate) fn all_or_least(
     ensures sessions { IfOk result (λ all. sessions ≡ Ok all.1) }
     ensures gate { NoGate cells → NoGate sessions → ForSome fault (λ met. met ≢ FaultIs.Gate) → NoGate result }
 {
-    let fault = match &cells {
-        Ok(_) => fault,
-        Err(met) => Some(least(fault, *met)),
-    };
-    let fault = match &sessions {
-        Ok(_) => fault,
-        Err(met) => Some(least(fault, *met)),
-    };
-    if let Some(fault) = fault {
-        return Err(fault);
-    }
     match cells {
-        Err(met) => Err(met),
+        Err(met) => {
+            let fault = least(fault, met);
+            match sessions {
+                Err(met) => Err(least(Some(fault), met)),
+                Ok(_sessions) => Err(fault),
+            }
+        }
         Ok(cells) => match sessions {
-            Err(met) => Err(met),
-            Ok(sessions) => Ok((cells, sessions)),
+            Err(met) => Err(least(fault, met)),
+            Ok(sessions) => match fault {
+                Some(fault) => Err(fault),
+                None => Ok((cells, sessions)),
+            },
         },
     }
 }

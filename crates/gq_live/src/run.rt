@@ -17,8 +17,9 @@ use crate::starts::{
 use crossbeam_channel::Sender;
 use gq_desk::{Desk, Plan};
 use gq_grid::Grid;
+use gq_memory::{GrowVec, OutOfMemory, channel_of_one, send, slice_copied};
 use gq_session::{Agenda, Gate, LiveFault, Programs, Records};
-use std::alloc::{AllocError, Global};
+use std::alloc::Global;
 use std::sync::{Mutex, Wait};
 use std::thread;
 use std::thread::{JoinHandle, Threads};
@@ -42,10 +43,11 @@ fn hand_out<R: Wait>(
         let Some(to) = orders.get(next.server as usize) else {
             return Some(LiveFault::Letter);
         };
-        let Ok((done, wait)) = crossbeam_channel::bounded(alloc, 1) else {
-            return Some(LiveFault::Memory);
+        let (done, wait) = match channel_of_one(alloc) {
+            Ok(ends) => ends,
+            Err(refused) => return Some(LiveFault::Memory(refused)),
         };
-        if to.send(rt, Order { done }).is_err() || wait.recv(rt).is_err() {
+        if send(rt, to, Order { done }).is_err() || wait.recv(rt).is_err() {
             break;
         }
     }
@@ -106,8 +108,8 @@ fn run_threads<'x, G: Gate + Send + Sync, R: Threads + Wait + Sync>(
         for (site, inbox) in sites.iter().zip(inboxes) {
             match scope.spawn(move || serve(rt, alloc, site, inbox)).ok() {
                 Some(thread) => {
-                    if serving.push(thread).is_err() {
-                        fault = Some(LiveFault::Memory);
+                    if let Err(refused) = serving.grow(thread) {
+                        fault = Some(LiveFault::Memory(refused));
                     }
                 }
                 None => fault = Some(LiveFault::Thread),
@@ -119,8 +121,8 @@ fn run_threads<'x, G: Gate + Send + Sync, R: Threads + Wait + Sync>(
                 .ok()
             {
                 Some(thread) => {
-                    if attending.push(thread).is_err() {
-                        fault = Some(LiveFault::Memory);
+                    if let Err(refused) = attending.grow(thread) {
+                        fault = Some(LiveFault::Memory(refused));
                     }
                 }
                 None => fault = Some(LiveFault::Thread),
@@ -151,7 +153,7 @@ fn run_all<'x, G: Gate + Send + Sync, R: Threads + Wait + Sync>(
     inboxes: Vec<ServerInbox>,
     seats: Vec<Seat>,
     orders: Vec<Sender<Order>>,
-) -> Result<AllEnds<G>, AllocError> {
+) -> Result<AllEnds<G>, OutOfMemory> {
     let volumes = programs.volumes.as_slice();
     let sites = sites(alloc, plan, volumes, gate, agenda, mailboxes)?;
     Ok(run_threads(
@@ -196,11 +198,17 @@ fn join_threads<G: Gate, R: Threads>(
             sessions,
             fault,
         },
-        _ => AllEnds {
-            servers: Vec::new(alloc),
-            sessions: Vec::new(alloc),
-            fault: Some(LiveFault::Memory),
-        },
+        (Err(refused), _sessions) => no_ends(alloc, refused),
+        (Ok(_servers), Err(refused)) => no_ends(alloc, refused),
+    }
+}
+
+// What is told where there was no memory for what the threads gave back.
+fn no_ends<G: Gate>(alloc: Global, refused: OutOfMemory) -> AllEnds<G> {
+    AllEnds {
+        servers: Vec::new(alloc),
+        sessions: Vec::new(alloc),
+        fault: Some(LiveFault::Memory(refused)),
     }
 }
 
@@ -209,13 +217,18 @@ fn join_all<T: Drop, R: Threads>(
     rt: &R,
     alloc: Global,
     threads: Vec<JoinHandle<T>>,
-) -> Result<Vec<T>, AllocError> {
+) -> Result<Vec<T>, OutOfMemory> {
     let mut all = Vec::new(alloc);
-    let mut failed = false;
+    let mut failed = None;
     for thread in threads {
-        failed = all.push(thread.join(rt)).is_err() || failed;
+        if let Err(refused) = all.grow(thread.join(rt)) {
+            failed = Some(refused);
+        }
     }
-    if failed { Err(AllocError) } else { Ok(all) }
+    match failed {
+        Some(refused) => Err(refused),
+        None => Ok(all),
+    }
 }
 
 // ---- the run
@@ -253,8 +266,8 @@ fn run_opened<G: Gate + Send + Sync, R: Threads + Wait + Sync>(
 {
     let openings = programs.volumes.as_slice();
     let programs_asked = programs.sessions.as_slice();
-    let volumes = Vec::from_slice(alloc, openings)?;
-    let list = Vec::from_slice(alloc, programs.changes.as_slice())?;
+    let volumes = slice_copied(alloc, openings)?;
+    let list = slice_copied(alloc, programs.changes.as_slice())?;
     let ServerChannels {
         letters,
         orders,

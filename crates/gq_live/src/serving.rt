@@ -41,7 +41,7 @@ fn serve_held<L: Ledger, G: Gate>(
     }
     match cell.serve(share, letter) {
         Ok(served) => Ok(served),
-        Err(CellRefused::Memory) => Err(LiveFault::Memory),
+        Err(CellRefused::Memory(refused)) => Err(LiveFault::Memory(refused)),
         Err(CellRefused::Stamps) => Err(LiveFault::Stamps),
         Err(CellRefused::File | CellRefused::Long) => Err(LiveFault::Letter),
     }
@@ -242,9 +242,9 @@ fn add_one<L: Ledger>(
     match desk.open_volume(opening.tenant, opening.files, opening.blocks) {
         Ok(_) => match cell.add_files(opening.tenant, opening.files, opening.blocks) {
             Ok(()) => Ok(()),
-            Err(_) => Err(LiveFault::Memory),
+            Err(refused) => Err(LiveFault::Memory(refused)),
         },
-        Err(OpenRefused::Memory) => Err(LiveFault::Memory),
+        Err(OpenRefused::Memory(refused)) => Err(LiveFault::Memory(refused)),
         Err(_) => Err(LiveFault::Letter),
     }
 }

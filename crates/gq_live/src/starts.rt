@@ -6,22 +6,23 @@ ghost use Rattle.gq_session.specs.Faults.{NoGate};
 ghost use Rattle.gq_session.specs.Fitting.{IsRequest, IsTenants};
 ghost use Rattle.gq_live.specs.Openings.{TellsOfVolume, desk_with, opening_fault, place_if, refused_volume};
 
-use crossbeam_channel::{Receiver, SendError, Sender};
+use crossbeam_channel::{Receiver, Sender};
 use gq_cell::Letter;
 use gq_desk::{Desk, OpenRefused, Plan, VolumeRow};
+use gq_memory::{
+    GrowVec, OutOfMemory, RoomInVec, channel, room_for, send, sender_copied, slice_copied,
+};
 use gq_model::Line;
 use gq_session::{Agenda, Gate, Lines, LiveFault, Opening};
-use std::alloc::{AllocError, Global};
+use std::alloc::Global;
 use std::sync::{Mutex, Wait};
 
 // Sends a letter or a note to a mailbox. To one that is closed it is dropped.
 pub(crate) fn post<T: Drop, R: Wait>(rt: &R, to: &Sender<T>, sent: T) -> Result<(), LiveFault>
     ensures { NoGate result }
 {
-    match to.send(rt, sent) {
-        Err(SendError::OutOfMemory(_)) => Err(LiveFault::Memory),
-        _ => Ok(()),
-    }
+    send(rt, to, sent)?;
+    Ok(())
 }
 
 // ---- servers
@@ -60,18 +61,18 @@ pub(crate) struct ServerChannels {
 
 impl ServerChannels {
     // The channels of so many servers.
-    pub(crate) fn new(alloc: Global, servers: usize) -> Result<ServerChannels, AllocError> {
+    pub(crate) fn new(alloc: Global, servers: usize) -> Result<ServerChannels, OutOfMemory> {
         let mut all = ServerChannels {
             letters: Vec::new(alloc),
             orders: Vec::new(alloc),
             inboxes: Vec::new(alloc),
         };
         for _ in 0..servers {
-            let (letter, letters) = crossbeam_channel::unbounded(alloc)?;
-            let (order, orders) = crossbeam_channel::unbounded(alloc)?;
-            all.letters.push(letter)?;
-            all.orders.push(order)?;
-            all.inboxes.push(ServerInbox { letters, orders })?;
+            let (letter, letters) = channel(alloc)?;
+            let (order, orders) = channel(alloc)?;
+            all.letters.grow(letter)?;
+            all.orders.grow(order)?;
+            all.inboxes.grow(ServerInbox { letters, orders })?;
         }
         Ok(all)
     }
@@ -85,10 +86,10 @@ pub(crate) fn sites<'x, G: Gate>(
     gate: &'x G,
     agenda: &'x Mutex<Agenda>,
     mailboxes: &'x Mailboxes,
-) -> Result<Vec<Site<'x, G>>, AllocError> {
+) -> Result<Vec<Site<'x, G>>, OutOfMemory> {
     let mut all = Vec::new(alloc);
     for server in 0..plan.grid().servers() {
-        all.push(Site {
+        all.grow(Site {
             server: server as u8,
             plan,
             volumes,
@@ -162,10 +163,24 @@ pub(crate) struct Seats {
 }
 
 // Copies the ends of channels.
-fn copy_senders(alloc: Global, ends: &[Sender<Letter>]) -> Result<Vec<Sender<Letter>>, AllocError> {
+fn copy_senders(
+    alloc: Global,
+    ends: &[Sender<Letter>],
+) -> Result<Vec<Sender<Letter>>, OutOfMemory> {
     let mut all = Vec::new(alloc);
     for end in ends {
-        all.push(end.clone()?)?;
+        all.grow(sender_copied(end)?)?;
+    }
+    Ok(all)
+}
+
+// Copies requests.
+fn copy_lines(alloc: Global, lines: &[Line]) -> Result<Vec<Line>, OutOfMemory>
+    ensures { IfOk result (λ copy. copy.items ≡ lines.now) }
+{
+    let mut all = room_for(alloc, lines.len())?;
+    for line in lines {
+        all.grow(line.share()?)?;
     }
     Ok(all)
 }
@@ -175,12 +190,12 @@ fn open_one(desk: &mut Desk, opening: Opening, place: usize) -> Result<(), LiveF
     requires { opening.tenant < length desk.old }
     ensures ok { OnOk result (opening_fault desk.old opening ≡ None) }
     ensures desk { OnOk result (desk.new ≡ desk_with desk.old opening) }
-    ensures fault { IfErr result (λ fault. fault ≢ LiveFault.Memory → place_if place (opening_fault desk.old opening) ≡ Some place) }
-    ensures volume { IfErr result (λ fault. fault ≢ LiveFault.Memory → fault ≡ LiveFault.Volume place) }
+    ensures fault { IfErr result (λ fault. fault ≢ LiveFault.Memory tt → place_if place (opening_fault desk.old opening) ≡ Some place) }
+    ensures volume { IfErr result (λ fault. fault ≢ LiveFault.Memory tt → fault ≡ LiveFault.Volume place) }
 {
     match desk.open_volume(opening.tenant, opening.files, opening.blocks) {
         Ok(_) => Ok(()),
-        Err(OpenRefused::Memory) => Err(LiveFault::Memory),
+        Err(OpenRefused::Memory(refused)) => Err(LiveFault::Memory(refused)),
         Err(_) => Err(LiveFault::Volume(place)),
     }
 }
@@ -201,11 +216,14 @@ pub(crate) fn open_all(alloc: Global, plan: &Plan, volumes: &[Opening]) -> Resul
 }
 
 // A mailbox that had a note keeps room for one: a session that waits can be told to quit where memory is wanting.
-fn make_room<R: Wait>(rt: &R, to: &Sender<Note>, inbox: &Receiver<Note>) -> Result<(), AllocError> {
-    if post(rt, to, Note::Quit).is_err() || inbox.recv(rt).is_err() {
-        return Err(AllocError);
+fn make_room<R: Wait>(rt: &R, to: &Sender<Note>, inbox: &Receiver<Note>) -> Result<(), LiveFault>
+    ensures { NoGate result }
+{
+    post(rt, to, Note::Quit)?;
+    match inbox.recv(rt) {
+        Ok(_) => Ok(()),
+        Err(_) => Err(LiveFault::Letter),
     }
-    Ok(())
 }
 
 // A seat for a session of the tenant, and its mailbox.
@@ -218,14 +236,15 @@ fn make_seat<R: Wait>(
     number: u8,
     program: &Lines,
     servers: &[Sender<Letter>],
-) -> Result<(Seat, Sender<Note>), AllocError>
+) -> Result<(Seat, Sender<Note>), LiveFault>
     requires desk { tenant < length desk.now }
     requires requests { All IsRequest program.now }
+    ensures { NoGate result }
 {
-    let (to, inbox) = crossbeam_channel::unbounded(alloc)?;
+    let (to, inbox) = channel(alloc)?;
     make_room(rt, &to, &inbox)?;
-    let volumes = Vec::from_slice(alloc, desk.volumes(tenant))?;
-    let lines = program.items.clone()?;
+    let volumes = slice_copied(alloc, desk.volumes(tenant))?;
+    let lines = copy_lines(alloc, program.items.as_slice())?;
     let servers = copy_senders(alloc, servers)?;
     let seat = Seat {
         place,
@@ -264,8 +283,8 @@ fn add_seats<R: Wait>(
         if place >= programs.len() {
             return Err(LiveFault::Letter);
         }
-        mailboxes.reserve(1)?;
-        all.seats.reserve(1)?;
+        mailboxes.make_room(1)?;
+        all.seats.make_room(1)?;
         let (seat, to) = make_seat(
             rt,
             alloc,
@@ -279,7 +298,7 @@ fn add_seats<R: Wait>(
         mailboxes.push_reserved(to);
         all.seats.push_reserved(seat);
     }
-    all.mailboxes.tenants.reserve(1)?;
+    all.mailboxes.tenants.make_room(1)?;
     all.mailboxes.tenants.push_reserved(mailboxes);
     Ok(())
 }

@@ -1,13 +1,13 @@
 //! The lines of the input after `go`, and what is answered to them.
 
-ghost use Rattle.std.specs.Prelude.{◌≡◌};
+ghost use Rattle.std.specs.Prelude.{◌≡◌, IfOk};
 
 use bytes::Bytes;
 use gq_desk::VolumeRows;
 use gq_grid::Choice;
+use gq_memory::{GrowBytes, OutOfMemory};
 use gq_phase::Outcome;
 use gq_tag::Tag;
-use std::alloc::AllocError;
 
 /// A line of the input after `go`, read.
 #[derive(Debug, Drop)]
@@ -72,10 +72,11 @@ pub enum Line {
     },
 }
 
-impl Clone for Line {
-    ghost is_clone = { λ a b. b ≡ a };
-
-    fn clone(&self) -> Result<Line, AllocError> {
+impl Line {
+    /// The same line, which shares the content.
+    pub fn share(&self) -> Result<Line, OutOfMemory>
+        ensures { IfOk result (λ same. same ≡ self.now) }
+    {
         Ok(match self {
             Line::Bad => Line::Bad,
             Line::Quorum => Line::Quorum,
@@ -93,7 +94,7 @@ impl Clone for Line {
                 session: *session,
                 volume: *volume,
                 file: *file,
-                bytes: bytes.clone()?,
+                bytes: bytes.share()?,
             },
             Line::Read {
                 session,

@@ -5,9 +5,9 @@ ghost use Rattle.gq_model.specs.Shown.{shown};
 ghost use Rattle.gq_model.specs.Said.{said_in};
 
 use crate::{Answer, Refusal};
+use gq_memory::OutOfMemory;
 use gq_phase::Outcome;
 use gq_tag::Tag;
-use std::alloc::AllocError;
 
 /// What a session is told, with the count of the messages that were sent in place of their numbers, which depend on what
 /// the tenant's other sessions sent before.
@@ -42,7 +42,7 @@ pub enum Said {
 
 /// The answer as its session is told it. None where the answer is to no request of a session and to no message to one, as
 /// that of a volume, a server or a loss. Only a listing's rows take memory; the content that a read gave is shared.
-pub fn said_of(answer: &Answer) -> Result<Option<Said>, AllocError>
+pub fn said_of(answer: &Answer) -> Result<Option<Said>, OutOfMemory>
     ensures { IfOk result (λ said. said ≡ said_in (shown answer.now)) }
 {
     let said = match answer {
@@ -62,7 +62,7 @@ pub fn said_of(answer: &Answer) -> Result<Option<Said>, AllocError>
             tag: *tag,
             sent: *count,
         },
-        Answer::Done(outcome) => Said::Done(outcome.clone()?),
+        Answer::Done(outcome) => Said::Done(outcome.share()?),
         Answer::Resent { count, .. } => Said::Resent { sent: *count },
         Answer::Abandoned => Said::Abandoned,
         Answer::Refused(refusal) => Said::Refused(*refusal),

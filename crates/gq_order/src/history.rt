@@ -13,10 +13,11 @@ use crate::sessions::sessions_of;
 use bytes::Bytes;
 use gq_desk::Plan;
 use gq_laws::{Kind, Op};
+use gq_memory::{GrowBytes, GrowVec, OutOfMemory, filled};
 use gq_model::{Answer, Event, Line};
 use gq_phase::{Outcome, Row};
 use gq_tag::{FileId, StoredCopy};
-use std::alloc::{AllocError, Global};
+use std::alloc::Global;
 
 // How many files the volume has that is opened here, if one is opened.
 fn opens(tenant: u8, event: &Event, answer: &Answer) -> Option<u32>
@@ -58,11 +59,11 @@ fn files(tenant: u8, volume: u32, events: &[Event], answers: &[Answer]) -> u32
 }
 
 // One more operation, if there is one.
-fn keep(ops: &mut Vec<Op>, op: Option<Op>) -> Result<(), AllocError>
+fn keep(ops: &mut Vec<Op>, op: Option<Op>) -> Result<(), OutOfMemory>
     ensures { IfOk result (λ _. ops.new.items ≡ ops.old.items ++ as_list op) }
 {
     if let Some(op) = op {
-        ops.push(op)?;
+        ops.grow(op)?;
     }
     Ok(())
 }
@@ -104,11 +105,11 @@ fn write_begun(
     place: usize,
     bytes: &Bytes,
     ending: Ending,
-) -> Result<Op, AllocError>
+) -> Result<Op, OutOfMemory>
     ensures { IfOk result (λ a. a ≡ write_begun session op place bytes.now ending) }
 {
     Ok(Op {
-        kind: Kind::Write(bytes.clone()?),
+        kind: Kind::Write(bytes.share()?),
         session,
         op,
         begin: place,
@@ -124,7 +125,7 @@ fn read_begun(
     place: usize,
     end: Option<usize>,
     copy: Option<&StoredCopy>,
-) -> Result<Op, AllocError>
+) -> Result<Op, OutOfMemory>
     ensures { IfOk result (λ a. a ≡ read_begun session op place end (option_copied copy.entry)) }
 {
     let Some(copy) = copy else {
@@ -138,7 +139,7 @@ fn read_begun(
         });
     };
     Ok(Op {
-        kind: Kind::Read(Some(copy.bytes.clone()?)),
+        kind: Kind::Read(Some(copy.bytes.share()?)),
         session,
         op,
         begin: place,
@@ -169,7 +170,7 @@ fn begins(
     op: u32,
     line: &Line,
     ends: &[Ending],
-) -> Result<Option<Op>, AllocError>
+) -> Result<Option<Op>, OutOfMemory>
     ensures { IfOk result (λ a. a ≡ begins (file_place file) answers.now place op line.now (ending_in ends.now)) }
 {
     match line {
@@ -224,7 +225,7 @@ fn begun_by(
     event: &Event,
     answer: &Answer,
     ends: &[Ending],
-) -> Result<Option<Op>, AllocError>
+) -> Result<Option<Op>, OutOfMemory>
     ensures { IfOk result (λ a. a ≡ begun_by file.tenant (file_place file) answers.now place event.now answer.now (ending_in ends.now)) }
 {
     let Event::Tenant { tenant, line } = event else {
@@ -248,13 +249,13 @@ fn read_back(
     answers: &[Answer],
     sessions: &[u32],
     size: usize,
-) -> Result<Vec<Op>, AllocError>
+) -> Result<Vec<Op>, OutOfMemory>
     requires size { size ≡ 256 }
     requires events { length sessions.now ≤ length events.now }
     requires answers { length sessions.now ≤ length answers.now }
     ensures { IfOk result (λ ops. ops.items ≡ reverse (ops_from file.tenant (file_place file) answers.now 0 events.now answers.now sessions.now)) }
 {
-    let mut ends = vec![in alloc; no_ending(); size]?;
+    let mut ends = filled(alloc, no_ending(), size)?;
     let mut ops = Vec::new(alloc);
     for place in (0..sessions.len()).rev() {
         let event = &events[place];
@@ -281,7 +282,7 @@ fn read_off(
     file: FileId,
     events: &[Event],
     answers: &[Answer],
-) -> Result<Vec<Op>, AllocError>
+) -> Result<Vec<Op>, OutOfMemory>
     ensures { IfOk result (λ ops. ops.items ≡ read_off file.tenant (file_place file) events.now answers.now) }
 {
     if files(file.tenant, file.volume, events, answers) <= file.file {
@@ -310,7 +311,7 @@ pub fn operations(
     events: &[Event],
     answers: &[Answer],
     file: FileId,
-) -> Result<Vec<Op>, AllocError>
+) -> Result<Vec<Op>, OutOfMemory>
     ensures fitting { IfOk result (λ ops. IsTrue (sessions_are_bytes events.now answers.now) → ops.items ≡ operations (seen file.tenant events.now (map shown answers.now)) (file_place file)) }
     ensures run { IfOk result (λ ops. IsRun plan.now events.now answers.now → ops.items ≡ tenant_operations plan.now events.now file.tenant (file_place file)) }
     ensures tagged { IfOk result (λ ops. IsRun plan.now events.now answers.now → Tagged ops.items) }

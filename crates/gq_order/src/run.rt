@@ -12,9 +12,10 @@ use crate::history::operations;
 use crate::ordering::order;
 use gq_desk::Plan;
 use gq_laws::Op;
+use gq_memory::OutOfMemory;
 use gq_model::{Answer, Event};
 use gq_tag::FileId;
-use std::alloc::{AllocError, Global};
+use std::alloc::Global;
 
 /// The operations on a file in order of beginning, the places of those that stand in the order, and whether it is legal.
 #[derive(Drop)]
@@ -31,7 +32,7 @@ pub fn file_order(
     events: &[Event],
     answers: &[Answer],
     file: FileId,
-) -> Result<FileOrder, AllocError>
+) -> Result<FileOrder, OutOfMemory>
     requires run { IsRun plan.now events.now answers.now }
     ensures ops { IfOk result (λ f. f.ops.items ≡ tenant_operations plan.now events.now file.tenant (file_place file)) }
     ensures order { IfOk result (λ f. f.order.items ≡ order (tenant_operations plan.now events.now file.tenant (file_place file))) }

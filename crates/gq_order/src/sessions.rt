@@ -5,8 +5,9 @@ ghost use Rattle.gq_model.specs.Trace.{Own};
 ghost use Rattle.gq_laws.specs.Operations.{session_of};
 ghost use Rattle.gq_order.specs.Passes.{sees, told_sent, sent_at, session_at, sessions_from};
 
+use gq_memory::{GrowVec, OutOfMemory};
 use gq_model::{Answer, Event, Line};
-use std::alloc::{AllocError, Global};
+use std::alloc::Global;
 
 /// Whether the tenant sees the event: a line of its own, or a server line.
 #[inline]
@@ -90,11 +91,11 @@ fn session_at(tenant: u8, owned: &[u32], event: &Event) -> u32
 
 // So many more messages are the session's.
 #[tactic(auto, using(crate::proofs::Rests::given_more))]
-fn give_to(owned: &mut Vec<u32>, count: u32, session: u32) -> Result<(), AllocError>
+fn give_to(owned: &mut Vec<u32>, count: u32, session: u32) -> Result<(), OutOfMemory>
     ensures { IfOk result (λ _. owned.new.items ≡ owned.old.items ++ replicate count session) }
 {
     for _ in 0..count {
-        owned.push(session)?;
+        owned.grow(session)?;
     }
     Ok(())
 }
@@ -105,7 +106,7 @@ pub fn sessions_of(
     tenant: u8,
     events: &[Event],
     answers: &[Answer],
-) -> Result<Vec<u32>, AllocError>
+) -> Result<Vec<u32>, OutOfMemory>
     ensures { IfOk result (λ sessions. sessions.items ≡ sessions_from tenant [] events.now answers.now) }
 {
     let mut owned: Vec<u32> = Vec::new(alloc);
@@ -116,7 +117,7 @@ pub fn sessions_of(
         };
         let session = session_at(tenant, owned.as_slice(), event);
         give_to(&mut owned, sent_at(tenant, event, answer), session)?;
-        sessions.push(session)?;
+        sessions.grow(session)?;
     }
     Ok(sessions)
 }

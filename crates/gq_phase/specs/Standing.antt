@@ -129,7 +129,7 @@ ResendsAs code up messages =
 -- whatever operation the value stands for, there is no quorum for its round, or there is one and memory is missing
 abbrev pub RefusesAs : Code → Servers → ResendRefused → Type 0
 RefusesAs code up NoQuorum = (grid : Grid) (tenant : ℕ) (o : Operation) → StandsFor grid tenant code o → round_quorum grid up o.round ≡ None
-RefusesAs code up Memory = (grid : Grid) (tenant : ℕ) (o : Operation) → StandsFor grid tenant code o → IsSome (round_quorum grid up o.round)
+RefusesAs code up (Memory _) = (grid : Grid) (tenant : ℕ) (o : Operation) → StandsFor grid tenant code o → IsSome (round_quorum grid up o.round)
 
 -- ---- steps inside the crate
 

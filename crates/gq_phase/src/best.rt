@@ -8,8 +8,8 @@ ghost use Rattle.gq_tag.specs.View.{body_of};
 ghost use Rattle.gq_phase.specs.Best.{best_with, exceeds, copied_number, givers_with, IsBelow};
 
 use gq_grid::ServerSet;
+use gq_memory::OutOfMemory;
 use gq_tag::{BodyView, StoredCopy, newer};
-use std::alloc::AllocError;
 use std::marker::Model;
 
 /// The earliest copy of greatest tag, if one was heard. A greater number than its tag's is left.
@@ -52,14 +52,14 @@ impl Best {
     }
 
     /// Notes what one more reply says. A copy that is not kept is not cloned.
-    pub fn note(&mut self, body: BodyView<'_>) -> Result<(), AllocError>
+    pub fn note(&mut self, body: BodyView<'_>) -> Result<(), OutOfMemory>
         requires { copied_number (body_of body) < u64.MAX }
         ensures ok { OnOk result (self.new ≡ best_with self.old (body_of body.entry)) }
         ensures err { OnErr result (self.new ≡ self.old) }
     {
         if let BodyView::Copy(copy) = body {
             if self.is_exceeded_by(copy) {
-                self.copy = Some(copy.clone()?);
+                self.copy = Some(copy.share()?);
             }
         }
         Ok(())

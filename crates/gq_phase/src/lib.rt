@@ -12,12 +12,12 @@ pub mod laws;
 mod operation;
 mod quorums;
 
-ghost use Rattle.std.specs.Prelude.{◌≡◌};
+ghost use Rattle.std.specs.Prelude.{◌≡◌, IfOk};
 
+use gq_memory::{GrowCopies, OutOfMemory};
 pub use gq_round::{Messages, Who};
 use gq_tag::{StoredCopy, Tag};
 pub use operation::Operation;
-use std::alloc::AllocError;
 use std::marker::Model;
 use thiserror::Error;
 
@@ -43,12 +43,13 @@ impl Model for Rows {
     ghost view = { λ r. r.items.items };
 }
 
-impl Clone for Rows {
-    ghost is_clone = { λ a b. b ≡ a };
-
-    fn clone(&self) -> Result<Rows, AllocError> {
+impl Rows {
+    /// The same rows.
+    pub fn share(&self) -> Result<Rows, OutOfMemory>
+        ensures { IfOk result (λ same. same ≡ self.now) }
+    {
         Ok(Rows {
-            items: self.items.clone()?,
+            items: self.items.same_items()?,
         })
     }
 }
@@ -76,10 +77,11 @@ pub enum Outcome {
     },
 }
 
-impl Clone for Outcome {
-    ghost is_clone = { λ a b. b ≡ a };
-
-    fn clone(&self) -> Result<Outcome, AllocError> {
+impl Outcome {
+    /// The same outcome, which shares the content.
+    pub fn share(&self) -> Result<Outcome, OutOfMemory>
+        ensures { IfOk result (λ same. same ≡ self.now) }
+    {
         match self {
             Outcome::Wrote { session, op, tag } => Ok(Outcome::Wrote {
                 session: *session,
@@ -89,12 +91,12 @@ impl Clone for Outcome {
             Outcome::Gave { session, op, copy } => Ok(Outcome::Gave {
                 session: *session,
                 op: *op,
-                copy: copy.clone()?,
+                copy: copy.share()?,
             }),
             Outcome::Listed { session, op, rows } => Ok(Outcome::Listed {
                 session: *session,
                 op: *op,
-                rows: rows.clone()?,
+                rows: rows.share()?,
             }),
         }
     }
@@ -119,45 +121,45 @@ pub enum Heard {
 }
 
 /// Why an operation did not begin. Whether a row is up is tested first.
-#[derive(Clone, Copy, Debug, PartialEq, Eq, Error)]
+#[derive(Debug, Drop, Error)]
 pub enum BeginRefused {
     /// No row is up.
     #[error("no row is up")]
     NoQuorum,
     /// A growth of memory was refused.
     #[error("out of memory")]
-    Memory,
+    Memory(OutOfMemory),
 }
 
-impl From<AllocError> for BeginRefused {
+impl From<OutOfMemory> for BeginRefused {
     ghost use Rattle.std.specs.Prelude.{◌≡◌};
     ghost use Rattle.gq_phase.specs.declared.BeginRefused.TheVariants.{Memory};
 
-    ghost from_gives = { λ _ e. e ≡ Memory };
+    ghost from_gives = { λ refused e. e ≡ Memory refused };
 
-    fn from(_e: AllocError) -> BeginRefused {
-        BeginRefused::Memory
+    fn from(refused: OutOfMemory) -> BeginRefused {
+        BeginRefused::Memory(refused)
     }
 }
 
 /// Why a round's message was not sent once more. Whether a row is up, or in a store round a column, is tested first.
-#[derive(Clone, Copy, Debug, PartialEq, Eq, Error)]
+#[derive(Debug, Drop, Error)]
 pub enum ResendRefused {
     /// No row is up in a collect round, or no column in a store round.
     #[error("no quorum of the round is up")]
     NoQuorum,
     /// A growth of memory was refused.
     #[error("out of memory")]
-    Memory,
+    Memory(OutOfMemory),
 }
 
-impl From<AllocError> for ResendRefused {
+impl From<OutOfMemory> for ResendRefused {
     ghost use Rattle.std.specs.Prelude.{◌≡◌};
     ghost use Rattle.gq_phase.specs.declared.ResendRefused.TheVariants.{Memory};
 
-    ghost from_gives = { λ _ e. e ≡ Memory };
+    ghost from_gives = { λ refused e. e ≡ Memory refused };
 
-    fn from(_e: AllocError) -> ResendRefused {
-        ResendRefused::Memory
+    fn from(refused: OutOfMemory) -> ResendRefused {
+        ResendRefused::Memory(refused)
     }
 }

@@ -19,9 +19,10 @@ use crate::quorums::{collect_quorum, ends_collect, ends_store, store_quorum};
 use crate::{BeginRefused, Heard, Outcome, ResendRefused, Row, Rows};
 use bytes::Bytes;
 use gq_grid::{Grid, ServerSet};
+use gq_memory::{GrowBytes, GrowVec, OutOfMemory};
 use gq_round::{Messages, RoundMessage, Who};
 use gq_tag::{Body, BodyView, FileId, Message, MessageView, StoredCopy, Tag};
-use std::alloc::{AllocError, Global};
+use std::alloc::Global;
 use std::mem;
 
 // What the session was asked to do.
@@ -58,12 +59,12 @@ pub struct Operation {
 }
 
 // Of a listing, adds the copy's row.
-fn keep_row(task: &Task, rows: &mut Rows, copy: &StoredCopy) -> Result<(), AllocError>
+fn keep_row(task: &Task, rows: &mut Rows, copy: &StoredCopy) -> Result<(), OutOfMemory>
     ensures ok { OnOk result (rows.new ≡ rows_with task.now (listed_row copy.now) rows.old) }
     ensures err { OnErr result (rows.new ≡ rows.old) }
 {
     if let Task::List = task {
-        rows.items.push(Row {
+        rows.items.grow(Row {
             length: copy.bytes.len() as u64,
             tag: copy.tag,
         })?;
@@ -107,7 +108,7 @@ impl Operation {
         ensures none { IsErrOf result BeginRefused.NoQuorum ↔ (collect_quorum grid.now (servers up) ≡ None) }
     {
         let quorum = collect_quorum(grid, up).ok_or(BeginRefused::NoQuorum)?;
-        let task = Task::Write(bytes.clone()?);
+        let task = Task::Write(bytes.share()?);
         Ok(Operation::begin(alloc, grid, who, task, 1, file, floor, quorum))
     }
 
@@ -209,8 +210,8 @@ impl Operation {
     /// noted, once; where the servers heard end the round, the next round begins or the operation is done. A read or a
     /// listing leaves out a file's store round where the servers that told the copy's tag would end it. The store
     /// round of a write has a tag of its session with a number above all numbers heard and above the session's own
-    /// last one, which it then is. After `AllocError` nothing has changed; after `Done` every message is stale.
-    pub fn hear(&mut self, message: &Message, up: ServerSet) -> Result<Heard, AllocError>
+    /// last one, which it then is. After `OutOfMemory` nothing has changed; after `Done` every message is stale.
+    pub fn hear(&mut self, message: &Message, up: ServerSet) -> Result<Heard, OutOfMemory>
         requires server { message.now.server < MOST_SERVERS }
         requires number { copied_number message.now.body < u64.MAX }
         requires floor { floor_of self.old < u64.MAX }
@@ -231,7 +232,7 @@ impl Operation {
         &mut self,
         message: &MessageView<'_>,
         up: ServerSet,
-    ) -> Result<Heard, AllocError>
+    ) -> Result<Heard, OutOfMemory>
         requires server { message.now.server < MOST_SERVERS }
         requires number { copied_number message.now.body < u64.MAX }
         requires floor { floor_of self.old < u64.MAX }
@@ -322,7 +323,7 @@ impl Operation {
         body: BodyView<'_>,
         heard: ServerSet,
         givers: ServerSet,
-    ) -> Result<(), AllocError>
+    ) -> Result<(), OutOfMemory>
         requires { copied_number (body_of body) < u64.MAX }
         ensures ok { OnOk result (self.new
             ≡ record self.old { heard = heard; best = best_with self.old.best (body_of body.entry); givers = givers }) }
@@ -347,7 +348,7 @@ impl Operation {
     }
 
     // The round's message.
-    fn message(&self) -> Result<RoundMessage, AllocError>
+    fn message(&self) -> Result<RoundMessage, OutOfMemory>
         ensures { IfOk result (λ message. message ≡ message_as self.now) }
     {
         Ok(RoundMessage {
@@ -357,13 +358,13 @@ impl Operation {
             body: if self.course.collects() {
                 Body::Ask
             } else {
-                Body::Store(self.stored.clone()?)
+                Body::Store(self.stored.share()?)
             },
         })
     }
 
     // The round's message to each server of the set that was not heard in the round.
-    fn messages_to(&self, set: ServerSet) -> Result<Messages, AllocError>
+    fn messages_to(&self, set: ServerSet) -> Result<Messages, OutOfMemory>
         ensures { IfOk result (λ messages. messages ≡ map (addressed (message_as self.now))
             (rising self.now.grid (apart (servers set) (servers self.now.heard)))) }
     {
@@ -376,7 +377,7 @@ impl Operation {
     }
 
     // The copy with which the collect round ends at this reply.
-    fn decided(&self, body: BodyView<'_>) -> Result<StoredCopy, AllocError>
+    fn decided(&self, body: BodyView<'_>) -> Result<StoredCopy, OutOfMemory>
         requires number { copied_number (body_of body) < u64.MAX }
         requires floor { self.now.floor < u64.MAX }
         ensures { IfOk result (λ decided. decided ≡ decided_as self.now.task self.now.who.session
@@ -388,18 +389,18 @@ impl Operation {
                 let greatest = best.map_or(0, |copy| copy.tag.number);
                 Ok(StoredCopy {
                     tag: Tag::after(greatest.max(self.floor), self.who.session),
-                    bytes: content.clone()?,
+                    bytes: content.share()?,
                 })
             }
             Task::Read | Task::List => match best {
-                Some(copy) => copy.clone(),
+                Some(copy) => copy.share(),
                 None => Ok(StoredCopy::first()),
             },
         }
     }
 
     // The store round of the copy begins.
-    fn begin_store(&mut self, copy: StoredCopy, up: ServerSet) -> Result<Heard, AllocError>
+    fn begin_store(&mut self, copy: StoredCopy, up: ServerSet) -> Result<Heard, OutOfMemory>
         requires { self.old.course.collecting ≡ true }
         ensures ok { IfOk result (λ heard. heard ≡ Heard.Next (2 * (self.old.course.collected + 1)) (Some copy.tag)
             (sent_to self.old.grid (store_quorum self.old.grid (servers up)) (store_message self.old copy))) }
@@ -411,7 +412,7 @@ impl Operation {
             who: self.who,
             round,
             file: self.file,
-            body: Body::Store(copy.clone()?),
+            body: Body::Store(copy.share()?),
         };
         let quorum = store_quorum(&self.grid, up);
         let messages = Messages::to_quorum(message, &self.grid, quorum);
@@ -451,7 +452,7 @@ impl Operation {
     }
 
     // The collect round of a listing's file after this one begins, without a store round of the copy.
-    fn skip_on(&mut self, copy: StoredCopy, up: ServerSet) -> Result<Heard, AllocError>
+    fn skip_on(&mut self, copy: StoredCopy, up: ServerSet) -> Result<Heard, OutOfMemory>
         requires collects { self.old.course.collecting ≡ true }
         requires more { self.old.course.collected + 1 < self.old.course.files }
         ensures ok { IfOk result (λ heard. heard ≡ Heard.Next (2 * (self.old.course.collected + 1) + 1) None
@@ -466,7 +467,7 @@ impl Operation {
     }
 
     // A read or a listing is done with the copy, without a store round of it.
-    fn skip_done(&mut self, copy: StoredCopy) -> Result<Heard, AllocError>
+    fn skip_done(&mut self, copy: StoredCopy) -> Result<Heard, OutOfMemory>
         ensures ok { IfOk result (λ heard. heard ≡ Heard.Done (outcome_as self.old.task self.old.who copy
             (rows_with self.old.task (listed_row copy) self.old.rows))) }
         ensures floor { self.new.floor ≡ self.old.floor }
@@ -541,14 +542,14 @@ impl Operation {
     }
 
     // The operation is done with the copy stored.
-    fn finish(&mut self) -> Result<Heard, AllocError>
+    fn finish(&mut self) -> Result<Heard, OutOfMemory>
         ensures ok { IfOk result (λ heard. heard
             ≡ Heard.Done (outcome_as self.old.task self.old.who self.old.stored self.old.rows)) }
         ensures floor { self.new.floor ≡ self.old.floor }
         ensures done { OnOk result (self.new.done ≡ true) }
         ensures err { OnErr result (self.new ≡ self.old) }
     {
-        let copy = self.stored.clone()?;
+        let copy = self.stored.share()?;
         Ok(Heard::Done(self.end(copy)))
     }
 

@@ -4,7 +4,8 @@ ghost use Rattle.gq_pool.specs.Blocks.{blocks_for, content_of};
 
 use crate::BLOCK_BYTES;
 use crate::stack::{Block, Stack};
-use std::alloc::{AllocError, Global};
+use gq_memory::OutOfMemory;
+use std::alloc::Global;
 use std::marker::Model;
 use thiserror::Error;
 
@@ -74,8 +75,8 @@ impl Chain {
 impl Pool {
     /// A pool of `n` free blocks, each taken from memory now, by one request.
     ///
-    /// `AllocError` is want of memory: the blocks that were taken until then were given back.
-    pub fn new(alloc: Global, n: usize) -> Result<Pool, AllocError>
+    /// `OutOfMemory` is want of memory: the blocks that were taken until then were given back.
+    pub fn new(alloc: Global, n: usize) -> Result<Pool, OutOfMemory>
         ensures { IfOk result (λ pool. pool ≡ n) }
     {
         let mut free = Stack::new();

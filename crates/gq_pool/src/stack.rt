@@ -6,7 +6,8 @@ ghost use Rattle.gq_pool.specs.Blocks.{content_of};
 use crate::BLOCK_BYTES;
 use crate::node::{Link, Node};
 use crate::nodes::Nodes;
-use std::alloc::{AllocError, Global};
+use gq_memory::{OutOfMemory, boxed};
+use std::alloc::Global;
 use std::marker::Model;
 use std::ptr;
 
@@ -38,8 +39,8 @@ impl Model for Stack {
 
 impl Block {
     // A block of zeros, taken from memory.
-    pub(crate) fn new(alloc: Global) -> Result<Block, AllocError> {
-        let node = Box::new(
+    pub(crate) fn new(alloc: Global) -> Result<Block, OutOfMemory> {
+        let node = boxed(
             alloc,
             Node {
                 next: ptr::null_mut(),

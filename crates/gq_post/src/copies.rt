@@ -26,18 +26,18 @@ pub(crate) fn body_said(copies: &Slab<SharedCopy>, envelope: Envelope) -> Option
     match envelope.says {
         Says::Lost => None,
         Says::Ask => Some(BodyView::Ask),
-        Says::Copy => Some(BodyView::Copy(&copies.get(envelope.place)?.copy)),
-        Says::Store => Some(BodyView::Store(&copies.get(envelope.place)?.copy)),
+        Says::Copy => Some(BodyView::Copy(&copies.get(envelope.place as usize)?.copy)),
+        Says::Store => Some(BodyView::Store(&copies.get(envelope.place as usize)?.copy)),
         Says::Stored => Some(BodyView::Stored),
     }
 }
 
 // Whether there is an equal copy at the place, and room for one user more.
 #[inline(always)]
-pub(crate) fn can_share(copies: &Slab<SharedCopy>, place: usize, tag: Tag, bytes: &[u8]) -> bool
+pub(crate) fn can_share(copies: &Slab<SharedCopy>, place: u32, tag: Tag, bytes: &[u8]) -> bool
     ensures { IsTrue result ↔ IsSomeAnd (get copies.now place) (λ shared. (shared.copy ≡ record { tag = tag; bytes = bytes.now }) × (shared.users < usize.MAX)) }
 {
-    match copies.get(place) {
+    match copies.get(place as usize) {
         Some(shared) => {
             shared.users < usize::MAX
                 && shared.copy.tag == tag
@@ -76,21 +76,21 @@ pub(crate) fn keep(copies: &mut Slab<SharedCopy>, body: Body, users: usize)
 
 // Gives the copy at the place so many users.
 #[inline(always)]
-fn set_users(copies: &mut Slab<SharedCopy>, place: usize, users: usize)
+fn set_users(copies: &mut Slab<SharedCopy>, place: u32, users: usize)
     ensures { Updates copies.old copies.new place (with_users users (get copies.old place)) }
 {
-    if let Some(shared) = copies.get_mut(place) {
+    if let Some(shared) = copies.get_mut(place as usize) {
         shared.users = users;
     }
 }
 
 // Gives the copy at the place one user more.
 #[inline(always)]
-pub(crate) fn add_user(copies: &mut Slab<SharedCopy>, place: usize)
+pub(crate) fn add_user(copies: &mut Slab<SharedCopy>, place: u32)
     requires { IsSomeAnd (get copies.old place) (λ shared. shared.users < usize.MAX) }
     ensures { IsSomeAnd (get copies.old place) (λ shared. Updates copies.old copies.new place (Some (record shared { users = shared.users + 1 }))) }
 {
-    let users = match copies.get(place) {
+    let users = match copies.get(place as usize) {
         Some(shared) => shared.users,
         None => unreachable!(),
     };
@@ -98,16 +98,16 @@ pub(crate) fn add_user(copies: &mut Slab<SharedCopy>, place: usize)
 }
 
 // Takes one user from the copy at the place, and the copy out with its last.
-pub(crate) fn remove_user(copies: &mut Slab<SharedCopy>, place: usize)
+pub(crate) fn remove_user(copies: &mut Slab<SharedCopy>, place: u32)
     ensures { Updates copies.old copies.new place (one_less (get copies.old place)) }
 {
-    let users = match copies.get(place) {
+    let users = match copies.get(place as usize) {
         Some(shared) => shared.users,
         None => 0,
     };
     if 1 < users {
         set_users(copies, place, users - 1);
     } else {
-        copies.try_remove(place);
+        copies.try_remove(place as usize);
     }
 }

@@ -10,8 +10,9 @@ ghost use Rattle.gq_post.specs.declared.envelopes.Envelope.{Envelope};
 ghost use Rattle.gq_post.specs.Slips.{heading_of, slip_of, slip_to, opened};
 
 use gq_grid::{Grid, ServerSet};
+use gq_memory::{GrowPlaces, GrowVec, OutOfMemory, RoomInVec};
 use gq_tag::{Body, BodyView, FileId, Message, MessageView};
-use std::alloc::{AllocError, Global};
+use std::alloc::Global;
 use std::marker::Model;
 
 // What an envelope says.
@@ -57,7 +58,7 @@ pub(crate) struct Envelope {
     pub(crate) volume: u32,
     pub(crate) file: u32,
     // where the copy lies, if it says one
-    pub(crate) place: usize,
+    pub(crate) place: u32,
     pub(crate) tenant: u8,
     pub(crate) file_tenant: u8,
     pub(crate) session: u8,
@@ -67,7 +68,7 @@ pub(crate) struct Envelope {
 
 impl Envelope {
     // The message's envelope, its copy at the place.
-    pub(crate) fn of(message: &Message, place: usize) -> Envelope
+    pub(crate) fn of(message: &Message, place: u32) -> Envelope
         ensures { result ≡ envelope_of message.now place }
     {
         Envelope {
@@ -143,20 +144,16 @@ pub(crate) struct Slip {
 }
 
 impl Slip {
-    // The envelope's slip. Places past 32 bits are refused, as memory for so many would be.
-    fn of(envelope: Envelope, heading: usize) -> Result<Slip, AllocError>
-        ensures { IfOk result (λ slip. slip ≡ slip_of envelope heading) }
+    // The envelope's slip under the heading at the place.
+    fn of(envelope: Envelope, heading: u32) -> Slip
+        ensures { result ≡ slip_of envelope heading }
     {
-        let (Ok(heading), Ok(place)) = (u32::try_from(heading), u32::try_from(envelope.place))
-        else {
-            return Err(AllocError);
-        };
-        Ok(Slip {
+        Slip {
             heading,
-            place,
+            place: envelope.place,
             server: envelope.server,
             says: envelope.says,
-        })
+        }
     }
 }
 
@@ -172,7 +169,7 @@ fn opened(headings: &[Heading], slip: Slip) -> Envelope
         round: heading.round,
         volume: heading.volume,
         file: heading.file,
-        place: slip.place as usize,
+        place: slip.place,
         tenant: heading.tenant,
         file_tenant: heading.file_tenant,
         session: heading.session,
@@ -254,29 +251,25 @@ impl Envelopes {
     }
 
     // Sends an envelope under a heading of its own.
-    fn push(&mut self, envelope: Envelope) -> Result<(), AllocError>
+    fn push(&mut self, envelope: Envelope) -> Result<(), OutOfMemory>
         ensures ok { OnOk result (self.new ≡ self.old ++ envelope ∷ []) }
         ensures err { OnErr result (self.new ≡ self.old) }
     {
-        let slip = Slip::of(envelope, self.headings.len())?;
-        self.slips.reserve(1)?;
-        self.headings.push(Heading::of(envelope))?;
-        self.slips.push_reserved(slip);
+        self.slips.make_room(1)?;
+        let heading = self.headings.grow_place(Heading::of(envelope))?;
+        self.slips.push_reserved(Slip::of(envelope, heading));
         Ok(())
     }
 
     // Sends an answer to the envelope of this number, under the same heading.
     #[inline(always)]
-    fn push_answer(&mut self, number: u64, says: Says, place: usize) -> Result<(), AllocError>
+    fn push_answer(&mut self, number: u64, says: Says, place: u32) -> Result<(), OutOfMemory>
         requires { number < length self.old }
         ensures ok { OnOk result ((asked : Envelope) → slice_get self.old number ≡ Some asked → self.new ≡ self.old ++ answering asked says place ∷ []) }
         ensures err { OnErr result (self.new ≡ self.old) }
     {
-        let Ok(place) = u32::try_from(place) else {
-            return Err(AllocError);
-        };
         let asked = self.slips[number as usize];
-        self.slips.push(Slip {
+        self.slips.grow(Slip {
             place,
             says,
             ..asked
@@ -291,14 +284,14 @@ impl Envelopes {
         grid: &Grid,
         to: ServerSet,
         except: ServerSet,
-    ) -> Result<usize, AllocError>
+    ) -> Result<usize, OutOfMemory>
         ensures count { IfOk result (λ count. count ≡ length (rising grid.now (apart (servers to) (servers except)))) }
         ensures ok { OnOk result (self.new ≡ self.old ++ map (to_other envelope) (rising grid.now (apart (servers to) (servers except)))) }
         ensures err { OnErr result (self.new ≡ self.old) }
     {
-        let slip = Slip::of(envelope, self.headings.len())?;
-        self.slips.reserve(grid.servers())?;
-        self.headings.push(Heading::of(envelope))?;
+        self.slips.make_room(grid.servers())?;
+        let heading = self.headings.grow_place(Heading::of(envelope))?;
+        let slip = Slip::of(envelope, heading);
         Ok(push_slips(&mut self.slips, slip, grid, to, except))
     }
 
@@ -325,7 +318,7 @@ pub(crate) fn push(
     lanes: &mut Vec<Envelopes>,
     tenant: u8,
     envelope: Envelope,
-) -> Result<u64, AllocError>
+) -> Result<u64, OutOfMemory>
     requires { tenant < length lanes.old.items }
     ensures number { IfOk result (λ number. number ≡ length (envelopes_at lanes.old.items tenant)) }
     ensures ok { OnOk result (lanes.new.items ≡ slice_set lanes.old.items tenant (envelopes_at lanes.old.items tenant ++ envelope ∷ [])) }
@@ -345,7 +338,7 @@ pub(crate) fn push_round(
     grid: &Grid,
     to: ServerSet,
     except: ServerSet,
-) -> Result<usize, AllocError>
+) -> Result<usize, OutOfMemory>
     requires { tenant < length lanes.old.items }
     ensures count { IfOk result (λ count. count ≡ length (rising grid.now (apart (servers to) (servers except)))) }
     ensures ok { OnOk result (lanes.new.items ≡ slice_set lanes.old.items tenant (envelopes_at lanes.old.items tenant ++ map (to_other envelope) (rising grid.now (apart (servers to) (servers except))))) }
@@ -361,8 +354,8 @@ pub(crate) fn push_answer(
     tenant: u8,
     number: u64,
     says: Says,
-    place: usize,
-) -> Result<u64, AllocError>
+    place: u32,
+) -> Result<u64, OutOfMemory>
     requires tenant { tenant < length lanes.old.items }
     requires there { IsSome (envelope_at (envelopes_at lanes.old.items tenant) number) }
     ensures number { IfOk result (λ number. number ≡ length (envelopes_at lanes.old.items tenant)) }

@@ -8,10 +8,11 @@ ghost use Rattle.gq_post.specs.Lanes.{lane_at, message_at};
 use crate::copies::{self, SharedCopy};
 use crate::envelopes::{self, Envelope, Envelopes, Says};
 use bytes::Bytes;
+use gq_memory::{GrowSlab, GrowVec, OutOfMemory, copied_bytes};
 use gq_round::{Messages, RoundMessage};
 use gq_tag::{Body, Message, MessageView, StoredCopy, Tag};
 use slab::Slab;
-use std::alloc::{AllocError, Global};
+use std::alloc::Global;
 use std::marker::Model;
 use thiserror::Error;
 
@@ -20,13 +21,14 @@ use thiserror::Error;
 #[error("out of memory")]
 pub struct Unsent {
     pub message: Message,
+    pub refused: OutOfMemory,
 }
 
 /// A reply that was sent: its number, and a hint at where its copy lies.
 #[derive(Clone, Copy)]
 pub struct CopySent {
     pub number: u64,
-    pub hint: usize,
+    pub hint: u32,
 }
 
 /// The messages of all tenants: for each tenant a lane of its messages in order of sending, numbered from 0. A message stays
@@ -53,13 +55,13 @@ impl Model for Post {
 
 impl Post {
     /// The post of so many tenants, each with an empty lane.
-    pub fn new(alloc: Global, tenants: usize) -> Result<Post, AllocError>
+    pub fn new(alloc: Global, tenants: usize) -> Result<Post, OutOfMemory>
         ensures { IfOk result (λ post. post ≡ replicate tenants []) }
     {
         let copies = Slab::new(alloc);
         let mut lanes = Vec::new(alloc);
         for _tenant in 0..tenants {
-            lanes.push(Envelopes::new(alloc))?;
+            lanes.grow(Envelopes::new(alloc))?;
         }
         Ok(Post {
             copies,
@@ -77,12 +79,14 @@ impl Post {
         ensures back { IfErr result (λ unsent. unsent.message ≡ message) }
         ensures same { OnErr result (self.new ≡ self.old) }
     {
-        if self.copies.reserve(1).is_err() {
-            return Err(Unsent { message });
-        }
-        let envelope = Envelope::of(&message, self.copies.vacant_key());
-        let Ok(number) = envelopes::push(&mut self.lanes, tenant, envelope) else {
-            return Err(Unsent { message });
+        let place = match self.copies.make_place() {
+            Ok(place) => place,
+            Err(refused) => return Err(Unsent { message, refused }),
+        };
+        let envelope = Envelope::of(&message, place);
+        let number = match envelopes::push(&mut self.lanes, tenant, envelope) {
+            Ok(number) => number,
+            Err(refused) => return Err(Unsent { message, refused }),
         };
         copies::keep(&mut self.copies, message.body, 1);
         Ok(number)
@@ -90,7 +94,7 @@ impl Post {
 
     /// Sends a round's messages of the tenant in order, and answers the number of the first. Their copy is there once.
     /// Where memory is wanting nothing changes.
-    pub fn send_all(&mut self, tenant: u8, messages: Messages) -> Result<u64, AllocError>
+    pub fn send_all(&mut self, tenant: u8, messages: Messages) -> Result<u64, OutOfMemory>
         requires { tenant < length self.old }
         ensures first { IfOk result (λ first. first ≡ length (lane_at self.old tenant)) }
         ensures sent { OnOk result (self.new ≡ slice_set self.old tenant (lane_at self.old tenant ++ map Some messages)) }
@@ -108,13 +112,13 @@ impl Post {
             file,
             body,
         } = message;
-        self.copies.reserve(1)?;
+        let place = self.copies.make_place()?;
         let envelope = Envelope {
             op: who.op,
             round,
             volume: file.volume,
             file: file.file,
-            place: self.copies.vacant_key(),
+            place,
             tenant: who.tenant,
             file_tenant: file.tenant,
             session: who.session,
@@ -130,7 +134,7 @@ impl Post {
     /// Sends the answer `stored` to the tenant's message of this number, in the same round, and answers the number of
     /// the answer. Where memory is wanting nothing changes.
     #[inline(always)]
-    pub fn reply_stored(&mut self, tenant: u8, number: u64) -> Result<u64, AllocError>
+    pub fn reply_stored(&mut self, tenant: u8, number: u64) -> Result<u64, OutOfMemory>
         requires tenant { tenant < length self.old }
         requires there { IsSome (message_at (lane_at self.old tenant) number) }
         ensures number { IfOk result (λ sent. sent ≡ length (lane_at self.old tenant)) }
@@ -151,8 +155,8 @@ impl Post {
         number: u64,
         tag: Tag,
         bytes: &[u8],
-        hint: usize,
-    ) -> Result<CopySent, AllocError>
+        hint: u32,
+    ) -> Result<CopySent, OutOfMemory>
         requires tenant { tenant < length self.old }
         requires there { IsSome (message_at (lane_at self.old tenant) number) }
         ensures number { IfOk result (λ sent. sent.number ≡ length (lane_at self.old tenant)) }
@@ -174,16 +178,15 @@ impl Post {
         number: u64,
         tag: Tag,
         bytes: &[u8],
-    ) -> Result<CopySent, AllocError>
+    ) -> Result<CopySent, OutOfMemory>
         requires tenant { tenant < length self.old }
         requires there { IsSome (message_at (lane_at self.old tenant) number) }
         ensures number { IfOk result (λ sent. sent.number ≡ length (lane_at self.old tenant)) }
         ensures sent { OnOk result ((message : Message) → message_at (lane_at self.old tenant) number ≡ Some message → self.new ≡ slice_set self.old tenant (lane_at self.old tenant ++ Some (record message { body = Body.Copy (record { tag = tag; bytes = bytes.now }) }) ∷ [])) }
         ensures same { OnErr result (self.new ≡ self.old) }
     {
-        let bytes = Bytes::copy_from_slice(self.alloc, bytes)?;
-        self.copies.reserve(1)?;
-        let hint = self.copies.vacant_key();
+        let bytes = copied_bytes(self.alloc, bytes)?;
+        let hint = self.copies.make_place()?;
         let number = envelopes::push_answer(&mut self.lanes, tenant, number, Says::Copy, hint)?;
         copies::keep(&mut self.copies, Body::Copy(StoredCopy { tag, bytes }), 1);
         Ok(CopySent { number, hint })
@@ -201,7 +204,7 @@ impl Post {
     }
 
     /// A hint at where the message's copy lies, for `reply_copy`; any number where it has none.
-    pub fn hint(&self, tenant: u8, number: u64) -> usize
+    pub fn hint(&self, tenant: u8, number: u64) -> u32
         requires { tenant < length self.now }
     {
         match self.lanes[tenant as usize].envelope(number) {

@@ -7,8 +7,9 @@ ghost use Rattle.gq_grid.specs.Sets.{servers};
 ghost use Rattle.gq_round.specs.Round.{sent_to};
 
 use gq_grid::{Grid, ServerSet};
+use gq_memory::{GrowVec, OutOfMemory};
 use gq_tag::{Body, FileId, Message};
-use std::alloc::{AllocError, Global};
+use std::alloc::Global;
 use std::marker::Model;
 
 /// Whose operation it is: the tenant's place in the plan (from 0), the number of the tenant's session (from 1), and
@@ -106,21 +107,21 @@ impl Messages {
     }
 
     /// The messages one by one. They share one content.
-    pub fn to_vec(&self, alloc: Global) -> Result<Vec<Message>, AllocError>
+    pub fn to_vec(&self, alloc: Global) -> Result<Vec<Message>, OutOfMemory>
         ensures { IfOk result (λ messages. messages.items ≡ self.now) }
     {
         let common = &self.message;
         let mut messages = Vec::new(alloc);
         for server in 0..self.grid.servers() {
             if self.to.has(server) && !self.except.has(server) {
-                messages.push(Message {
+                messages.grow(Message {
                     tenant: common.who.tenant,
                     session: common.who.session,
                     op: common.who.op,
                     round: common.round,
                     server: server as u8,
                     file: common.file,
-                    body: common.body.clone()?,
+                    body: common.body.share()?,
                 })?;
             }
         }

@@ -3,8 +3,9 @@
 use crate::live::run_of;
 use bytes::Bytes;
 use gq_cell::{BoardEntry, CellEntry};
-use gq_inspect::{Mismatch, inspect};
+use gq_inspect::inspect;
 use gq_live::OpenGate;
+use gq_memory::GrowVec;
 use gq_model::Said;
 use gq_phase::Outcome;
 use gq_session::{Did, Entries, Journal, Records, SessionEntry};
@@ -127,7 +128,7 @@ fn forge(records: &mut Records, forgery: Forgery) {
             }
         }
         Forgery::Return => {
-            let _ = records.board.push(BoardEntry {
+            let _ = records.board.grow(BoardEntry {
                 stamp: 6,
                 server: 0,
                 up: true,
@@ -137,43 +138,32 @@ fn forge(records: &mut Records, forgery: Forgery) {
     }
 }
 
-// What is wrong with the records of the smallest run where this is forged.
-fn forged<R: Abort + Threads + Wait + Sync>(
-    rt: &R,
-    alloc: Global,
-    forgery: Forgery,
-) -> Option<Mismatch> {
+// What is told of the records of the smallest run where this is forged.
+fn forged<R: Abort + Threads + Wait + Sync>(rt: &R, alloc: Global, forgery: Forgery) -> String {
     let (plan, mut records) = run_of(rt, alloc, SMALLEST, &OpenGate);
     forge(&mut records, forgery);
-    inspect(alloc, &plan, &records).err()
+    match inspect(alloc, &plan, &records) {
+        Err(mismatch) => format!(in alloc; "{mismatch:?}").expect(rt, "memory"),
+        Ok(_) => panic!(rt; "nothing is told"),
+    }
 }
 
 #[test]
 fn tells_what_is_forged(rt: HostRuntime) {
-    let reply = Mismatch::Reply {
-        server: 0,
-        place: 0,
-    };
-    let receipt = Mismatch::Receipt {
-        server: 0,
-        place: 1,
-    };
-    let answer = Mismatch::Answer {
-        tenant: 0,
-        session: 1,
-        at: 2,
-    };
+    let reply = "Reply { server: 0, place: 0 }";
+    let receipt = "Receipt { server: 0, place: 1 }";
+    let answer = "Answer { tenant: 0, session: 1, at: 2 }";
     for (forgery, told) in [
         (Forgery::Told, reply),
         (Forgery::Brought, receipt),
         (Forgery::Done, answer),
         (Forgery::Operation, answer),
-        (Forgery::Stamp, Mismatch::Stamp),
-        (Forgery::Return, Mismatch::Stamp),
-        (Forgery::Servers, Mismatch::Shape),
+        (Forgery::Stamp, "Stamp"),
+        (Forgery::Return, "Stamp"),
+        (Forgery::Servers, "Shape"),
     ] {
         assert!(rt;
-            forged(&rt, rt.alloc(), forgery) == Some(told),
+            forged(&rt, rt.alloc(), forgery).as_str() == told,
             "{forgery:?}"
         );
     }

@@ -3,13 +3,21 @@
 use gq_desk::Name;
 use gq_inspect::Mismatch;
 use gq_runs::{LiveRunFault, NamedMismatch};
-use std::alloc::{AllocError, Global};
+use std::alloc::Global;
 use std::test::Fail;
 
 // What is told of it, of a tenant of that name.
-fn told(alloc: Global, mismatch: Mismatch, name: Option<Name>) -> Result<String, AllocError> {
+fn told(alloc: Global, mismatch: Mismatch, name: Option<Name>) -> Result<String, Fail> {
     let fault = LiveRunFault::Mismatch(NamedMismatch { mismatch, name });
-    format!(in alloc; "{fault}")
+    Ok(format!(in alloc; "{fault}")?)
+}
+
+fn answer() -> Mismatch {
+    Mismatch::Answer {
+        tenant: 2,
+        session: 1,
+        at: 9,
+    }
 }
 
 #[test]
@@ -18,16 +26,11 @@ fn prints_a_mismatch(rt: HostRuntime) -> Result<(), Fail> {
         server: 3,
         place: 7,
     };
-    let answer = Mismatch::Answer {
-        tenant: 2,
-        session: 1,
-        at: 9,
-    };
     for (mismatch, name, text) in [
         (Mismatch::Stamp, None, "mismatch stamp"),
         (receipt, None, "mismatch receipt 3 7"),
-        (answer, None, "mismatch answer 2 1 9"),
-        (answer, Name::new(b"ann"), "mismatch answer ann 1 9"),
+        (answer(), None, "mismatch answer 2 1 9"),
+        (answer(), Name::new(b"ann"), "mismatch answer ann 1 9"),
     ] {
         assert!(rt; told(rt.alloc(), mismatch, name)?.as_str() == text);
     }

@@ -117,7 +117,7 @@ FinishOf name k input text = OfTenant (λ plan lines t. IsFinish input plan line
 
 -- the cause of a fault in a session of a tenant of the plan, after these events
 abbrev pub CauseOf : FinishFault → CheckedPlan → List Event → ℕ → ℕ → Type 0
-CauseOf (Run fault) plan events t k = fault ≡ Memory
+CauseOf (Run fault) plan events t k = fault ≡ Memory tt
 CauseOf Name plan events t k = ⊥
 CauseOf Session plan events t k = is_in 1 (row_at plan t).sessions k ≡ false
 CauseOf NoOperation plan events t k = operation_left plan events t k ≡ None

@@ -55,26 +55,19 @@ AppendsLivePrefix input old new = (script : List ℕ) × IsLiveScript input scri
 abbrev pub GivesPrograms : List ℕ → Type 0
 GivesPrograms input = fault_of (plan_of (lines_of input)) ≡ None
 
--- a fault of reading
-abbrev pub IsFaultOfReading : LiveRunFault → Type 0
-IsFaultOfReading Read = Unit {0}
-IsFaultOfReading TooBig = Unit {0}
-IsFaultOfReading Memory = Unit {0}
-IsFaultOfReading _ = ⊥
-
 -- a fault of the threads, of the inspection or of the memory; want of memory is told one way only
 abbrev pub IsFaultOfRun : LiveRunFault → Type 0
-IsFaultOfRun (Live fault) = fault ≢ LiveMemory
-IsFaultOfRun (Mismatch named) = named.mismatch ≢ MismatchMemory
-IsFaultOfRun Memory = Unit {0}
+IsFaultOfRun (Live fault) = fault ≢ LiveMemory tt
+IsFaultOfRun (Mismatch named) = named.mismatch ≢ MismatchMemory tt
+IsFaultOfRun (Memory _) = Unit {0}
 IsFaultOfRun _ = ⊥
 
 -- a fault behind the reading: the first one of the input, or one of its run
 abbrev pub IsFaultOfScript : List ℕ → LiveRunFault → Type 0
 IsFaultOfScript input (Program fault) = fault_of (plan_of (lines_of input)) ≡ Some fault
-IsFaultOfScript input (Live fault) = (fault ≢ LiveMemory) × GivesPrograms input
-IsFaultOfScript input (Mismatch named) = (named.mismatch ≢ MismatchMemory) × GivesPrograms input
-IsFaultOfScript input Memory = Unit {0}
+IsFaultOfScript input (Live fault) = (fault ≢ LiveMemory tt) × GivesPrograms input
+IsFaultOfScript input (Mismatch named) = (named.mismatch ≢ MismatchMemory tt) × GivesPrograms input
+IsFaultOfScript input (Memory _) = Unit {0}
 IsFaultOfScript input _ = ⊥
 
 -- any fault

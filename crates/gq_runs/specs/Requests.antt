@@ -34,11 +34,11 @@ IsWriting fault = ⊥
 
 -- the status that the program ends with
 abbrev pub status_of : RequestFault → ℕ
-status_of (RunEnded Memory) = MEMORY
-status_of (OrderEnded (OrderRun Memory)) = MEMORY
-status_of (FinishEnded (FinishRun Memory)) = MEMORY
-status_of (LiveEnded LiveRunMemory) = MEMORY
-status_of (LiveEnded (LiveThreads LiveMemory)) = MEMORY
+status_of (RunEnded (Memory _)) = MEMORY
+status_of (OrderEnded (OrderRun (Memory _))) = MEMORY
+status_of (FinishEnded (FinishRun (Memory _))) = MEMORY
+status_of (LiveEnded (LiveRunMemory _)) = MEMORY
+status_of (LiveEnded (LiveThreads (LiveMemory _))) = MEMORY
 status_of (LiveEnded (LiveThreads Thread)) = MEMORY
 status_of (LiveEnded (LiveThreads Gate)) = REFUSED
 status_of (LiveEnded (LiveThreads Stamps)) = REFUSED

@@ -23,19 +23,20 @@ ghost use Rattle.gq_runs.specs.Finishing.{events_of, goes_on, session_of, CauseO
 
 use gq_desk::{MOST_STEPS, Plan};
 use gq_grid::{Grid, ServerSet};
+use gq_memory::{GrowCopies, OutOfMemory};
 use gq_model::{Answer, Event, Line, Refusal, ServerLine};
 use gq_phase::Outcome;
 use gq_script::{
     MOST_INPUT, PlanText, RunFault, Watched, first_line, put_tenant_line, read_line, read_plan,
     read_whole, write_whole,
 };
-use gq_world::World;
-use std::alloc::{AllocError, Global};
+use gq_world::{Ended, World};
+use std::alloc::Global;
 use std::io::{Read, Write};
 use thiserror::Error;
 
 /// Why `finish` ended early. After each fault but that of writing nothing was written.
-#[derive(Clone, Copy, Debug, PartialEq, Eq, Error)]
+#[derive(Debug, Drop, Error)]
 pub enum FinishFault {
     /// As a run ends early.
     #[error("{0}")]
@@ -64,22 +65,23 @@ pub enum FinishFault {
 }
 
 // Why no line completes the operation.
+#[derive(Drop)]
 enum Stop {
-    Memory,
+    Memory(OutOfMemory),
     Idle,
     Steps,
     // No message is left to be delivered.
     Quiet,
 }
 
-impl From<AllocError> for Stop {
+impl From<OutOfMemory> for Stop {
     ghost use Rattle.std.specs.Prelude.{◌≡◌};
     ghost use Rattle.gq_runs.specs.declared.finish.Stop.TheVariants.{Memory};
 
-    ghost from_gives = { λ _ e. e ≡ Memory };
+    ghost from_gives = { λ refused e. e ≡ Memory refused };
 
-    fn from(_e: AllocError) -> Stop {
-        Stop::Memory
+    fn from(refused: OutOfMemory) -> Stop {
+        Stop::Memory(refused)
     }
 }
 
@@ -156,7 +158,7 @@ fn add_line(
     tenant: u8,
     line: Line,
     text: &mut Vec<u8>,
-) -> Result<Answer, AllocError>
+) -> Result<Answer, OutOfMemory>
     requires { tenant < length world.old.tables.plan.rows }
     ensures plan { world.new.tables.plan ≡ world.old.tables.plan }
     ensures text { OnOk result (text.new.items ≡ text.old.items ++ line_text (row_at world.old.tables.plan tenant).name (line_words line)) }
@@ -168,7 +170,7 @@ fn add_line(
     put_tenant_line(text, world.plan().row(tenant).name.as_bytes(), &line)?;
     match world.step(&Event::Tenant { tenant, line }) {
         Ok(answer) => Ok(answer),
-        Err(_) => Err(AllocError),
+        Err(Ended(refused)) => Err(refused),
     }
 }
 
@@ -247,7 +249,7 @@ fn note(grid: &Grid, up: &mut ServerSet, event: &Event) {
 }
 
 // Answers the lines of a text after the plan, by a new world, and tells which servers they leave up.
-fn play(alloc: Global, world: &mut World, lines: &[u8]) -> Result<ServerSet, AllocError>
+fn play(alloc: Global, world: &mut World, lines: &[u8]) -> Result<ServerSet, OutOfMemory>
     requires { Stands world.old.tables [] }
     ensures plan { world.new.tables.plan ≡ world.old.tables.plan }
     ensures stands { OnOk result (Stands world.new.tables (events_of world.old.tables.plan (lines_of lines.now))) }
@@ -257,9 +259,10 @@ fn play(alloc: Global, world: &mut World, lines: &[u8]) -> Result<ServerSet, All
     while !rest.is_empty() {
         let (line, after) = first_line(rest);
         let event = read_line(alloc, line, world.plan())?;
-        let Ok(_) = world.step(&event) else {
-            return Err(AllocError);
-        };
+        match world.step(&event) {
+            Ok(_) => {}
+            Err(Ended(refused)) => return Err(refused),
+        }
         note(world.plan().grid(), &mut up, &event);
         rest = after;
     }
@@ -271,7 +274,7 @@ fn fault_of(stop: Stop, grid: &Grid, up: ServerSet) -> FinishFault
     ensures { (plan : CheckedPlan) (events : List Event) (t k : ℕ) → StopsFor stop plan events t k → CauseOf result plan events t k }
 {
     match stop {
-        Stop::Memory => FinishFault::Run(RunFault::Memory),
+        Stop::Memory(refused) => FinishFault::Run(RunFault::Memory(refused)),
         Stop::Idle => FinishFault::Idle,
         Stop::Steps => FinishFault::Steps,
         Stop::Quiet => match (up.has_row(grid), up.has_column(grid)) {
@@ -284,7 +287,7 @@ fn fault_of(stop: Stop, grid: &Grid, up: ServerSet) -> FinishFault
 
 // Appends the newline that ends the last line of a text, where the text has none there.
 #[tactic(auto, using(crate::proofs::Finishing::newline_nothing))]
-fn put_missing_newline(out: &mut Vec<u8>, text: &[u8]) -> Result<(), AllocError>
+fn put_missing_newline(out: &mut Vec<u8>, text: &[u8]) -> Result<(), OutOfMemory>
     ensures { OnOk result (out.new.items ≡ out.old.items ++ missing_newline text.now) }
 {
     let Some(last) = text.last() else {
@@ -293,7 +296,7 @@ fn put_missing_newline(out: &mut Vec<u8>, text: &[u8]) -> Result<(), AllocError>
     if *last == b'\n' {
         return Ok(());
     }
-    out.extend_from_slice(b"\n")
+    out.grow_by(b"\n")
 }
 
 // Appends the lines that complete the operation behind the lines of a text after the plan.
@@ -309,11 +312,13 @@ fn put_finish(
     ensures ok { OnOk result (Finished plan (events_of plan (lines_of lines.now)) tenant session text.old.items text.new.items) }
     ensures fault { IfErr result (λ fault. CauseOf fault plan (events_of plan (lines_of lines.now)) tenant session) }
 {
-    let Ok(mut world) = World::new(alloc, plan) else {
-        return Err(FinishFault::Run(RunFault::Memory));
+    let mut world = match World::new(alloc, plan) {
+        Ok(world) => world,
+        Err(refused) => return Err(FinishFault::Run(RunFault::Memory(refused))),
     };
-    let Ok(up) = play(alloc, &mut world, lines) else {
-        return Err(FinishFault::Run(RunFault::Memory));
+    let up = match play(alloc, &mut world, lines) {
+        Ok(up) => up,
+        Err(refused) => return Err(FinishFault::Run(RunFault::Memory(refused))),
     };
     match complete(&mut world, tenant, session, text) {
         Ok(()) => Ok(()),
@@ -337,9 +342,10 @@ fn output(alloc: Global, input: &[u8], name: &str, session: u32) -> Result<Vec<u
                 return Err(FinishFault::Session);
             }
             let mut text = Vec::new(alloc);
-            let Ok(()) = put_missing_newline(&mut text, input) else {
-                return Err(FinishFault::Run(RunFault::Memory));
-            };
+            match put_missing_newline(&mut text, input) {
+                Ok(()) => {}
+                Err(refused) => return Err(FinishFault::Run(RunFault::Memory(refused))),
+            }
             match put_finish(alloc, plan, &input[place..], tenant, session, &mut text) {
                 Ok(()) => Ok(text),
                 Err(fault) => Err(fault),
@@ -348,7 +354,7 @@ fn output(alloc: Global, input: &[u8], name: &str, session: u32) -> Result<Vec<u
         Err(PlanText::Fault { line, fault }) => {
             Err(FinishFault::Run(RunFault::Plan(line, fault)))
         }
-        Err(PlanText::Memory) => Err(FinishFault::Run(RunFault::Memory)),
+        Err(PlanText::Memory(refused)) => Err(FinishFault::Run(RunFault::Memory(refused))),
     }
 }
 

@@ -3,12 +3,13 @@
 ghost use Rattle.std.specs.Prelude.{◌≡◌, ◌≢◌, ◌↔◌, ◌≤◌, length, true, false, IfOk, IfErr, IfSome, OnOk, IsErrOf};
 ghost use Rattle.gq_script.specs.Watched.{inner_of, has_failed};
 ghost use Rattle.gq_session.specs.Fitting.{FitsPlan};
-ghost use Rattle.gq_runs.specs.LiveRuns.{IsLiveScript, IsScriptOfRun, IsFaultOf, IsMismatchOf, IsFaultOfReading, IsFaultOfRun, IsFaultOfScript, AppendsLive, AppendsLivePrefix, GivesPrograms, NoGateFault};
+ghost use Rattle.gq_runs.specs.LiveRuns.{IsLiveScript, IsScriptOfRun, IsFaultOf, IsMismatchOf, IsFaultOfRun, IsFaultOfScript, AppendsLive, AppendsLivePrefix, GivesPrograms, NoGateFault};
 
 use crate::programs::{ProgramFault, read_programs};
 use gq_desk::{Name, Plan};
 use gq_inspect::{Mismatch, inspect};
 use gq_live::{Gate, LiveFault, Programs, live};
+use gq_memory::OutOfMemory;
 use gq_script::{MOST_INPUT, RunFault, Watched, read_whole, write_script, write_whole};
 use std::alloc::Global;
 use std::fmt::{Display, Error as FormatError, Formatter, Write as FormatWrite};
@@ -18,7 +19,7 @@ use std::thread::Threads;
 use thiserror::Error;
 
 /// Why the records of a live run are no run, with the name of the tenant whose session's step it is.
-#[derive(Clone, Copy, Debug)]
+#[derive(Debug, Drop)]
 pub struct NamedMismatch {
     pub mismatch: Mismatch,
     pub name: Option<Name>,
@@ -26,7 +27,7 @@ pub struct NamedMismatch {
 
 impl Display for NamedMismatch {
     fn fmt<W: FormatWrite>(&self, f: &mut Formatter<W>) -> Result<(), FormatError> {
-        match (self.mismatch, &self.name) {
+        match (&self.mismatch, &self.name) {
             (Mismatch::Answer { session, at, .. }, Some(name)) => {
                 let word = std::str::from_utf8(name.as_bytes()).unwrap_or("?");
                 write!(f, "mismatch answer {word} {session} {at}")
@@ -37,7 +38,7 @@ impl Display for NamedMismatch {
 }
 
 /// Why a live run gave no script. After each fault but that of writing nothing was written.
-#[derive(Clone, Copy, Debug, Error)]
+#[derive(Debug, Drop, Error)]
 pub enum LiveRunFault {
     /// The reader failed.
     #[error("read fault")]
@@ -56,46 +57,32 @@ pub enum LiveRunFault {
     Mismatch(NamedMismatch),
     /// Memory is wanting.
     #[error("out of memory")]
-    Memory,
+    Memory(OutOfMemory),
     /// The writer failed, or took none of some bytes. A prefix of the output was written.
     #[error("write fault")]
     Write,
 }
 
-// The fault of reading the input.
-fn reading_fault(fault: RunFault) -> LiveRunFault
-    ensures read { fault ≡ RunFault.Read → result ≡ LiveRunFault.Read }
-    ensures big { result ≡ LiveRunFault.TooBig → fault ≡ RunFault.TooBig }
-    ensures other { fault ≢ RunFault.Read → result ≢ LiveRunFault.Read }
-    ensures kind { IsFaultOfReading result }
-{
-    match fault {
-        RunFault::Read => LiveRunFault::Read,
-        RunFault::TooBig => LiveRunFault::TooBig,
-        _ => LiveRunFault::Memory,
-    }
-}
-
 // The fault of the threads.
 fn live_fault(fault: LiveFault) -> LiveRunFault
-    ensures told { fault ≢ LiveFault.Memory → result ≡ LiveRunFault.Live fault }
+    ensures told { fault ≢ LiveFault.Memory tt → result ≡ LiveRunFault.Live fault }
     ensures run { IsFaultOfRun result }
     ensures gate { fault ≢ LiveFault.Gate → NoGateFault result }
 {
     match fault {
-        LiveFault::Memory => LiveRunFault::Memory,
+        LiveFault::Memory(refused) => LiveRunFault::Memory(refused),
         fault => LiveRunFault::Live(fault),
     }
 }
 
 // The fault of the inspection, with the name of its tenant.
 fn inspection_fault(plan: &Plan, mismatch: Mismatch) -> LiveRunFault
-    ensures told { mismatch ≢ Mismatch.Memory → IsMismatchOf plan.now mismatch result }
+    ensures told { mismatch ≢ Mismatch.Memory tt → IsMismatchOf plan.now mismatch result }
     ensures run { IsFaultOfRun result }
     ensures gate { NoGateFault result }
 {
     let name = match mismatch {
-        Mismatch::Memory => return LiveRunFault::Memory,
+        Mismatch::Memory(refused) => return LiveRunFault::Memory(refused),
         Mismatch::Answer { tenant, .. } if (tenant as usize) < plan.tenants() => {
             Some(plan.row(tenant).name)
         }
@@ -128,7 +115,7 @@ fn script_of<G: Gate + Send + Sync, T: Threads + Wait + Sync>(
     let mut text = Vec::new(alloc);
     match write_script(plan, events.as_slice(), &mut text) {
         Ok(()) => Ok(text),
-        Err(_) => Err(LiveRunFault::Memory),
+        Err(refused) => Err(LiveRunFault::Memory(refused)),
     }
 }
 
@@ -147,7 +134,7 @@ fn script<G: Gate + Send + Sync, T: Threads + Wait + Sync>(
 {
     match read_programs(alloc, input) {
         Ok((plan, programs)) => script_of(rt, alloc, &plan, &programs, gate),
-        Err(ProgramFault::Memory) => Err(LiveRunFault::Memory),
+        Err(ProgramFault::Memory(refused)) => Err(LiveRunFault::Memory(refused)),
         Err(fault) => Err(LiveRunFault::Program(fault)),
     }
 }
@@ -187,7 +174,10 @@ pub fn live_run<R: Read, W: Write, G: Gate + Send + Sync, T: Threads + Wait + Sy
 {
     let input = match read_whole(alloc, reader) {
         Ok(input) => input,
-        Err(fault) => return Err(reading_fault(fault)),
+        Err(RunFault::Read) => return Err(LiveRunFault::Read),
+        Err(RunFault::TooBig) => return Err(LiveRunFault::TooBig),
+        Err(RunFault::Memory(refused)) => return Err(LiveRunFault::Memory(refused)),
+        Err(_) => unreachable!(),
     };
     let text = script(rt, alloc, input.as_slice(), gate)?;
     match write_whole(writer, text.as_slice()) {

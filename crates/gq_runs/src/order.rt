@@ -15,6 +15,7 @@ ghost use Rattle.gq_runs.specs.Orders.{line_at, op_line, op_lines, ordered, oper
 
 use gq_desk::Plan;
 use gq_laws::{Kind, Op};
+use gq_memory::{GrowCopies, OutOfMemory};
 use gq_model::{Answer, Event};
 use gq_order::{FileOrder, OpRef, file_order};
 use gq_script::{
@@ -23,12 +24,12 @@ use gq_script::{
 };
 use gq_tag::FileId;
 use gq_world::World;
-use std::alloc::{AllocError, Global};
+use std::alloc::Global;
 use std::io::{Read, Write};
 use thiserror::Error;
 
 /// Why `order` ended early. After each fault but that of writing nothing was written.
-#[derive(Clone, Copy, Debug, PartialEq, Eq, Error)]
+#[derive(Debug, Drop, Error)]
 pub enum OrderFault {
     /// As a run ends early.
     #[error("{0}")]
@@ -39,7 +40,7 @@ pub enum OrderFault {
 }
 
 // Appends the words behind the kind of an operation: its session, its number, and what it wrote or gave.
-fn put_given(out: &mut Vec<u8>, op: &Op, given: Piece) -> Result<(), AllocError>
+fn put_given(out: &mut Vec<u8>, op: &Op, given: Piece) -> Result<(), OutOfMemory>
     ensures { OnOk result (out.new.items ≡ out.old.items ++ ended (decimal op.now.session ∷ decimal op.now.op ∷ words_in given.entry)) }
 {
     put_words(
@@ -53,7 +54,7 @@ fn put_given(out: &mut Vec<u8>, op: &Op, given: Piece) -> Result<(), AllocError>
 }
 
 // The same, of an operation that gave nothing.
-fn put_open(out: &mut Vec<u8>, op: &Op) -> Result<(), AllocError>
+fn put_open(out: &mut Vec<u8>, op: &Op) -> Result<(), OutOfMemory>
     ensures { OnOk result (out.new.items ≡ out.old.items ++ ended (decimal op.now.session ∷ decimal op.now.op ∷ [])) }
 {
     put_words(
@@ -66,35 +67,35 @@ fn put_open(out: &mut Vec<u8>, op: &Op) -> Result<(), AllocError>
 }
 
 // Appends the line of an operation.
-fn put_op(out: &mut Vec<u8>, op: &Op) -> Result<(), AllocError>
+fn put_op(out: &mut Vec<u8>, op: &Op) -> Result<(), OutOfMemory>
     ensures { OnOk result (out.new.items ≡ out.old.items ++ op_line op.now) }
 {
     match &op.kind {
         Kind::Write(bytes) => {
-            out.extend_from_slice(b"write")?;
+            out.grow_by(b"write")?;
             put_given(out, op, Piece::Content(bytes.as_slice()))
         }
         Kind::Read(Some(bytes)) => {
-            out.extend_from_slice(b"read")?;
+            out.grow_by(b"read")?;
             put_given(out, op, Piece::Content(bytes.as_slice()))
         }
         Kind::Read(None) => {
-            out.extend_from_slice(b"read")?;
+            out.grow_by(b"read")?;
             put_open(out, op)
         }
         Kind::Row(Some(length)) => {
-            out.extend_from_slice(b"row")?;
+            out.grow_by(b"row")?;
             put_given(out, op, Piece::Number(*length))
         }
         Kind::Row(None) => {
-            out.extend_from_slice(b"row")?;
+            out.grow_by(b"row")?;
             put_open(out, op)
         }
     }
 }
 
 // Appends the line of the operation at the place, where there is one.
-fn put_at(out: &mut Vec<u8>, ops: &[Op], place: OpRef) -> Result<(), AllocError>
+fn put_at(out: &mut Vec<u8>, ops: &[Op], place: OpRef) -> Result<(), OutOfMemory>
     ensures { OnOk result (out.new.items ≡ out.old.items ++ line_at ops.now place) }
 {
     match ops.get(place) {
@@ -104,7 +105,7 @@ fn put_at(out: &mut Vec<u8>, ops: &[Op], place: OpRef) -> Result<(), AllocError>
 }
 
 // Appends the lines of the operations at these places.
-fn put_ops(out: &mut Vec<u8>, ops: &[Op], order: &[OpRef]) -> Result<(), AllocError>
+fn put_ops(out: &mut Vec<u8>, ops: &[Op], order: &[OpRef]) -> Result<(), OutOfMemory>
     ensures { OnOk result (out.new.items ≡ out.old.items ++ op_lines ops.now order.now) }
 {
     for place in order {
@@ -121,14 +122,14 @@ fn put_order(
     events: &[Event],
     answers: &[Answer],
     file: FileId,
-) -> Result<(), AllocError>
+) -> Result<(), OutOfMemory>
     requires { IsRun plan.now events.now answers.now }
     ensures { OnOk result (out.new.items ≡ out.old.items ++ ordered (tenant_operations plan.now events.now file.tenant (file_place file))) }
 {
     let FileOrder { ops, order, legal } = file_order(alloc, plan, events, answers, file)?;
     put_ops(out, ops.as_slice(), order.as_slice())?;
     let verdict: &[u8] = if legal { b"legal\n" } else { b"illegal\n" };
-    out.extend_from_slice(verdict)
+    out.grow_by(verdict)
 }
 
 // The answers to the lines of a text after the plan, and the order of the operations on the file.
@@ -137,7 +138,7 @@ fn output_of_lines(
     plan: Plan,
     lines: &[u8],
     file: FileId,
-) -> Result<Vec<u8>, AllocError>
+) -> Result<Vec<u8>, OutOfMemory>
     ensures { IfOk result (λ text. text.items ≡ joined (output_lines plan (lines_of lines.now))
         ++ ordered (operations_of plan (lines_of lines.now) file.tenant (file_place file))) }
 {
@@ -183,13 +184,13 @@ fn output(
             };
             match output_of_lines(alloc, plan, &input[place..], file) {
                 Ok(text) => Ok(text),
-                Err(_) => Err(OrderFault::Run(RunFault::Memory)),
+                Err(refused) => Err(OrderFault::Run(RunFault::Memory(refused))),
             }
         }
         Err(PlanText::Fault { line, fault }) => {
             Err(OrderFault::Run(RunFault::Plan(line, fault)))
         }
-        Err(PlanText::Memory) => Err(OrderFault::Run(RunFault::Memory)),
+        Err(PlanText::Memory(refused)) => Err(OrderFault::Run(RunFault::Memory(refused))),
     }
 }
 

@@ -16,14 +16,15 @@ ghost use Rattle.gq_runs.specs.Gathering.{AreByTenant, line_for, list_at, reques
 ghost use Rattle.gq_runs.specs.Programs.{AreOf, IsProgramsOf, change_of, desk_after, desk_with, events_fault, fault_of, first_fault, line_fault, names_session, new_desk, opening_of, refused_at, steps_fault, tenant_fault, unless};
 
 use gq_desk::{Desk, MOST_STEPS, OpenRefused, Plan, TenantRow};
+use gq_memory::{GrowVec, OutOfMemory};
 use gq_model::{Event, Line, ServerLine};
 use gq_script::{MOST_INPUT, PlanText, TextFault, first_line, read_line, read_plan};
 use gq_session::{Lines, Opening, Programs, SessionId, sessions_of};
-use std::alloc::{AllocError, Global};
+use std::alloc::Global;
 use thiserror::Error;
 
 /// Why an input gives no programs of a live run. A fault of a line names the line, from 1.
-#[derive(Clone, Copy, Debug, PartialEq, Eq, Error)]
+#[derive(Debug, Drop, Error)]
 pub enum ProgramFault {
     /// The plan has this fault.
     #[error("line {0}: {1}")]
@@ -39,17 +40,17 @@ pub enum ProgramFault {
     Refused(u64),
     /// Memory is wanting.
     #[error("out of memory")]
-    Memory,
+    Memory(OutOfMemory),
 }
 
-impl From<AllocError> for ProgramFault {
+impl From<OutOfMemory> for ProgramFault {
     ghost use Rattle.std.specs.Prelude.{◌≡◌};
     ghost use Rattle.gq_runs.specs.declared.programs.ProgramFault.TheVariants.{Memory};
 
-    ghost from_gives = { λ _ e. e ≡ Memory };
+    ghost from_gives = { λ refused e. e ≡ Memory refused };
 
-    fn from(_e: AllocError) -> ProgramFault {
-        ProgramFault::Memory
+    fn from(refused: OutOfMemory) -> ProgramFault {
+        ProgramFault::Memory(refused)
     }
 }
 
@@ -100,12 +101,12 @@ fn open(
     requires { tenant < length desk.old }
     ensures ok { OnOk result (open_fault (account_at desk.old tenant) (record { files = files; blocks = blocks }) ≡ None) }
     ensures desk { OnOk result (desk.new ≡ slice_set desk.old tenant (with_volume (record { files = files; blocks = blocks }) (account_at desk.old tenant))) }
-    ensures fault { IfErr result (λ fault. fault ≢ ProgramFault.Memory →
+    ensures fault { IfErr result (λ fault. fault ≢ ProgramFault.Memory tt →
         refused_at number (open_fault (account_at desk.old tenant) (record { files = files; blocks = blocks })) ≡ Some fault) }
 {
     match desk.open_volume(tenant, files, blocks) {
         Ok(_) => Ok(()),
-        Err(OpenRefused::Memory) => Err(ProgramFault::Memory),
+        Err(OpenRefused::Memory(refused)) => Err(ProgramFault::Memory(refused)),
         Err(_) => Err(ProgramFault::Refused(number)),
     }
 }
@@ -122,7 +123,7 @@ fn test_line(
     requires account { tenant < length desk.old }
     ensures ok { OnOk result (tenant_fault plan.now desk.old number tenant line.now ≡ None) }
     ensures desk { OnOk result (desk.new ≡ desk_with desk.old tenant line.now) }
-    ensures fault { IfErr result (λ fault. fault ≢ ProgramFault.Memory → tenant_fault plan.now desk.old number tenant line.now ≡ Some fault) }
+    ensures fault { IfErr result (λ fault. fault ≢ ProgramFault.Memory tt → tenant_fault plan.now desk.old number tenant line.now ≡ Some fault) }
 {
     let fault = match line {
         Line::NewVolume { files, blocks } => {
@@ -145,7 +146,7 @@ fn test_event(plan: &Plan, desk: &mut Desk, event: &Event, number: u64) -> Resul
     requires accounts { length desk.old ≡ length plan.now.rows }
     ensures ok { OnOk result (line_fault plan.now desk.old number event.now ≡ None) }
     ensures desk { OnOk result (desk.new ≡ desk_after desk.old event.now) }
-    ensures fault { IfErr result (λ fault. fault ≢ ProgramFault.Memory → line_fault plan.now desk.old number event.now ≡ Some fault) }
+    ensures fault { IfErr result (λ fault. fault ≢ ProgramFault.Memory tt → line_fault plan.now desk.old number event.now ≡ Some fault) }
 {
     let fault = match event {
         Event::Tenant { tenant, line } => return test_line(plan, desk, *tenant, line, number),
@@ -164,11 +165,11 @@ fn test_events(alloc: Global, plan: &Plan, events: &[Event], first: u64) -> Resu
     requires low { first ≤ 1000 }
     requires few { length events.now ≤ MOST_INPUT }
     ensures ok { OnOk result (first_fault plan.now (new_desk plan.now) first events.now ≡ None) }
-    ensures fault { IfErr result (λ fault. fault ≢ ProgramFault.Memory → first_fault plan.now (new_desk plan.now) first events.now ≡ Some fault) }
+    ensures fault { IfErr result (λ fault. fault ≢ ProgramFault.Memory tt → first_fault plan.now (new_desk plan.now) first events.now ≡ Some fault) }
 {
     let mut desk = match Desk::new(alloc, plan) {
         Ok(desk) => desk,
-        Err(_) => return Err(ProgramFault::Memory),
+        Err(refused) => return Err(ProgramFault::Memory(refused)),
     };
     for place in 0..events.len() {
         test_event(plan, &mut desk, &events[place], first + place as u64)?;
@@ -177,7 +178,7 @@ fn test_events(alloc: Global, plan: &Plan, events: &[Event], first: u64) -> Resu
 }
 
 // The events of the lines of a text.
-fn events_of(alloc: Global, plan: &Plan, text: &[u8]) -> Result<Vec<Event>, AllocError>
+fn events_of(alloc: Global, plan: &Plan, text: &[u8]) -> Result<Vec<Event>, OutOfMemory>
     ensures events { IfOk result (λ events. events.items ≡ map (event_of plan.now) (lines_of text.now)) }
     ensures within { IfOk result (λ events. All (IsIn plan.now) events.items) }
     ensures few { IfOk result (λ events. length events.items ≤ length text.now) }
@@ -186,7 +187,7 @@ fn events_of(alloc: Global, plan: &Plan, text: &[u8]) -> Result<Vec<Event>, Allo
     let mut rest = text;
     while !rest.is_empty() {
         let (line, after) = first_line(rest);
-        events.push(read_line(alloc, line, plan)?)?;
+        events.grow(read_line(alloc, line, plan)?)?;
         rest = after;
     }
     Ok(events)
@@ -220,17 +221,17 @@ fn change_of(event: &Event) -> Option<ServerLine>
 }
 
 // Adds the item, if there is one.
-fn keep<T: Drop>(items: &mut Vec<T>, item: Option<T>) -> Result<(), AllocError>
+fn keep<T: Drop>(items: &mut Vec<T>, item: Option<T>) -> Result<(), OutOfMemory>
     ensures { OnOk result (items.new.items ≡ items.old.items ++ cons_option item []) }
 {
     if let Some(item) = item {
-        items.push(item)?;
+        items.grow(item)?;
     }
     Ok(())
 }
 
 // The volumes that the events open, in order.
-fn volumes_of(alloc: Global, events: &[Event]) -> Result<Vec<Opening>, AllocError>
+fn volumes_of(alloc: Global, events: &[Event]) -> Result<Vec<Opening>, OutOfMemory>
     ensures { IfOk result (λ volumes. volumes.items ≡ filter_map opening_of events.now) }
 {
     let mut volumes = Vec::new(alloc);
@@ -241,7 +242,7 @@ fn volumes_of(alloc: Global, events: &[Event]) -> Result<Vec<Opening>, AllocErro
 }
 
 // The server lines among the events, in order.
-fn changes_of(alloc: Global, events: &[Event]) -> Result<Vec<ServerLine>, AllocError>
+fn changes_of(alloc: Global, events: &[Event]) -> Result<Vec<ServerLine>, OutOfMemory>
     ensures { IfOk result (λ changes. changes.items ≡ filter_map change_of events.now) }
 {
     let mut changes = Vec::new(alloc);
@@ -264,12 +265,12 @@ fn names_session(number: u8, line: &Line) -> bool
 }
 
 // So many empty lists.
-fn empty_lists(alloc: Global, count: usize) -> Result<Vec<Lines>, AllocError>
+fn empty_lists(alloc: Global, count: usize) -> Result<Vec<Lines>, OutOfMemory>
     ensures { IfOk result (λ lists. lists.items ≡ replicate count []) }
 {
     let mut lists = Vec::new(alloc);
     for _ in 0..count {
-        lists.push(Lines {
+        lists.grow(Lines {
             items: Vec::new(alloc),
         })?;
     }
@@ -277,14 +278,14 @@ fn empty_lists(alloc: Global, count: usize) -> Result<Vec<Lines>, AllocError>
 }
 
 // Adds the line of a tenant's event to the list of its tenant.
-fn add_line(lists: &mut Vec<Lines>, event: &Event) -> Result<(), AllocError>
+fn add_line(lists: &mut Vec<Lines>, event: &Event) -> Result<(), OutOfMemory>
     ensures count { OnOk result (length lists.new.items ≡ length lists.old.items) }
     ensures lines { OnOk result ((tenant : ℕ) → tenant < length lists.old.items →
         list_at lists.new.items tenant ≡ list_at lists.old.items tenant ++ cons_option (line_for tenant event.now) []) }
 {
     if let Event::Tenant { tenant, line } = event {
         if let Some(lines) = lists.get_mut(*tenant as usize) {
-            lines.items.push(line.clone()?)?;
+            lines.items.grow(line.share()?)?;
         }
     }
     Ok(())
@@ -295,7 +296,7 @@ fn lines_of_tenants(
     alloc: Global,
     tenants: usize,
     events: &[Event],
-) -> Result<Vec<Lines>, AllocError>
+) -> Result<Vec<Lines>, OutOfMemory>
     ensures { IfOk result (λ lists. AreByTenant tenants events.now lists.items) }
 {
     let mut lists = empty_lists(alloc, tenants)?;
@@ -306,18 +307,18 @@ fn lines_of_tenants(
 }
 
 // The request of the session that the line is, if it is one.
-fn request_in(number: u8, line: &Line) -> Result<Option<Line>, AllocError>
+fn request_in(number: u8, line: &Line) -> Result<Option<Line>, OutOfMemory>
     ensures { IfOk result (λ request. request ≡ request_in number line.now) }
 {
     if names_session(number, line) {
-        Ok(Some(line.clone()?))
+        Ok(Some(line.share()?))
     } else {
         Ok(None)
     }
 }
 
 // The requests of the session among its tenant's lines, in order.
-fn requests_in(alloc: Global, number: u8, lines: &[Line]) -> Result<Lines, AllocError>
+fn requests_in(alloc: Global, number: u8, lines: &[Line]) -> Result<Lines, OutOfMemory>
     ensures { IfOk result (λ requests. requests ≡ filter_map (request_in number) lines.now) }
 {
     let mut items = Vec::new(alloc);
@@ -332,7 +333,7 @@ fn requests_of(
     alloc: Global,
     ids: &[SessionId],
     tenants: &[Lines],
-) -> Result<Vec<Lines>, AllocError>
+) -> Result<Vec<Lines>, OutOfMemory>
     requires { All (λ (id : SessionId). id.tenant < length tenants.now) ids.now }
     ensures { IfOk result (λ lists. lists.items ≡ map (requests_at tenants.now) ids.now) }
 {
@@ -340,13 +341,13 @@ fn requests_of(
     for place in 0..ids.len() {
         let id = ids[place];
         let lines = &tenants[id.tenant as usize];
-        lists.push(requests_in(alloc, id.number, lines.items.as_slice())?)?;
+        lists.grow(requests_in(alloc, id.number, lines.items.as_slice())?)?;
     }
     Ok(lists)
 }
 
 // The programs of the events.
-fn programs_of(alloc: Global, plan: &Plan, events: &[Event]) -> Result<Programs, AllocError>
+fn programs_of(alloc: Global, plan: &Plan, events: &[Event]) -> Result<Programs, OutOfMemory>
     ensures { IfOk result (AreOf plan.now events.now) }
 {
     let ids = sessions_of(alloc, plan)?;
@@ -364,18 +365,19 @@ fn programs_after(alloc: Global, plan: &Plan, text: &[u8]) -> Result<Programs, P
     ensures programs { IfOk result (AreOf plan.now (map (event_of plan.now) (lines_of text.now))) }
     ensures fits { IfOk result (FitsPlan plan.now) }
     ensures accepted { OnOk result (events_fault plan.now (map (event_of plan.now) (lines_of text.now)) ≡ None) }
-    ensures fault { IfErr result (λ fault. fault ≢ ProgramFault.Memory → events_fault plan.now (map (event_of plan.now) (lines_of text.now)) ≡ Some fault) }
+    ensures fault { IfErr result (λ fault. fault ≢ ProgramFault.Memory tt → events_fault plan.now (map (event_of plan.now) (lines_of text.now)) ≡ Some fault) }
 {
     if let Some(fault) = steps_fault(plan.rows()) {
         return Err(fault);
     }
-    let Ok(events) = events_of(alloc, plan, text) else {
-        return Err(ProgramFault::Memory);
+    let events = match events_of(alloc, plan, text) {
+        Ok(events) => events,
+        Err(refused) => return Err(ProgramFault::Memory(refused)),
     };
     test_events(alloc, plan, events.as_slice(), 4 + plan.tenants() as u64)?;
     match programs_of(alloc, plan, events.as_slice()) {
         Ok(programs) => Ok(programs),
-        Err(_) => Err(ProgramFault::Memory),
+        Err(refused) => Err(ProgramFault::Memory(refused)),
     }
 }
 
@@ -388,7 +390,7 @@ pub fn read_programs(alloc: Global, input: &[u8]) -> Result<(Plan, Programs), Pr
     ensures programs { IfOk result (λ read. IsProgramsOf input.now read.0 read.1) }
     ensures fits { IfOk result (λ read. FitsPlan read.0 read.1) }
     ensures accepted { OnOk result (fault_of (plan_of (lines_of input.now)) ≡ None) }
-    ensures fault { IfErr result (λ fault. fault ≢ ProgramFault.Memory → fault_of (plan_of (lines_of input.now)) ≡ Some fault) }
+    ensures fault { IfErr result (λ fault. fault ≢ ProgramFault.Memory tt → fault_of (plan_of (lines_of input.now)) ≡ Some fault) }
 {
     match read_plan(alloc, input) {
         Ok((plan, place)) => match programs_after(alloc, &plan, &input[place..]) {
@@ -396,6 +398,6 @@ pub fn read_programs(alloc: Global, input: &[u8]) -> Result<(Plan, Programs), Pr
             Err(fault) => Err(fault),
         },
         Err(PlanText::Fault { line, fault }) => Err(ProgramFault::Plan(line, fault)),
-        Err(PlanText::Memory) => Err(ProgramFault::Memory),
+        Err(PlanText::Memory(refused)) => Err(ProgramFault::Memory(refused)),
     }
 }

@@ -27,7 +27,7 @@ const MEMORY: u8 = 3;
 const REFUSED: u8 = 4;
 
 /// Why a request ended early.
-#[derive(Clone, Copy, Debug, Error)]
+#[derive(Debug, Drop, Error)]
 pub enum RequestFault {
     /// A run did.
     #[error("{0}")]
@@ -47,7 +47,7 @@ fn run_status(fault: &RunFault) -> u8
     ensures { result ≡ status_of (RequestFault.Run fault.now) }
 {
     match fault {
-        RunFault::Memory => MEMORY,
+        RunFault::Memory(_) => MEMORY,
         _ => FAULT,
     }
 }
@@ -56,7 +56,9 @@ fn live_status(fault: &LiveRunFault) -> u8
     ensures { result ≡ status_of (RequestFault.Live fault.now) }
 {
     match fault {
-        LiveRunFault::Memory | LiveRunFault::Live(LiveFault::Memory | LiveFault::Thread) => MEMORY,
+        LiveRunFault::Memory(_) | LiveRunFault::Live(LiveFault::Memory(_) | LiveFault::Thread) => {
+            MEMORY
+        }
         LiveRunFault::Live(LiveFault::Gate | LiveFault::Stamps | LiveFault::Letter)
         | LiveRunFault::Mismatch(_) => REFUSED,
         _ => FAULT,

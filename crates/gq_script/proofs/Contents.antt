@@ -1,10 +1,9 @@
 -- What hex reads and writes is what the word of a content says.
-use Rattle.std.proofs.Common.{◌≡◌, ◌≢◌, ◌∙◌, ℕ, suc, ◌/◌, ◌%◌, List, [], ◌∷◌, ◌++◌, append_assoc, append-nil, arith, length, slice_index, ap, sym, eqb, Bool, true, false, Some, None, Err, ◌⊎◌, inl, inr, refl}
-use Rattle.std.specs.Prelude.{codes, ◌&&◌}
+use Rattle.std.proofs.Common.{◌≡◌, ◌∙◌, ℕ, suc, ◌/◌, ◌%◌, List, [], ◌∷◌, ◌++◌, append_assoc, append-nil, arith, length, slice_index, ap, sym, eqb, Bool, true, false, Some, None, Result, Ok, Err, refl}
+use Rattle.std.specs.Prelude.{codes, ◌&&◌, IsErr}
 use Rattle.std.specs.Str.{bytes_eq}
 use Rattle.std.proofs.Math.Dec.{eqb-suc-zero}
 use Rattle.hex.specs.declared.error.FromHexError.{FromHexError}
-use Rattle.hex.specs.declared.error.FromHexError.TheVariants.{OutOfMemory}
 use Rattle.hex.specs.Hex.{IsBytes, decode_of, encode_with, encode_lower, lower_digits}
 use Rattle.hex.proofs.HexLemmas.{decode_of-encode_lower}
 use Rattle.gq_script.specs.Output.{content_word}
@@ -15,9 +14,9 @@ pub content_digits : (word : List ℕ) → bytes_eq word (codes "-") ≡ false �
 unfolding content_of
 content_digits word dash empty = rw (dash, empty) refl
 
-pub refused : (word : List ℕ) (fault : FromHexError) → (fault ≡ OutOfMemory) ⊎ (decode_of word ≡ Err fault) → fault ≢ OutOfMemory → bytes_from (decode_of word) ≡ None
-refused word fault (inl memory) other = absurd (other memory)
-refused word fault (inr is) other = ap bytes_from is
+pub no_bytes : (read : Result (List ℕ) FromHexError) → IsErr read → bytes_from read ≡ None
+no_bytes (Ok bytes) is = absurd (cc is)
+no_bytes (Err fault) is = refl
 
 and_false : (b : Bool) → (b && false) ≡ false
 and_false true = refl

@@ -50,8 +50,8 @@ some_low blocks rows fault is =
     subst P is (of_or (rows_fault [] rows) (table_fault blocks rows) (IsLow (length rows)) (rows_low [] rows (length rows) (omega arith)) (table_low blocks rows (length rows)))
 
 -- a fault of the rows, or want of memory
-pub fault_low : (blocks : ℕ) (rows : List TenantRow) (fault : PlanFault) → (fault ≢ Memory → plan_fault blocks rows ≡ Some fault) → line_of_fault (length rows) fault ≤ 3 + length rows
-fault_low blocks rows Memory is = omega arith
+pub fault_low : (blocks : ℕ) (rows : List TenantRow) (fault : PlanFault) → (fault ≢ Memory tt → plan_fault blocks rows ≡ Some fault) → line_of_fault (length rows) fault ≤ 3 + length rows
+fault_low blocks rows (Memory _) is = omega arith
 fault_low blocks rows NoTenant is = omega arith
 fault_low blocks rows (OverBlocks sum most) is = omega arith
 fault_low blocks rows (TooMany row) is = some_low blocks rows (TooMany row) (is (λ e. cc))

@@ -15,4 +15,4 @@ plan_after_lines lines after1 after2 after3 first second grid blocks rows l1 g l
 -- a fault stays
 pub fault_stays : {A B : Type 0} (read : Reading A) (next : A → Reading B) (e : PlanText) → IsFaultOf read e → IsFaultOf (then_read read next) e
 fault_stays read next (Fault line fault) is = rw is refl
-fault_stays read next Memory is = tt
+fault_stays read next (Memory _) is = tt

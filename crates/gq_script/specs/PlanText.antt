@@ -87,7 +87,7 @@ line_of_fault rows (Sessions row) = 3 + row
 line_of_fault rows (Steps row) = 3 + row
 line_of_fault rows NoTenant = 3 + rows
 line_of_fault rows (OverBlocks sum blocks) = 3 + rows
-line_of_fault rows NoMemory = 3 + rows
+line_of_fault rows (NoMemory _) = 3 + rows
 
 -- the plan, unless its rows have this fault
 abbrev pub plan_unless : Option PlanFault → CheckedPlan → Reading CheckedPlan
@@ -112,4 +112,4 @@ plan_of lines =
 -- the fault is the one that the lines tell, unless it is want of memory
 abbrev pub IsFaultOf : {A : Type 0} → Reading A → PlanText → Type 0
 IsFaultOf reading (Fault line fault) = reading ≡ Err (line, fault)
-IsFaultOf reading Memory = Unit {0}
+IsFaultOf reading (Memory _) = Unit {0}

@@ -9,7 +9,7 @@ abbrev pub IsReadingFault : RunFault → Type 0
 IsReadingFault Read = Unit {0}
 IsReadingFault TooBig = Unit {0}
 IsReadingFault (Plan line fault) = ⊥
-IsReadingFault Memory = Unit {0}
+IsReadingFault (Memory _) = Unit {0}
 IsReadingFault Write = ⊥
 
 -- the fault of the plan that the lines tell, or want of memory
@@ -17,5 +17,5 @@ abbrev pub IsFaultOfLines : List (List ℕ) → RunFault → Type 0
 IsFaultOfLines lines Read = ⊥
 IsFaultOfLines lines TooBig = ⊥
 IsFaultOfLines lines (Plan line fault) = plan_of lines ≡ Err (line, fault)
-IsFaultOfLines lines Memory = Unit {0}
+IsFaultOfLines lines (Memory _) = Unit {0}
 IsFaultOfLines lines Write = ⊥

@@ -12,21 +12,21 @@ ghost use Rattle.gq_script.specs.Canonical.{line_words, server_line_words, event
 
 use crate::pieces::{Piece, put_words};
 use gq_desk::{Plan, TenantRow};
+use gq_memory::{GrowCopies, OutOfMemory};
 use gq_model::{Event, Line, ServerLine};
-use std::alloc::AllocError;
 
 // Appends a line of words.
-fn put_line(out: &mut Vec<u8>, first: &[u8], words: &[Piece]) -> Result<(), AllocError>
+fn put_line(out: &mut Vec<u8>, first: &[u8], words: &[Piece]) -> Result<(), OutOfMemory>
     ensures ok { OnOk result (out.new.items ≡
         out.old.items ++ line_text first.now (flat_map words_in words.now)) }
     ensures err { OnErr result (Extends out.old.items out.new.items) }
 {
-    out.extend_from_slice(first)?;
+    out.grow_by(first)?;
     put_words(out, words)
 }
 
 // Appends the line of a tenant's row.
-fn put_row(out: &mut Vec<u8>, row: &TenantRow) -> Result<(), AllocError>
+fn put_row(out: &mut Vec<u8>, row: &TenantRow) -> Result<(), OutOfMemory>
     ensures ok { OnOk result (out.new.items ≡ out.old.items ++ row_line row.now) }
     ensures err { OnErr result (Extends out.old.items out.new.items) }
 {
@@ -43,7 +43,7 @@ fn put_row(out: &mut Vec<u8>, row: &TenantRow) -> Result<(), AllocError>
 }
 
 // Appends the lines of rows.
-fn put_rows(out: &mut Vec<u8>, rows: &[TenantRow]) -> Result<(), AllocError>
+fn put_rows(out: &mut Vec<u8>, rows: &[TenantRow]) -> Result<(), OutOfMemory>
     ensures ok { OnOk result (out.new.items ≡ out.old.items ++ flat_map row_line rows.now) }
     ensures err { OnErr result (Extends out.old.items out.new.items) }
 {
@@ -54,7 +54,7 @@ fn put_rows(out: &mut Vec<u8>, rows: &[TenantRow]) -> Result<(), AllocError>
 }
 
 // Appends the first two lines of a plan.
-fn put_head(out: &mut Vec<u8>, plan: &Plan) -> Result<(), AllocError>
+fn put_head(out: &mut Vec<u8>, plan: &Plan) -> Result<(), OutOfMemory>
     ensures ok { OnOk result (out.new.items ≡ out.old.items ++ head_text plan.now) }
     ensures err { OnErr result (Extends out.old.items out.new.items) }
     ensures rows { is_side plan.now.grid.rows ≡ true }
@@ -73,7 +73,7 @@ fn put_head(out: &mut Vec<u8>, plan: &Plan) -> Result<(), AllocError>
 }
 
 // Appends the lines of a plan, up to `go`.
-fn put_plan(out: &mut Vec<u8>, plan: &Plan) -> Result<(), AllocError>
+fn put_plan(out: &mut Vec<u8>, plan: &Plan) -> Result<(), OutOfMemory>
     ensures ok { OnOk result (out.new.items ≡ out.old.items ++ plan_text plan.now) }
     ensures err { OnErr result (Extends out.old.items out.new.items) }
     ensures is { OnOk result (IsPlan plan.now) }
@@ -91,7 +91,7 @@ fn put_write(
     volume: u32,
     file: u32,
     bytes: &[u8],
-) -> Result<(), AllocError>
+) -> Result<(), OutOfMemory>
     ensures ok { OnOk result (out.new.items ≡
         out.old.items ++ line_text name.now (line_words (Write session volume file bytes.now))) }
     ensures err { OnErr result (Extends out.old.items out.new.items) }
@@ -111,7 +111,7 @@ fn put_write(
 }
 
 /// Appends the canonical line of a tenant of this name, or a part of it where memory is refused.
-pub fn put_tenant_line(out: &mut Vec<u8>, name: &[u8], line: &Line) -> Result<(), AllocError>
+pub fn put_tenant_line(out: &mut Vec<u8>, name: &[u8], line: &Line) -> Result<(), OutOfMemory>
     ensures ok { OnOk result (out.new.items ≡ out.old.items ++ line_text name.now (line_words line.now)) }
     ensures err { OnErr result (Extends out.old.items out.new.items) }
     ensures fits { FitsLine line.now }
@@ -182,7 +182,7 @@ pub fn put_tenant_line(out: &mut Vec<u8>, name: &[u8], line: &Line) -> Result<()
 }
 
 // Appends a server line.
-fn put_server_line(out: &mut Vec<u8>, line: ServerLine) -> Result<(), AllocError>
+fn put_server_line(out: &mut Vec<u8>, line: ServerLine) -> Result<(), OutOfMemory>
     ensures ok { OnOk result (out.new.items ≡ out.old.items ++ line_text (codes "server") (server_line_words line)) }
     ensures err { OnErr result (Extends out.old.items out.new.items) }
     ensures fits { FitsServerLine line }
@@ -203,7 +203,7 @@ fn put_server_line(out: &mut Vec<u8>, line: ServerLine) -> Result<(), AllocError
 }
 
 // Appends the line of an event.
-fn put_event(out: &mut Vec<u8>, plan: &Plan, event: &Event) -> Result<(), AllocError>
+fn put_event(out: &mut Vec<u8>, plan: &Plan, event: &Event) -> Result<(), OutOfMemory>
     requires { IsIn plan.now event.now }
     ensures ok { OnOk result (out.new.items ≡ out.old.items ++ event_line plan.now event.now) }
     ensures err { OnErr result (Extends out.old.items out.new.items) }
@@ -219,7 +219,7 @@ fn put_event(out: &mut Vec<u8>, plan: &Plan, event: &Event) -> Result<(), AllocE
 }
 
 // Appends the lines of events.
-fn put_events(out: &mut Vec<u8>, plan: &Plan, events: &[Event]) -> Result<(), AllocError>
+fn put_events(out: &mut Vec<u8>, plan: &Plan, events: &[Event]) -> Result<(), OutOfMemory>
     requires { All (IsIn plan.now) events.now }
     ensures ok { OnOk result (out.new.items ≡ out.old.items ++ flat_map (event_line plan.now) events.now) }
     ensures err { OnErr result (Extends out.old.items out.new.items) }
@@ -232,7 +232,7 @@ fn put_events(out: &mut Vec<u8>, plan: &Plan, events: &[Event]) -> Result<(), Al
 }
 
 // Appends the canonical script.
-fn put_script(out: &mut Vec<u8>, plan: &Plan, events: &[Event]) -> Result<(), AllocError>
+fn put_script(out: &mut Vec<u8>, plan: &Plan, events: &[Event]) -> Result<(), OutOfMemory>
     requires { All (IsIn plan.now) events.now }
     ensures ok { OnOk result (out.new.items ≡ out.old.items ++ script_text plan.now events.now) }
     ensures err { OnErr result (Extends out.old.items out.new.items) }
@@ -245,7 +245,7 @@ fn put_script(out: &mut Vec<u8>, plan: &Plan, events: &[Event]) -> Result<(), Al
 /// Appends the canonical script of a plan and events, or nothing where memory is refused: the lines of the plan up to
 /// `go`, then one line for each event, with contents in small letters. A tenant's bad line is written `NAME bad`, a bad
 /// server line `server bad`, and a line of nobody is empty. Reading the script gives the plan and the events again.
-pub fn write_script(plan: &Plan, events: &[Event], out: &mut Vec<u8>) -> Result<(), AllocError>
+pub fn write_script(plan: &Plan, events: &[Event], out: &mut Vec<u8>) -> Result<(), OutOfMemory>
     requires { All (IsIn plan.now) events.now }
     ensures ok { OnOk result (out.new.items ≡ out.old.items ++ script_text plan.now events.now) }
     ensures back { OnOk result (IsScriptOf (script_text plan.now events.now) plan.now events.now) }

@@ -8,8 +8,9 @@ ghost use Rattle.gq_script.specs.Input.{one_number_of, two_numbers_of, three_num
 
 use crate::words::{content, first_word, is_end, next_word, number};
 use gq_desk::Plan;
+use gq_memory::OutOfMemory;
 use gq_model::{Event, Line, ServerLine};
-use std::alloc::{AllocError, Global};
+use std::alloc::Global;
 
 // The words are one number, and no more.
 #[tactic(auto, unfolding(crate::specs::Input::one_number_of))]
@@ -52,7 +53,7 @@ fn three_numbers(text: &[u8]) -> Option<(u32, u32, u32)>
 
 // The write of the words after `write`, or a bad line. Only a content takes memory.
 #[tactic(auto, unfolding(crate::specs::Input::file_content_of))]
-fn write_line(alloc: Global, text: &[u8]) -> Result<Line, AllocError>
+fn write_line(alloc: Global, text: &[u8]) -> Result<Line, OutOfMemory>
     ensures { IfOk result (λ line. line ≡ line_from (file_content_of (words_after text.now))
         (λ (session, volume, file, bytes). Write session volume file bytes)) }
 {
@@ -89,7 +90,7 @@ fn write_line(alloc: Global, text: &[u8]) -> Result<Line, AllocError>
 // The line of the words after a tenant's name. The most frequent kinds are seen without a search for the ends of words.
 #[inline(always)]
 #[tactic(auto, unfolding(crate::specs::Input::line_of))]
-fn tenant_line(alloc: Global, text: &[u8]) -> Result<Line, AllocError>
+fn tenant_line(alloc: Global, text: &[u8]) -> Result<Line, OutOfMemory>
     ensures { IfOk result (λ line. line ≡ line_of (words_after text.now)) }
 {
     if let Some(word) = text.strip_prefix(b" deliver ".as_slice()) {
@@ -115,7 +116,7 @@ fn tenant_line(alloc: Global, text: &[u8]) -> Result<Line, AllocError>
 // The same, word by word.
 #[inline(always)]
 #[tactic(auto, unfolding(crate::specs::Input::line_of))]
-fn line_of_words(alloc: Global, text: &[u8]) -> Result<Line, AllocError>
+fn line_of_words(alloc: Global, text: &[u8]) -> Result<Line, OutOfMemory>
     ensures { IfOk result (λ line. line ≡ line_of (words_after text.now)) }
 {
     let Some((verb, rest)) = next_word(text) else {
@@ -210,7 +211,7 @@ fn server_line(text: &[u8]) -> ServerLine
 /// they are the name of a tenant of the plan, a server line where they are `server`, else nobody's. A line of a tenant
 /// or a server line that has no known form is a bad one of its kind. The only error is want of memory, and only a write's
 /// content takes any.
-pub fn read_line(alloc: Global, line: &[u8], plan: &Plan) -> Result<Event, AllocError>
+pub fn read_line(alloc: Global, line: &[u8], plan: &Plan) -> Result<Event, OutOfMemory>
     ensures event { IfOk result (λ event. event ≡ event_of plan.now line.now) }
     ensures within { IfOk result (λ event. IsIn plan.now event) }
 {
@@ -226,7 +227,7 @@ pub fn read_cut_line(
     first: &[u8],
     rest: &[u8],
     plan: &Plan,
-) -> Result<Event, AllocError>
+) -> Result<Event, OutOfMemory>
     ensures event { IfOk result (λ event. event ≡ event_of_words plan.now (first.now ∷ words_after rest.now)) }
     ensures within { IfOk result (λ event. IsIn plan.now event) }
 {

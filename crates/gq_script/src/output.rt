@@ -10,29 +10,29 @@ use crate::pieces::{Piece, put_words};
 use crate::quorum_text::{QuorumText, put_quorum};
 use gq_desk::{MOST_LETTERS, Name, Plan};
 use gq_grid::{Choice, Grid};
+use gq_memory::{GrowCopies, OutOfMemory};
 use gq_model::{Answer, Event, Refusal, ServerRefusal};
 use gq_phase::Outcome;
-use std::alloc::AllocError;
 
 // Appends the words of a tenant's refusal, and the newline.
-fn put_refusal(out: &mut Vec<u8>, refusal: Refusal) -> Result<(), AllocError>
+fn put_refusal(out: &mut Vec<u8>, refusal: Refusal) -> Result<(), OutOfMemory>
     ensures ok { OnOk result (out.new.items ≡
         out.old.items ++ ended (codes "refused" ∷ refusal_words refusal)) }
     ensures err { OnErr result (Extends out.old.items out.new.items) }
 {
     match refusal {
-        Refusal::Spent => out.extend_from_slice(b" refused spent\n"),
-        Refusal::Bad => out.extend_from_slice(b" refused bad\n"),
-        Refusal::NoSession => out.extend_from_slice(b" refused nosession\n"),
-        Refusal::Busy => out.extend_from_slice(b" refused busy\n"),
-        Refusal::Idle => out.extend_from_slice(b" refused idle\n"),
-        Refusal::NoVolume => out.extend_from_slice(b" refused novolume\n"),
-        Refusal::NoFile => out.extend_from_slice(b" refused nofile\n"),
-        Refusal::TooLong => out.extend_from_slice(b" refused toolong\n"),
-        Refusal::NoQuorum => out.extend_from_slice(b" refused noquorum\n"),
-        Refusal::NoMessage => out.extend_from_slice(b" refused nomessage\n"),
-        Refusal::Size => out.extend_from_slice(b" refused size\n"),
-        Refusal::Volumes => out.extend_from_slice(b" refused volumes\n"),
+        Refusal::Spent => out.grow_by(b" refused spent\n"),
+        Refusal::Bad => out.grow_by(b" refused bad\n"),
+        Refusal::NoSession => out.grow_by(b" refused nosession\n"),
+        Refusal::Busy => out.grow_by(b" refused busy\n"),
+        Refusal::Idle => out.grow_by(b" refused idle\n"),
+        Refusal::NoVolume => out.grow_by(b" refused novolume\n"),
+        Refusal::NoFile => out.grow_by(b" refused nofile\n"),
+        Refusal::TooLong => out.grow_by(b" refused toolong\n"),
+        Refusal::NoQuorum => out.grow_by(b" refused noquorum\n"),
+        Refusal::NoMessage => out.grow_by(b" refused nomessage\n"),
+        Refusal::Size => out.grow_by(b" refused size\n"),
+        Refusal::Volumes => out.grow_by(b" refused volumes\n"),
         Refusal::Share { free } => put_words(
             out,
             &[
@@ -44,21 +44,21 @@ fn put_refusal(out: &mut Vec<u8>, refusal: Refusal) -> Result<(), AllocError>
 }
 
 // Appends the words of a server line's refusal, and the newline.
-fn put_server_refusal(out: &mut Vec<u8>, refusal: ServerRefusal) -> Result<(), AllocError>
+fn put_server_refusal(out: &mut Vec<u8>, refusal: ServerRefusal) -> Result<(), OutOfMemory>
     ensures ok { OnOk result (out.new.items ≡
         out.old.items ++ ended (codes "refused" ∷ server_refusal_word refusal ∷ [])) }
     ensures err { OnErr result (Extends out.old.items out.new.items) }
 {
     match refusal {
-        ServerRefusal::Bad => out.extend_from_slice(b" refused bad\n"),
-        ServerRefusal::NoServer => out.extend_from_slice(b" refused noserver\n"),
-        ServerRefusal::Same => out.extend_from_slice(b" refused same\n"),
+        ServerRefusal::Bad => out.grow_by(b" refused bad\n"),
+        ServerRefusal::NoServer => out.grow_by(b" refused noserver\n"),
+        ServerRefusal::Same => out.grow_by(b" refused same\n"),
     }
 }
 
 // Appends the words of how an operation ended, and the newline.
 #[inline(always)]
-fn put_done(out: &mut Vec<u8>, outcome: &Outcome) -> Result<(), AllocError>
+fn put_done(out: &mut Vec<u8>, outcome: &Outcome) -> Result<(), OutOfMemory>
     ensures ok { OnOk result (out.new.items ≡
         out.old.items ++ ended (codes "done" ∷ outcome_words outcome.now)) }
     ensures err { OnErr result (Extends out.old.items out.new.items) }
@@ -98,7 +98,7 @@ fn put_done(out: &mut Vec<u8>, outcome: &Outcome) -> Result<(), AllocError>
 // Appends the words of an answer, and the newline.
 #[inline(always)]
 #[tactic(auto, unfolding(crate::specs::Output::told_words))]
-fn put_answer(out: &mut Vec<u8>, grid: &Grid, answer: &Answer) -> Result<(), AllocError>
+fn put_answer(out: &mut Vec<u8>, grid: &Grid, answer: &Answer) -> Result<(), OutOfMemory>
     ensures ok { OnOk result (out.new.items ≡
         out.old.items ++ ended (told_words grid.now (shown answer.now))) }
     ensures err { OnErr result (Extends out.old.items out.new.items) }
@@ -129,9 +129,9 @@ fn put_answer(out: &mut Vec<u8>, grid: &Grid, answer: &Answer) -> Result<(), All
         Answer::Reply { number } => {
             put_words(out, &[Piece::Text(b"reply"), Piece::Number(*number)])
         }
-        Answer::Down => out.extend_from_slice(b" down\n"),
-        Answer::Stale => out.extend_from_slice(b" stale\n"),
-        Answer::Noted => out.extend_from_slice(b" noted\n"),
+        Answer::Down => out.grow_by(b" down\n"),
+        Answer::Stale => out.grow_by(b" stale\n"),
+        Answer::Noted => out.grow_by(b" noted\n"),
         Answer::Round {
             round,
             tag: Some(tag),
@@ -162,24 +162,24 @@ fn put_answer(out: &mut Vec<u8>, grid: &Grid, answer: &Answer) -> Result<(), All
             ],
         ),
         Answer::Done(outcome) => put_done(out, outcome),
-        Answer::Lost => out.extend_from_slice(b" lost\n"),
+        Answer::Lost => out.grow_by(b" lost\n"),
         Answer::Resent { first, count } => {
             put_words(out, &[Piece::Text(b"resent"), Piece::Range(*first, *count)])
         }
-        Answer::Abandoned => out.extend_from_slice(b" abandoned\n"),
+        Answer::Abandoned => out.grow_by(b" abandoned\n"),
         Answer::Refused(refusal) => put_refusal(out, *refusal),
-        Answer::ServerOk => out.extend_from_slice(b" ok\n"),
+        Answer::ServerOk => out.grow_by(b" ok\n"),
         Answer::ServerRefused(refusal) => put_server_refusal(out, *refusal),
-        Answer::StrayBad => out.extend_from_slice(b" refused bad\n"),
+        Answer::StrayBad => out.grow_by(b" refused bad\n"),
     }
 }
 
 // Appends a name. A copy of all its bytes, cut, is faster than one of the letters alone.
-fn put_name(out: &mut Vec<u8>, name: &Name) -> Result<(), AllocError>
+fn put_name(out: &mut Vec<u8>, name: &Name) -> Result<(), OutOfMemory>
     ensures ok { OnOk result (out.new.items ≡ out.old.items ++ name.now) }
     ensures err { OnErr result (Extends out.old.items out.new.items) }
 {
-    out.extend_from_slice(name.padded())?;
+    out.grow_by(name.padded())?;
     let over = MOST_LETTERS - name.len();
     out.truncate(out.len() - over);
     Ok(())
@@ -187,15 +187,15 @@ fn put_name(out: &mut Vec<u8>, name: &Name) -> Result<(), AllocError>
 
 // Appends whose line it is.
 #[inline(always)]
-fn put_who(out: &mut Vec<u8>, plan: &Plan, event: &Event) -> Result<(), AllocError>
+fn put_who(out: &mut Vec<u8>, plan: &Plan, event: &Event) -> Result<(), OutOfMemory>
     requires { IsIn plan.now event.now }
     ensures ok { OnOk result (out.new.items ≡ out.old.items ++ who plan.now event.now) }
     ensures err { OnErr result (Extends out.old.items out.new.items) }
 {
     match event {
         Event::Tenant { tenant, .. } => put_name(out, &plan.row(*tenant).name),
-        Event::Server { .. } => out.extend_from_slice(b"server"),
-        Event::Stray => out.extend_from_slice(b"?"),
+        Event::Server { .. } => out.grow_by(b"server"),
+        Event::Stray => out.grow_by(b"?"),
     }
 }
 
@@ -206,7 +206,7 @@ fn put_line(
     plan: &Plan,
     event: &Event,
     answer: &Answer,
-) -> Result<(), AllocError>
+) -> Result<(), OutOfMemory>
     requires { IsIn plan.now event.now }
     ensures ok { OnOk result (out.new.items ≡
         out.old.items ++ answer_line plan.now event.now (shown answer.now)) }
@@ -225,7 +225,7 @@ fn put_quorum_line(
     event: &Event,
     choice: Choice,
     last: &mut QuorumText,
-) -> Result<(), AllocError>
+) -> Result<(), OutOfMemory>
     requires event { IsIn plan.now event.now }
     requires grid { last.old.grid ≡ plan.now.grid }
     ensures grid { last.new.grid ≡ last.old.grid }
@@ -234,7 +234,7 @@ fn put_quorum_line(
 {
     put_who(out, plan, event)?;
     last.hold(choice)?;
-    out.extend_from_slice(last.text())
+    out.grow_by(last.text())
 }
 
 /// Appends the line of the answer to an event, or nothing where memory is refused. The line begins with the tenant's
@@ -245,7 +245,7 @@ pub fn write_answer(
     event: &Event,
     answer: &Answer,
     out: &mut Vec<u8>,
-) -> Result<(), AllocError>
+) -> Result<(), OutOfMemory>
     requires { IsIn plan.now event.now }
     ensures ok { OnOk result (out.new.items ≡
         out.old.items ++ answer_line plan.now event.now (shown answer.now)) }
@@ -268,7 +268,7 @@ pub fn write_next_answer(
     answer: &Answer,
     last: &mut QuorumText,
     out: &mut Vec<u8>,
-) -> Result<(), AllocError>
+) -> Result<(), OutOfMemory>
     requires event { IsIn plan.now event.now }
     requires grid { last.old.grid ≡ plan.now.grid }
     ensures grid { last.new.grid ≡ last.old.grid }

@@ -10,10 +10,10 @@ ghost use Rattle.gq_script.specs.Pieces.{words_in, Extends};
 
 use gq_desk::VolumeRow;
 use gq_grid::{Grid, ServerSet};
+use gq_memory::{GrowCopies, GrowVec, OutOfMemory};
 use gq_phase::Row;
 use gq_tag::Tag;
 use itoa::Buffer;
-use std::alloc::AllocError;
 
 /// Words of a line of output.
 #[derive(Clone, Copy)]
@@ -38,40 +38,40 @@ pub enum Piece<'a> {
 
 // Appends the digits of a number.
 #[tactic(auto, using(std::proofs::lemmas::Fmt::decimal_digit))]
-fn put_number(out: &mut Vec<u8>, n: u64) -> Result<(), AllocError>
+fn put_number(out: &mut Vec<u8>, n: u64) -> Result<(), OutOfMemory>
     ensures ok { OnOk result (out.new.items ≡ out.old.items ++ decimal n) }
     ensures err { OnErr result (out.new.items ≡ out.old.items) }
 {
     if n < 10 {
-        out.push(b'0' + n as u8)?;
+        out.grow(b'0' + n as u8)?;
         return Ok(());
     }
     let mut buffer = Buffer::new();
-    out.extend_from_slice(buffer.format(n).as_bytes())
+    out.grow_by(buffer.format(n).as_bytes())
 }
 
 // Appends a word after a space.
 #[inline(always)]
-fn put_text(out: &mut Vec<u8>, word: &[u8]) -> Result<(), AllocError>
+fn put_text(out: &mut Vec<u8>, word: &[u8]) -> Result<(), OutOfMemory>
     ensures ok { OnOk result (out.new.items ≡ out.old.items ++ 32 ∷ word.now) }
     ensures err { OnErr result (Extends out.old.items out.new.items) }
 {
-    out.push(b' ')?;
-    out.extend_from_slice(word)
+    out.grow(b' ')?;
+    out.grow_by(word)
 }
 
 // Appends a number after a space.
 #[inline(always)]
-fn put_spaced_number(out: &mut Vec<u8>, n: u64) -> Result<(), AllocError>
+fn put_spaced_number(out: &mut Vec<u8>, n: u64) -> Result<(), OutOfMemory>
     ensures ok { OnOk result (out.new.items ≡ out.old.items ++ 32 ∷ decimal n) }
     ensures err { OnErr result (Extends out.old.items out.new.items) }
 {
-    out.push(b' ')?;
+    out.grow(b' ')?;
     put_number(out, n)
 }
 
 // Appends the digits of a sum, of whatever size.
-fn put_sum(out: &mut Vec<u8>, n: u64, more: u32) -> Result<(), AllocError>
+fn put_sum(out: &mut Vec<u8>, n: u64, more: u32) -> Result<(), OutOfMemory>
     ensures ok { OnOk result (out.new.items ≡ out.old.items ++ decimal (n + more)) }
     ensures err { OnErr result (out.new.items ≡ out.old.items) }
 {
@@ -80,31 +80,31 @@ fn put_sum(out: &mut Vec<u8>, n: u64, more: u32) -> Result<(), AllocError>
         None => {
             let mut buffer = Buffer::new();
             let sum = u128::from(n) + u128::from(more);
-            out.extend_from_slice(buffer.format(sum).as_bytes())
+            out.grow_by(buffer.format(sum).as_bytes())
         }
     }
 }
 
 // Appends a tag.
-fn put_tag(out: &mut Vec<u8>, tag: Tag) -> Result<(), AllocError>
+fn put_tag(out: &mut Vec<u8>, tag: Tag) -> Result<(), OutOfMemory>
     ensures ok { OnOk result (out.new.items ≡ out.old.items ++ spaced (tag_words tag)) }
     ensures err { OnErr result (Extends out.old.items out.new.items) }
 {
-    out.extend_from_slice(b" tag ")?;
+    out.grow_by(b" tag ")?;
     put_number(out, tag.number)?;
     put_spaced_number(out, u64::from(tag.session))
 }
 
 // Appends the numbers of the first and the last of so many messages.
-fn put_range(out: &mut Vec<u8>, first: u64, count: u32) -> Result<(), AllocError>
+fn put_range(out: &mut Vec<u8>, first: u64, count: u32) -> Result<(), OutOfMemory>
     ensures ok { OnOk result (out.new.items ≡ out.old.items ++ spaced (range_words first count)) }
     ensures err { OnErr result (Extends out.old.items out.new.items) }
 {
     if count == 0 {
-        return out.extend_from_slice(b" none");
+        return out.grow_by(b" none");
     }
     put_spaced_number(out, first)?;
-    out.extend_from_slice(b" to ")?;
+    out.grow_by(b" to ")?;
     put_sum(out, first, count - 1)
 }
 
@@ -112,7 +112,7 @@ fn put_range(out: &mut Vec<u8>, first: u64, count: u32) -> Result<(), AllocError
 const MOST_BLOCK: usize = 64;
 
 // Appends two digits for each byte of a block.
-fn put_block(out: &mut Vec<u8>, block: &[u8]) -> Result<(), AllocError>
+fn put_block(out: &mut Vec<u8>, block: &[u8]) -> Result<(), OutOfMemory>
     requires { length block.now ≤ MOST_BLOCK }
     ensures ok { OnOk result (out.new.items ≡ out.old.items ++ encode_lower block.now) }
     ensures err { OnErr result (out.new.items ≡ out.old.items) }
@@ -120,13 +120,13 @@ fn put_block(out: &mut Vec<u8>, block: &[u8]) -> Result<(), AllocError>
     let mut digits = [0u8; 2 * MOST_BLOCK];
     let end = 2 * block.len();
     match hex::encode_to_slice(block, &mut digits[..end]) {
-        Ok(()) => out.extend_from_slice(&digits[..end]),
+        Ok(()) => out.grow_by(&digits[..end]),
         Err(_) => unreachable!(),
     }
 }
 
 // Appends two digits for each byte.
-fn put_digits(out: &mut Vec<u8>, bytes: &[u8]) -> Result<(), AllocError>
+fn put_digits(out: &mut Vec<u8>, bytes: &[u8]) -> Result<(), OutOfMemory>
     ensures ok { OnOk result (out.new.items ≡ out.old.items ++ encode_lower bytes.now) }
     ensures err { OnErr result (Extends out.old.items out.new.items) }
 {
@@ -140,19 +140,19 @@ fn put_digits(out: &mut Vec<u8>, bytes: &[u8]) -> Result<(), AllocError>
 }
 
 // Appends a content.
-fn put_content(out: &mut Vec<u8>, bytes: &[u8]) -> Result<(), AllocError>
+fn put_content(out: &mut Vec<u8>, bytes: &[u8]) -> Result<(), OutOfMemory>
     ensures ok { OnOk result (out.new.items ≡ out.old.items ++ 32 ∷ content_word bytes.now) }
     ensures err { OnErr result (Extends out.old.items out.new.items) }
 {
     if bytes.is_empty() {
-        return out.extend_from_slice(b" -");
+        return out.grow_by(b" -");
     }
-    out.push(b' ')?;
+    out.grow(b' ')?;
     put_digits(out, bytes)
 }
 
 // Appends the servers of a set, rising.
-fn put_servers(out: &mut Vec<u8>, grid: &Grid, set: ServerSet) -> Result<(), AllocError>
+fn put_servers(out: &mut Vec<u8>, grid: &Grid, set: ServerSet) -> Result<(), OutOfMemory>
     ensures ok { OnOk result (out.new.items ≡
         out.old.items ++ spaced (map decimal (rising grid.now (servers set)))) }
     ensures err { OnErr result (Extends out.old.items out.new.items) }
@@ -166,17 +166,17 @@ fn put_servers(out: &mut Vec<u8>, grid: &Grid, set: ServerSet) -> Result<(), All
 }
 
 // Appends a volume.
-fn put_volume(out: &mut Vec<u8>, volume: &VolumeRow) -> Result<(), AllocError>
+fn put_volume(out: &mut Vec<u8>, volume: &VolumeRow) -> Result<(), OutOfMemory>
     ensures ok { OnOk result (out.new.items ≡ out.old.items ++ 32 ∷ volume_word volume.now) }
     ensures err { OnErr result (Extends out.old.items out.new.items) }
 {
     put_spaced_number(out, u64::from(volume.files))?;
-    out.push(b'x')?;
+    out.grow(b'x')?;
     put_number(out, u64::from(volume.blocks))
 }
 
 // Appends volumes.
-fn put_volumes(out: &mut Vec<u8>, volumes: &[VolumeRow]) -> Result<(), AllocError>
+fn put_volumes(out: &mut Vec<u8>, volumes: &[VolumeRow]) -> Result<(), OutOfMemory>
     ensures ok { OnOk result (out.new.items ≡ out.old.items ++ spaced (map volume_word volumes.now)) }
     ensures err { OnErr result (Extends out.old.items out.new.items) }
 {
@@ -187,19 +187,19 @@ fn put_volumes(out: &mut Vec<u8>, volumes: &[VolumeRow]) -> Result<(), AllocErro
 }
 
 // Appends a file of a listing.
-fn put_file(out: &mut Vec<u8>, file: &Row) -> Result<(), AllocError>
+fn put_file(out: &mut Vec<u8>, file: &Row) -> Result<(), OutOfMemory>
     ensures ok { OnOk result (out.new.items ≡ out.old.items ++ 32 ∷ file_word file.now) }
     ensures err { OnErr result (Extends out.old.items out.new.items) }
 {
     put_spaced_number(out, file.length)?;
-    out.push(b':')?;
+    out.grow(b':')?;
     put_number(out, file.tag.number)?;
-    out.push(b'.')?;
+    out.grow(b'.')?;
     put_number(out, u64::from(file.tag.session))
 }
 
 // Appends the files of a listing.
-fn put_files(out: &mut Vec<u8>, files: &[Row]) -> Result<(), AllocError>
+fn put_files(out: &mut Vec<u8>, files: &[Row]) -> Result<(), OutOfMemory>
     ensures ok { OnOk result (out.new.items ≡ out.old.items ++ spaced (map file_word files.now)) }
     ensures err { OnErr result (Extends out.old.items out.new.items) }
 {
@@ -211,7 +211,7 @@ fn put_files(out: &mut Vec<u8>, files: &[Row]) -> Result<(), AllocError>
 
 // Appends the words of a piece.
 #[inline(always)]
-fn put_piece(out: &mut Vec<u8>, piece: Piece) -> Result<(), AllocError>
+fn put_piece(out: &mut Vec<u8>, piece: Piece) -> Result<(), OutOfMemory>
     ensures ok { OnOk result (out.new.items ≡ out.old.items ++ spaced (words_in piece.entry)) }
     ensures err { OnErr result (Extends out.old.items out.new.items) }
 {
@@ -229,7 +229,7 @@ fn put_piece(out: &mut Vec<u8>, piece: Piece) -> Result<(), AllocError>
 
 // Appends the words of pieces.
 #[inline(always)]
-fn put_pieces(out: &mut Vec<u8>, pieces: &[Piece]) -> Result<(), AllocError>
+fn put_pieces(out: &mut Vec<u8>, pieces: &[Piece]) -> Result<(), OutOfMemory>
     ensures ok { OnOk result (out.new.items ≡ out.old.items ++ spaced (flat_map words_in pieces.now)) }
     ensures err { OnErr result (Extends out.old.items out.new.items) }
 {
@@ -242,11 +242,11 @@ fn put_pieces(out: &mut Vec<u8>, pieces: &[Piece]) -> Result<(), AllocError>
 /// Appends the words of the pieces, each after one space, and a newline. After want of memory a part of them may have been
 /// appended.
 #[inline(always)]
-pub fn put_words(out: &mut Vec<u8>, pieces: &[Piece]) -> Result<(), AllocError>
+pub fn put_words(out: &mut Vec<u8>, pieces: &[Piece]) -> Result<(), OutOfMemory>
     ensures ok { OnOk result (out.new.items ≡ out.old.items ++ ended (flat_map words_in pieces.now)) }
     ensures err { OnErr result (Extends out.old.items out.new.items) }
 {
     put_pieces(out, pieces)?;
-    out.push(b'\n')?;
+    out.grow(b'\n')?;
     Ok(())
 }

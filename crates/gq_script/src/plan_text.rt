@@ -9,11 +9,12 @@ use crate::lines::first_line;
 use crate::words::{first_word, is_end, next_word, number};
 use gq_desk::{MOST_BLOCKS, Name, Plan, PlanFault, TenantRow};
 use gq_grid::{Grid, GridFault};
+use gq_memory::{GrowVec, OutOfMemory};
 use std::alloc::Global;
 use thiserror::Error;
 
 /// What is wrong with a line of a plan.
-#[derive(Clone, Copy, Debug, PartialEq, Eq, Error)]
+#[derive(Debug, Drop, Error)]
 pub enum TextFault {
     /// The line does not have the form of its place.
     #[error("form")]
@@ -34,14 +35,14 @@ pub enum TextFault {
 }
 
 /// Why a text gives no plan.
-#[derive(Clone, Copy, Debug, PartialEq, Eq, Error)]
+#[derive(Debug, Drop, Error)]
 pub enum PlanText {
     /// The first line at fault, numbered from 1.
     #[error("line {line}: {fault}")]
     Fault { line: u64, fault: TextFault },
     /// Want of memory, also that of [`Plan::check`].
     #[error("out of memory")]
-    Memory,
+    Memory(OutOfMemory),
 }
 
 ghost use Rattle.gq_script.specs.PlanText.{grid_told, blocks_told, line_at, at_line, row_told, rows_from, line_of_fault, checked, plan_of, IsFaultOf};
@@ -152,8 +153,8 @@ fn rows_from(alloc: Global, text: &[u8]) -> Result<(Vec<TenantRow>, &[u8]), Plan
                 fault: TextFault::Form,
             });
         };
-        if rows.push(row).is_err() {
-            return Err(PlanText::Memory);
+        if let Err(refused) = rows.grow(row) {
+            return Err(PlanText::Memory(refused));
         }
         line += 1;
     }
@@ -164,17 +165,18 @@ fn rows_from(alloc: Global, text: &[u8]) -> Result<(Vec<TenantRow>, &[u8]), Plan
 }
 
 // The line of a fault of so many rows.
-fn line_of_fault(rows: usize, fault: PlanFault) -> u64
-    requires { line_of_fault rows fault < 2 ^ 64 }
-    ensures { result ≡ line_of_fault rows fault }
+fn line_of_fault(rows: usize, fault: &PlanFault) -> u64
+    requires { line_of_fault rows fault.now < 2 ^ 64 }
+    ensures { result ≡ line_of_fault rows fault.now }
 {
     match fault {
         PlanFault::TooMany { row }
         | PlanFault::SameName { row }
         | PlanFault::ZeroShare { row }
         | PlanFault::Sessions { row }
-        | PlanFault::Steps { row } => 3 + row as u64,
-        PlanFault::NoTenant | PlanFault::OverBlocks { .. } | PlanFault::Memory => 3 + rows as u64,
+        | PlanFault::Steps { row } => 3 + *row as u64,
+        PlanFault::NoTenant | PlanFault::OverBlocks { .. } | PlanFault::Memory(_) => 3
+            + rows as u64,
     }
 }
 
@@ -188,9 +190,9 @@ fn checked(alloc: Global, grid: Grid, blocks: u32, rows: &[TenantRow]) -> Result
 {
     match Plan::check(alloc, grid, blocks, rows) {
         Ok(plan) => Ok(plan),
-        Err(PlanFault::Memory) => Err(PlanText::Memory),
+        Err(PlanFault::Memory(refused)) => Err(PlanText::Memory(refused)),
         Err(fault) => Err(PlanText::Fault {
-            line: line_of_fault(rows.len(), fault),
+            line: line_of_fault(rows.len(), &fault),
             fault: TextFault::Check(fault),
         }),
     }

@@ -6,7 +6,8 @@ ghost use Rattle.gq_script.specs.Pieces.{Extends};
 
 use crate::pieces::{Piece, put_words};
 use gq_grid::{Choice, Grid};
-use std::alloc::{AllocError, Global};
+use gq_memory::OutOfMemory;
+use std::alloc::Global;
 use std::marker::Model;
 
 // The words of the quorum that was told last. A quorum is told again and again until a server changes, and it has the
@@ -41,7 +42,7 @@ impl QuorumText {
     }
 
     // Holds the words of the choice from now on.
-    pub fn hold(&mut self, choice: Choice) -> Result<(), AllocError>
+    pub fn hold(&mut self, choice: Choice) -> Result<(), OutOfMemory>
         ensures grid { self.new.grid ≡ self.old.grid }
         ensures ok { OnOk result (self.new.choice ≡ Some choice) }
     {
@@ -64,7 +65,7 @@ impl QuorumText {
 }
 
 // Appends the words of a quorum, and a newline.
-pub fn put_quorum(out: &mut Vec<u8>, grid: &Grid, choice: Choice) -> Result<(), AllocError>
+pub fn put_quorum(out: &mut Vec<u8>, grid: &Grid, choice: Choice) -> Result<(), OutOfMemory>
     ensures ok { OnOk result (out.new.items ≡ out.old.items ++ quorum_text grid.now choice) }
     ensures err { OnErr result (Extends out.old.items out.new.items) }
 {

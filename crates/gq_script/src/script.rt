@@ -10,14 +10,15 @@ use crate::plan_text::{PlanText, TextFault, read_plan};
 use crate::quorum_text::QuorumText;
 use crate::watched::Watched;
 use gq_desk::Plan;
+use gq_memory::{GrowCopies, GrowVec, OutOfMemory, filled};
 use gq_order::sees;
-use gq_world::{Answer, Event, World};
-use std::alloc::{AllocError, Global};
+use gq_world::{Answer, Ended, Event, World};
+use std::alloc::Global;
 use std::io::{Read, Write};
 use thiserror::Error;
 
 /// Why a run ended early. After each fault but `Write` nothing was written.
-#[derive(Clone, Copy, Debug, PartialEq, Eq, Error)]
+#[derive(Debug, Drop, Error)]
 pub enum RunFault {
     /// The reader failed.
     #[error("read fault")]
@@ -30,7 +31,7 @@ pub enum RunFault {
     Plan(u64, TextFault),
     /// Memory is wanting.
     #[error("out of memory")]
-    Memory,
+    Memory(OutOfMemory),
     /// The writer failed, or took none of some bytes. A prefix of the output was written.
     #[error("write fault")]
     Write,
@@ -83,8 +84,8 @@ fn read_step<R: Read>(
     if n > MOST_INPUT - all.len() {
         return Err(RunFault::TooBig);
     }
-    if all.extend_from_slice(&chunk[..n]).is_err() {
-        return Err(RunFault::Memory);
+    if let Err(refused) = all.grow_by(&chunk[..n]) {
+        return Err(RunFault::Memory(refused));
     }
     Ok(n > 0)
 }
@@ -93,11 +94,11 @@ fn read_step<R: Read>(
 fn blank(alloc: Global, size: usize) -> Result<Vec<u8>, RunFault>
     requires { 0 < size }
     ensures some { IfOk result (λ v. 0 < vec_len v) }
-    ensures err { IfErr result (λ e. e ≡ RunFault.Memory) }
+    ensures err { IfErr result (λ e. e ≡ RunFault.Memory tt) }
 {
-    match vec![in alloc; 0u8; size] {
+    match filled(alloc, 0u8, size) {
         Ok(zeros) => Ok(zeros),
-        Err(_) => Err(RunFault::Memory),
+        Err(refused) => Err(RunFault::Memory(refused)),
     }
 }
 
@@ -142,14 +143,14 @@ fn keep(
     answer: Answer,
     events: &mut Vec<Event>,
     answers: &mut Vec<Answer>,
-) -> Result<(), AllocError>
+) -> Result<(), OutOfMemory>
     ensures events { OnOk result (events.new.items ≡ events.old.items ++ seen_events (Some tenant) (event ∷ [])) }
     ensures answers { OnOk result (answers.new.items ≡
         (if is_seen (Some tenant) event then answers.old.items ++ answer ∷ [] else answers.old.items)) }
 {
     if sees(tenant, &event) {
-        events.push(event)?;
-        answers.push(answer)?;
+        events.grow(event)?;
+        answers.grow(answer)?;
     }
     Ok(())
 }
@@ -161,7 +162,7 @@ pub fn answer_lines(
     world: &mut World,
     lines: &[u8],
     tenant: u8,
-) -> Result<Answered, AllocError>
+) -> Result<Answered, OutOfMemory>
     requires { Stands world.old.tables [] }
     ensures plan { world.new.tables.plan ≡ world.old.tables.plan }
     ensures text { IfOk result (λ told. told.text.items ≡ joined (output_lines world.old.tables.plan (lines_of lines.now))) }
@@ -177,8 +178,9 @@ pub fn answer_lines(
     while !rest.is_empty() {
         let (first, words, after) = cut_line(rest);
         let event = read_cut_line(alloc, first, words, world.plan())?;
-        let Ok(answer) = world.step(&event) else {
-            return Err(AllocError);
+        let answer = match world.step(&event) {
+            Ok(answer) => answer,
+            Err(Ended(refused)) => return Err(refused),
         };
         write_next_answer(world.plan(), &event, &answer, &mut quorum, &mut text)?;
         keep(tenant, event, answer, &mut events, &mut answers)?;
@@ -193,7 +195,7 @@ pub fn answer_lines(
 
 // The answers to the lines of a text after the plan. The loop is that of `answer_lines` without what is kept there: so no
 // event or answer has to lie in memory whole (docs/DECISIONS.md, Speed).
-fn answers(alloc: Global, world: &mut World, lines: &[u8]) -> Result<Vec<u8>, AllocError>
+fn answers(alloc: Global, world: &mut World, lines: &[u8]) -> Result<Vec<u8>, OutOfMemory>
     requires { Stands world.old.tables [] }
     ensures { IfOk result (λ text. text.items ≡ joined (output_lines world.old.tables.plan (lines_of lines.now))) }
 {
@@ -203,8 +205,9 @@ fn answers(alloc: Global, world: &mut World, lines: &[u8]) -> Result<Vec<u8>, Al
     while !rest.is_empty() {
         let (first, words, after) = cut_line(rest);
         let event = read_cut_line(alloc, first, words, world.plan())?;
-        let Ok(answer) = world.step(&event) else {
-            return Err(AllocError);
+        let answer = match world.step(&event) {
+            Ok(answer) => answer,
+            Err(Ended(refused)) => return Err(refused),
         };
         write_next_answer(world.plan(), &event, &answer, &mut quorum, &mut text)?;
         drop(event);
@@ -215,7 +218,7 @@ fn answers(alloc: Global, world: &mut World, lines: &[u8]) -> Result<Vec<u8>, Al
 }
 
 /// The answers of a new world of the plan to the lines of a text after the plan.
-pub fn answers_of(alloc: Global, plan: Plan, lines: &[u8]) -> Result<Vec<u8>, AllocError>
+pub fn answers_of(alloc: Global, plan: Plan, lines: &[u8]) -> Result<Vec<u8>, OutOfMemory>
     ensures { IfOk result (λ text. text.items ≡ joined (output_lines plan (lines_of lines.now))) }
 {
     let mut world = World::new(alloc, plan)?;
@@ -231,10 +234,10 @@ fn output(alloc: Global, input: &[u8]) -> Result<Vec<u8>, RunFault>
     match read_plan(alloc, input) {
         Ok((plan, place)) => match answers_of(alloc, plan, &input[place..]) {
             Ok(text) => Ok(text),
-            Err(_) => Err(RunFault::Memory),
+            Err(refused) => Err(RunFault::Memory(refused)),
         },
         Err(PlanText::Fault { line, fault }) => Err(RunFault::Plan(line, fault)),
-        Err(PlanText::Memory) => Err(RunFault::Memory),
+        Err(PlanText::Memory(refused)) => Err(RunFault::Memory(refused)),
     }
 }
 

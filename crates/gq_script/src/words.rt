@@ -1,12 +1,11 @@
 //! Words, numbers and contents.
 
-ghost use Rattle.std.specs.Prelude.{◌≡◌, ◌≢◌, ℕ, List, [], ◌∷◌, ◌++◌, None, IfOk, MatchOption, MatchBool};
+ghost use Rattle.std.specs.Prelude.{◌≡◌, ℕ, List, [], ◌∷◌, ◌++◌, IfOk, MatchOption, MatchBool};
 ghost use Rattle.gq_script.specs.Words.{words_of, words_after, number_after, number_of, content_of};
-ghost use Rattle.hex.specs.declared.error.FromHexError.TheVariants.{OutOfMemory};
 
 use bytes::Bytes;
-use hex::FromHexError;
-use std::alloc::{AllocError, Global};
+use gq_memory::{OutOfMemory, bytes_of, content_of_digits};
+use std::alloc::Global;
 
 // The greatest number that a text may have.
 pub const MOST_NUMBER: u64 = 4_294_967_295;
@@ -72,21 +71,9 @@ fn number_from_digits(word: &[u8]) -> Option<u32>
     Some(n as u32)
 }
 
-// What a fault of the digits says of their word: that it writes no content, unless memory is wanting.
-fn no_content(fault: FromHexError) -> Result<Option<Bytes>, AllocError>
-    ensures { IfOk result (λ read. (read ≡ None) × (fault ≢ OutOfMemory)) }
-{
-    match fault {
-        FromHexError::OutOfMemory => Err(AllocError),
-        FromHexError::OddLength
-        | FromHexError::InvalidStringLength
-        | FromHexError::InvalidHexCharacter { .. } => Ok(None),
-    }
-}
-
 // The content that a word writes.
 #[tactic(auto, unfolding(crate::specs::Words::content_of))]
-pub fn content(alloc: Global, word: &[u8]) -> Result<Option<Bytes>, AllocError>
+pub fn content(alloc: Global, word: &[u8]) -> Result<Option<Bytes>, OutOfMemory>
     ensures { IfOk result (λ read. read ≡ content_of word.now) }
 {
     if word == b"-".as_slice() {
@@ -95,8 +82,8 @@ pub fn content(alloc: Global, word: &[u8]) -> Result<Option<Bytes>, AllocError>
     if word.is_empty() {
         return Ok(None);
     }
-    match hex::decode(alloc, word) {
-        Ok(bytes) => Ok(Some(Bytes::from_vec(bytes)?)),
-        Err(fault) => no_content(fault),
+    match content_of_digits(alloc, word)? {
+        Some(bytes) => Ok(Some(bytes_of(bytes)?)),
+        None => Ok(None),
     }
 }

@@ -38,7 +38,7 @@ pub record KeepsChanges (old new : Agenda) : Type 0 where
 
 -- no stamp is left above the last one and one that was seen; or memory is wanting
 abbrev pub IsStampFault : Agenda → ℕ → LiveFault → Type 0
-IsStampFault agenda seen Memory = Unit {0}
+IsStampFault agenda seen (Memory _) = Unit {0}
 IsStampFault agenda seen Stamps = 2 ^ 64 ≤ stamp_after agenda.board.last seen
 IsStampFault agenda seen _ = ⊥
 
@@ -91,7 +91,7 @@ ChangesCell old new before after = HasNone old new before after ⊎ (CellPasses 
 
 -- no stamp is left, or the next change is of another server
 abbrev pub IsChangeFault : Agenda → Journaled → LiveFault → Type 0
-IsChangeFault agenda cell Memory = Unit {0}
+IsChangeFault agenda cell (Memory _) = Unit {0}
 IsChangeFault agenda cell Stamps = 2 ^ 64 ≤ stamp_after agenda.board.last (last_of cell.journal)
 IsChangeFault agenda cell Letter = (change : Change) × (IsNext agenda change × (change.server ≢ cell.server))
 IsChangeFault agenda cell _ = ⊥

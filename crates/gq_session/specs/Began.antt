@@ -18,7 +18,7 @@ use Rattle.gq_session.specs.Works.{Home, request_refusal}
 -- that no quorum is up refuses the request
 abbrev pub not_begun : BeginRefused → NotBegun
 not_begun NoQuorum = Refused NoQuorumIsUp
-not_begun OutOfMemory = Memory
+not_begun (OutOfMemory refused) = Memory refused
 
 -- nothing refuses the request, and this is the operation that it asks for, with these messages
 pub record BeginsRequest (home : Home) (who : Who) (last : ℕ) (up : Servers) (line : Line) (operation : Operation) (messages : List Message) : Type 0 where
@@ -30,4 +30,4 @@ pub record BeginsRequest (home : Home) (who : Who) (last : ℕ) (up : Servers) (
 -- the request is refused for this, or memory is wanting
 abbrev pub IsNotBegun : Home → Servers → Line → NotBegun → Type 0
 IsNotBegun home up line (Refused refusal) = request_refusal home up line ≡ Some refusal
-IsNotBegun home up line Memory = request_refusal home up line ≡ None
+IsNotBegun home up line (Memory _) = request_refusal home up line ≡ None

@@ -177,7 +177,7 @@ ended work = record { begun = work.begun; round = work.round; last = last_number
 
 -- a request finds no greater number of an operation
 abbrev pub IsAskFault : Work → LiveFault → Type 0
-IsAskFault work Memory = Unit {0}
+IsAskFault work (Memory _) = Unit {0}
 IsAskFault work Stamps = work.begun ≡ 4294967295
 IsAskFault work _ = ⊥
 
@@ -188,7 +188,7 @@ IsSpent (Some o) = floor_of o ≡ 18446744073709551615
 
 -- a message is no reply to the session, or no number of a tag is above that in the message, or above the operation's
 abbrev pub IsHearFault : Home → Work → Message → LiveFault → Type 0
-IsHearFault home work message Memory = Unit {0}
+IsHearFault home work message (Memory _) = Unit {0}
 IsHearFault home work message Stamps = (copied_number message.body ≡ 18446744073709551615) ⊎ IsSpent work.operation
 IsHearFault home work message Letter = is_reply home message ≡ false
 IsHearFault home work message _ = ⊥

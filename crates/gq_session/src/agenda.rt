@@ -10,8 +10,9 @@ ghost use Rattle.gq_session.specs.Fitting.{IsChange};
 use crate::records::LiveFault;
 use gq_cell::{Board, BoardEntry, ChangeRefused};
 use gq_grid::{Grid, ServerSet};
+use gq_memory::{OutOfMemory, RoomInVec};
 use gq_model::ServerLine;
-use std::alloc::{AllocError, Global};
+use std::alloc::Global;
 
 /// The board, the list of changes, and which of the first of them were done: the board's entries are these, in order.
 #[derive(Drop)]
@@ -108,12 +109,12 @@ impl Agenda {
     }
 
     // The next change is passed by.
-    pub(crate) fn pass_by(&mut self) -> Result<(), AllocError>
+    pub(crate) fn pass_by(&mut self) -> Result<(), OutOfMemory>
         ensures ok { OnOk result (PassesBy self.old self.new) }
         ensures same { OnErr result (IsSameAgenda self.old self.new) }
     {
         let done = &mut self.done;
-        done.reserve(1)?;
+        done.make_room(1)?;
         done.push_reserved(false);
         Ok(())
     }
@@ -130,7 +131,7 @@ impl Agenda {
         ensures same { OnErr result (IsSameAgenda self.old self.new) }
     {
         let Agenda { board, done, .. } = self;
-        done.reserve(1)?;
+        done.make_room(1)?;
         match board.change(change.server as usize, change.up, seen) {
             Ok(stamp) => {
                 done.push_reserved(true);
@@ -141,7 +142,7 @@ impl Agenda {
                 Ok(None)
             }
             Err(ChangeRefused::Stamps) => Err(LiveFault::Stamps),
-            Err(ChangeRefused::Memory) => Err(LiveFault::Memory),
+            Err(ChangeRefused::Memory(refused)) => Err(LiveFault::Memory(refused)),
         }
     }
 

@@ -18,6 +18,7 @@ use crate::records::LiveFault;
 use bytes::Bytes;
 use gq_desk::VolumeRow;
 use gq_grid::{Grid, ServerSet};
+use gq_memory::OutOfMemory;
 use gq_model::{Line, Refusal, Said};
 use gq_phase::{BeginRefused, Heard, Operation, ResendRefused};
 use gq_pool::BLOCK_BYTES;
@@ -83,12 +84,12 @@ fn fits_round(message: &Message) -> bool
 }
 
 // Why a request began no operation.
-#[derive(Clone, Copy, PartialEq, Eq)]
+#[derive(Drop)]
 enum NotBegun {
     // It is refused.
     Refused(Refusal),
     // Memory is wanting.
-    Memory,
+    Memory(OutOfMemory),
 }
 
 impl From<Refusal> for NotBegun {
@@ -111,7 +112,7 @@ impl From<BeginRefused> for NotBegun {
     fn from(refused: BeginRefused) -> NotBegun {
         match refused {
             BeginRefused::NoQuorum => NotBegun::Refused(Refusal::NoQuorum),
-            BeginRefused::Memory => NotBegun::Memory,
+            BeginRefused::Memory(refused) => NotBegun::Memory(refused),
         }
     }
 }
@@ -309,7 +310,7 @@ impl Client {
                 })
             }
             Err(NotBegun::Refused(refusal)) => Ok(quiet(&self.grid, Said::Refused(refusal))),
-            Err(NotBegun::Memory) => Err(LiveFault::Memory),
+            Err(NotBegun::Memory(refused)) => Err(LiveFault::Memory(refused)),
         }
     }
 
@@ -342,8 +343,9 @@ impl Client {
         if copied_number(&message.body) == u64::MAX || operation.floor() == u64::MAX {
             return Err(LiveFault::Stamps);
         }
-        let Ok(heard) = operation.hear(message, up) else {
-            return Err(LiveFault::Memory);
+        let heard = match operation.hear(message, up) {
+            Ok(heard) => heard,
+            Err(refused) => return Err(LiveFault::Memory(refused)),
         };
         match heard {
             Heard::Stale => Ok(quiet(&self.grid, Said::Stale)),
@@ -376,7 +378,7 @@ impl Client {
         ensures retries { IfOk result (λ step. RetriesIn self.old.current (servers up) step.said step.messages) }
         ensures home { home_of self.new ≡ home_of self.old }
         ensures work { work_of self.new ≡ work_of self.old }
-        ensures fault { IfErr result (λ fault. fault ≡ LiveFault.Memory) }
+        ensures fault { IfErr result (λ fault. fault ≡ LiveFault.Memory tt) }
     {
         let Some(mut operation) = self.current.take() else {
             return Ok(quiet(&self.grid, Said::Refused(Refusal::Idle)));
@@ -393,7 +395,7 @@ impl Client {
             Err(ResendRefused::NoQuorum) => {
                 Ok(quiet(&self.grid, Said::Refused(Refusal::NoQuorum)))
             }
-            Err(ResendRefused::Memory) => Err(LiveFault::Memory),
+            Err(ResendRefused::Memory(refused)) => Err(LiveFault::Memory(refused)),
         }
     }
 

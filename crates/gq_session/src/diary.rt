@@ -4,8 +4,9 @@ ghost use Rattle.gq_session.specs.Asked.{asked_of, asks};
 ghost use Rattle.gq_session.specs.Fitting.{IsRequest};
 
 use crate::records::{Did, SessionEntry};
+use gq_memory::{OutOfMemory, RoomInVec};
 use gq_model::{Line, Said};
-use std::alloc::{AllocError, Global};
+use std::alloc::Global;
 
 /// A session's requests, and its steps so far, which asked the first of the requests, in order.
 #[derive(Drop)]
@@ -98,11 +99,11 @@ impl Diary {
     }
 
     // Makes room for one entry.
-    pub(crate) fn reserve(&mut self) -> Result<(), AllocError>
+    pub(crate) fn reserve(&mut self) -> Result<(), OutOfMemory>
         ensures room { OnOk result (HasRoom self.new) }
         ensures same { IsSameDiary self.old self.new }
     {
-        self.entries.reserve(1)
+        self.entries.make_room(1)
     }
 
     // The next request, if one is left.

@@ -7,8 +7,9 @@ use crate::MOST_REQUESTS;
 use crate::records::{Lines, Opening, Programs};
 use gq_desk::Plan;
 use gq_grid::Grid;
+use gq_memory::{GrowVec, OutOfMemory};
 use gq_model::{Line, ServerLine};
-use std::alloc::{AllocError, Global};
+use std::alloc::Global;
 
 /// A session of the plan: its tenant's place in the plan, and its number among the tenant's, from 1.
 #[derive(Clone, Copy, Debug, PartialEq, Eq)]
@@ -18,12 +19,12 @@ pub struct SessionId {
 }
 
 // Adds so many sessions of the tenant.
-fn add_sessions(all: &mut Vec<SessionId>, tenant: u8, count: u32) -> Result<(), AllocError>
+fn add_sessions(all: &mut Vec<SessionId>, tenant: u8, count: u32) -> Result<(), OutOfMemory>
     requires { count ≤ MOST_SESSIONS }
     ensures { OnOk result (all.new.items ≡ all.old.items ++ numbered tenant count) }
 {
     for number in 0..count {
-        all.push(SessionId {
+        all.grow(SessionId {
             tenant,
             number: number as u8 + 1,
         })?;
@@ -33,7 +34,7 @@ fn add_sessions(all: &mut Vec<SessionId>, tenant: u8, count: u32) -> Result<(), 
 
 /// All sessions of the plan, those of the first tenant first, which is the order of the lists in programs and records.
 #[tactic(auto, using(gq_desk::proofs::SoundRows::row_few))]
-pub fn sessions_of(alloc: Global, plan: &Plan) -> Result<Vec<SessionId>, AllocError>
+pub fn sessions_of(alloc: Global, plan: &Plan) -> Result<Vec<SessionId>, OutOfMemory>
     ensures { IfOk result (λ all. all.items ≡ plan_sessions plan.now) }
 {
     let mut all = Vec::new(alloc);
@@ -128,8 +129,8 @@ fn are_changes(grid: &Grid, changes: &[ServerLine]) -> bool
 
 /// Whether the programs fit the plan: there is one list for each session of the plan, of at most [`MOST_REQUESTS`] writes,
 /// reads and listings that name that session; each volume is of a tenant of the plan; each change stops a server of the
-/// grid or brings it back. `AllocError` is want of memory.
-pub fn fits(alloc: Global, plan: &Plan, programs: &Programs) -> Result<bool, AllocError>
+/// grid or brings it back. `OutOfMemory` is want of memory.
+pub fn fits(alloc: Global, plan: &Plan, programs: &Programs) -> Result<bool, OutOfMemory>
     ensures yes { IfOk result (λ fits. fits ≡ true → FitsPlan plan.now programs.now) }
     ensures no { IfOk result (λ fits. FitsPlan plan.now programs.now → fits ≡ true) }
 {

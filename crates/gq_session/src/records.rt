@@ -3,8 +3,8 @@
 ghost use Rattle.std.specs.Prelude.{◌≡◌};
 
 use gq_cell::{BoardEntry, CellEntry, Letter};
+use gq_memory::OutOfMemory;
 use gq_model::{Line, Said, ServerLine};
-use std::alloc::AllocError;
 use std::marker::Model;
 use thiserror::Error;
 
@@ -101,11 +101,11 @@ pub struct Records {
 }
 
 /// Why a live run gave no records. Of several threads' faults the one of the least number is told, in this order.
-#[derive(Clone, Copy, Debug, PartialEq, Eq, PartialOrd, Ord, Error)]
+#[derive(Debug, Drop, Error)]
 pub enum LiveFault {
     /// Memory is wanting.
     #[error("out of memory")]
-    Memory,
+    Memory(OutOfMemory),
     /// A thread could not be started.
     #[error("thread fault")]
     Thread,
@@ -123,13 +123,13 @@ pub enum LiveFault {
     Letter,
 }
 
-impl From<AllocError> for LiveFault {
+impl From<OutOfMemory> for LiveFault {
     ghost use Rattle.std.specs.Prelude.{◌≡◌};
     ghost use Rattle.gq_session.specs.declared.records.LiveFault.TheVariants.{Memory};
 
-    ghost from_gives = { λ _ e. e ≡ Memory };
+    ghost from_gives = { λ refused e. e ≡ Memory refused };
 
-    fn from(_e: AllocError) -> LiveFault {
-        LiveFault::Memory
+    fn from(refused: OutOfMemory) -> LiveFault {
+        LiveFault::Memory(refused)
     }
 }

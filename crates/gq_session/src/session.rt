@@ -123,7 +123,7 @@ impl Session {
         let Some(next) = self.diary.next() else {
             return Ok(None);
         };
-        let line = next.clone()?;
+        let line = next.share()?;
         self.diary.reserve()?;
         let stamp = agenda.stamp(0)?;
         let Step { said, messages } = self.client.ask(&line, agenda.up())?;

@@ -104,7 +104,7 @@ Passes old new text left = (sent : List ℕ) × Appends old new sent × (text �
 
 -- a fault of writing, or want of memory
 abbrev pub IsWritingFault : RunFault → Type 0
-IsWritingFault Memory = Unit {0}
+IsWritingFault (Memory _) = Unit {0}
 IsWritingFault Write = Unit {0}
 IsWritingFault _ = ⊥
 

@@ -6,14 +6,15 @@ ghost use Rattle.gq_script.specs.declared.script.RunFault.{RunFault};
 ghost use Rattle.gq_script.specs.Lines.{lines_of};
 ghost use Rattle.gq_script.specs.Out.{joined, output_lines};
 ghost use Rattle.gq_script.specs.Watched.{inner_of, has_failed, AppendsPrefix};
-ghost use Rattle.gq_shards.specs.Shards.{marks_of, AreTold, EachTold, AreAnswers, IsWritingFault};
+ghost use Rattle.gq_shards.specs.Shards.{marks_of, of_shard, AreTold, EachTold, IsText, AreAnswers, IsWritingFault};
 
 use crate::marks::marks_in_threads;
 use crate::merging::write_told;
 use crate::telling::{Told, told_by};
 use gq_desk::Plan;
+use gq_memory::{GrowVec, OutOfMemory};
 use gq_script::{RunFault, Watched, answers_of, write_whole};
-use std::alloc::{AllocError, Global};
+use std::alloc::Global;
 use std::io::Write;
 use std::thread;
 use std::thread::Threads;
@@ -28,14 +29,28 @@ pub enum Answers {
 }
 
 // All values, where each was made.
-fn all_of(alloc: Global, tried: Vec<Result<Told, AllocError>>) -> Result<Vec<Told>, AllocError>
+fn all_of(alloc: Global, tried: Vec<Result<Told, OutOfMemory>>) -> Result<Vec<Told>, OutOfMemory>
     ensures { IfOk result (λ all. map Ok all.items ≡ tried.items) }
 {
     let mut all = Vec::new(alloc);
     for told in tried {
-        all.push(told?)?;
+        all.grow(told?)?;
     }
     Ok(all)
+}
+
+// For each shard, that it tells nothing yet.
+fn untold(alloc: Global, shards: usize) -> Result<Vec<Result<Told, OutOfMemory>>, OutOfMemory>
+    ensures { IfOk result (λ tried. vec_len tried ≡ shards) }
+{
+    let mut tried = Vec::new(alloc);
+    for _shard in 0..shards {
+        tried.grow(Ok(Told {
+            text: Vec::new(alloc),
+            lengths: Vec::new(alloc),
+        }))?;
+    }
+    Ok(tried)
 }
 
 // What each shard tells, each in a thread of its own where one can be made.
@@ -46,18 +61,24 @@ fn tried_in_threads<T: Threads + Sync>(
     shards: usize,
     marks: &[u8],
     lines: &[u8],
-) -> Result<Vec<Result<Told, AllocError>>, AllocError>
+) -> Result<Vec<Result<Told, OutOfMemory>>, OutOfMemory>
     requires some { 1 ≤ shards }
     requires marks { marks.now ≡ marks_of plan.now shards (lines_of lines.now) }
     ensures size { IfOk result (λ tried. vec_len tried ≡ shards) }
     ensures told { IfOk result (λ tried. EachTold marks.now (output_lines plan.now (lines_of lines.now)) tried.items) }
 {
-    thread::map_indices(
+    let mut tried = untold(alloc, shards)?;
+    thread::for_each_mut(
         rt,
-        alloc,
+        tried.as_mut_slice(),
         shards,
-        &|shard| told_by(alloc, plan, shards, shard, marks, lines),
-    )
+        &|shard: usize, told: &mut Result<Told, OutOfMemory>|
+            requires { (1 ≤ shards) × (marks.now ≡ marks_of plan.now shards (lines_of lines.now)) }
+            ensures { IfOk told.exit.now (λ told. IsText told.text.items told.lengths.items
+                (of_shard shard marks.entry.now (output_lines plan.entry.now (lines_of lines.entry.now)))) }
+        { *told = told_by(alloc, plan, shards, shard, marks, lines) },
+    );
+    Ok(tried)
 }
 
 // What the shards tell.
@@ -68,7 +89,7 @@ fn told_in_threads<T: Threads + Sync>(
     shards: usize,
     marks: &[u8],
     lines: &[u8],
-) -> Result<Vec<Told>, AllocError>
+) -> Result<Vec<Told>, OutOfMemory>
     requires some { 1 ≤ shards }
     requires marks { marks.now ≡ marks_of plan.now shards (lines_of lines.now) }
     ensures { IfOk result (λ all. AreTold marks.now (output_lines plan.now (lines_of lines.now)) all.items) }
@@ -85,7 +106,7 @@ pub fn answers_in_shards<T: Threads + Sync>(
     plan: Plan,
     shards: usize,
     lines: &[u8],
-) -> Result<Answers, AllocError>
+) -> Result<Answers, OutOfMemory>
     ensures { IfOk result (λ answers. AreAnswers answers (output_lines plan (lines_of lines.now))) }
 {
     let shards = shards.min(plan.tenants());
@@ -110,7 +131,7 @@ pub fn write_answers<W: Write>(
     ensures fine { OnOk result (has_failed writer.new ≡ false) }
     ensures fault { IfErr result IsWritingFault }
     ensures failed { IsErrOf result RunFault.Write → has_failed writer.new ≡ true }
-    ensures nothing { IsErrOf result RunFault.Memory → writer.new ≡ writer.old }
+    ensures nothing { IsErrOf result (RunFault.Memory tt) → writer.new ≡ writer.old }
     ensures prefix { IsErrOf result RunFault.Write → (lines : List (List ℕ)) → AreAnswers answers.now lines →
         AppendsPrefix (W.contents (inner_of writer.old)) (W.contents (inner_of writer.new)) (joined lines) }
 {

@@ -5,8 +5,9 @@ ghost use Rattle.std.specs.Io.KnownBytes.{Appends};
 ghost use Rattle.gq_script.specs.declared.script.RunFault.{RunFault};
 ghost use Rattle.gq_script.specs.Watched.{inner_of, has_failed, AppendsPrefix};
 
+use gq_memory::{OutOfMemory, filled};
 use gq_script::{RunFault, Watched, write_whole};
-use std::alloc::{AllocError, Global};
+use std::alloc::Global;
 use std::io::Write;
 
 /// Bytes that wait to be written together. It takes its memory when it is made, so that none is wanted between two writes.
@@ -21,10 +22,10 @@ impl Chunk {
     ghost use Rattle.gq_shards.specs.Shards.{waiting, Passes};
 
     /// No byte waits, and there is room for so many.
-    pub fn new(alloc: Global, room: usize) -> Result<Chunk, AllocError>
+    pub fn new(alloc: Global, room: usize) -> Result<Chunk, OutOfMemory>
         ensures { IfOk result (λ chunk. waiting chunk ≡ []) }
     {
-        let bytes = vec![in alloc; 0u8; room]?;
+        let bytes = filled(alloc, 0u8, room)?;
         Ok(Chunk { bytes, filled: 0 })
     }
 

@@ -9,9 +9,10 @@ ghost use Rattle.gq_script.specs.Input.{event_of_words};
 ghost use Rattle.gq_shards.specs.Shards.{mark_of, marks_of};
 
 use gq_desk::Plan;
+use gq_memory::{GrowCopies, GrowVec, OutOfMemory, room_for};
 use gq_script::cut_line;
 use memchr::memchr;
-use std::alloc::{AllocError, Global};
+use std::alloc::Global;
 use std::thread::{Threads, join};
 
 // The mark of a line that begins with the word.
@@ -32,16 +33,16 @@ fn mark(plan: &Plan, shards: usize, first: &[u8]) -> u8
 }
 
 // The marks of a text's lines.
-fn marks_of(alloc: Global, plan: &Plan, shards: usize, lines: &[u8]) -> Result<Vec<u8>, AllocError>
+fn marks_of(alloc: Global, plan: &Plan, shards: usize, lines: &[u8]) -> Result<Vec<u8>, OutOfMemory>
     requires least { 1 ≤ shards }
     requires most { shards ≤ MOST_TENANTS }
     ensures { IfOk result (λ marks. marks.items ≡ marks_of plan.now shards (lines_of lines.now)) }
 {
-    let mut marks = Vec::with_capacity(alloc, lines.len() / 8)?;
+    let mut marks = room_for(alloc, lines.len() / 8)?;
     let mut rest = lines;
     while !rest.is_empty() {
         let (first, _, after) = cut_line(rest);
-        marks.push(mark(plan, shards, first))?;
+        marks.grow(mark(plan, shards, first))?;
         rest = after;
     }
     Ok(marks)
@@ -67,7 +68,7 @@ fn marks_by_two<T: Threads + Sync>(
     plan: &Plan,
     shards: usize,
     lines: &[u8],
-) -> Result<Vec<u8>, AllocError>
+) -> Result<Vec<u8>, OutOfMemory>
     requires least { 1 ≤ shards }
     requires most { shards ≤ MOST_TENANTS }
     ensures { IfOk result (λ marks. marks.items ≡ marks_of plan.now shards (lines_of lines.now)) }
@@ -79,8 +80,8 @@ fn marks_by_two<T: Threads + Sync>(
         || marks_of(alloc, plan, shards, back),
     );
     let mut marks = first?;
-    let mut rest = second?;
-    marks.append(&mut rest)?;
+    let rest = second?;
+    marks.grow_by(rest.as_slice())?;
     Ok(marks)
 }
 
@@ -91,7 +92,7 @@ fn marks_by_four<T: Threads + Sync>(
     plan: &Plan,
     shards: usize,
     lines: &[u8],
-) -> Result<Vec<u8>, AllocError>
+) -> Result<Vec<u8>, OutOfMemory>
     requires least { 1 ≤ shards }
     requires most { shards ≤ MOST_TENANTS }
     ensures { IfOk result (λ marks. marks.items ≡ marks_of plan.now shards (lines_of lines.now)) }
@@ -99,18 +100,18 @@ fn marks_by_four<T: Threads + Sync>(
     let (front, back) = cut_text(lines, lines.len() / 2);
     let (first, second) = join(
         rt,
-        || -> Result<Vec<u8>, AllocError>
+        || -> Result<Vec<u8>, OutOfMemory>
             requires { IsSync T.row × (1 ≤ shards) × (shards ≤ MOST_TENANTS) }
             ensures { IfOk result (λ marks. marks.items ≡ marks_of plan.entry.now shards (lines_of front.entry.now)) }
         { marks_by_two(rt, alloc, plan, shards, front) },
-        || -> Result<Vec<u8>, AllocError>
+        || -> Result<Vec<u8>, OutOfMemory>
             requires { IsSync T.row × (1 ≤ shards) × (shards ≤ MOST_TENANTS) }
             ensures { IfOk result (λ marks. marks.items ≡ marks_of plan.entry.now shards (lines_of back.entry.now)) }
         { marks_by_two(rt, alloc, plan, shards, back) },
     );
     let mut marks = first?;
-    let mut rest = second?;
-    marks.append(&mut rest)?;
+    let rest = second?;
+    marks.grow_by(rest.as_slice())?;
     Ok(marks)
 }
 
@@ -121,7 +122,7 @@ pub fn marks_in_threads<T: Threads + Sync>(
     plan: &Plan,
     shards: usize,
     lines: &[u8],
-) -> Result<Vec<u8>, AllocError>
+) -> Result<Vec<u8>, OutOfMemory>
     requires least { 1 ≤ shards }
     requires most { shards ≤ MOST_TENANTS }
     ensures { IfOk result (λ marks. marks.items ≡ marks_of plan.now shards (lines_of lines.now)) }

@@ -9,8 +9,9 @@ ghost use Rattle.gq_shards.specs.Shards.{waiting, IsLeft, AreTold, IsWritingFaul
 
 use crate::chunk::Chunk;
 use crate::telling::Told;
+use gq_memory::{OutOfMemory, filled};
 use gq_script::{RunFault, Watched};
-use std::alloc::{AllocError, Global};
+use std::alloc::Global;
 use std::io::Write;
 
 // The bytes that are written together.
@@ -40,10 +41,10 @@ fn next_line<'a>(told: &'a Told, place: Place) -> (&'a [u8], Place)
 }
 
 // The places of the first lines.
-fn first_places(alloc: Global, shards: usize) -> Result<Vec<Place>, AllocError>
+fn first_places(alloc: Global, shards: usize) -> Result<Vec<Place>, OutOfMemory>
     ensures { IfOk result (λ places. places.items ≡ replicate shards (record { line = 0; byte = 0 })) }
 {
-    vec![in alloc; Place { line: 0, byte: 0 }; shards]
+    filled(alloc, Place { line: 0, byte: 0 }, shards)
 }
 
 // Writes the lines of all shards in the order of their marks. The chunk is empty, and each shard is at its first line.
@@ -90,15 +91,17 @@ pub fn write_told<W: Write>(
     ensures fine { OnOk result (has_failed writer.new ≡ false) }
     ensures fault { IfErr result IsWritingFault }
     ensures failed { IsErrOf result RunFault.Write → has_failed writer.new ≡ true }
-    ensures nothing { IsErrOf result RunFault.Memory → writer.new ≡ writer.old }
+    ensures nothing { IsErrOf result (RunFault.Memory tt) → writer.new ≡ writer.old }
     ensures prefix { IsErrOf result RunFault.Write → (lines : List (List ℕ)) → AreTold marks.now lines all.now →
         AppendsPrefix (W.contents (inner_of writer.old)) (W.contents (inner_of writer.new)) (joined lines) }
 {
-    let Ok(mut places) = first_places(alloc, all.len()) else {
-        return Err(RunFault::Memory);
+    let mut places = match first_places(alloc, all.len()) {
+        Ok(places) => places,
+        Err(refused) => return Err(RunFault::Memory(refused)),
     };
-    let Ok(mut chunk) = Chunk::new(alloc, CHUNK) else {
-        return Err(RunFault::Memory);
+    let mut chunk = match Chunk::new(alloc, CHUNK) {
+        Ok(chunk) => chunk,
+        Err(refused) => return Err(RunFault::Memory(refused)),
     };
     write_lines(writer, &mut chunk, places.as_mut_slice(), marks, all)
 }

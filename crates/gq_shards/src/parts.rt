@@ -4,7 +4,8 @@ ghost use Rattle.std.specs.Prelude.{◌≡◌, ◌≤◌, IfOk};
 ghost use Rattle.gq_shards.specs.Shards.{part_row, part_rows, IsPart};
 
 use gq_desk::{Plan, TenantRow};
-use std::alloc::{AllocError, Global};
+use gq_memory::{GrowVec, OutOfMemory};
+use std::alloc::Global;
 
 // The tenant's row as the shard has it.
 fn part_row(mine: bool, row: &TenantRow) -> TenantRow
@@ -28,13 +29,13 @@ fn part_rows(
     shards: usize,
     shard: usize,
     rows: &[TenantRow],
-) -> Result<Vec<TenantRow>, AllocError>
+) -> Result<Vec<TenantRow>, OutOfMemory>
     requires { 1 ≤ shards }
     ensures { IfOk result (λ part. part.items ≡ part_rows shards shard 0 rows.now) }
 {
     let mut part = Vec::new(alloc);
     for tenant in 0..rows.len() {
-        part.push(part_row(tenant % shards == shard, &rows[tenant]))?;
+        part.grow(part_row(tenant % shards == shard, &rows[tenant]))?;
     }
     Ok(part)
 }
@@ -53,7 +54,7 @@ fn blocks_of(rows: &[TenantRow], most: u32) -> u32
 }
 
 /// The plan of the shard. Its servers have no more blocks than its tenants may reserve, and one for each other tenant.
-pub fn part_of(alloc: Global, plan: &Plan, shards: usize, shard: usize) -> Result<Plan, AllocError>
+pub fn part_of(alloc: Global, plan: &Plan, shards: usize, shard: usize) -> Result<Plan, OutOfMemory>
     requires { 1 ≤ shards }
     ensures { IfOk result (λ part. IsPart shards shard plan.now part) }
 {

@@ -34,10 +34,10 @@ fn answers_to<T: Threads + Sync>(
     match read_plan(alloc, input) {
         Ok((plan, place)) => match answers_in_shards(rt, alloc, plan, shards, &input[place..]) {
             Ok(answers) => Ok(answers),
-            Err(_) => Err(RunFault::Memory),
+            Err(refused) => Err(RunFault::Memory(refused)),
         },
         Err(PlanText::Fault { line, fault }) => Err(RunFault::Plan(line, fault)),
-        Err(PlanText::Memory) => Err(RunFault::Memory),
+        Err(PlanText::Memory(refused)) => Err(RunFault::Memory(refused)),
     }
 }
 

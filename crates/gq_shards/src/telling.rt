@@ -12,10 +12,11 @@ ghost use Rattle.gq_shards.specs.Shards.{event_cut, line_cut, marks_of, of_shard
 
 use crate::parts::part_of;
 use gq_desk::Plan;
+use gq_memory::{GrowLengths, OutOfMemory, room_for};
 use gq_model::{Answer, Event};
 use gq_script::{QuorumText, cut_line, read_cut_line, write_next_answer};
-use gq_world::World;
-use std::alloc::{AllocError, Global};
+use gq_world::{Ended, World};
+use std::alloc::Global;
 
 /// The lines that a shard tells: their text, and the length of each.
 #[derive(Drop)]
@@ -33,7 +34,7 @@ fn tell(
     quorum: &mut QuorumText,
     text: &mut Vec<u8>,
     lengths: &mut Vec<u32>,
-) -> Result<(), AllocError>
+) -> Result<(), OutOfMemory>
     requires event { IsIn plan.now event.now }
     requires grid { quorum.old.grid ≡ plan.now.grid }
     ensures grid { quorum.new.grid ≡ quorum.old.grid }
@@ -43,11 +44,7 @@ fn tell(
 {
     let start = text.len();
     write_next_answer(plan, event, answer, quorum, text)?;
-    let Ok(length) = u32::try_from(text.len() - start) else {
-        return Err(AllocError);
-    };
-    lengths.push(length)?;
-    Ok(())
+    lengths.grow_length(&text[start..])
 }
 
 // Answers a line of this mark where the shard sees it, and tells the answer where the line is its own.
@@ -62,7 +59,7 @@ fn next(
     quorum: &mut QuorumText,
     text: &mut Vec<u8>,
     lengths: &mut Vec<u32>,
-) -> Result<(), AllocError>
+) -> Result<(), OutOfMemory>
     requires grid { quorum.old.grid ≡ world.old.tables.plan.grid }
     ensures grid { quorum.new.grid ≡ quorum.old.grid }
     ensures plan { world.new.tables.plan ≡ world.old.tables.plan }
@@ -80,8 +77,9 @@ fn next(
     let mine = mark.saturating_sub(1) as usize == shard;
     if mark == 0 || mine {
         let event = read_cut_line(alloc, first, words, world.plan())?;
-        let Ok(answer) = world.step(&event) else {
-            return Err(AllocError);
+        let answer = match world.step(&event) {
+            Ok(answer) => answer,
+            Err(Ended(refused)) => return Err(refused),
         };
         if mine {
             tell(world.plan(), &event, &answer, quorum, text, lengths)?;
@@ -101,15 +99,15 @@ pub fn told_by(
     shard: usize,
     marks: &[u8],
     lines: &[u8],
-) -> Result<Told, AllocError>
+) -> Result<Told, OutOfMemory>
     requires some { 1 ≤ shards }
     requires marks { marks.now ≡ marks_of plan.now shards (lines_of lines.now) }
     ensures { IfOk result (λ told. IsText told.text.items told.lengths.items
         (of_shard shard marks.now (output_lines plan.now (lines_of lines.now)))) }
 {
     let part = part_of(alloc, plan, shards, shard)?;
-    let mut text = Vec::with_capacity(alloc, lines.len() / shards)?;
-    let mut lengths = Vec::with_capacity(alloc, marks.len() / shards)?;
+    let mut text = room_for(alloc, lines.len() / shards)?;
+    let mut lengths = room_for(alloc, marks.len() / shards)?;
     let mut world = World::new(alloc, part)?;
     let mut quorum = QuorumText::new(alloc, *world.plan().grid());
     let mut rest = lines;

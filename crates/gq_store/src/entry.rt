@@ -12,7 +12,7 @@ use std::mem;
 pub(crate) struct Entry {
     tag: Tag,
     chain: Option<Chain>,
-    hint: usize,
+    hint: u32,
 }
 
 impl Model for Entry {
@@ -46,12 +46,12 @@ impl Entry {
     }
 
     #[inline]
-    pub(crate) fn hint(&self) -> usize {
+    pub(crate) fn hint(&self) -> u32 {
         self.hint
     }
 
     #[inline]
-    pub(crate) fn leave_hint(&mut self, hint: usize)
+    pub(crate) fn leave_hint(&mut self, hint: u32)
         ensures { self.new ≡ self.old }
     {
         self.hint = hint;

@@ -10,9 +10,10 @@ use crate::entry::Entry;
 use crate::volumes::Tenant;
 use bytes::Bytes;
 use gq_desk::{Plan, TenantRow};
+use gq_memory::{GrowCopies, OutOfMemory, bytes_of, filled, room_for};
 use gq_pool::Pool;
 use gq_tag::{Body, FileId, Message, StoredCopy, Tag};
-use std::alloc::{AllocError, Global};
+use std::alloc::Global;
 use std::marker::Model;
 use thiserror::Error;
 
@@ -26,7 +27,7 @@ pub enum Put {
 }
 
 /// Why a message isn't served. The causes are tested in this order.
-#[derive(Clone, Copy, Debug, PartialEq, Eq, Error)]
+#[derive(Debug, Drop, Error)]
 pub enum ServeRefused {
     /// The file is not there.
     #[error("no such file")]
@@ -36,7 +37,7 @@ pub enum ServeRefused {
     Long,
     /// Memory is wanting, for the content of a copy that an ask is to be given.
     #[error("out of memory")]
-    Memory,
+    Memory(OutOfMemory),
 }
 
 /// The copies of all tenants' files on one server. Contracts see the copies by tenant, volume and file, and the number
@@ -117,12 +118,12 @@ impl ServerStore {
     /// The store of a server of the plan: no volume is there, and all blocks are free. It makes one request for memory
     /// for each block, and one for the table of the tenants.
     ///
-    /// `AllocError` is want of memory: all that was taken until then was given back.
-    pub fn new(alloc: Global, plan: &Plan) -> Result<ServerStore, AllocError>
+    /// `OutOfMemory` is want of memory: all that was taken until then was given back.
+    pub fn new(alloc: Global, plan: &Plan) -> Result<ServerStore, OutOfMemory>
         ensures { IfOk result (λ store. store ≡ empty_store plan.now) }
     {
         let blocks = plan.blocks();
-        let mut tenants = Vec::with_capacity(alloc, plan.tenants())?;
+        let mut tenants = room_for(alloc, plan.tenants())?;
         match Pool::new(alloc, blocks as usize) {
             Ok(pool) => {
                 add_tenants(alloc, &mut tenants, plan.rows());
@@ -145,8 +146,8 @@ impl ServerStore {
     /// theirs; so no file's copy changes. The volume's blocks have to fit in what the volumes before leave of the tenant's
     /// share, in blocks. It makes as many requests for memory for many files as for one, and takes no block.
     ///
-    /// `AllocError` is want of memory: the store is then as it was.
-    pub fn add_files(&mut self, tenant: u8, files: u32, blocks: u32) -> Result<(), AllocError>
+    /// `OutOfMemory` is want of memory: the store is then as it was.
+    pub fn add_files(&mut self, tenant: u8, files: u32, blocks: u32) -> Result<(), OutOfMemory>
         requires tenant { tenant < length (store_accounts self.old) }
         requires share { files * blocks ≤ free_of (tenant_account self.old tenant) }
         ensures added { OnOk result (store_accounts self.new ≡ slice_set (store_accounts self.old) tenant
@@ -213,16 +214,16 @@ impl ServerStore {
 
     /// Reads the content of the file's copy into `out`, in place of what was there, and answers its tag.
     ///
-    /// `AllocError` is want of memory, for a content that is longer than what `out` has room for: `out` may then have
+    /// `OutOfMemory` is want of memory, for a content that is longer than what `out` has room for: `out` may then have
     /// anything.
     #[inline(always)]
-    pub fn read(&self, file: FileId, out: &mut Vec<u8>) -> Result<Tag, AllocError>
+    pub fn read(&self, file: FileId, out: &mut Vec<u8>) -> Result<Tag, OutOfMemory>
         requires { IsSome (file_limit self.now file) }
         ensures content { OnOk result (out.new.items ≡ (copy_at self.now file).bytes) }
         ensures tag { IfOk result (λ tag. tag ≡ (copy_at self.now file).tag) }
     {
         let entry = self.entry(file);
-        out.resize(entry.len(), 0)?;
+        out.grow_to(entry.len(), 0)?;
         entry.read(out.as_mut_slice());
         Ok(entry.tag())
     }
@@ -230,7 +231,7 @@ impl ServerStore {
     /// A number that was left with the file, 0 at first: where somebody else keeps an equal copy, perhaps. It is a guess,
     /// which no contract sees.
     #[inline]
-    pub fn hint(&self, file: FileId) -> usize
+    pub fn hint(&self, file: FileId) -> u32
         requires { IsSome (file_limit self.now file) }
     {
         self.entry(file).hint()
@@ -238,7 +239,7 @@ impl ServerStore {
 
     /// Leaves that number with the file. Nothing else changes.
     #[inline]
-    pub fn leave_hint(&mut self, file: FileId, hint: usize)
+    pub fn leave_hint(&mut self, file: FileId, hint: u32)
         requires { IsSome (file_limit self.old file) }
         ensures { self.new ≡ self.old }
     {
@@ -293,16 +294,16 @@ impl ServerStore {
     }
 
     // The file's copy, its content in memory of its own.
-    fn copy(&self, file: FileId) -> Result<StoredCopy, AllocError>
+    fn copy(&self, file: FileId) -> Result<StoredCopy, OutOfMemory>
         requires { IsSome (file_limit self.now file) }
         ensures { IfOk result (λ copy. copy ≡ copy_at self.now file) }
     {
         let entry = self.entry(file);
-        let mut content = vec![in self.alloc; 0; entry.len()]?;
+        let mut content = filled(self.alloc, 0, entry.len())?;
         entry.read(content.as_mut_slice());
         Ok(StoredCopy {
             tag: entry.tag(),
-            bytes: Bytes::from_vec(content)?,
+            bytes: bytes_of(content)?,
         })
     }
 
@@ -313,10 +314,10 @@ impl ServerStore {
     pub fn serve(&mut self, message: &Message) -> Result<Message, ServeRefused>
         requires { IsTrue (to_server message.now.body) }
         ensures served { OnOk result (serve_fault self.old message.now ≡ None) }
-        ensures refused { IfErr result (λ fault. fault ≢ ServeRefused.Memory
+        ensures refused { IfErr result (λ fault. fault ≢ ServeRefused.Memory tt
             → serve_fault self.old message.now ≡ Some fault) }
-        ensures memory { IsErrOf result ServeRefused.Memory → serve_fault self.old message.now ≡ None }
-        ensures memory_for_asks { IsErrOf result ServeRefused.Memory → message.now.body ≡ Body.Ask }
+        ensures memory { IsErrOf result (ServeRefused.Memory tt) → serve_fault self.old message.now ≡ None }
+        ensures memory_for_asks { IsErrOf result (ServeRefused.Memory tt) → message.now.body ≡ Body.Ask }
         ensures reply { IfOk result (λ reply. reply ≡ server_reply (copy_at self.old message.now.file) message.now) }
         ensures held { OnOk result (copy_at self.new message.now.file
             ≡ held_after (copy_at self.old message.now.file) message.now.body) }
@@ -339,7 +340,7 @@ impl ServerStore {
             }
             _ => match self.copy(file) {
                 Ok(copy) => Body::Copy(copy),
-                Err(_) => return Err(ServeRefused::Memory),
+                Err(refused) => return Err(ServeRefused::Memory(refused)),
             },
         };
         Ok(reply(message, body))

@@ -7,9 +7,10 @@ ghost use Rattle.gq_tag.specs.Tag.{first_copy};
 ghost use Rattle.gq_store.specs.Copies.{volume_size, copies_account, copy_in, volume_in, taken, volume_taken, tenant_taken, new_volume, volume_with, tenant_with};
 
 use crate::entry::Entry;
+use gq_memory::{OutOfMemory, RoomInVec, room_for};
 use gq_pool::{BLOCK_BYTES, Pool};
 use gq_tag::Tag;
-use std::alloc::{AllocError, Global};
+use std::alloc::Global;
 use std::marker::Model;
 
 /// The files of a volume in order, each of at most so many blocks.
@@ -42,10 +43,10 @@ impl Model for Tenant {
 
 impl Volume {
     // A volume whose files have their first copies.
-    fn new(alloc: Global, files: u32, blocks: u32) -> Result<Volume, AllocError>
+    fn new(alloc: Global, files: u32, blocks: u32) -> Result<Volume, OutOfMemory>
         ensures { IfOk result (λ volume. volume ≡ new_volume files blocks) }
     {
-        let mut entries = Vec::with_capacity(alloc, files as usize)?;
+        let mut entries = room_for(alloc, files as usize)?;
         for _ in 0..files {
             entries.push_reserved(Entry::first());
         }
@@ -88,7 +89,7 @@ impl Volume {
 
     // Leaves a hint with the file.
     #[inline]
-    fn leave_hint(&mut self, file: u32, hint: usize)
+    fn leave_hint(&mut self, file: u32, hint: u32)
         requires { file < length self.old.copies }
         ensures { self.new ≡ self.old }
     {
@@ -123,11 +124,11 @@ impl Tenant {
     }
 
     // Adds a volume whose files have their first copies.
-    pub(crate) fn add(&mut self, alloc: Global, files: u32, blocks: u32) -> Result<(), AllocError>
+    pub(crate) fn add(&mut self, alloc: Global, files: u32, blocks: u32) -> Result<(), OutOfMemory>
         ensures added { OnOk result (self.new ≡ record { share = self.old.share; volumes = self.old.volumes ++ new_volume files blocks ∷ [] }) }
         ensures same { OnErr result (self.new ≡ self.old) }
     {
-        self.volumes.reserve(1)?;
+        self.volumes.make_room(1)?;
         let volume = Volume::new(alloc, files, blocks)?;
         self.volumes.push_reserved(volume);
         Ok(())
@@ -164,7 +165,7 @@ impl Tenant {
 
     // Leaves a hint with the file.
     #[inline]
-    pub(crate) fn leave_hint(&mut self, volume: u32, file: u32, hint: usize)
+    pub(crate) fn leave_hint(&mut self, volume: u32, file: u32, hint: u32)
         requires volume { volume < length self.old.volumes }
         requires file { file < length (volume_in self.old volume).copies }
         ensures { self.new ≡ self.old }

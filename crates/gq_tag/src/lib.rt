@@ -1,12 +1,12 @@
 //! Tags, files' copies, and the messages between sessions and servers.
 #![tactic(auto)]
 
-ghost use Rattle.std.specs.Prelude.{◌≡◌, ◌↔◌, ℕ, ◌+◌, ◌<◌, ◌≤◌, IsTrue};
+ghost use Rattle.std.specs.Prelude.{◌≡◌, ◌↔◌, ℕ, ◌+◌, ◌<◌, ◌≤◌, IsTrue, IfOk};
 ghost use Rattle.gq_tag.specs.Tag.{is_less, first_tag, first_copy, to_server};
 ghost use Rattle.gq_tag.specs.View.{body_of};
 
 use bytes::Bytes;
-use std::alloc::AllocError;
+use gq_memory::{GrowBytes, OutOfMemory};
 use std::cmp::Ordering;
 use std::marker::Model;
 
@@ -114,13 +114,14 @@ impl StoredCopy {
     }
 }
 
-impl Clone for StoredCopy {
-    ghost is_clone = { λ a b. b ≡ a };
-
-    fn clone(&self) -> Result<StoredCopy, AllocError> {
+impl StoredCopy {
+    /// The same, which shares the content.
+    pub fn share(&self) -> Result<StoredCopy, OutOfMemory>
+        ensures { IfOk result (λ same. same ≡ self.now) }
+    {
         Ok(StoredCopy {
             tag: self.tag,
-            bytes: self.bytes.clone()?,
+            bytes: self.bytes.share()?,
         })
     }
 }
@@ -139,14 +140,15 @@ pub enum Body {
     Stored,
 }
 
-impl Clone for Body {
-    ghost is_clone = { λ a b. b ≡ a };
-
-    fn clone(&self) -> Result<Body, AllocError> {
+impl Body {
+    /// The same, which shares the content.
+    pub fn share(&self) -> Result<Body, OutOfMemory>
+        ensures { IfOk result (λ same. same ≡ self.now) }
+    {
         match self {
             Body::Ask => Ok(Body::Ask),
-            Body::Copy(copy) => Ok(Body::Copy(copy.clone()?)),
-            Body::Store(copy) => Ok(Body::Store(copy.clone()?)),
+            Body::Copy(copy) => Ok(Body::Copy(copy.share()?)),
+            Body::Store(copy) => Ok(Body::Store(copy.share()?)),
             Body::Stored => Ok(Body::Stored),
         }
     }
@@ -165,10 +167,11 @@ pub struct Message {
     pub body: Body,
 }
 
-impl Clone for Message {
-    ghost is_clone = { λ a b. b ≡ a };
-
-    fn clone(&self) -> Result<Message, AllocError> {
+impl Message {
+    /// The same, which shares the content.
+    pub fn share(&self) -> Result<Message, OutOfMemory>
+        ensures { IfOk result (λ same. same ≡ self.now) }
+    {
         Ok(Message {
             tenant: self.tenant,
             session: self.session,
@@ -176,7 +179,7 @@ impl Clone for Message {
             round: self.round,
             server: self.server,
             file: self.file,
-            body: self.body.clone()?,
+            body: self.body.share()?,
         })
     }
 }

@@ -83,10 +83,10 @@ fn stops<L: Ledger>(rt: &impl Abort, cell: &mut Cell<L>, share: &mut Share<L>)
     requires { cell.old.server ≡ 0 }
 {
     let late = ask(u64::MAX);
-    assert!(rt; cell.serve(share, &late) == Err(CellRefused::Stamps));
+    assert!(rt; matches!(cell.serve(share, &late), Err(CellRefused::Stamps)));
     assert!(rt; cell.up() && cell.last() < 10);
     assert!(rt; cell.set_up(false, 10).is_ok());
-    assert!(rt; cell.serve(share, &late) == Ok(Served::Down));
+    assert!(rt; matches!(cell.serve(share, &late), Ok(Served::Down)));
 }
 
 fn cell_steps<L: Ledger>(rt: &impl Abort, alloc: Global, blank: Blank)
@@ -116,8 +116,8 @@ fn board_steps(rt: &impl Abort, board: &mut Board)
 {
     assert!(rt; board.stamp(41) == Some(42));
     assert!(rt; board.stamp(0) == Some(43));
-    assert!(rt; board.change(0, true, 0) == Err(ChangeRefused::Same));
-    assert!(rt; board.change(0, false, 50) == Ok(51));
+    assert!(rt; matches!(board.change(0, true, 0), Err(ChangeRefused::Same)));
+    assert!(rt; matches!(board.change(0, false, 50), Ok(51)));
     assert!(rt; !board.up().has(0));
     assert!(rt; board.entries().len() == 1);
     assert!(rt; board.stamp(u64::MAX).is_none());

@@ -11,6 +11,8 @@ mod desk;
 #[cfg(test)]
 mod grid;
 #[cfg(test)]
+mod memory;
+#[cfg(test)]
 mod order;
 #[cfg(test)]
 mod pool;

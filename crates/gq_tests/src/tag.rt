@@ -43,9 +43,9 @@ fn tags_are_compared_by_number_first(rt: HostRuntime) {
     assert!(rt; StoredCopy::first() == copy(tag(0, 0), b""));
 }
 
-// The body is its clone, and goes to a server, or not.
+// The body is what is shared of it, and goes to a server, or not.
 fn goes(rt: &impl Abort, body: Body, to_server: bool) {
-    match body.clone() {
+    match body.share() {
         Ok(again) => assert!(rt; again == body),
         Err(_) => panic!(rt; "memory"),
     }

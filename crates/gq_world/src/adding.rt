@@ -4,8 +4,8 @@ ghost use Rattle.std.specs.Prelude.{◌≡◌, ℕ, ◌<◌, All, length, OnOk};
 ghost use Rattle.gq_world.specs.Adding.{HasRoom, IsAdded, IsKept};
 ghost use Rattle.gq_world.specs.Tables.{store_at};
 
+use gq_memory::OutOfMemory;
 use gq_store::ServerStore;
-use std::alloc::AllocError;
 
 /// Adds the files of the tenant's next volume at every server. Where memory is wanting only some of the servers have them.
 pub(crate) fn add_everywhere(
@@ -13,16 +13,14 @@ pub(crate) fn add_everywhere(
     tenant: u8,
     files: u32,
     blocks: u32,
-) -> Result<(), AllocError>
+) -> Result<(), OutOfMemory>
     requires { All (HasRoom tenant files blocks) stores.old.items }
     ensures added { OnOk result ((s : ℕ) → s < length stores.old.items → IsAdded tenant files blocks (store_at stores.old.items s) (store_at stores.new.items s)) }
     ensures count { length stores.new.items ≡ length stores.old.items }
     ensures kept { (s : ℕ) → IsKept (store_at stores.old.items s) (store_at stores.new.items s) }
 {
     for server in 0..stores.len() {
-        let Ok(()) = stores[server].add_files(tenant, files, blocks) else {
-            return Err(AllocError);
-        };
+        stores[server].add_files(tenant, files, blocks)?;
     }
     Ok(())
 }

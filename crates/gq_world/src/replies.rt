@@ -9,10 +9,10 @@ ghost use Rattle.gq_store.specs.Serving.{answer_body, held_after, serve_fault};
 ghost use Rattle.gq_world.specs.Saying.{with_sent};
 ghost use Rattle.gq_world.specs.Response.{body_in};
 
+use gq_memory::OutOfMemory;
 use gq_post::Post;
 use gq_store::{Put, ServerStore};
 use gq_tag::{BodyView, FileId, MessageView, Tag};
-use std::alloc::AllocError;
 
 /// What a server answers: that it stored, or its copy of this tag, of which the content is elsewhere.
 #[derive(Clone, Copy)]
@@ -28,7 +28,7 @@ pub(crate) fn serve(
     store: &mut ServerStore,
     content: &mut Vec<u8>,
     message: &MessageView<'_>,
-) -> Result<Response, AllocError>
+) -> Result<Response, OutOfMemory>
     requires { serve_fault store.old message.now ≡ None }
     ensures response { IfOk result (λ response. body_in content.new.items response ≡ answer_body (copy_at store.old message.now.file) message.now.body) }
     ensures held { OnOk result (copy_at store.new message.now.file ≡ held_after (copy_at store.old message.now.file) message.now.body) }
@@ -59,7 +59,7 @@ pub(crate) fn answer(
     number: u64,
     file: FileId,
     response: Response,
-) -> Result<u64, AllocError>
+) -> Result<u64, OutOfMemory>
     requires tenant { tenant < length post.old }
     requires message { IsSome (message_at (lane_at post.old tenant) number) }
     requires file { IsSome (file_limit store.old file) }

@@ -6,14 +6,14 @@ ghost use Rattle.gq_model.specs.Shown.{shown};
 ghost use Rattle.gq_phase.specs.Standing.{messages_of};
 ghost use Rattle.gq_world.specs.Saying.{with_sent, heard_told};
 
+use gq_memory::OutOfMemory;
 use gq_model::Answer;
 use gq_phase::Heard;
 use gq_post::Post;
-use std::alloc::AllocError;
 
 /// Sends what an operation of the tenant says, and tells it.
 #[inline(always)]
-pub(crate) fn answer_heard(post: &mut Post, tenant: u8, heard: Heard) -> Result<Answer, AllocError>
+pub(crate) fn answer_heard(post: &mut Post, tenant: u8, heard: Heard) -> Result<Answer, OutOfMemory>
     requires { tenant < length post.old }
     ensures answer { IfOk result (λ answer. shown answer ≡ heard_told (length (lane_at post.old tenant)) heard) }
     ensures sent { OnOk result (post.new ≡ with_sent post.old tenant (messages_of heard)) }

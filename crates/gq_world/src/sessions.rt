@@ -6,9 +6,10 @@ ghost use Rattle.gq_grid.specs.declared.TheConstants.{MOST_SERVERS};
 ghost use Rattle.gq_phase.specs.Best.{copied_number};
 
 use gq_grid::ServerSet;
+use gq_memory::{OutOfMemory, room_for};
 use gq_phase::{Heard, Messages, Operation, ResendRefused};
 use gq_tag::MessageView;
-use std::alloc::{AllocError, Global};
+use std::alloc::Global;
 use std::marker::Model;
 
 /// A session: how many operations it began, its operation if it has one, and its own last number while it has none.
@@ -40,10 +41,10 @@ impl Seats {
     ghost use Rattle.gq_world.specs.Seats.{SeatHears, SeatResends, SeatRefuses, IsAtWork, FloorIsBelow};
 
     // So many sessions that began nothing.
-    pub(crate) fn new(alloc: Global, sessions: u32) -> Result<Seats, AllocError>
+    pub(crate) fn new(alloc: Global, sessions: u32) -> Result<Seats, OutOfMemory>
         ensures { IfOk result (λ seats. seats ≡ replicate sessions (record { op = 0; floor = 0; operation = None })) }
     {
-        let mut items = Vec::with_capacity(alloc, sessions as usize)?;
+        let mut items = room_for(alloc, sessions as usize)?;
         for _ in 0..sessions {
             items.push_reserved(Seat {
                 op: 0,
@@ -98,7 +99,7 @@ impl Seats {
         &mut self,
         message: &MessageView<'_>,
         up: ServerSet,
-    ) -> Result<Heard, AllocError>
+    ) -> Result<Heard, OutOfMemory>
         requires first { 1 ≤ message.now.session }
         requires last { message.now.session ≤ length self.old }
         requires server { message.now.server < MOST_SERVERS }
@@ -118,7 +119,7 @@ impl Seat {
 
     // A message comes to the session.
     #[inline(always)]
-    fn hear(&mut self, message: &MessageView<'_>, up: ServerSet) -> Result<Heard, AllocError>
+    fn hear(&mut self, message: &MessageView<'_>, up: ServerSet) -> Result<Heard, OutOfMemory>
         requires server { message.now.server < MOST_SERVERS }
         requires number { copied_number message.now.body < u64.MAX }
         requires floor { FloorIsBelow self.old.operation }
@@ -127,9 +128,7 @@ impl Seat {
         let Some(operation) = &mut self.operation else {
             return Ok(Heard::Stale);
         };
-        let Ok(heard) = operation.hear_view(message, up) else {
-            return Err(AllocError);
-        };
+        let heard = operation.hear_view(message, up)?;
         match heard {
             Heard::Done(outcome) => {
                 let floor = operation.floor();

@@ -22,12 +22,13 @@ use crate::sending::answer_heard;
 use crate::sessions::Seats;
 use bytes::Bytes;
 use gq_desk::{Desk, OpenRefused, Plan, VolumeRows};
+use gq_memory::{GrowVec, OutOfMemory, filled, slice_copied};
 use gq_model::{Answer, Event, Line, Refusal, ServerLine, ServerRefusal};
 use gq_phase::{BeginRefused, Messages, Operation, ResendRefused, Who};
 use gq_post::Post;
 use gq_store::ServerStore;
 use gq_tag::{FileId, MessageView};
-use std::alloc::{AllocError, Global};
+use std::alloc::Global;
 use std::marker::Model;
 
 /// The tables of all tenants. No call undoes anything where memory is wanting: the tables then have their shape, and stand
@@ -61,26 +62,26 @@ impl Model for Core {
 }
 
 // A store for each server of the plan.
-fn new_stores(alloc: Global, plan: &Plan) -> Result<Vec<ServerStore>, AllocError>
+fn new_stores(alloc: Global, plan: &Plan) -> Result<Vec<ServerStore>, OutOfMemory>
     ensures stores { IfOk result (λ stores. stores.items ≡ replicate (plan.now.grid.rows * plan.now.grid.cols) (empty_store plan.now)) }
     ensures few { plan.now.grid.rows * plan.now.grid.cols ≤ MOST_SERVERS }
 {
     let mut stores = Vec::new(alloc);
     let servers = plan.grid().servers();
     for _server in 0..servers {
-        stores.push(ServerStore::new(alloc, plan)?)?;
+        stores.grow(ServerStore::new(alloc, plan)?)?;
     }
     Ok(stores)
 }
 
 // The sessions of each tenant of the plan.
-fn new_seats(alloc: Global, plan: &Plan) -> Result<Vec<Seats>, AllocError>
+fn new_seats(alloc: Global, plan: &Plan) -> Result<Vec<Seats>, OutOfMemory>
     ensures seats { IfOk result (λ seats. seats.items ≡ map (λ row. replicate row.sessions no_seat) plan.now.rows) }
     ensures few { IfOk result (λ seats. FewSessions plan.now) }
 {
     let mut seats = Vec::new(alloc);
     for row in plan.rows() {
-        seats.push(Seats::new(alloc, row.sessions)?)?;
+        seats.grow(Seats::new(alloc, row.sessions)?)?;
     }
     Ok(seats)
 }
@@ -92,10 +93,10 @@ impl Core {
     ghost use Rattle.gq_world.specs.Machine.{Advances, Acts, Tells, TellsLine};
 
     // The tables of the plan: all servers are up, no volume is open, and no line came.
-    pub(crate) fn new(alloc: Global, plan: Plan) -> Result<Core, AllocError>
+    pub(crate) fn new(alloc: Global, plan: Plan) -> Result<Core, OutOfMemory>
         ensures { IfOk result (λ w. IsFirst plan w) }
     {
-        let lines = vec![in alloc; 0u32; plan.tenants()]?;
+        let lines = filled(alloc, 0u32, plan.tenants())?;
         let desk = Desk::new(alloc, &plan)?;
         let post = Post::new(alloc, plan.tenants())?;
         let stores = new_stores(alloc, &plan)?;
@@ -140,7 +141,7 @@ impl Core {
 
     // One event.
     #[inline(always)]
-    pub(crate) fn advance(&mut self, event: &Event) -> Result<Answer, AllocError>
+    pub(crate) fn advance(&mut self, event: &Event) -> Result<Answer, OutOfMemory>
         requires tenant { IsIn self.old.plan event.now }
         requires sound { AllSound self.old }
         ensures answer { IfOk result (λ answer. Tells self.old event.now (shown answer)) }
@@ -158,7 +159,7 @@ impl Core {
 
     // A line of a tenant.
     #[inline(always)]
-    fn tenant_line(&mut self, tenant: u8, line: &Line) -> Result<Answer, AllocError>
+    fn tenant_line(&mut self, tenant: u8, line: &Line) -> Result<Answer, OutOfMemory>
         requires tenant { tenant < length self.old.plan.rows }
         requires sound { AllSound self.old }
         ensures answer { IfOk result (λ answer. Tells self.old (Event.Tenant tenant line.now) (shown answer)) }
@@ -192,7 +193,7 @@ impl Core {
 
     // A line of a tenant, whose step is taken.
     #[inline(always)]
-    fn act(&mut self, tenant: u8, line: &Line) -> Result<Answer, AllocError>
+    fn act(&mut self, tenant: u8, line: &Line) -> Result<Answer, OutOfMemory>
         requires tenant { tenant < length self.old.plan.rows }
         requires ready { IsReady self.old tenant }
         ensures answer { IfOk result (λ answer. TellsLine self.old tenant line.now (shown answer)) }
@@ -234,7 +235,7 @@ impl Core {
     }
 
     // A line that opens a volume.
-    fn open(&mut self, tenant: u8, files: u32, blocks: u32) -> Result<Answer, AllocError>
+    fn open(&mut self, tenant: u8, files: u32, blocks: u32) -> Result<Answer, OutOfMemory>
         requires tenant { tenant < length self.old.plan.rows }
         requires ready { IsReady self.old tenant }
         ensures answer { IfOk result (λ answer. TellsLine self.old tenant (Line.NewVolume files blocks) (shown answer)) }
@@ -249,17 +250,17 @@ impl Core {
             Err(OpenRefused::Size) => Ok(Answer::Refused(Refusal::Size)),
             Err(OpenRefused::Volumes) => Ok(Answer::Refused(Refusal::Volumes)),
             Err(OpenRefused::Share { free }) => Ok(Answer::Refused(Refusal::Share { free })),
-            Err(OpenRefused::Memory) => Err(AllocError),
+            Err(OpenRefused::Memory(refused)) => Err(refused),
         }
     }
 
     // A line that asks for the volumes.
-    fn volumes(&self, tenant: u8) -> Result<Answer, AllocError>
+    fn volumes(&self, tenant: u8) -> Result<Answer, OutOfMemory>
         requires { tenant < length self.now.plan.rows }
         ensures { IfOk result (λ answer. TellsLine self.now tenant Line.Volumes (shown answer)) }
     {
         let free = self.desk.free(tenant);
-        let items = Vec::from_slice(self.alloc, self.desk.volumes(tenant))?;
+        let items = slice_copied(self.alloc, self.desk.volumes(tenant))?;
         Ok(Answer::Volumes {
             free,
             rows: VolumeRows { items },
@@ -351,7 +352,7 @@ impl Core {
         place: usize,
         operation: Operation,
         messages: Messages,
-    ) -> Result<Answer, AllocError>
+    ) -> Result<Answer, OutOfMemory>
         requires tenant { tenant < length self.old.plan.rows }
         requires place { place < (row_at self.old.plan tenant).sessions }
         requires number { (seat_in (seats_at self.old.seats tenant) place).op < 4294967295 }
@@ -374,7 +375,7 @@ impl Core {
         volume: u32,
         file: u32,
         bytes: &Bytes,
-    ) -> Result<Answer, AllocError>
+    ) -> Result<Answer, OutOfMemory>
         requires tenant { tenant < length self.old.plan.rows }
         requires ready { IsReady self.old tenant }
         ensures answer { IfOk result (λ answer. TellsLine self.old tenant (Line.Write session volume file bytes.now) (shown answer)) }
@@ -407,7 +408,7 @@ impl Core {
         ) {
             Ok((operation, messages)) => self.begin(tenant, place, operation, messages),
             Err(BeginRefused::NoQuorum) => Ok(Answer::Refused(Refusal::NoQuorum)),
-            Err(BeginRefused::Memory) => Err(AllocError),
+            Err(BeginRefused::Memory(refused)) => Err(refused),
         }
     }
 
@@ -418,7 +419,7 @@ impl Core {
         session: u32,
         volume: u32,
         file: u32,
-    ) -> Result<Answer, AllocError>
+    ) -> Result<Answer, OutOfMemory>
         requires tenant { tenant < length self.old.plan.rows }
         requires ready { IsReady self.old tenant }
         ensures answer { IfOk result (λ answer. TellsLine self.old tenant (Line.Read session volume file) (shown answer)) }
@@ -450,12 +451,12 @@ impl Core {
         ) {
             Ok((operation, messages)) => self.begin(tenant, place, operation, messages),
             Err(BeginRefused::NoQuorum) => Ok(Answer::Refused(Refusal::NoQuorum)),
-            Err(BeginRefused::Memory) => Err(AllocError),
+            Err(BeginRefused::Memory(refused)) => Err(refused),
         }
     }
 
     // A line that begins a listing.
-    fn list(&mut self, tenant: u8, session: u32, volume: u32) -> Result<Answer, AllocError>
+    fn list(&mut self, tenant: u8, session: u32, volume: u32) -> Result<Answer, OutOfMemory>
         requires tenant { tenant < length self.old.plan.rows }
         requires ready { IsReady self.old tenant }
         ensures answer { IfOk result (λ answer. TellsLine self.old tenant (Line.List session volume) (shown answer)) }
@@ -484,7 +485,7 @@ impl Core {
         ) {
             Ok((operation, messages)) => self.begin(tenant, place, operation, messages),
             Err(BeginRefused::NoQuorum) => Ok(Answer::Refused(Refusal::NoQuorum)),
-            Err(BeginRefused::Memory) => Err(AllocError),
+            Err(BeginRefused::Memory(refused)) => Err(refused),
         }
     }
 
@@ -504,7 +505,7 @@ impl Core {
     }
 
     // A line that sends the round's message once more.
-    fn retry(&mut self, tenant: u8, session: u32) -> Result<Answer, AllocError>
+    fn retry(&mut self, tenant: u8, session: u32) -> Result<Answer, OutOfMemory>
         requires tenant { tenant < length self.old.plan.rows }
         requires ready { IsReady self.old tenant }
         ensures answer { IfOk result (λ answer. TellsLine self.old tenant (Line.Retry session) (shown answer)) }
@@ -521,7 +522,7 @@ impl Core {
                 Ok(Answer::Resent { first, count })
             }
             Err(ResendRefused::NoQuorum) => Ok(Answer::Refused(Refusal::NoQuorum)),
-            Err(ResendRefused::Memory) => Err(AllocError),
+            Err(ResendRefused::Memory(refused)) => Err(refused),
         }
     }
 
@@ -543,7 +544,7 @@ impl Core {
 
     // A line that delivers a message.
     #[inline(always)]
-    fn deliver(&mut self, tenant: u8, number: u32) -> Result<Answer, AllocError>
+    fn deliver(&mut self, tenant: u8, number: u32) -> Result<Answer, OutOfMemory>
         requires tenant { tenant < length self.old.plan.rows }
         requires ready { IsReady self.old tenant }
         ensures answer { IfOk result (λ answer. TellsLine self.old tenant (Line.Deliver number) (shown answer)) }

@@ -11,10 +11,11 @@ ghost use Rattle.gq_world.specs.Tables.{Stands, store_at};
 
 use crate::tables::Core;
 use gq_desk::Plan;
+use gq_memory::OutOfMemory;
 use gq_model::{Answer, Event};
 use gq_store::ServerStore;
 use gq_tag::MessageView;
-use std::alloc::{AllocError, Global};
+use std::alloc::Global;
 use std::marker::Model;
 use thiserror::Error;
 
@@ -23,29 +24,29 @@ use thiserror::Error;
 #[derive(Drop)]
 pub struct World {
     tables: Core,
-    ended: bool,
+    ended: Option<OutOfMemory>,
 }
 
 impl Model for World {
-    ghost use Rattle.std.specs.Prelude.{◌≡◌, false};
+    ghost use Rattle.std.specs.Prelude.{◌≡◌, false, is_some};
     ghost use Rattle.gq_world.specs.Whole.{Whole, AllSound};
 
     ghost Value = { Whole };
 
-    ghost view = { λ w. record { tables = w.tables; ended = w.ended } };
+    ghost view = { λ w. record { tables = w.tables; ended = is_some w.ended } };
 
-    ghost invariant = { λ w. w.ended ≡ false → AllSound w.tables };
+    ghost invariant = { λ w. is_some w.ended ≡ false → AllSound w.tables };
 }
 
 /// Memory was wanting, in this step or in an earlier one. The world answers no further line.
-#[derive(Clone, Copy, Debug, PartialEq, Eq, Error)]
+#[derive(Debug, Drop, Error)]
 #[error("out of memory")]
-pub struct Ended;
+pub struct Ended(pub OutOfMemory);
 
 impl World {
     /// The world of the plan: all servers are up, no volume is open, and no line came. Where memory is wanting the plan is
     /// given up.
-    pub fn new(alloc: Global, plan: Plan) -> Result<World, AllocError>
+    pub fn new(alloc: Global, plan: Plan) -> Result<World, OutOfMemory>
         ensures plan { IfOk result (λ w. w.tables.plan ≡ plan) }
         ensures stands { IfOk result (λ w. Stands w.tables []) }
         ensures goes { IfOk result (λ w. w.ended ≡ false) }
@@ -53,7 +54,7 @@ impl World {
         let tables = Core::new(alloc, plan)?;
         Ok(World {
             tables,
-            ended: false,
+            ended: None,
         })
     }
 
@@ -109,13 +110,15 @@ impl World {
         ensures still { self.old.ended ≡ true → self.new ≡ self.old }
         ensures goes { OnOk result (self.new.ended ≡ false) }
     {
-        if self.ended {
-            return Err(Ended);
+        if let Some(refused) = &self.ended {
+            return Err(Ended(refused.again()));
         }
-        let Ok(answer) = self.tables.advance(event) else {
-            self.ended = true;
-            return Err(Ended);
-        };
-        Ok(answer)
+        match self.tables.advance(event) {
+            Ok(answer) => Ok(answer),
+            Err(refused) => {
+                self.ended = Some(refused.again());
+                Err(Ended(refused))
+            }
+        }
     }
 }

@@ -3,8 +3,8 @@
 
 use gq_cli::{Request, Usage, read_words};
 use gq_runs::carry_out;
-use gq_script::{RunFault, Watched};
-use std::alloc::{AllocError, Global};
+use gq_script::Watched;
+use std::alloc::Global;
 use std::fmt::Display;
 use std::process::ExitCode;
 use std::sync::Wait;
@@ -16,15 +16,18 @@ const USAGE: u8 = 2;
 // Memory is wanting.
 const MEMORY: u8 = 3;
 
+// What is told where memory is wanting for the words themselves, as [`gq_memory::OutOfMemory`] is told where it is for a request.
+const NO_MEMORY: &str = "out of memory";
+
 // The status, with the fault on standard error, where that takes it.
 fn told(rt: &impl Eprint, fault: &(impl Display + Drop), status: u8) -> ExitCode {
     let _ = eprintln!(rt; "gridfs: {fault}");
     ExitCode::from(status)
 }
 
-// The words, each as a text.
-fn words_of<'a>(alloc: Global, given: &'a Vec<String>) -> Result<Vec<&'a str>, AllocError> {
-    given.iter().map(|word| word.as_str()).collect(alloc)
+// The words, each as a text. None where memory is wanting.
+fn words_of<'a>(alloc: Global, given: &'a Vec<String>) -> Option<Vec<&'a str>> {
+    given.iter().map(|word| word.as_str()).collect(alloc).ok()
 }
 
 // Does what was asked for, on the standard streams.
@@ -44,18 +47,18 @@ fn answered<R: Input + Print + Eprint + Threads + Wait + Sync>(
 fn main(rt: HostRuntime) -> ExitCode {
     let alloc = rt.alloc();
     let given = match env::args(&rt) {
-        Ok(words) => words.collect(alloc),
-        Err(error) if error.kind() == io::ErrorKind::OutOfMemory => Err(AllocError),
+        Ok(words) => words.collect(alloc).ok(),
+        Err(error) if error.kind() == io::ErrorKind::OutOfMemory => None,
         Err(_) => {
             let _ = eprintln!(rt; "gridfs: the words are no text in UTF-8");
             return ExitCode::from(USAGE);
         }
     };
-    let Ok(given) = given else {
-        return told(&rt, &RunFault::Memory, MEMORY);
+    let Some(given) = given else {
+        return told(&rt, &NO_MEMORY, MEMORY);
     };
-    let Ok(words) = words_of(alloc, &given) else {
-        return told(&rt, &RunFault::Memory, MEMORY);
+    let Some(words) = words_of(alloc, &given) else {
+        return told(&rt, &NO_MEMORY, MEMORY);
     };
     match read_words(alloc, words.as_slice()) {
         Ok(request) => answered(&rt, alloc, request),
@@ -63,6 +66,6 @@ fn main(rt: HostRuntime) -> ExitCode {
             let _ = error.print(&rt);
             ExitCode::from(error.exit_code() as u8)
         }
-        Err(Usage::Memory) => told(&rt, &RunFault::Memory, MEMORY),
+        Err(Usage::Memory) => told(&rt, &NO_MEMORY, MEMORY),
     }
 }

@@ -12,10 +12,11 @@ ghost use Rattle.gq_script.specs.Input.{event_of};
 ghost use Rattle.rewrite_script.specs.Rewriting.{IsRewriting};
 
 use gq_desk::Plan;
+use gq_memory::{GrowVec, OutOfMemory};
 use gq_model::Event;
 use gq_script::{PlanText, read_line, read_plan, write_script};
 use memchr::memchr;
-use std::alloc::{AllocError, Global};
+use std::alloc::Global;
 use std::fmt::{Display, Error as FormatError, Formatter, Write as FormatWrite};
 use std::io;
 use std::io::{Read, Write};
@@ -27,14 +28,16 @@ const FAULT: u8 = 1;
 const MEMORY: u8 = 3;
 
 // Why no script was written.
-#[derive(Clone, Copy)]
+#[derive(Drop)]
 enum Fault {
     // The plan is at fault. It is not `Memory`.
     Plan(PlanText),
     // A stream failed.
     Stream,
-    // Memory is wanting.
-    Memory,
+    // A growth was refused.
+    Memory(OutOfMemory),
+    // A stream tells that memory is wanting.
+    StreamMemory,
 }
 
 impl Display for Fault {
@@ -42,7 +45,7 @@ impl Display for Fault {
         match self {
             Fault::Plan(fault) => fault.fmt(f),
             Fault::Stream => f.write_str("a stream failed"),
-            Fault::Memory => f.write_str("out of memory"),
+            Fault::Memory(_) | Fault::StreamMemory => f.write_str("out of memory"),
         }
     }
 }
@@ -50,22 +53,22 @@ impl Display for Fault {
 impl From<PlanText> for Fault {
     fn from(fault: PlanText) -> Fault {
         match fault {
-            PlanText::Memory => Fault::Memory,
-            _ => Fault::Plan(fault),
+            PlanText::Memory(refused) => Fault::Memory(refused),
+            fault => Fault::Plan(fault),
         }
     }
 }
 
-impl From<AllocError> for Fault {
-    fn from(_error: AllocError) -> Fault {
-        Fault::Memory
+impl From<OutOfMemory> for Fault {
+    fn from(refused: OutOfMemory) -> Fault {
+        Fault::Memory(refused)
     }
 }
 
 impl From<io::Error> for Fault {
     fn from(error: io::Error) -> Fault {
         match error.kind() {
-            io::ErrorKind::OutOfMemory => Fault::Memory,
+            io::ErrorKind::OutOfMemory => Fault::StreamMemory,
             _ => Fault::Stream,
         }
     }
@@ -84,7 +87,7 @@ fn first_line(text: &[u8]) -> (&[u8], &[u8])
 }
 
 // The events of the lines after a plan.
-fn read_lines(alloc: Global, lines: &[u8], plan: &Plan) -> Result<Vec<Event>, AllocError>
+fn read_lines(alloc: Global, lines: &[u8], plan: &Plan) -> Result<Vec<Event>, OutOfMemory>
     ensures events { IfOk result (λ events. events.items ≡ map (event_of plan.now) (lines_of lines.now)) }
     ensures within { IfOk result (λ events. All (IsIn plan.now) events.items) }
 {
@@ -92,7 +95,7 @@ fn read_lines(alloc: Global, lines: &[u8], plan: &Plan) -> Result<Vec<Event>, Al
     let mut rest = lines;
     while !rest.is_empty() {
         let (line, after) = first_line(rest);
-        events.push(read_line(alloc, line, plan)?)?;
+        events.grow(read_line(alloc, line, plan)?)?;
         rest = after;
     }
     Ok(events)
@@ -122,8 +125,8 @@ fn rewrite(rt: &HostRuntime) -> Result<(), Fault> {
 // The status of a fault.
 fn status(fault: Fault) -> ExitCode {
     match fault {
-        Fault::Memory => ExitCode::from(MEMORY),
-        _ => ExitCode::from(FAULT),
+        Fault::Memory(_) | Fault::StreamMemory => ExitCode::from(MEMORY),
+        Fault::Plan(_) | Fault::Stream => ExitCode::from(FAULT),
     }
 }
 

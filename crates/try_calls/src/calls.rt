@@ -7,12 +7,13 @@ ghost use Rattle.gq_store.specs.Copies.{empty_store, store_accounts};
 use crate::{Fault, cells, histories, operations, records, texts};
 use gq_desk::{Desk, Name, Plan, TenantRow};
 use gq_grid::Grid;
+use gq_memory::{OutOfMemory, RoomInVec};
 use gq_pool::Pool;
 use gq_post::Post;
 use gq_store::ServerStore;
 use gq_tag::{Body, FileId, Message, Tag};
 use gq_world::World;
-use std::alloc::{AllocError, Global};
+use std::alloc::Global;
 use std::fmt::Debug;
 use std::io::Write;
 
@@ -272,7 +273,7 @@ fn post(alloc: Global, out: &mut Vec<u8>) -> Result<(), Fault> {
 }
 
 // A world of a copy of the plan, which is given up where memory is refused.
-fn world_of(alloc: Global, plan: &Plan) -> Result<World, AllocError> {
+fn world_of(alloc: Global, plan: &Plan) -> Result<World, OutOfMemory> {
     World::new(alloc, plan.copy()?)
 }
 
@@ -288,7 +289,7 @@ fn world(alloc: Global, out: &mut Vec<u8>) -> Result<(), Fault> {
 
 /// Makes the calls of the part of that name; those on texts with the script.
 pub fn make(alloc: Global, part: &str, script: &[u8], out: &mut Vec<u8>) -> Result<(), Fault> {
-    out.reserve(ROOM)?;
+    out.make_room(ROOM)?;
     match part {
         "plan" => copy_of_a_plan(alloc, out),
         "desk" => desk(alloc, out),

@@ -5,10 +5,10 @@ ghost use Rattle.gq_tag.specs.Tag.{to_server};
 
 use crate::Fault;
 use crate::calls::{retry, tell, tell_refused};
-use bytes::Bytes;
 use gq_cell::{Board, Cell, CellRefused, ChangeRefused, Letter, Share};
 use gq_desk::{Name, Plan, PlanFault, TenantRow};
 use gq_grid::Grid;
+use gq_memory::copied_bytes;
 use gq_tag::{Body, FileId, Message, StoredCopy, Tag};
 use std::alloc::Global;
 use std::marker::Brand;
@@ -51,7 +51,7 @@ fn plan(alloc: Global) -> Result<Plan, Fault>
     };
     match Plan::check(alloc, grid()?, 4, &[row]) {
         Ok(plan) => Ok(plan),
-        Err(PlanFault::Memory) => Err(Fault::Memory),
+        Err(PlanFault::Memory(_)) => Err(Fault::Memory),
         Err(_) => Err(Fault::Usage),
     }
 }
@@ -92,7 +92,7 @@ fn serve_one<L: Ledger>(
         "Cell::serve",
         &(cell.journal(), cell.last(), cell.up(), share.count()),
         cell.serve(share, letter),
-        CellRefused::Memory
+        CellRefused::Memory(_)
     );
     tell(out, &served);
     Ok(())
@@ -109,7 +109,7 @@ fn serve<L: Ledger>(
 {
     let copy = StoredCopy {
         tag: Tag::after(0, 1),
-        bytes: Bytes::copy_from_slice(alloc, b"content")?,
+        bytes: copied_bytes(alloc, b"content")?,
     };
     serve_one(cell, share, &letter(5, Body::Store(copy)), out)?;
     serve_one(cell, share, &letter(2, Body::Ask), out)
@@ -208,7 +208,7 @@ fn change(board: &mut Board, seen: u64, out: &mut Vec<u8>) -> Result<(), Fault>
         "Board::change",
         &(board.entries(), board.up()),
         board.change(0, up, seen),
-        ChangeRefused::Memory
+        ChangeRefused::Memory(_)
     );
     tell(out, &stamp);
     Ok(())

@@ -6,6 +6,7 @@ ghost use Rattle.gq_model.specs.Events.{IsIn};
 use crate::calls::{retry, tell};
 use crate::{Fault, texts};
 use gq_desk::Plan;
+use gq_memory::GrowVec;
 use gq_model::said_of;
 use gq_order::{Op, check_order, operations, order};
 use gq_tag::FileId;
@@ -24,7 +25,7 @@ fn answer_each(world: &mut World, events: &[Event], answers: &mut Vec<Answer>) -
 {
     for event in events {
         match world.step(event) {
-            Ok(answer) => answers.push(answer)?,
+            Ok(answer) => answers.grow(answer)?,
             Err(_) => return Err(Fault::Memory),
         }
     }

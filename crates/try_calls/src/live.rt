@@ -3,14 +3,15 @@
 ghost use Rattle.std.specs.Prelude.{◌≡◌, All, true};
 ghost use Rattle.gq_model.specs.Events.{IsIn};
 
-use crate::Fault;
+use crate::{End, Fault};
 use gq_desk::Plan;
 use gq_inspect::inspect;
 use gq_live::{OpenGate, Records, Said, SessionEntry, live, sessions_of};
+use gq_memory::{GrowCopies, OutOfMemory};
 use gq_model::{Answer, Event, Line};
 use gq_runs::read_programs;
 use gq_script::{MOST_INPUT, write_answer, write_script};
-use std::alloc::{AllocError, Global};
+use std::alloc::Global;
 use std::io::Write;
 use std::sync::Wait;
 use std::thread::Threads;
@@ -33,7 +34,7 @@ fn are_in(plan: &Plan, events: &[Event]) -> bool
 }
 
 // The answer in which that was said; the messages that were sent are numbered from 0.
-fn answer_of(said: &Said) -> Result<Answer, AllocError> {
+fn answer_of(said: &Said) -> Result<Answer, OutOfMemory> {
     Ok(match said {
         Said::Began { op, sent } => Answer::Began {
             op: *op,
@@ -48,7 +49,7 @@ fn answer_of(said: &Said) -> Result<Answer, AllocError> {
             first: 0,
             count: *sent,
         },
-        Said::Done(outcome) => Answer::Done(outcome.clone()?),
+        Said::Done(outcome) => Answer::Done(outcome.share()?),
         Said::Resent { sent } => Answer::Resent {
             first: 0,
             count: *sent,
@@ -93,27 +94,30 @@ fn put_sessions(
     Ok(())
 }
 
-// Has the records inspected, and appends the script of their run and what each session was told.
-fn put_run(alloc: Global, plan: &Plan, records: &Records, out: &mut Vec<u8>) -> Result<(), Fault> {
-    let events = inspect(alloc, plan, records)?;
-    if !are_in(plan, events.as_slice()) {
+// Appends the script of the run's events, and the line before the answers.
+fn put_events(plan: &Plan, events: &[Event], out: &mut Vec<u8>) -> Result<(), Fault> {
+    if !are_in(plan, events) {
         return Err(Fault::Other);
     }
-    write_script(plan, events.as_slice(), out)?;
-    out.extend_from_slice(b"answers\n")?;
-    put_sessions(alloc, plan, records, out)
+    write_script(plan, events, out)?;
+    out.grow_by(b"answers\n")?;
+    Ok(())
+}
+
+// Has the records inspected, and appends the script of their run and what each session was told.
+fn put_run(alloc: Global, plan: &Plan, records: &Records, out: &mut Vec<u8>) -> Result<(), End> {
+    let events = inspect(alloc, plan, records)?;
+    put_events(plan, events.as_slice(), out)?;
+    put_sessions(alloc, plan, records, out)?;
+    Ok(())
 }
 
 /// Runs the programs of an input in threads, and has the records inspected. It gives the run's script, a line `answers`, and
 /// then for each session a line `session TENANT SESSION`, the tenant by its place in the plan, and what the session was told,
 /// the messages of each answer being numbered from 0.
-pub fn run<R: Threads + Wait + Sync>(
-    rt: &R,
-    alloc: Global,
-    input: &[u8],
-) -> Result<Vec<u8>, Fault> {
+pub fn run<R: Threads + Wait + Sync>(rt: &R, alloc: Global, input: &[u8]) -> Result<Vec<u8>, End> {
     if input.len() > MOST_INPUT {
-        return Err(Fault::Usage);
+        return Err(End::Call(Fault::Usage));
     }
     let (plan, programs) = read_programs(alloc, input)?;
     let records = live(rt, alloc, &plan, &programs, &OpenGate)?;

@@ -39,10 +39,11 @@ mod texts;
 
 use gq_inspect::Mismatch;
 use gq_live::LiveFault;
+use gq_memory::OutOfMemory;
 use gq_runs::{OrderFault, ProgramFault};
 use gq_script::{PlanText, RunFault, Watched};
 use gq_shards::run_in_shards;
-use std::alloc::{AllocError, AllocFailed, Global};
+use std::alloc::Global;
 use std::fmt::{Display, Error as FormatError, Formatter, Write as FormatWrite};
 use std::io::{Read, Write};
 use std::process::ExitCode;
@@ -58,23 +59,15 @@ const USAGE: u8 = 2;
 // Memory is wanting.
 const MEMORY: u8 = 3;
 
-// Why the calls were not made to their end. (It owns nothing, so that a call that is tried leaves nothing to let go.)
+// Why a call was not made. (It owns nothing, so that a call that is tried leaves nothing to let go.)
 #[derive(Clone, Copy)]
 enum Fault {
     // The words name no way.
     Usage,
     // A call has a fault that it should not have.
     Other,
-    // The plan is at fault.
-    Plan(PlanText),
-    // The programs are at fault.
-    Programs(ProgramFault),
-    // The live run gave no records.
-    Live(LiveFault),
-    // The records are no run.
-    Records(Mismatch),
-    // The run ended early.
-    Run(OrderFault),
+    // What was read is at fault.
+    Input,
     // A standard stream failed.
     Stream,
     // Memory is wanting. No other fault tells so.
@@ -86,25 +79,15 @@ impl Display for Fault {
         match self {
             Fault::Usage => f.write_str("the words name no way"),
             Fault::Other => f.write_str("another fault than want of memory"),
-            Fault::Plan(fault) => fault.fmt(f),
-            Fault::Programs(fault) => fault.fmt(f),
-            Fault::Live(fault) => fault.fmt(f),
-            Fault::Records(fault) => fault.fmt(f),
-            Fault::Run(fault) => fault.fmt(f),
+            Fault::Input => f.write_str("the input is at fault"),
             Fault::Stream => f.write_str("a standard stream failed"),
             Fault::Memory => f.write_str("out of memory"),
         }
     }
 }
 
-impl From<AllocError> for Fault {
-    fn from(_error: AllocError) -> Fault {
-        Fault::Memory
-    }
-}
-
-impl<T: Drop> From<AllocFailed<T>> for Fault {
-    fn from(_error: AllocFailed<T>) -> Fault {
+impl From<OutOfMemory> for Fault {
+    fn from(_refused: OutOfMemory) -> Fault {
         Fault::Memory
     }
 }
@@ -112,8 +95,8 @@ impl<T: Drop> From<AllocFailed<T>> for Fault {
 impl From<PlanText> for Fault {
     fn from(fault: PlanText) -> Fault {
         match fault {
-            PlanText::Memory => Fault::Memory,
-            _ => Fault::Plan(fault),
+            PlanText::Memory(_) => Fault::Memory,
+            _ => Fault::Input,
         }
     }
 }
@@ -121,8 +104,8 @@ impl From<PlanText> for Fault {
 impl From<ProgramFault> for Fault {
     fn from(fault: ProgramFault) -> Fault {
         match fault {
-            ProgramFault::Memory => Fault::Memory,
-            _ => Fault::Programs(fault),
+            ProgramFault::Memory(_) => Fault::Memory,
+            _ => Fault::Input,
         }
     }
 }
@@ -130,32 +113,8 @@ impl From<ProgramFault> for Fault {
 impl From<LiveFault> for Fault {
     fn from(fault: LiveFault) -> Fault {
         match fault {
-            LiveFault::Memory => Fault::Memory,
-            _ => Fault::Live(fault),
-        }
-    }
-}
-
-impl From<Mismatch> for Fault {
-    fn from(fault: Mismatch) -> Fault {
-        match fault {
-            Mismatch::Memory => Fault::Memory,
-            _ => Fault::Records(fault),
-        }
-    }
-}
-
-impl From<RunFault> for Fault {
-    fn from(fault: RunFault) -> Fault {
-        Fault::from(OrderFault::Run(fault))
-    }
-}
-
-impl From<OrderFault> for Fault {
-    fn from(fault: OrderFault) -> Fault {
-        match fault {
-            OrderFault::Run(RunFault::Memory) => Fault::Memory,
-            _ => Fault::Run(fault),
+            LiveFault::Memory(_) => Fault::Memory,
+            _ => Fault::Input,
         }
     }
 }
@@ -165,6 +124,75 @@ impl From<io::Error> for Fault {
         match error.kind() {
             io::ErrorKind::OutOfMemory => Fault::Memory,
             _ => Fault::Stream,
+        }
+    }
+}
+
+// Why what the words ask for was not done to its end.
+#[derive(Drop)]
+enum End {
+    // A call was not made.
+    Call(Fault),
+    // The run ended early. Want of memory is told as a call's, here and below.
+    Run(OrderFault),
+    // The live run gave no records.
+    Live(LiveFault),
+    // The records are no run.
+    Records(Mismatch),
+}
+
+impl Display for End {
+    fn fmt<W: FormatWrite>(&self, f: &mut Formatter<W>) -> Result<(), FormatError> {
+        match self {
+            End::Call(fault) => fault.fmt(f),
+            End::Run(fault) => fault.fmt(f),
+            End::Live(fault) => fault.fmt(f),
+            End::Records(fault) => fault.fmt(f),
+        }
+    }
+}
+
+impl From<Fault> for End {
+    fn from(fault: Fault) -> End {
+        End::Call(fault)
+    }
+}
+
+impl From<RunFault> for End {
+    fn from(fault: RunFault) -> End {
+        End::from(OrderFault::Run(fault))
+    }
+}
+
+impl From<OrderFault> for End {
+    fn from(fault: OrderFault) -> End {
+        match fault {
+            OrderFault::Run(RunFault::Memory(_)) => End::Call(Fault::Memory),
+            fault => End::Run(fault),
+        }
+    }
+}
+
+impl From<ProgramFault> for End {
+    fn from(fault: ProgramFault) -> End {
+        End::Call(Fault::from(fault))
+    }
+}
+
+impl From<LiveFault> for End {
+    fn from(fault: LiveFault) -> End {
+        match fault {
+            LiveFault::Memory(_) => End::Call(Fault::Memory),
+            fault => End::Live(fault),
+        }
+    }
+}
+
+impl From<Mismatch> for End {
+    fn from(fault: Mismatch) -> End {
+        match fault {
+            Mismatch::Memory(_) => End::Call(Fault::Memory),
+            fault => End::Records(fault),
         }
     }
 }
@@ -221,7 +249,7 @@ fn between<R: Threads + Sync>(
     sink: Sink,
     asked: Run<'_>,
     out: &mut Vec<u8>,
-) -> Result<(), Fault> {
+) -> Result<(), End> {
     match asked {
         Run::Plain => Ok(streams::run_between(alloc, source, sink, out)?),
         Run::Shards(shards) => Ok(streams::shards_between(
@@ -239,7 +267,7 @@ fn stream<R: Threads + Sync>(
     threads: &R,
     words: &[String],
     out: &mut Vec<u8>,
-) -> Result<(), Fault> {
+) -> Result<(), End> {
     let [
         read_each,
         read_all,
@@ -249,7 +277,7 @@ fn stream<R: Threads + Sync>(
         request @ ..,
     ] = words
     else {
-        return Err(Fault::Usage);
+        return Err(End::Call(Fault::Usage));
     };
     let asked = run_of(request)?;
     let (read_each, read_all) = (number(read_each)?, number(read_all)?);
@@ -262,7 +290,7 @@ fn stream<R: Threads + Sync>(
 }
 
 // Runs a script in so many shards on the standard streams.
-fn shards<R: Threads + Sync>(rt: &HostRuntime, threads: &R, count: usize) -> Result<(), Fault> {
+fn shards<R: Threads + Sync>(rt: &HostRuntime, threads: &R, count: usize) -> Result<(), End> {
     let mut reader = Watched::new(rt.reader());
     let mut writer = Watched::new(io::writer(rt));
     Ok(run_in_shards(threads, rt.alloc(), count, 0, &mut reader, &mut writer)?)
@@ -274,9 +302,9 @@ fn go<R: Threads + Wait + Sync>(
     threads: &R,
     words: &[String],
     out: &mut Vec<u8>,
-) -> Result<(), Fault> {
+) -> Result<(), End> {
     let [_, way, rest @ ..] = words else {
-        return Err(Fault::Usage);
+        return Err(End::Call(Fault::Usage));
     };
     match (way.as_str(), rest) {
         ("play", []) => {
@@ -287,38 +315,57 @@ fn go<R: Threads + Wait + Sync>(
             *out = live::run(threads, rt.alloc(), input(rt)?.as_slice())?;
             Ok(())
         }
-        ("calls", [part]) => calls::make(rt.alloc(), part.as_str(), input(rt)?.as_slice(), out),
+        ("calls", [part]) => {
+            calls::make(rt.alloc(), part.as_str(), input(rt)?.as_slice(), out)?;
+            Ok(())
+        }
         ("stream", words) => stream(rt, threads, words, out),
         ("shards", [count]) => shards(rt, threads, number(count)?),
-        (way, [most]) => store::make(rt.alloc(), way, number(most)?, out),
-        _ => Err(Fault::Usage),
+        (way, [most]) => {
+            store::make(rt.alloc(), way, number(most)?, out)?;
+            Ok(())
+        }
+        _ => Err(End::Call(Fault::Usage)),
     }
 }
 
-// The status of a fault.
-fn status(fault: Fault) -> ExitCode {
-    match fault {
-        Fault::Usage => ExitCode::from(USAGE),
-        Fault::Memory => ExitCode::from(MEMORY),
+// The status that tells it.
+fn status(end: &End) -> ExitCode {
+    match end {
+        End::Call(Fault::Usage) => ExitCode::from(USAGE),
+        End::Call(Fault::Memory) => ExitCode::from(MEMORY),
         _ => ExitCode::from(FAULT),
     }
 }
 
+// The words of the command line.
+fn words_given(rt: &HostRuntime) -> Result<Vec<String>, Fault> {
+    match env::args(rt)?.collect::<Vec<String>>(rt.alloc()) {
+        Ok(words) => Ok(words),
+        Err(_) => Err(Fault::Memory),
+    }
+}
+
+// Writes it to standard output.
+fn write_all(rt: &HostRuntime, text: &[u8]) -> Result<(), Fault> {
+    Ok(io::writer(rt).write_all(text)?)
+}
+
 // Goes the way that the words name, and prints what comes of it, also before a fault.
-fn print<R: Threads + Wait + Sync>(rt: &HostRuntime, threads: &R) -> Result<(), Fault> {
-    let words: Vec<String> = env::args(rt)?.collect(rt.alloc())?;
+fn print<R: Threads + Wait + Sync>(rt: &HostRuntime, threads: &R) -> Result<(), End> {
+    let words = words_given(rt)?;
     let mut out = Vec::new(rt.alloc());
     let outcome = go(rt, threads, words.as_slice(), &mut out);
-    io::writer(rt).write_all(out.as_slice())?;
+    write_all(rt, out.as_slice())?;
     outcome
 }
 
 fn main(rt: HostRuntime) -> ExitCode {
     match print(&rt, &rt) {
         Ok(()) => ExitCode::SUCCESS,
-        Err(fault) => {
-            let _ = eprintln!(rt; "try_calls: {fault}");
-            status(fault)
+        Err(end) => {
+            let _ = eprintln!(rt; "try_calls: {end}");
+            status(&end)
         }
     }
 }

@@ -6,8 +6,8 @@ ghost use Rattle.gq_phase.specs.Standing.{IsGoing};
 
 use crate::Fault;
 use crate::calls::{retry, tell};
-use bytes::Bytes;
 use gq_grid::{Grid, MOST_SERVERS, ServerSet};
+use gq_memory::copied_bytes;
 use gq_phase::{Heard, Messages, Operation, Who};
 use gq_tag::{Body, FileId, Message, StoredCopy};
 use std::alloc::Global;
@@ -139,7 +139,7 @@ fn end(
 pub fn write(alloc: Global, out: &mut Vec<u8>) -> Result<(), Fault> {
     let grid = grid()?;
     let up = ServerSet::all(&grid);
-    let content = Bytes::copy_from_slice(alloc, b"content")?;
+    let content = copied_bytes(alloc, b"content")?;
     let (mut operation, asks) = retry!(
         out,
         "Operation::write",

@@ -5,10 +5,11 @@ ghost use Rattle.gq_model.specs.Events.{IsIn};
 
 use crate::Fault;
 use gq_desk::Plan;
+use gq_memory::{GrowCopies, GrowVec, OutOfMemory};
 use gq_script::{read_line, read_plan, write_answer};
 use gq_world::{Event, World};
 use memchr::memchr;
-use std::alloc::{AllocError, Global};
+use std::alloc::Global;
 
 /// The first line of a text without its newline, and what follows it.
 pub fn first_line(text: &[u8]) -> (&[u8], &[u8])
@@ -22,12 +23,12 @@ pub fn first_line(text: &[u8]) -> (&[u8], &[u8])
 }
 
 // The event of a line. Where memory is refused, the line is read once more.
-fn event_of(alloc: Global, line: &[u8], plan: &Plan) -> Result<Event, AllocError>
+fn event_of(alloc: Global, line: &[u8], plan: &Plan) -> Result<Event, OutOfMemory>
     ensures { IfOk result (λ event. IsIn plan.now event) }
 {
     match read_line(alloc, line, plan) {
         Ok(event) => Ok(event),
-        Err(AllocError) => read_line(alloc, line, plan),
+        Err(_) => read_line(alloc, line, plan),
     }
 }
 
@@ -37,25 +38,25 @@ fn answer(
     world: &mut World,
     line: &[u8],
     out: &mut Vec<u8>,
-) -> Result<(), AllocError> {
+) -> Result<(), OutOfMemory> {
     let event = event_of(alloc, line, world.plan())?;
     let Ok(answer) = world.step(&event) else {
-        return out.extend_from_slice(b"ended\n");
+        return out.grow_by(b"ended\n");
     };
     match write_answer(world.plan(), &event, &answer, out) {
         Ok(()) => Ok(()),
-        Err(AllocError) => write_answer(world.plan(), &event, &answer, out),
+        Err(_) => write_answer(world.plan(), &event, &answer, out),
     }
 }
 
 // Appends how many blocks of each server are free.
-fn put_free(world: &World, out: &mut Vec<u8>) -> Result<(), AllocError> {
-    out.extend_from_slice(b"free")?;
+fn put_free(world: &World, out: &mut Vec<u8>) -> Result<(), OutOfMemory> {
+    out.grow_by(b"free")?;
     for server in 0..world.plan().grid().servers() {
-        out.push(b' ')?;
-        out.extend_from_slice(itoa::Buffer::new().format(world.free(server)).as_bytes())?;
+        out.grow(b' ')?;
+        out.grow_by(itoa::Buffer::new().format(world.free(server)).as_bytes())?;
     }
-    out.push(b'\n')?;
+    out.grow(b'\n')?;
     Ok(())
 }
 
@@ -65,7 +66,7 @@ fn answer_all(
     world: &mut World,
     lines: &[u8],
     out: &mut Vec<u8>,
-) -> Result<(), AllocError> {
+) -> Result<(), OutOfMemory> {
     let mut rest = lines;
     while !rest.is_empty() {
         let (line, after) = first_line(rest);

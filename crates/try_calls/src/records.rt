@@ -6,11 +6,11 @@ ghost use Rattle.gq_session.specs.Fitting.{IsChange, IsRequest};
 
 use crate::Fault;
 use crate::calls::{retry, tell};
-use bytes::Bytes;
 use gq_cell::{Cell, CellRefused, Letter, Served, Share};
 use gq_desk::{Name, Plan, PlanFault, TenantRow, VolumeRow};
 use gq_grid::Grid;
 use gq_inspect::{Mismatch, inspect};
+use gq_memory::{GrowVec, copied_bytes, slice_copied};
 use gq_model::{Line, ServerLine};
 use gq_session::{Agenda, Entries, Journal, Opening, Outbox, Records, Session, change_cell};
 use gq_tag::Message;
@@ -49,7 +49,7 @@ fn plan(alloc: Global, sessions: u32) -> Result<Plan, Fault>
     };
     match Plan::check(alloc, grid()?, 1, &[row]) {
         Ok(plan) => Ok(plan),
-        Err(PlanFault::Memory) => Err(Fault::Memory),
+        Err(PlanFault::Memory(_)) => Err(Fault::Memory),
         Err(_) => Err(Fault::Usage),
     }
 }
@@ -60,19 +60,19 @@ fn lines(alloc: Global, session: u32, content: Option<&[u8]>) -> Result<Vec<Line
 {
     let mut lines = Vec::new(alloc);
     let Some(content) = content else {
-        lines.push(Line::Read {
+        lines.grow(Line::Read {
             session,
             volume: 0,
             file: 0,
         })?;
-        lines.push(Line::List { session, volume: 0 })?;
+        lines.grow(Line::List { session, volume: 0 })?;
         return Ok(lines);
     };
-    lines.push(Line::Write {
+    lines.grow(Line::Write {
         session,
         volume: 0,
         file: 0,
-        bytes: Bytes::copy_from_slice(alloc, content)?,
+        bytes: copied_bytes(alloc, content)?,
     })?;
     Ok(lines)
 }
@@ -112,7 +112,7 @@ fn go_on<L: Ledger>(
     };
     match cell.serve(share, &letter) {
         Ok(Served::Reply(reply)) => Ok(Some(session.hear(agenda, reply)?)),
-        Err(CellRefused::Memory) => Err(Fault::Memory),
+        Err(CellRefused::Memory(_)) => Err(Fault::Memory),
         _ => Err(Fault::Other),
     }
 }
@@ -149,7 +149,7 @@ fn attend<L: Ledger>(
 ) -> Result<Entries, Fault> {
     change_cell(agenda, cell)?;
     let mut volumes = Vec::new(alloc);
-    volumes.push(VolumeRow {
+    volumes.grow(VolumeRow {
         files: 1,
         blocks: 1,
     })?;
@@ -177,7 +177,7 @@ fn attend_all<L: Ledger>(
             return Err(Fault::Usage);
         };
         let number = before.saturating_add(1);
-        sessions.push(attend(alloc, agenda, cell, share, number, *content)?)?;
+        sessions.grow(attend(alloc, agenda, cell, share, number, *content)?)?;
     }
     Ok(sessions)
 }
@@ -203,17 +203,17 @@ fn records<L: Ledger>(
 {
     let (mut cell, mut one, two) = Cell::<L>::new(alloc, plan, 0, blank)?;
     cell.add_files(0, 1, 1)?;
-    let mut agenda = Agenda::new(alloc, plan.grid(), Vec::from_slice(alloc, changes)?);
+    let mut agenda = Agenda::new(alloc, plan.grid(), slice_copied(alloc, changes)?);
     let sessions = attend_all(alloc, &mut agenda, &mut cell, &mut one, contents)?;
     let Some(board) = agenda.close(changes) else {
         return Err(Fault::Other);
     };
     let mut cells = Vec::new(alloc);
-    cells.push(Journal {
+    cells.grow(Journal {
         items: cell.close(one, two),
     })?;
     let mut volumes = Vec::new(alloc);
-    volumes.push(Opening {
+    volumes.grow(Opening {
         tenant: 0,
         files: 1,
         blocks: 1,
@@ -243,7 +243,7 @@ fn inspected(
         "inspect",
         &records,
         inspect(alloc, &plan, &records),
-        Mismatch::Memory
+        Mismatch::Memory(_)
     );
     tell(out, &events);
     Ok(())

@@ -4,9 +4,9 @@ ghost use Rattle.std.specs.Prelude.{◌≡◌, ◌≤◌, [], ◌∷◌, IfOk};
 ghost use Rattle.gq_store.specs.Copies.{store_accounts};
 
 use crate::Fault;
-use bytes::Bytes;
 use gq_desk::{MOST_BLOCKS, Name, Plan, PlanFault, TenantRow};
 use gq_grid::Grid;
+use gq_memory::{GrowCopies, GrowVec, copied_bytes};
 use gq_store::{ServeRefused, ServerStore};
 use gq_tag::{Body, FileId, MOST_FILES, Message, StoredCopy, Tag};
 use std::alloc::Global;
@@ -38,7 +38,7 @@ fn new_store(alloc: Global, blocks: u32) -> Result<ServerStore, Fault>
     };
     match Plan::check(alloc, grid, blocks, &[row]) {
         Ok(plan) => Ok(ServerStore::new(alloc, &plan)?),
-        Err(PlanFault::Memory) => Err(Fault::Memory),
+        Err(PlanFault::Memory(_)) => Err(Fault::Memory),
         Err(_) => Err(Fault::Usage),
     }
 }
@@ -110,12 +110,12 @@ fn serve(alloc: Global) -> Result<usize, Fault> {
             number: 1,
             session: 1,
         },
-        bytes: Bytes::copy_from_slice(alloc, &[7; 65])?,
+        bytes: copied_bytes(alloc, &[7; 65])?,
     };
     for body in [Body::Store(copy), Body::Ask] {
         match store.serve(&message(body)) {
             Ok(_) => {}
-            Err(ServeRefused::Memory) => return Err(Fault::Memory),
+            Err(ServeRefused::Memory(_)) => return Err(Fault::Memory),
             Err(_) => return Err(Fault::Usage),
         }
     }
@@ -139,8 +139,8 @@ pub fn make(alloc: Global, way: &str, most: usize, out: &mut Vec<u8>) -> Result<
         return Err(Fault::Usage);
     };
     let free = free_at_the_end(alloc, way, most)?;
-    out.extend_from_slice(b"free ")?;
-    out.extend_from_slice(itoa::Buffer::new().format(free).as_bytes())?;
-    out.push(b'\n')?;
+    out.grow_by(b"free ")?;
+    out.grow_by(itoa::Buffer::new().format(free).as_bytes())?;
+    out.grow(b'\n')?;
     Ok(())
 }

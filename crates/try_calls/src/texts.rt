@@ -7,8 +7,8 @@ ghost use Rattle.gq_model.specs.Events.{IsIn};
 use crate::Fault;
 use crate::calls::{retry, tell, tell_kept};
 use crate::play::first_line;
-use bytes::Bytes;
 use gq_desk::Plan;
+use gq_memory::{GrowVec, copied_bytes, slice_copied};
 use gq_phase::Outcome;
 use gq_runs::{ProgramFault, read_programs};
 use gq_script::{MOST_INPUT, read_line, read_plan, write_answer, write_script};
@@ -45,7 +45,7 @@ pub fn events(
         let (line, after) = first_line(rest);
         let event = retry!(out, "read_line", plan, read_line(alloc, line, plan));
         tell(out, &event);
-        events.push(event)?;
+        events.grow(event)?;
         rest = after;
     }
     Ok(events)
@@ -58,7 +58,7 @@ fn answer(alloc: Global) -> Result<Answer, Fault> {
         op: 4,
         copy: StoredCopy {
             tag: Tag::first(),
-            bytes: Bytes::copy_from_slice(alloc, &[7; 200])?,
+            bytes: copied_bytes(alloc, &[7; 200])?,
         },
     }))
 }
@@ -66,7 +66,7 @@ fn answer(alloc: Global) -> Result<Answer, Fault> {
 // Writes an answer behind a text.
 fn put_answer(alloc: Global, plan: &Plan, out: &mut Vec<u8>) -> Result<(), Fault> {
     let answer = answer(alloc)?;
-    let mut text = Vec::from_slice(alloc, b"before\n")?;
+    let mut text = slice_copied(alloc, b"before\n")?;
     retry!(
         out,
         "write_answer",
@@ -81,7 +81,7 @@ fn put_answer(alloc: Global, plan: &Plan, out: &mut Vec<u8>) -> Result<(), Fault
 fn put_script(alloc: Global, plan: &Plan, events: &[Event], out: &mut Vec<u8>) -> Result<(), Fault>
     requires { All (IsIn plan.now) events.now }
 {
-    let mut text = Vec::from_slice(alloc, b"before\n")?;
+    let mut text = slice_copied(alloc, b"before\n")?;
     retry!(
         out,
         "write_script",
@@ -102,7 +102,7 @@ fn read(alloc: Global, input: &[u8], out: &mut Vec<u8>) -> Result<(Plan, Program
         "read_programs",
         &(),
         read_programs(alloc, input),
-        ProgramFault::Memory
+        ProgramFault::Memory(_)
     );
     Ok(read)
 }

@@ -9,7 +9,7 @@ pub loop-place-init : goal.loop-place-init
 loop-place-init c =
     let made = c.in_ok-ends.ensures in
     back_first c.args.file.tenant (file_place c.args.file) c.args.events.now c.args.answers.now c.args.sessions.now _ c.args.size c.in_ok-ends.ends.items c.new-ops.result.items refl c.requires.size
-    (made.items_if_clones_equal (λ y is. is) ∙ ap (replicate c.args.size) c.no_ending.ensures) c.new-ops.ensures.items
+    (made.items ∙ ap (replicate c.args.size) c.no_ending.ensures) c.new-ops.ensures.items
 
 pub loop-place-preserved : goal.loop-place-preserved
 loop-place-preserved c =

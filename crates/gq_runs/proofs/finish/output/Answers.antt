@@ -28,9 +28,9 @@ returns-in-Ok-put_finish-clause-text c =
     (c.in-Ok-put_missing_newline.ensures ∙ ap (λ z. z ++ missing_newline c.args.input.now) c.new-text.ensures.items)
     (subst (λ (rest : List ℕ). Finished plan (events_of plan (lines_of rest)) t c.args.session c.put_missing_newline.new.out.items c.put_finish.new.text.items) (rest_of c.in-Ok.place c.args.input.now) c.in-Ok-put_finish.ensures.ok)
 
-pub returns-in-Err-clause-fault : goal.returns-in-Err-clause-fault
-returns-in-Err-clause-fault c =
+pub returns-in-Err-put_finish-clause-fault : goal.returns-in-Err-put_finish-clause-fault
+returns-in-Err-put_finish-clause-fault c =
     let plan = c.in-Ok.plan in let t = c.in-Some.tenant in
-    cause_has c.args.name.now c.args.input.now plan (lines_of (drop c.in-Ok.place c.args.input.now)) t c.args.session c.in-Err.fault c.requires c.in-Ok.ensures.plan
+    cause_has c.args.name.now c.args.input.now plan (lines_of (drop c.in-Ok.place c.args.input.now)) t c.args.session c.in-Err-put_finish.fault c.requires c.in-Ok.ensures.plan
     (ap (λ w. position_from (is_of w) 0 plan.rows) (sym c.as_bytes.ensures.value) ∙ sym c.in-Some.ensures.place)
-    (subst (λ (rest : List ℕ). CauseOf c.in-Err.fault plan (events_of plan (lines_of rest)) t c.args.session) (rest_of c.in-Ok.place c.args.input.now) c.in-Err.ensures.fault)
+    (subst (λ (rest : List ℕ). CauseOf c.in-Err-put_finish.fault plan (events_of plan (lines_of rest)) t c.args.session) (rest_of c.in-Ok.place c.args.input.now) c.in-Err-put_finish.ensures.fault)

@@ -11,4 +11,4 @@ returns-clause-fault c =
     let lines = lines_of c.args.lines.now in let plan = c.play.new.world.tables.plan in
     let stands : Stands c.play.new.world.tables (map (event_of plan) lines) = subst (λ (p : CheckedPlan). Stands c.play.new.world.tables (map (event_of p) lines)) (sym c.in-Ok-play.ensures.plan) c.in-Ok-play.ensures.stands in
     subst (λ (p : CheckedPlan). CauseOf c.fault_of.result p (map (event_of p) lines) c.args.tenant c.args.session) (c.in-Ok-play.ensures.plan ∙ c.in-Ok.ensures.plan)
-    (c.fault_of.ensures plan (map (event_of plan) lines) c.args.tenant c.args.session (c.in-Err.ensures.fault (map (event_of plan) lines) stands))
+    (c.fault_of.ensures plan (map (event_of plan) lines) c.args.tenant c.args.session (c.in-Err-complete.ensures.fault (map (event_of plan) lines) stands))

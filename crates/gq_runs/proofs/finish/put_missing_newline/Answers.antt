@@ -12,5 +12,5 @@ returns-then-last-eq10 c =
 pub returns : goal.returns
 returns c =
     let one = newline_some c.args.text.now c.in-Some.last.now c.in-Some.ensures.value ∙ ap (λ b. cond b [] (10 ∷ [])) (ne_eqb c.in-Some.last.now 10 c.if-last-eq10.false) in
-    on_ok_is c.extend_from_slice.result c.extend_from_slice.new.self.items (c.args.out.now.items ++ 10 ∷ []) c.args.out.now.items (c.args.out.now.items ++ missing_newline c.args.text.now) c.extend_from_slice.ensures.items
+    on_ok_is c.grow_by.result c.grow_by.new.self.items (c.args.out.now.items ++ 10 ∷ []) c.args.out.now.items (c.args.out.now.items ++ missing_newline c.args.text.now) c.grow_by.ensures.items
     (ap (λ z. c.args.out.now.items ++ z) (sym one))

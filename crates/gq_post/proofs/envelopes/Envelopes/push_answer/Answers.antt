@@ -1,5 +1,5 @@
 -- The slip of the answer has the heading of the one that it answers.
-use Rattle.std.proofs.Common.{◌≡◌, ◌∙◌, ◌<◌, ◌++◌, ◌∷◌, [], Some, length, map, slice_get, ap, ap₂, subst, sym, arith}
+use Rattle.std.proofs.Common.{◌≡◌, ◌∙◌, ◌<◌, ◌++◌, ◌∷◌, [], Some, length, map, slice_get, ap, subst, sym, arith}
 use Rattle.std.proofs.lemmas.List.{length-map}
 use Rattle.gq_post.specs.Envelopes.{answering}
 use Rattle.gq_post.specs.Slips.{opened}
@@ -10,8 +10,7 @@ pub returns-clause-ok : goal.returns-clause-ok
 returns-clause-ok c = λ asked is.
     let lane : map (opened c.self.inside.headings.items) c.self.inside.slips.items ≡ c.args.self.now = c.self.view_is in
     let within : c.args.number < length c.self.inside.slips.items = omega (arith, length-map c.self.inside.slips.items (opened c.self.inside.headings.items), ap length lane, c.requires) in
-    let same : c.in-Ok.place ≡ c.args.place = c.in-Ok.ensures.1 in
-    rw c.in_ok-push.ensures.items
-    (answered c.self.inside.headings.items c.self.inside.slips.items c.index-asked.result.now asked c.args.says c.in-Ok.place
+    rw c.in_ok-grow.ensures.items
+    (answered c.self.inside.headings.items c.self.inside.slips.items c.index-asked.result.now asked c.args.says c.args.place
     (opened_read c.self.inside.headings.items c.self.inside.slips.items c.args.number c.index-asked.result.now asked within c.index-asked.ensures (subst (λ l. slice_get l c.args.number ≡ Some asked) (sym lane) is))
-    ∙ ap₂ (λ l place. l ++ answering asked c.args.says place ∷ []) lane same)
+    ∙ ap (λ l. l ++ answering asked c.args.says c.args.place ∷ []) lane)

@@ -12,12 +12,12 @@ use Rattle.gq_post.proofs.envelopes.Envelopes.push_round.Goals as goal
 pub invariant_of-self-2 : goal.invariant_of-self-2
 invariant_of-self-2 c =
     let place : vec_len c.self.inside.headings ≡ length c.self.inside.headings.items = omega arith in
-    rw (c.push_slips.ensures.pushed, c.in_ok-push.ensures.items, c.of-2.ensures, c.reserve.ensures.items, c.in_ok-slip.ensures, c.len.ensures, place)
+    rw (c.push_slips.ensures.pushed, c.in_ok-heading.ensures.items, c.of.ensures, c.of-slip.ensures, c.make_room.ensures.items, c.in_ok-heading.ensures.place, place)
     (have_round c.self.inside.headings.items c.self.inside.slips.items (heading_of c.args.envelope) (slip_of c.args.envelope (length c.self.inside.headings.items)) (rising c.args.grid.now (apart (servers c.args.to) (servers c.args.except))) refl c.self.invariant)
 
 pub returns-clause-ok : goal.returns-clause-ok
 returns-clause-ok c =
     let place : vec_len c.self.inside.headings ≡ length c.self.inside.headings.items = omega arith in
-    rw (c.push_slips.ensures.pushed, c.in_ok-push.ensures.items, c.of-2.ensures, c.reserve.ensures.items, c.in_ok-slip.ensures, c.len.ensures, place)
+    rw (c.push_slips.ensures.pushed, c.in_ok-heading.ensures.items, c.of.ensures, c.of-slip.ensures, c.make_room.ensures.items, c.in_ok-heading.ensures.place, place)
     (pushed_round c.self.inside.headings.items c.self.inside.slips.items c.args.envelope (rising c.args.grid.now (apart (servers c.args.to) (servers c.args.except))) c.self.invariant
     ∙ ap (λ lane. lane ++ map (to_other c.args.envelope) (rising c.args.grid.now (apart (servers c.args.to) (servers c.args.except)))) c.self.view_is)

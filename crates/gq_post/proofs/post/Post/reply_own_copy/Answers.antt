@@ -22,22 +22,24 @@ invariant_of-self-2 c =
     let within : c.args.tenant < length c.self.inside.lanes.items = within_lanes c.self.inside.copies.slots c.self.inside.lanes.items c.args.self.now c.args.tenant c.self.view_is c.requires.tenant in
     let asked = envelope_of_message c.self.inside.copies.slots c.self.inside.lanes.items c.args.self.now c.args.tenant c.args.number c.self.view_is c.requires.there in
     let own = body.Copy (record { tag = c.args.tag; bytes = c.in_ok-bytes.bytes }) in
-    let room : c.reserve.new.self.slots ≡ c.self.inside.copies.slots = ap (λ (s : Slab SharedCopy). s.slots) c.reserve.ensures.rest_kept in
-    let keeps : Keeps c.reserve.new.self c.keep.new.copies c.vacant_key-hint.result (copy_in own) 1 =
-    rw c.vacant_key-hint.ensures.value record { none = c.keep.ensures.none; nobody = c.keep.ensures.nobody; vacant = c.keep.ensures.vacant; kept = c.keep.ensures.kept } in
+    let key : c.in_ok-hint.hint ≡ c.make_place.new.self.vacant_key = c.in_ok-hint.ensures.place ∙ sym (ap (λ (s : Slab SharedCopy). s.vacant_key) c.make_place.ensures.rest_kept) in
+    let room : c.make_place.new.self.slots ≡ c.self.inside.copies.slots = ap (λ (s : Slab SharedCopy). s.slots) c.make_place.ensures.rest_kept in
+    let keeps : Keeps c.make_place.new.self c.keep.new.copies c.in_ok-hint.hint (copy_in own) 1 =
+    rw key record { none = c.keep.ensures.none; nobody = c.keep.ensures.nobody; vacant = c.keep.ensures.vacant; kept = c.keep.ensures.kept } in
     rw (c.in_ok-number.ensures.ok asked.0 asked.1)
-    (sent_counted c.self.inside.copies c.reserve.new.self c.keep.new.copies c.self.inside.lanes.items c.args.tenant (answering asked.0 Copy c.vacant_key-hint.result) own (asked.0.server ∷ []) within room refl keeps c.self.invariant)
+    (sent_counted c.self.inside.copies c.make_place.new.self c.keep.new.copies c.self.inside.lanes.items c.args.tenant (answering asked.0 Copy c.in_ok-hint.hint) own (asked.0.server ∷ []) within room refl keeps c.self.invariant)
 
 pub returns-clause-sent : goal.returns-clause-sent
 returns-clause-sent c = λ message is.
     let within : c.args.tenant < length c.self.inside.lanes.items = within_lanes c.self.inside.copies.slots c.self.inside.lanes.items c.args.self.now c.args.tenant c.self.view_is c.requires.tenant in
     let asked = envelope_of_message c.self.inside.copies.slots c.self.inside.lanes.items c.args.self.now c.args.tenant c.args.number c.self.view_is c.requires.there in
     let own = body.Copy (record { tag = c.args.tag; bytes = c.in_ok-bytes.bytes }) in
-    let room : c.reserve.new.self.slots ≡ c.self.inside.copies.slots = ap (λ (s : Slab SharedCopy). s.slots) c.reserve.ensures.rest_kept in
-    let keeps : Keeps c.reserve.new.self c.keep.new.copies c.vacant_key-hint.result (copy_in own) 1 =
-    rw c.vacant_key-hint.ensures.value record { none = c.keep.ensures.none; nobody = c.keep.ensures.nobody; vacant = c.keep.ensures.vacant; kept = c.keep.ensures.kept } in
+    let key : c.in_ok-hint.hint ≡ c.make_place.new.self.vacant_key = c.in_ok-hint.ensures.place ∙ sym (ap (λ (s : Slab SharedCopy). s.vacant_key) c.make_place.ensures.rest_kept) in
+    let room : c.make_place.new.self.slots ≡ c.self.inside.copies.slots = ap (λ (s : Slab SharedCopy). s.slots) c.make_place.ensures.rest_kept in
+    let keeps : Keeps c.make_place.new.self c.keep.new.copies c.in_ok-hint.hint (copy_in own) 1 =
+    rw key record { none = c.keep.ensures.none; nobody = c.keep.ensures.nobody; vacant = c.keep.ensures.vacant; kept = c.keep.ensures.kept } in
     ap (map (lane_of c.keep.new.copies.slots)) (c.in_ok-number.ensures.ok asked.0 asked.1)
-    ∙ sent_view c.self.inside.copies c.reserve.new.self c.keep.new.copies c.self.inside.lanes.items c.args.tenant (answering asked.0 Copy c.vacant_key-hint.result) own (asked.0.server ∷ []) within room refl keeps c.self.invariant
+    ∙ sent_view c.self.inside.copies c.make_place.new.self c.keep.new.copies c.self.inside.lanes.items c.args.tenant (answering asked.0 Copy c.in_ok-hint.hint) own (asked.0.server ∷ []) within room refl keeps c.self.invariant
     c.args.self.now c.self.view_is
     ∙ ap (λ m. set c.args.self.now c.args.tenant (lane_at c.args.self.now c.args.tenant ++ Some m ∷ [])) (other_body c.self.inside.copies.slots asked.0 message own (sym (message_in c.self.inside.copies.slots c.self.inside.lanes.items c.args.self.now c.args.tenant c.args.number (Some asked.0) c.self.view_is asked.1) ∙ is)
     ∙ ap (λ bytes. record message { body = body.Copy (record { tag = c.args.tag; bytes = bytes }) }) c.in_ok-bytes.ensures)

@@ -15,11 +15,11 @@ returns-in-Done c =
     let Q : Seat → Type 0 = λ seat. SeatHears c.args.self.now seat (servers c.args.up) c.args.message.now (Done c.in-Done.outcome) in
     record {
       hears = subst Q (sym c.rest.ensures) (seat_ends c.args.self.now c.in-Some.operation c.hear_view.new.self c.floor-floor.result (servers c.args.up) c.args.message.now c.in-Done.outcome
-          c.in-Some.is (subst P c.in-Done.is c.in-Ok.ensures.hears) c.floor-floor.ensures);
+          c.in-Some.is (subst P c.in-Done.is c.in_ok-heard.ensures.hears) c.floor-floor.ensures);
     }
 
 pub returns-in_default-heard : goal.returns-in_default-heard
 returns-in_default-heard c = record {
-  hears = seat_hears c.args.self.now c.in-Some.operation c.hear_view.new.self (servers c.args.up) c.args.message.now c.in-Ok.heard
-      c.in-Some.is c.in-Ok.ensures.hears c.in_default-heard.not-Done;
+  hears = seat_hears c.args.self.now c.in-Some.operation c.hear_view.new.self (servers c.args.up) c.args.message.now c.in_ok-heard.heard
+      c.in-Some.is c.in_ok-heard.ensures.hears c.in_default-heard.not-Done;
 }
