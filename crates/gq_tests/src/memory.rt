@@ -2,6 +2,8 @@
 
 use bytes::Bytes;
 use gq_memory::*;
+use indexmap::IndexSet;
+use slab::Slab;
 use std::alloc::Global;
 use std::process::Abort;
 use std::test::Fail;
@@ -144,5 +146,25 @@ fn sends_one_to_a_channel_of_one(rt: HostRuntime) -> Result<(), Fail> {
     send(&rt, &to, 7u32)?;
     assert!(rt; from.is_full());
     assert!(rt; from.recv(&rt)? == 7);
+    Ok(())
+}
+
+#[test]
+fn adds_to_a_set(rt: HostRuntime) -> Result<(), Fail> {
+    let mut set: IndexSet<u128> = IndexSet::new(rt.alloc());
+    assert!(rt; GrowIndexSet::grow(&mut set, 7)?);
+    assert!(rt; !GrowIndexSet::grow(&mut set, 7)?);
+    let copy = set_copied(&set)?;
+    assert!(rt; copy.len() == 1 && copy.contains(&7));
+    Ok(())
+}
+
+#[test]
+fn makes_places_in_a_slab(rt: HostRuntime) -> Result<(), Fail> {
+    let mut slab = Slab::new(rt.alloc());
+    let place = slab.make_place()?;
+    assert!(rt; place == 0 && slab.capacity() >= 1);
+    slab.insert_reserved(7u32);
+    assert!(rt; slab.make_place()? == 1);
     Ok(())
 }
