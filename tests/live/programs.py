@@ -52,3 +52,16 @@ def a_program(seed, number):
     servers = range(rows * cols)
     lists.append([f"server {draw.choice(servers)} {draw.choice(['down', 'up'])}" for _ in range(draw.randint(0, MOST_CHANGES))])
     return "\n".join([f"grid {rows} {cols}", f"blocks {blocks}", *tenants, "go", *mixed(draw, lists), ""]).encode()
+
+
+def an_outage(number):
+    """Eight sessions on 2 by 2 servers, of which one of the first row stops and returns a hundred times meanwhile, and then stops for
+    good: the other row is left, and a column."""
+    sessions, server = range(1, 9), number % 2
+    lines = ["grid 2 2", "blocks 4", "tenant ann 4 8 1000000", "go", "ann open 2 2"]
+    for turn in range(20):
+        for session in sessions:
+            requests = [f"write {session} 0 {session % 2} {turn:02x}{session:02x}", f"read {session} 0 {turn % 2}", f"list {session} 0"]
+            lines.append(f"ann {requests[(turn + session) % 3]}")
+    lines += [f"server {server} down", f"server {server} up"] * 100 + [f"server {server} down", ""]
+    return "\n".join(lines).encode()
