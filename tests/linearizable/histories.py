@@ -1,5 +1,5 @@
-"""The history of a file, read off a script and its answers by what docs/FORMATS.md says of them: this is another reading than that
-of `gridfs history`, which has to write the same bytes."""
+"""The history of a file, read off a script and its answers by what docs/FORMATS.md says of them, as lines of EDN, the form of Jepsen's
+histories. `:time` is the place among the lines that the tenant sees."""
 
 import re
 
