@@ -23,8 +23,8 @@ abbrev pub last_from : ℕ → List CellEntry → ℕ
 last_from n [] = n
 last_from n (e ∷ es) = last_from (stamp_of e) es
 
-abbrev pub last_of : List CellEntry → ℕ
-last_of journal = last_from 0 journal
+abbrev pub last_stamp_of : List CellEntry → ℕ
+last_stamp_of journal = last_from 0 journal
 
 -- whether the server is up
 abbrev pub up_after : Bool → CellEntry → Bool
@@ -53,31 +53,31 @@ served (e ∷ es) = served_by e + served es
 abbrev pub is_file_id : FileId → FileId → Bool
 is_file_id a b = (a.tenant == b.tenant) && is_file (file_place a) (file_place b)
 
--- the copies of the file that stores brought, in order
-abbrev pub brought_in : Body → List StoredCopy
-brought_in (Store copy) = copy ∷ []
-brought_in _ = []
+-- the copies of the file that stores stored_by_journal, in order
+abbrev pub stored_by_body : Body → List StoredCopy
+stored_by_body (Store copy) = copy ∷ []
+stored_by_body _ = []
 
-abbrev pub brought_by : FileId → CellEntry → List StoredCopy
-brought_by file (Served letter reply) = if is_file_id letter.message.file file then brought_in letter.message.body else []
-brought_by file (Stop stamp) = []
-brought_by file (Back stamp) = []
+abbrev pub stored_by_entry : FileId → CellEntry → List StoredCopy
+stored_by_entry file (Served letter reply) = if is_file_id letter.message.file file then stored_by_body letter.message.body else []
+stored_by_entry file (Stop stamp) = []
+stored_by_entry file (Back stamp) = []
 
-abbrev pub brought : FileId → List CellEntry → List StoredCopy
-brought file [] = []
-brought file (e ∷ es) = brought_by file e ++ brought file es
+abbrev pub stored_by_journal : FileId → List CellEntry → List StoredCopy
+stored_by_journal file [] = []
+stored_by_journal file (e ∷ es) = stored_by_entry file e ++ stored_by_journal file es
 
--- the file's copy that the server holds: the greatest of the first copy and those brought
-abbrev pub held : List CellEntry → FileId → StoredCopy
-held journal file = greatest (first_copy ∷ brought file journal)
+-- the file's copy that the server holds: the greatest of the first copy and those stored_by_journal
+abbrev pub copy_after : List CellEntry → FileId → StoredCopy
+copy_after journal file = greatest (first_copy ∷ stored_by_journal file journal)
 
 -- ---- lawful journals
 
 -- the letter that answers a letter at that stamp: from the server's place, the only one of its step, with what the copy
--- held gives
+-- copy_after gives
 abbrev pub answer_at : ℕ → List CellEntry → ℕ → Letter → Letter
 answer_at server before stamp letter =
-    record { place = server + 1; stamp = stamp; index = 0; message = server_reply (held before letter.message.file) letter.message }
+    record { place = server + 1; stamp = stamp; index = 0; message = server_reply (copy_after before letter.message.file) letter.message }
 
 -- the server served the letter: it is for this server, which was up, and is answered above its own stamp
 pub record IsServed (server : ℕ) (before : List CellEntry) (letter reply : Letter) : Type 0 where
@@ -96,7 +96,7 @@ Follows server before (Back stamp) = is_up before ≡ false
 -- each entry may follow those before it, and the stamps rise
 abbrev pub LawfulAfter : ℕ → List CellEntry → List CellEntry → Type 0
 LawfulAfter server before [] = Unit {0}
-LawfulAfter server before (e ∷ es) = (last_of before < stamp_of e) × Follows server before e × LawfulAfter server (before ++ e ∷ []) es
+LawfulAfter server before (e ∷ es) = (last_stamp_of before < stamp_of e) × Follows server before e × LawfulAfter server (before ++ e ∷ []) es
 
 abbrev pub IsLawful : ℕ → List CellEntry → Type 0
 IsLawful server journal = LawfulAfter server [] journal

@@ -5,7 +5,7 @@ ghost use Rattle.gq_grid.specs.declared.TheConstants.{MOST_SERVERS};
 ghost use Rattle.gq_grid.specs.Grid.{with_server, without_server};
 ghost use Rattle.gq_grid.specs.Sets.{servers};
 ghost use Rattle.gq_cell.specs.Stamps.{stamp_after};
-ghost use Rattle.gq_cell.specs.Boards.{up_of, change_fault, with_change};
+ghost use Rattle.gq_cell.specs.Boards.{up_of, change_fault, board_with};
 
 use gq_grid::{Grid, ServerSet};
 use gq_memory::{OutOfMemory, RoomInVec};
@@ -127,7 +127,7 @@ impl Board {
     pub fn change(&mut self, server: usize, up: bool, seen: u64) -> Result<u64, ChangeRefused>
         requires { server < self.old.grid.rows * self.old.grid.cols }
         ensures stamp { IfOk result (λ stamp. stamp ≡ stamp_after self.old.last seen) }
-        ensures changed { IfOk result (λ stamp. self.new ≡ with_change stamp server up self.old) }
+        ensures changed { IfOk result (λ stamp. self.new ≡ board_with stamp server up self.old) }
         ensures allowed { OnOk result (change_fault self.old server up seen ≡ None) }
         ensures refused { IfErr result (λ fault. fault ≢ ChangeRefused.Memory tt
             → change_fault self.old server up seen ≡ Some fault) }

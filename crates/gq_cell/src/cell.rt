@@ -6,7 +6,7 @@ ghost use Rattle.gq_tag.specs.declared.StoredCopy.{StoredCopy};
 ghost use Rattle.gq_desk.specs.Volumes.{account_at, with_volume, free_of, limit_of};
 ghost use Rattle.gq_store.specs.Copies.{empty_store, store_accounts};
 ghost use Rattle.gq_store.specs.Serving.{server_reply, fault_in};
-ghost use Rattle.gq_cell.specs.Journal.{IsLawful, is_up, last_of, served, held, answer_at};
+ghost use Rattle.gq_cell.specs.Journal.{IsLawful, is_up, last_stamp_of, served, copy_after, answer_at};
 ghost use Rattle.gq_cell.specs.Laws.{RepliesNoOlder};
 ghost use Rattle.gq_cell.specs.Serving.{Serves, cell_fault, with_entry};
 
@@ -196,7 +196,7 @@ impl<L: Ledger> Cell<L> {
 
     /// The stamp of the last entry, 0 before the first.
     pub fn last(&self) -> u64
-        ensures { result ≡ last_of self.now.journal }
+        ensures { result ≡ last_stamp_of self.now.journal }
     {
         self.last
     }
@@ -270,7 +270,7 @@ impl<L: Ledger> Cell<L> {
         requires ask { letter.now.message.body ≡ Body.Ask }
         requires allowed { fault_in (limit_of self.old.accounts letter.now.message.file) letter.now.message.body ≡ None }
         requires up { is_up self.old.journal ≡ true }
-        requires stamp { (last_of self.old.journal < stamp) × (letter.now.stamp < stamp) }
+        requires stamp { (last_stamp_of self.old.journal < stamp) × (letter.now.stamp < stamp) }
         ensures reply { IfOk result (λ reply. reply ≡ answer_at self.old.server self.old.journal stamp letter.now) }
         ensures entry { IfOk result (λ reply. self.new ≡ with_entry (CellEntry.Served letter.now reply) self.old) }
         ensures counted { OnOk result (share.new ≡ share.old + 1) }
@@ -305,7 +305,7 @@ impl<L: Ledger> Cell<L> {
         requires store { (copy : StoredCopy) × (letter.now.message.body ≡ Body.Store copy) }
         requires allowed { fault_in (limit_of self.old.accounts letter.now.message.file) letter.now.message.body ≡ None }
         requires up { is_up self.old.journal ≡ true }
-        requires stamp { (last_of self.old.journal < stamp) × (letter.now.stamp < stamp) }
+        requires stamp { (last_stamp_of self.old.journal < stamp) × (letter.now.stamp < stamp) }
         ensures reply { IfOk result (λ reply. reply ≡ answer_at self.old.server self.old.journal stamp letter.now) }
         ensures entry { IfOk result (λ reply. self.new ≡ with_entry (CellEntry.Served letter.now reply) self.old) }
         ensures counted { OnOk result (share.new ≡ share.old + 1) }
@@ -332,7 +332,7 @@ impl<L: Ledger> Cell<L> {
     /// `OutOfMemory` is want of memory: the cell is then as it was.
     pub fn set_up(&mut self, up: bool, stamp: u64) -> Result<(), OutOfMemory>
         requires differs { is_up self.old.journal ≢ up }
-        requires stamp { last_of self.old.journal < stamp }
+        requires stamp { last_stamp_of self.old.journal < stamp }
         ensures set { OnOk result (self.new ≡ with_entry (if up then CellEntry.Back stamp else CellEntry.Stop stamp) self.old) }
         ensures same { OnErr result (self.new ≡ self.old) }
     {

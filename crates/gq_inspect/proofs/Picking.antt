@@ -15,9 +15,10 @@ use Rattle.gq_model.specs.declared.events.Event.TheVariants.{Tenant, Server}
 use Rattle.gq_model.specs.declared.events.Line.{Line}
 use Rattle.gq_model.specs.declared.events.Line.TheVariants.{NewVolume, Write, Read, List as ListFiles, Deliver, Retry, Abandon}
 use Rattle.gq_model.specs.declared.events.ServerLine.{ServerLine}
+use Rattle.gq_model.specs.Events.{IsRequestOf}
 use Rattle.gq_session.specs.Asked.{asks, asked_of}
 use Rattle.gq_session.specs.Changed.{changes_of, entry_line}
-use Rattle.gq_session.specs.Fitting.{IsRequestOf, plan_sessions}
+use Rattle.gq_session.specs.Fitting.{plan_sessions}
 use Rattle.gq_session.specs.declared.fitting.SessionId.{SessionId}
 use Rattle.gq_session.specs.declared.records.Did.{Did}
 use Rattle.gq_session.specs.declared.records.Did.TheVariants.{Asked, Heard, Retried, GaveUp}
@@ -28,7 +29,7 @@ use Rattle.gq_session.proofs.Asking.{append-none}
 use Rattle.gq_inspect.specs.declared.steps.Step.{Step}
 use Rattle.gq_inspect.specs.declared.steps.Origin.{Origin}
 use Rattle.gq_inspect.specs.declared.steps.Origin.TheVariants.{Board as OfBoard, Session as OfSession, Server as OfServer}
-use Rattle.gq_inspect.specs.Replay.{Before, IsDeed, PlaysAs, Goes, opening_event, IsRunOf}
+use Rattle.gq_inspect.specs.Replay.{Before, IsDeed, StepFitsAs, Replays, opening_event, IsRunOf}
 use Rattle.gq_inspect.specs.Steps.{board_steps, session_steps}
 use Rattle.gq_inspect.proofs.InOrder.{is_of, same_list, board_in_order, session_in_order}
 use Rattle.gq_inspect.proofs.Sessions.{session_once}
@@ -36,7 +37,7 @@ use Rattle.gq_inspect.proofs.Sessions.{session_once}
 -- ---- step by step
 
 -- the event that a step is
-abbrev event_at : (plan : CheckedPlan) (r : Records) (step : Step) (b after : Before) (origin : Origin) → PlaysAs origin plan r step b after → Event
+abbrev event_at : (plan : CheckedPlan) (r : Records) (step : Step) (b after : Before) (origin : Origin) → StepFitsAs origin plan r step b after → Event
 event_at plan r step b after OfBoard plays = Server (entry_line plays.entry)
 event_at plan r step b after (OfSession session) plays = Tenant plays.id.tenant plays.plays.line
 event_at plan r step b after (OfServer server) plays = Tenant plays.letter.message.tenant (Deliver plays.plays.number)
@@ -44,10 +45,10 @@ event_at plan r step b after (OfServer server) plays = Tenant plays.letter.messa
 -- what is picked of a step's event is what its list has at its place
 abbrev Picks : {B : Type 0} → CheckedPlan → Records → (Event → Option B) → (Origin → ℕ → List B) → Type 0
 Picks plan r pick has =
-    (step : Step) (b after : Before) (origin : Origin) (plays : PlaysAs origin plan r step b after) → cons_option (pick (event_at plan r step b after origin plays)) [] ≡ has origin step.at
+    (step : Step) (b after : Before) (origin : Origin) (plays : StepFitsAs origin plan r step b after) → cons_option (pick (event_at plan r step b after origin plays)) [] ≡ has origin step.at
 
 -- a step adds its event
-one_more : (plan : CheckedPlan) (r : Records) (step : Step) (b after : Before) (origin : Origin) (plays : PlaysAs origin plan r step b after) → after.events ≡ b.events ++ event_at plan r step b after origin plays ∷ []
+one_more : (plan : CheckedPlan) (r : Records) (step : Step) (b after : Before) (origin : Origin) (plays : StepFitsAs origin plan r step b after) → after.events ≡ b.events ++ event_at plan r step b after origin plays ∷ []
 one_more plan r step b after OfBoard plays = ap (λ (x : Before). x.events) plays.plays.left
 one_more plan r step b after (OfSession session) plays = ap (λ (x : Before). x.events) plays.plays.left
 one_more plan r step b after (OfServer server) plays = ap (λ (x : Before). x.events) plays.plays.left
@@ -56,7 +57,7 @@ one_more plan r step b after (OfServer server) plays = ap (λ (x : Before). x.ev
 abbrev has_all : {B : Type 0} → (Origin → ℕ → List B) → List Step → List B
 has_all has order = flat_map (λ (s : Step). has s.origin s.at) order
 
-picked_along : {B : Type 0} (plan : CheckedPlan) (r : Records) (pick : Event → Option B) (has : Origin → ℕ → List B) → Picks plan r pick has → (order : List Step) (b : Before) (events : List Event) → Goes plan r order b events → filter_map pick events ≡ filter_map pick b.events ++ has_all has order
+picked_along : {B : Type 0} (plan : CheckedPlan) (r : Records) (pick : Event → Option B) (has : Origin → ℕ → List B) → Picks plan r pick has → (order : List Step) (b : Before) (events : List Event) → Replays plan r order b events → filter_map pick events ≡ filter_map pick b.events ++ has_all has order
 picked_along plan r pick has picks [] b events goes = ap (filter_map pick) (sym goes) ∙ sym (append-none (filter_map pick b.events))
 picked_along plan r pick has picks (step ∷ order) b events goes =
     let after = goes.0 in

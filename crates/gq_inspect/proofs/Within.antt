@@ -17,8 +17,8 @@ use Rattle.gq_session.specs.declared.records.Records.{Records}
 use Rattle.gq_inspect.specs.declared.steps.Step.{Step}
 use Rattle.gq_inspect.specs.declared.steps.Origin.{Origin}
 use Rattle.gq_inspect.specs.declared.steps.Origin.TheVariants.{Board as OfBoard, Session as OfSession, Server as OfServer}
-use Rattle.gq_inspect.specs.declared.tape.First.{First}
-use Rattle.gq_inspect.specs.Replay.{Before, sent_by, with_line, with_change, Names, PlaysAs, Goes, opening_event, Opens, IsRunOf}
+use Rattle.gq_inspect.specs.declared.replaying.First.{First}
+use Rattle.gq_inspect.specs.Replay.{Before, sent_by, with_line, before_with, Names, StepFitsAs, Replays, opening_event, Opens, IsRunOf}
 use Rattle.gq_inspect.proofs.Sessions.{session_within}
 
 abbrev IsOf : CheckedPlan → First → Type 0
@@ -54,16 +54,16 @@ named_within plan b is letter number names =
     let first : IsOf plan names.first = subst (IsOf plan) (get_or_from_slice_get b.firsts names.place names.first names.first names.stood) (is.firsts names.place names.first (slice_get_within b.firsts names.place names.first names.stood)) in
     subst (λ t. t < length plan.rows) names.of_tenant first
 
-step_within : (plan : CheckedPlan) (r : Records) (step : Step) (b after : Before) (origin : Origin) → PlaysAs origin plan r step b after → IsWithin plan b → IsWithin plan after
+step_within : (plan : CheckedPlan) (r : Records) (step : Step) (b after : Before) (origin : Origin) → StepFitsAs origin plan r step b after → IsWithin plan b → IsWithin plan after
 step_within plan r step b after OfBoard goes is =
-    let then : IsWithin plan (with_change b goes.entry) = record { events = All-push (IsIn plan) b.events (Server (entry_line goes.entry)) is.events tt; firsts = is.firsts } in
+    let then : IsWithin plan (before_with b goes.entry) = record { events = All-push (IsIn plan) b.events (Server (entry_line goes.entry)) is.events tt; firsts = is.firsts } in
     subst (IsWithin plan) (sym goes.plays.left) then
 step_within plan r step b after (OfSession session) goes is = subst (IsWithin plan) (sym goes.plays.left) (line_within plan step b goes.id.tenant goes.plays.line (session_within plan session goes.id goes.is_of) is)
 step_within plan r step b after (OfServer server) goes is =
     let low = named_within plan b is goes.letter goes.plays.number goes.plays.names in
     subst (IsWithin plan) (sym goes.plays.left) (line_within plan step b goes.letter.message.tenant (Deliver goes.plays.number) low is)
 
-steps_within : (plan : CheckedPlan) (r : Records) (order : List Step) (b : Before) (events : List Event) → Goes plan r order b events → IsWithin plan b → All (IsIn plan) events
+steps_within : (plan : CheckedPlan) (r : Records) (order : List Step) (b : Before) (events : List Event) → Replays plan r order b events → IsWithin plan b → All (IsIn plan) events
 steps_within plan r [] b events goes is = subst (All (IsIn plan)) goes is.events
 steps_within plan r (step ∷ order) b events goes is = steps_within plan r order goes.0 events goes.2 (step_within plan r step b goes.0 step.origin goes.1 is)
 

@@ -17,12 +17,12 @@ use Rattle.gq_model.specs.declared.events.Event.{Event}
 use Rattle.gq_model.specs.declared.events.Event.TheVariants.{Tenant, Server}
 use Rattle.gq_model.specs.declared.events.Line.{Line}
 use Rattle.gq_model.specs.declared.events.Line.TheVariants.{NewVolume, Deliver, Retry, Abandon}
-use Rattle.gq_model.specs.Events.{answer_to, past_at}
+use Rattle.gq_model.specs.Events.{answer_to, past_at, IsRequestOf}
 use Rattle.gq_model.specs.Trace.{questions, own_message_at}
 use Rattle.gq_model.specs.Told.{Told, Opened, Began, Replied, Round, Resent, ServerOk}
 use Rattle.gq_model.specs.Said.{said_in}
 use Rattle.gq_session.specs.Changed.{entry_line}
-use Rattle.gq_session.specs.Fitting.{plan_sessions, IsRequestOf}
+use Rattle.gq_session.specs.Fitting.{plan_sessions}
 use Rattle.gq_session.specs.declared.fitting.SessionId.{SessionId}
 use Rattle.gq_session.specs.declared.records.Did.{Did}
 use Rattle.gq_session.specs.declared.records.Did.TheVariants.{Asked, Heard, Retried, GaveUp}
@@ -32,7 +32,7 @@ use Rattle.gq_session.specs.declared.records.Records.{Records}
 use Rattle.gq_inspect.specs.declared.steps.Step.{Step}
 use Rattle.gq_inspect.specs.declared.steps.Origin.{Origin}
 use Rattle.gq_inspect.specs.declared.steps.Origin.TheVariants.{Board as OfBoard, Session as OfSession, Server as OfServer}
-use Rattle.gq_inspect.specs.declared.tape.First.{First}
+use Rattle.gq_inspect.specs.declared.replaying.First.{First}
 use Rattle.gq_inspect.specs.Steps.{IsOrderOf}
 use Rattle.gq_inspect.specs.Lists.{AllClimb, AllFlips}
 
@@ -56,15 +56,16 @@ abbrev pub with_line : CheckedPlan → Step → Before → ℕ → Line → Befo
 with_line plan step b tenant line =
     record { events = b.events ++ Tenant tenant line ∷ []; firsts = b.firsts ++ sent_by step tenant (answer_to plan b.events (Tenant tenant line)) }
 
-abbrev pub with_change : Before → BoardEntry → Before
-with_change b e = record { events = b.events ++ Server (entry_line e) ∷ []; firsts = b.firsts }
+abbrev pub before_with : Before → BoardEntry → Before
+before_with b e = record { events = b.events ++ Server (entry_line e) ∷ []; firsts = b.firsts }
 
--- the tenant's message of this number after the events, none where it was never sent
+-- the tenant's message of this number after the events, none where it was never sent or is lost
 abbrev pub message_after : CheckedPlan → List Event → ℕ → ℕ → Option Message
 message_after plan events tenant number =
     option_map (message_of tenant) (own_message_at (questions (past_at plan tenant events).trace) number)
 
--- the letter says the message of this number of its tenant: the step that it tells sent it, at that place among its own
+-- the letter says the message of this number of its tenant: the step of its stamp and lock sent it, at that index among the
+-- messages of this step. (`place` is where the step stands in the list; `first.place` is the number of its lock.)
 pub record Names (plan : CheckedPlan) (b : Before) (letter : Letter) (number : ℕ) : Type 0 where
   pub first : First
   pub place : ℕ
@@ -79,9 +80,9 @@ pub record Names (plan : CheckedPlan) (b : Before) (letter : Letter) (number : �
 -- ---- a step
 
 -- a change of the board is accepted
-pub record PlaysBoard (plan : CheckedPlan) (b : Before) (e : BoardEntry) (after : Before) : Type 0 where
+pub record BoardEntryFits (plan : CheckedPlan) (b : Before) (e : BoardEntry) (after : Before) : Type 0 where
   pub told : answer_to plan b.events (Server (entry_line e)) ≡ ServerOk
-  pub left : after ≡ with_change b e
+  pub left : after ≡ before_with b e
 
 -- the line is the delivery of the letter, which is to the session
 pub record Hears (plan : CheckedPlan) (b : Before) (id : SessionId) (letter : Letter) (line : Line) : Type 0 where
@@ -99,14 +100,14 @@ IsDeed plan b id Retried line = line ≡ Retry id.number
 IsDeed plan b id GaveUp line = line ≡ Abandon id.number
 
 -- what is told to the session's line is what was recorded
-pub record PlaysSession (plan : CheckedPlan) (step : Step) (b : Before) (id : SessionId) (e : SessionEntry) (after : Before) : Type 0 where
+pub record SessionEntryFits (plan : CheckedPlan) (step : Step) (b : Before) (id : SessionId) (e : SessionEntry) (after : Before) : Type 0 where
   pub line : Line
   pub deed : IsDeed plan b id e.did line
   pub told : said_in (answer_to plan b.events (Tenant id.tenant line)) ≡ Some e.said
   pub left : after ≡ with_line plan step b id.tenant line
 
 -- the letter is to the server, which is told to reply, and the reply recorded is the message that it sends
-pub record PlaysServed (plan : CheckedPlan) (step : Step) (b : Before) (server : ℕ) (letter reply : Letter) (after : Before) : Type 0 where
+pub record ServedEntryFits (plan : CheckedPlan) (step : Step) (b : Before) (server : ℕ) (letter reply : Letter) (after : Before) : Type 0 where
   pub number : ℕ
   pub names : Names plan b letter number
   pub here : letter.message.server ≡ server
@@ -121,7 +122,7 @@ pub record PlaysServed (plan : CheckedPlan) (step : Step) (b : Before) (server :
 pub record BoardStep (plan : CheckedPlan) (r : Records) (at : ℕ) (b after : Before) : Type 0 where
   pub entry : BoardEntry
   pub stands : slice_get r.board.items at ≡ Some entry
-  pub plays : PlaysBoard plan b entry after
+  pub plays : BoardEntryFits plan b entry after
 
 pub record SessionStep (plan : CheckedPlan) (r : Records) (step : Step) (session : ℕ) (b after : Before) : Type 0 where
   pub id : SessionId
@@ -130,7 +131,7 @@ pub record SessionStep (plan : CheckedPlan) (r : Records) (step : Step) (session
   pub list : slice_get r.sessions.items session ≡ Some entries
   pub entry : SessionEntry
   pub stands : slice_get entries step.at ≡ Some entry
-  pub plays : PlaysSession plan step b id entry after
+  pub plays : SessionEntryFits plan step b id entry after
 
 pub record ServedStep (plan : CheckedPlan) (r : Records) (step : Step) (server : ℕ) (b after : Before) : Type 0 where
   pub journal : List CellEntry
@@ -138,25 +139,25 @@ pub record ServedStep (plan : CheckedPlan) (r : Records) (step : Step) (server :
   pub letter : Letter
   pub reply : Letter
   pub stands : slice_get journal step.at ≡ Some (Served letter reply)
-  pub plays : PlaysServed plan step b server letter reply after
+  pub plays : ServedEntryFits plan step b server letter reply after
 
-abbrev pub PlaysAs : Origin → CheckedPlan → Records → Step → Before → Before → Type 0
-PlaysAs OfBoard plan r step b after = BoardStep plan r step.at b after
-PlaysAs (OfSession session) plan r step b after = SessionStep plan r step session b after
-PlaysAs (OfServer server) plan r step b after = ServedStep plan r step server b after
+abbrev pub StepFitsAs : Origin → CheckedPlan → Records → Step → Before → Before → Type 0
+StepFitsAs OfBoard plan r step b after = BoardStep plan r step.at b after
+StepFitsAs (OfSession session) plan r step b after = SessionStep plan r step session b after
+StepFitsAs (OfServer server) plan r step b after = ServedStep plan r step server b after
 
 -- the step fits what stood before it, and leaves this
-abbrev pub Plays : CheckedPlan → Records → Step → Before → Before → Type 0
-Plays plan r step b after = PlaysAs step.origin plan r step b after
+abbrev pub StepFits : CheckedPlan → Records → Step → Before → Before → Type 0
+StepFits plan r step b after = StepFitsAs step.origin plan r step b after
 
 -- ---- the run
 
 -- each step fits what stood before it, and at last these are the events
-abbrev pub Goes : CheckedPlan → Records → List Step → Before → List Event → Type 0
-Goes plan r [] b events = b.events ≡ events
-Goes plan r (step ∷ order) b events = (after : Before) × Plays plan r step b after × Goes plan r order after events
+abbrev pub Replays : CheckedPlan → Records → List Step → Before → List Event → Type 0
+Replays plan r [] b events = b.events ≡ events
+Replays plan r (step ∷ order) b events = (after : Before) × StepFits plan r step b after × Replays plan r order after events
 
--- the volume is opened
+-- the event that asks for the volume
 abbrev pub opening_event : Opening → Event
 opening_event o = Tenant o.tenant (NewVolume o.files o.blocks)
 
@@ -180,4 +181,4 @@ pub record IsRunOf (plan : CheckedPlan) (r : Records) (events : List Event) : Ty
   pub flips : AllFlips r
   pub order : List Step
   pub is_order : IsOrderOf r order
-  pub goes : Goes plan r order (record { events = map opening_event r.volumes.items; firsts = [] }) events
+  pub goes : Replays plan r order (record { events = map opening_event r.volumes.items; firsts = [] }) events

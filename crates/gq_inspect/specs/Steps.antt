@@ -10,7 +10,8 @@ use Rattle.gq_inspect.specs.declared.steps.Step.{Step}
 use Rattle.gq_inspect.specs.declared.steps.Origin.TheVariants.{Board, Session, Server}
 
 -- ---- all steps: the board's and each session's entries at place 0, and at each server's place the letters that it served, at
--- their replies' stamps; a server's stops and returns are the board's steps. Each is named by its list and its place there
+-- their replies' stamps; a server's stops and returns are the board's steps. A step's
+-- `place` is the number of the lock under which its stamp was given; `at` is where its entry stands in its list
 
 abbrev pub board_steps : ℕ → List BoardEntry → List Step
 board_steps at [] = []
@@ -47,14 +48,14 @@ abbrev pub is_before : Step → Step → Bool
 is_before a b = nat_lt a.stamp b.stamp || ((a.stamp == b.stamp) && nat_lt a.place b.place)
 
 -- the step is after the one that may stand before it
-abbrev pub is_after : Option Step → Step → Bool
-is_after None b = true
-is_after (Some a) b = is_before a b
+abbrev pub follows : Option Step → Step → Bool
+follows None b = true
+follows (Some a) b = is_before a b
 
 -- each is before the next
 abbrev pub rise_after : Option Step → List Step → Bool
 rise_after last [] = true
-rise_after last (s ∷ ss) = is_after last s && rise_after (Some s) ss
+rise_after last (s ∷ ss) = follows last s && rise_after (Some s) ss
 
 -- all steps of the records, each once, rising strictly: there is one such list at most
 pub record IsOrderOf (r : Records) (order : List Step) : Type 0 where

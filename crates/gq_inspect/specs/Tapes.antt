@@ -1,7 +1,7 @@
 -- What a tape has.
 use Rattle.std.specs.Prelude.{List, [], ◌∷◌, Option, Some, None}
-use Rattle.gq_inspect.specs.declared.tape.First.{First}
-use Rattle.gq_inspect.specs.declared.tape.Tape.{Tape}
+use Rattle.gq_inspect.specs.declared.replaying.First.{First}
+use Rattle.gq_inspect.specs.declared.replaying.Tape.{Tape}
 use Rattle.gq_inspect.specs.Replay.{Before}
 
 -- the events, and what their steps sent

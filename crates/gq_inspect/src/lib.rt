@@ -3,13 +3,13 @@
 //! on from the crate below.
 #![tactic(auto)]
 
-mod alike;
+mod equality;
 mod lists;
 mod mismatch;
 mod playing;
 mod replay;
+mod replaying;
 mod steps;
-mod tape;
 
 pub use gq_order::{
     FileOrder, Kind, Op, OpRef, check_order, file_order, operations, order, runs_grow,

@@ -3,14 +3,15 @@
 ghost use Rattle.std.specs.Prelude.{◌≡◌, OnOk, IfOk, IfSome, Some, true};
 ghost use Rattle.std.specs.Option.{ForSome};
 ghost use Rattle.gq_world.specs.Tables.{Stands};
-ghost use Rattle.gq_session.specs.Fitting.{IsRequestOf, plan_sessions};
-ghost use Rattle.gq_inspect.specs.Replay.{PlaysBoard, PlaysSession, PlaysServed, Plays, IsDeed, Hears, SessionStep, ServedStep, message_after};
+ghost use Rattle.gq_session.specs.Fitting.{plan_sessions};
+ghost use Rattle.gq_inspect.specs.Replay.{BoardEntryFits, SessionEntryFits, ServedEntryFits, StepFits, IsDeed, Hears, SessionStep, ServedStep, message_after};
 ghost use Rattle.gq_inspect.specs.Tapes.{before_of};
+ghost use Rattle.gq_model.specs.Events.{IsRequestOf};
 
-use crate::alike::is_said;
+use crate::equality::is_said;
 use crate::mismatch::Mismatch;
+use crate::replaying::Tape;
 use crate::steps::{Origin, Step};
-use crate::tape::Tape;
 use gq_cell::{BoardEntry, CellEntry, Letter};
 use gq_memory::OutOfMemory;
 use gq_model::{Answer, Event, Line, ServerLine, said_of};
@@ -19,7 +20,7 @@ use gq_session::{Did, Records, SessionEntry, SessionId, is_request_of};
 // The board's change.
 fn play_board(tape: &mut Tape, entry: &BoardEntry) -> Result<(), Mismatch>
     requires stands { Stands tape.old.world.tables tape.old.events.items }
-    ensures plays { OnOk result (PlaysBoard tape.old.world.tables.plan (before_of tape.old) entry.now (before_of tape.new)) }
+    ensures plays { OnOk result (BoardEntryFits tape.old.world.tables.plan (before_of tape.old) entry.now (before_of tape.new)) }
     ensures stands { OnOk result (Stands tape.new.world.tables tape.new.events.items) }
     ensures plan { tape.new.world.tables.plan ≡ tape.old.world.tables.plan }
 {
@@ -76,7 +77,7 @@ fn play_session(
     entry: &SessionEntry,
 ) -> Result<(), Mismatch>
     requires stands { Stands tape.old.world.tables tape.old.events.items }
-    ensures plays { OnOk result (PlaysSession tape.old.world.tables.plan step (before_of tape.old) id entry.now (before_of tape.new)) }
+    ensures plays { OnOk result (SessionEntryFits tape.old.world.tables.plan step (before_of tape.old) id entry.now (before_of tape.new)) }
     ensures stands { OnOk result (Stands tape.new.world.tables tape.new.events.items) }
     ensures plan { tape.new.world.tables.plan ≡ tape.old.world.tables.plan }
 {
@@ -122,7 +123,7 @@ fn play_served(
     reply: &Letter,
 ) -> Result<(), Mismatch>
     requires stands { Stands tape.old.world.tables tape.old.events.items }
-    ensures plays { OnOk result (PlaysServed tape.old.world.tables.plan step (before_of tape.old) server letter.now reply.now (before_of tape.new)) }
+    ensures plays { OnOk result (ServedEntryFits tape.old.world.tables.plan step (before_of tape.old) server letter.now reply.now (before_of tape.new)) }
     ensures stands { OnOk result (Stands tape.new.world.tables tape.new.events.items) }
     ensures plan { tape.new.world.tables.plan ≡ tape.old.world.tables.plan }
 {
@@ -199,7 +200,7 @@ pub(crate) fn play(
 ) -> Result<(), Mismatch>
     requires stands { Stands tape.old.world.tables tape.old.events.items }
     requires ids { ids.now ≡ plan_sessions tape.old.world.tables.plan }
-    ensures plays { OnOk result (Plays tape.old.world.tables.plan records.now step (before_of tape.old) (before_of tape.new)) }
+    ensures plays { OnOk result (StepFits tape.old.world.tables.plan records.now step (before_of tape.old) (before_of tape.new)) }
     ensures stands { OnOk result (Stands tape.new.world.tables tape.new.events.items) }
     ensures plan { tape.new.world.tables.plan ≡ tape.old.world.tables.plan }
 {

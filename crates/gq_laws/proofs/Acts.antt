@@ -6,7 +6,7 @@ use Rattle.gq_grid.specs.Grid.{Grid, Servers, Choice}
 use Rattle.gq_tag.specs.declared.Tag.{Tag}
 use Rattle.gq_tag.specs.declared.StoredCopy.{StoredCopy}
 use Rattle.gq_tag.specs.declared.Body.TheVariants.{Ask, Copy, Store, Stored}
-use Rattle.gq_tag.specs.Tag.{OwnMessage, to_server}
+use Rattle.gq_tag.specs.Tag.{OwnMessage, to_server, answer_body}
 use Rattle.gq_desk.specs.declared.plans.TenantRow.{TenantRow}
 use Rattle.gq_desk.specs.Volumes.{OpenFault, WrongSize, NoVolumeLeft, OverShare}
 use Rattle.gq_desk.specs.Volumes.{open_fault}
@@ -17,7 +17,7 @@ use Rattle.gq_model.specs.declared.events.Line.{Line}
 use Rattle.gq_model.specs.declared.events.ServerLine.{ServerLine}
 use Rattle.gq_model.specs.declared.events.Line.TheVariants.{Bad, Quorum, NewVolume, Volumes, Write, Read, List as ListFiles, Deliver, Lose, Retry, Abandon}
 use Rattle.gq_model.specs.Told.{Told, Opened, Began, Replied, Noted, Round, Done, Resent, Abandoned}
-use Rattle.gq_model.specs.Lone.{after, said, step_at, entry_of, is_refusal, server_refusal, server_told, choice_told, open_told, lose_told, deliver_step, first_operation, reply_to, answer_body, Step, Cause, unless, first_cause, session_causes, session_step, line_step, no_session, busy, no_volume, no_quorum}
+use Rattle.gq_model.specs.Lone.{after, said, step_at, entry_of, is_refusal, server_refusal, server_told, choice_told, open_told, lose_told, deliver_step, first_operation, reply_to, Step, Cause, unless, first_cause, session_causes, session_step, line_step, no_session, busy, no_volume, no_quorum}
 use Rattle.gq_model.specs.declared.events.Refusal.{Refusal}
 use Rattle.gq_model.specs.declared.events.ServerRefusal.{ServerRefusal}
 use Rattle.gq_laws.proofs.Words.{delivered, message_at, step_on, current, op, round, held}

@@ -14,7 +14,8 @@ use Rattle.gq_model.specs.Told.{Began, Abandoned, Refused}
 use Rattle.gq_model.specs.Trace.{Own, Entry, Trace, Past, State, Begins, Ends, deed, questions, up, sent, is_lost, lost_by, operation, task_of, session, session_by, volumes}
 use Rattle.gq_model.specs.Lone.{Cause, Step, begin_step, message_of_turn, after, said, past_of, is_refusal, first_operation, first_cause, session_causes, session_step, line_step, step_at, unless, quiet, no_session, busy, no_volume, no_file, too_long, no_quorum}
 use Rattle.gq_model.proofs.Changes.{operation_begins, operation_ends}
-use Rattle.gq_laws.specs.Progress.{Completes, QuorumsUp, deliveries_left, IsRequestOf, AllRequestsComplete, Frees, AllMayAbandon}
+use Rattle.gq_model.specs.Events.{IsRequestOf}
+use Rattle.gq_laws.specs.Progress.{Completes, QuorumsUp, deliveries_left, AllRequestsComplete, Frees, AllMayAbandon}
 use Rattle.gq_laws.proofs.Words.{current}
 use Rattle.gq_laws.proofs.Runs.{IsRun}
 use Rattle.gq_laws.proofs.Acts.{accepted_step, line_is, step_line}

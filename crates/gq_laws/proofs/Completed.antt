@@ -29,7 +29,7 @@ use Rattle.gq_laws.proofs.Found.{last_at}
 use Rattle.gq_laws.proofs.Sessions.{Holds, file_at, all_settled, skip_settled, greatest_least, number_above, collect_number, store_number}
 use Rattle.gq_laws.proofs.Invariant.{holds_with, starts_along, skip_holds}
 use Rattle.gq_laws.proofs.InvariantKept.{invariant_along}
-use Rattle.gq_laws.proofs.Facts.{store_round_settles, skip_settles}
+use Rattle.gq_laws.proofs.TagFacts.{store_round_settles, skip_settles}
 use Rattle.gq_laws.proofs.RoundEnds.{Next, ToStore, ToCollect, Skips, next_of, IsDone, DoneWrite, DoneRead, DoneList, DoneBy, ByStore, BySkip, done_of}
 use Rattle.gq_laws.proofs.OperationMoments.{Ended, ended, Tags, tags, write_done, BegunAs, AsWrite, AsRead, AsRow}
 use Rattle.gq_laws.proofs.Beginnings.{OpAt}

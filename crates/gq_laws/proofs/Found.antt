@@ -10,7 +10,7 @@ use Rattle.gq_tag.specs.Tag.{first_copy, newer_of, greatest, is_less}
 use Rattle.gq_tag.specs.declared.Body.{Body}
 use Rattle.gq_tag.specs.declared.Body.TheVariants.{Ask, Copy, Store, Stored}
 use Rattle.gq_tag.proofs.Order.{IsAtMost, at_most_trans, newer_of-right}
-use Rattle.gq_phase.specs.Phase.{Reply, heard_servers, heard_copies, hear_reply, is_reply, stored_copy, has_tag, givers}
+use Rattle.gq_phase.specs.Phase.{Reply, heard_servers, heard_copies, hear_reply, equal_replies, stored_copy, has_tag, givers}
 use Rattle.gq_laws.proofs.Holding.{fold_grows, greatest-cons}
 
 -- ---- places of a list
@@ -81,9 +81,9 @@ greatest_bound (c ∷ cs) d i h = let P : StoredCopy → Type 0 = λ z. IsAtMost
 -- ---- replies
 
 pub hear_in : (hs : List Reply) (r x : Reply) → Contains (hear_reply hs r) x → Contains hs x ⊎ (r ≡ x)
-hear_in hs r x within = go (list_any (is_reply r) hs) refl
+hear_in hs r x within = go (list_any (equal_replies r) hs) refl
   where
-    go : (b : Bool) → list_any (is_reply r) hs ≡ b → Contains hs x ⊎ (r ≡ x)
+    go : (b : Bool) → list_any (equal_replies r) hs ≡ b → Contains hs x ⊎ (r ≡ x)
     go true e = inl (rw e at within)
     go false e = Contains-push_cases hs r x (rw e at within)
 

@@ -16,7 +16,7 @@ pub mod Found
 pub mod Sessions
 pub mod Invariant
 pub mod InvariantKept
-pub mod Facts
+pub mod TagFacts
 pub mod Opening
 pub mod Completed
 pub mod Sources
@@ -27,7 +27,7 @@ pub mod OtherOrders
 pub mod OtherPlaces
 pub mod AllTenants
 pub mod Checking
-pub mod Cases
+pub mod WorkedCases
 pub mod Remaining
 pub mod Going
 pub mod OwnLines

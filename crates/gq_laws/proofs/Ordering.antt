@@ -10,7 +10,7 @@ use Rattle.gq_laws.specs.declared.ops.Kind.{Kind}
 use Rattle.gq_laws.specs.declared.ops.Kind.TheVariants.{Write as Writes, Read as Reads, Row as Rows}
 use Rattle.gq_laws.specs.declared.ops.Op.{Op}
 use Rattle.gq_laws.specs.Operations.{At, is_write, Gives, Precedes, WroteWith, Tagged, RegisterGives, ops_at}
-use Rattle.gq_laws.specs.Orders.{tag_of, Stands, IsBefore, IsOrder, OrdersAreLegal}
+use Rattle.gq_laws.specs.Orders.{tag_of, IsOrdered, IsBefore, IsOrder, OrdersAreLegal}
 use Rattle.gq_laws.proofs.Found.{position_of}
 
 -- ---- tags
@@ -55,14 +55,14 @@ the_end None h = absurd (true≢false (sym h))
 the_end (Some e) h = (e, refl)
 
 -- what stands in the order has a tag
-has_tag : (ops : List Op) (i : ℕ) (a : Op) → Tagged ops → At ops i a → Stands ops a → a.tag ≡ Some (tag_of a)
+has_tag : (ops : List Op) (i : ℕ) (a : Op) → Tagged ops → At ops i a → IsOrdered ops a → a.tag ≡ Some (tag_of a)
 has_tag ops i a tagged at (inl ended) = some_tag a (tagged.completed i a at ended)
 has_tag ops i a tagged at (inr (writes, j, b, at_b, ended, same)) = some_tag a (let P : Option Tag → Type 0 = λ t. IsSome t in subst P same (tagged.completed j b at_b ended))
 
 -- ---- the order keeps precedence
 
 -- what precedes does not stand after
-not_after : (ops : List Op) (i j : ℕ) (a b : Op) → Tagged ops → At ops i a → At ops j b → Stands ops b → Precedes a b → IsBefore j b i a → ⊥
+not_after : (ops : List Op) (i j : ℕ) (a b : Op) → Tagged ops → At ops i a → At ops j b → IsOrdered ops b → Precedes a b → IsBefore j b i a → ⊥
 not_after ops i j a b tagged at_a at_b stands (e, ends, low) before = go before
   where
     ta : a.tag ≡ Some (tag_of a)
@@ -124,10 +124,10 @@ first_least x h = go (at_most-parts first_tag x h)
 gives_kept : (ops : List Op) (places : List ℕ) → Tagged ops → IsOrder ops places → (n i : ℕ) (a : Op) (bytes : List ℕ) → slice_get places n ≡ Some i → At ops i a → is_write a ≡ false → Keeps ops places n bytes → Gives a bytes
 gives_kept ops places tagged order n i a bytes place at reads keeps = by (ended stands)
   where
-    stands : Stands ops a
-    stands = let s = order.stands n i place in let same : s.0 ≡ a = same_op ops i i s.0 a refl s.1 at in let P : Op → Type 0 = λ z. Stands ops z in subst P same s.2
+    stands : IsOrdered ops a
+    stands = let s = order.stands n i place in let same : s.0 ≡ a = same_op ops i i s.0 a refl s.1 at in let P : Op → Type 0 = λ z. IsOrdered ops z in subst P same s.2
 
-    ended : Stands ops a → IsSome a.end
+    ended : IsOrdered ops a → IsSome a.end
     ended (inl e) = e
     ended (inr unended) = absurd (true≢false (sym unended.0 ∙ reads))
 
@@ -135,7 +135,7 @@ gives_kept ops places tagged order n i a bytes place at reads keeps = by (ended 
     ta = has_tag ops i a tagged at stands
 
     tag_of_write : (m j : ℕ) (w : Op) → slice_get places m ≡ Some j → At ops j w → w.tag ≡ Some (tag_of w)
-    tag_of_write m j w at_m at_w = let s = order.stands m j at_m in let same : s.0 ≡ w = same_op ops j j s.0 w refl s.1 at_w in let P : Op → Type 0 = λ z. Stands ops z in has_tag ops j w tagged at_w (subst P same s.2)
+    tag_of_write m j w at_m at_w = let s = order.stands m j at_m in let same : s.0 ≡ w = same_op ops j j s.0 w refl s.1 at_w in let P : Op → Type 0 = λ z. IsOrdered ops z in has_tag ops j w tagged at_w (subst P same s.2)
 
     first : tag_of a ≡ first_tag → Gives a [] → Keeps ops places n bytes → Gives a bytes
     first is gives (KeepsNone empty none) = let P : List ℕ → Type 0 = λ z. Gives a z in subst P (sym empty) gives
@@ -169,7 +169,7 @@ gives_kept ops places tagged order n i a bytes place at reads keeps = by (ended 
         writes : is_write w ≡ true
         writes = kind_writes w given wrote.0
 
-        stands_w : Stands ops w
+        stands_w : IsOrdered ops w
         stands_w = inr (writes, i, a, at, ended stands, ta ∙ sym wrote.1)
 
         found : (m : ℕ) × (slice_get places m ≡ Some j)
@@ -255,7 +255,7 @@ register ops places tagged order (i ∷ ps) n bytes rest keeps = by (order.stand
         zero_more : (n : ℕ) → n ≡ n + 0
         zero_more n = omega arith
 
-    by : (a : Op) × At ops i a × Stands ops a → ((written : List ℕ) → Keeps ops places (n + 1) written → RegisterGives (ops_at ops ps) written) → RegisterGives (ops_at ops (i ∷ ps)) bytes
+    by : (a : Op) × At ops i a × IsOrdered ops a → ((written : List ℕ) → Keeps ops places (n + 1) written → RegisterGives (ops_at ops ps) written) → RegisterGives (ops_at ops (i ∷ ps)) bytes
     by (a, at, stands) later = rw at (go a.kind refl)
       where
         go : (k : Kind) → a.kind ≡ k → RegisterGives (a ∷ ops_at ops ps) bytes
@@ -293,11 +293,11 @@ order_legal ops places tagged order = record {
     allowed : (i : ℕ) → (m : ℕ) × (slice_get places m ≡ Some i) → (a : Op) × At ops i a × (IsSome a.end ⊎ (is_write a ≡ true))
     allowed i (m, at_m) = by (order.stands m i at_m)
       where
-        kind : (a : Op) → Stands ops a → IsSome a.end ⊎ (is_write a ≡ true)
+        kind : (a : Op) → IsOrdered ops a → IsSome a.end ⊎ (is_write a ≡ true)
         kind a (inl ended) = inl ended
         kind a (inr unended) = inr unended.0
 
-        by : (a : Op) × At ops i a × Stands ops a → (a : Op) × At ops i a × (IsSome a.end ⊎ (is_write a ≡ true))
+        by : (a : Op) × At ops i a × IsOrdered ops a → (a : Op) × At ops i a × (IsSome a.end ⊎ (is_write a ≡ true))
         by (a, at, stands) = (a, at, kind a stands)
 
     in_order : (m n : ℕ) (a b : Op) → m < length places → n < length places → At ops (slice_index places m) a → At ops (slice_index places n) b → Precedes a b → (m < n) ⊎ (n ≤ m) → (n < m) ⊎ (m ≤ n) → m < n
@@ -305,7 +305,7 @@ order_legal ops places tagged order = record {
     in_order m n a b low_m low_n at_a at_b before (inr high) (inl low) = absurd (
         let s = order.stands n (slice_index places n) (there n low_n) in
         let same : s.0 ≡ b = same_op ops (slice_index places n) (slice_index places n) s.0 b refl s.1 at_b in
-        let P : Op → Type 0 = λ z. Stands ops z in
+        let P : Op → Type 0 = λ z. IsOrdered ops z in
         not_after ops (slice_index places m) (slice_index places n) a b tagged at_a at_b (subst P same s.2) before
         (order.in_order n m (slice_index places n) (slice_index places m) b a low (there n low_n) (there m low_m) at_b at_a))
     in_order m n a b low_m low_n at_a at_b (e, ends, less) (inr high) (inr low) = absurd (

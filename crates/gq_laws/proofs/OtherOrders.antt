@@ -8,7 +8,7 @@ use Rattle.gq_tag.specs.declared.Tag.{Tag}
 use Rattle.gq_laws.specs.declared.ops.Op.{Op}
 use Rattle.gq_laws.specs.Laws.{IsRising}
 use Rattle.gq_laws.specs.Operations.{is_write, ops_at}
-use Rattle.gq_laws.specs.Orders.{tag_of, key, key_at, is_lex, is_option_tag, is_standing, insert, order_from, order}
+use Rattle.gq_laws.specs.Orders.{tag_of, key, key_at, is_lex_less, equal_option_tags, is_standing, insert, order_from, order}
 use Rattle.gq_laws.proofs.OtherPlaces.{moved_op, low_was}
 
 less_same : (f : ℕ → ℕ) → IsRising f → (x y : ℕ) → nat_lt (f x) (f y) ≡ nat_lt x y
@@ -47,13 +47,13 @@ equal_same f rises x y = go (cases_eq x y)
             by (inr high) = let low = rises y x (lower high) in omega (arith, same)
 
 -- keys stand as before
-lex_same : (f : ℕ → ℕ) → IsRising f → (i j : ℕ) (a b : Op) → is_lex (key i (moved_op f a)) (key j (moved_op f b)) ≡ is_lex (key i a) (key j b)
+lex_same : (f : ℕ → ℕ) → IsRising f → (i j : ℕ) (a b : Op) → is_lex_less (key i (moved_op f a)) (key j (moved_op f b)) ≡ is_lex_less (key i a) (key j b)
 lex_same f rises i j a b = rw (less_same f rises a.begin b.begin, equal_same f rises a.begin b.begin) refl
 
-keys_same : (f : ℕ → ℕ) → IsRising f → (ops : List Op) (i j : ℕ) → is_lex (key_at (map (moved_op f) ops) i) (key_at (map (moved_op f) ops) j) ≡ is_lex (key_at ops i) (key_at ops j)
+keys_same : (f : ℕ → ℕ) → IsRising f → (ops : List Op) (i j : ℕ) → is_lex_less (key_at (map (moved_op f) ops) i) (key_at (map (moved_op f) ops) j) ≡ is_lex_less (key_at ops i) (key_at ops j)
 keys_same f rises ops i j = by (slice_get ops i) refl (slice_get ops j) refl
   where
-    by : (o : Option Op) → slice_get ops i ≡ o → (p : Option Op) → slice_get ops j ≡ p → is_lex (key_at (map (moved_op f) ops) i) (key_at (map (moved_op f) ops) j) ≡ is_lex (key_at ops i) (key_at ops j)
+    by : (o : Option Op) → slice_get ops i ≡ o → (p : Option Op) → slice_get ops j ≡ p → is_lex_less (key_at (map (moved_op f) ops) i) (key_at (map (moved_op f) ops) j) ≡ is_lex_less (key_at ops i) (key_at ops j)
     by None is p at = rw (slice_get-map (moved_op f) ops i, is) refl
     by (Some a) is None at = rw (slice_get-map (moved_op f) ops i, slice_get-map (moved_op f) ops j, is, at) refl
     by (Some a) is (Some b) at = rw (slice_get-map (moved_op f) ops i, slice_get-map (moved_op f) ops j, is, at) (lex_same f rises i j a b)
@@ -61,7 +61,7 @@ keys_same f rises ops i j = by (slice_get ops i) refl (slice_get ops j) refl
 insert_same : (f : ℕ → ℕ) → IsRising f → (ops : List Op) (i : ℕ) (js : List ℕ) → insert (map (moved_op f) ops) i js ≡ insert ops i js
 insert_same f rises ops i [] = refl
 insert_same f rises ops i (j ∷ js) =
-    ap (λ z. if is_lex (key_at (map (moved_op f) ops) i) (key_at (map (moved_op f) ops) j) then i ∷ j ∷ js else j ∷ z) (insert_same f rises ops i js)
+    ap (λ z. if is_lex_less (key_at (map (moved_op f) ops) i) (key_at (map (moved_op f) ops) j) then i ∷ j ∷ js else j ∷ z) (insert_same f rises ops i js)
     ∙ ap (λ b. if b then i ∷ j ∷ js else j ∷ insert ops i js) (keys_same f rises ops i j)
 
 -- those that stand are the same
@@ -69,7 +69,7 @@ end_same : (f : ℕ → ℕ) (end : Option ℕ) → is_some (option_map f end) �
 end_same f None = refl
 end_same f (Some e) = refl
 
-gives_same : (f : ℕ → ℕ) (a : Op) (ops : List Op) → list_any (λ b. is_some b.end && is_option_tag b.tag a.tag) (map (moved_op f) ops) ≡ list_any (λ b. is_some b.end && is_option_tag b.tag a.tag) ops
+gives_same : (f : ℕ → ℕ) (a : Op) (ops : List Op) → list_any (λ b. is_some b.end && equal_option_tags b.tag a.tag) (map (moved_op f) ops) ≡ list_any (λ b. is_some b.end && equal_option_tags b.tag a.tag) ops
 gives_same f a [] = refl
 gives_same f a (b ∷ ops) = rw (end_same f b.end, gives_same f a ops) refl
 

@@ -9,7 +9,7 @@ use Rattle.gq_tag.specs.declared.Tag.{Tag}
 use Rattle.gq_tag.specs.declared.StoredCopy.{StoredCopy}
 use Rattle.gq_tag.specs.declared.Body.{Body}
 use Rattle.gq_tag.specs.declared.Body.TheVariants.{Ask, Copy, Store, Stored}
-use Rattle.gq_tag.specs.Tag.{OwnMessage, to_server}
+use Rattle.gq_tag.specs.Tag.{OwnMessage, to_server, answer_body}
 use Rattle.gq_desk.specs.declared.plans.TenantRow.{TenantRow}
 use Rattle.gq_desk.specs.Plans.{is_in}
 use Rattle.gq_phase.specs.declared.Outcome.{Outcome}
@@ -18,7 +18,7 @@ use Rattle.gq_model.specs.declared.events.Line.{Line}
 use Rattle.gq_model.specs.declared.events.Line.TheVariants.{Deliver, Retry}
 use Rattle.gq_model.specs.Told.{Replied, Noted, Done, Resent}
 use Rattle.gq_model.specs.Trace.{Own, Entry, Trace, Past, Session, Elsewhere, Hears, Moves, Ends, deed, session, session_by, volumes, sent, is_lost, questions, up, operation, operation_with, collected_by, floor_by}
-use Rattle.gq_model.specs.Lone.{Step, after, said, step_at, is_refusal, heard_step, hear_step, line_step, deliver_step, message_of_turn, trace_after, answer_body}
+use Rattle.gq_model.specs.Lone.{Step, after, said, step_at, is_refusal, heard_step, hear_step, line_step, deliver_step, message_of_turn, trace_after}
 use Rattle.gq_laws.proofs.Words.{current, round, message_at, held}
 use Rattle.gq_laws.proofs.Runs.{IsRun}
 use Rattle.gq_laws.proofs.Acts.{going, back}

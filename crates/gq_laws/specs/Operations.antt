@@ -182,7 +182,7 @@ At ops place b = slice_get ops place ≡ Some b
 abbrev pub WroteWith : Op → Tag → List ℕ → Type 0
 WroteWith w tag bytes = (w.kind ≡ Writes bytes) × (w.tag ≡ Some tag)
 
--- the operations are tagged: their tags are such that the order by tag is legal
+-- what is true of the tags of a run's operations; that the order by tag is legal follows from it
 pub record Tagged (ops : List Op) : Type 0 where
   -- an operation ends after it begins
   pub ends_later : (i e : ℕ) (a : Op) → At ops i a → a.end ≡ Some e → a.begin < e
@@ -196,7 +196,7 @@ pub record Tagged (ops : List Op) : Type 0 where
   pub rising : (i j : ℕ) (a b : Op) (x y : Tag) → At ops i a → At ops j b → Precedes a b → a.tag ≡ Some x → b.tag ≡ Some y → is_less y x ≡ false
   -- and less, where the other is a write
   pub writes_rise : (i j : ℕ) (a b : Op) (x y : Tag) → At ops i a → At ops j b → Precedes a b → is_write b ≡ true → a.tag ≡ Some x → b.tag ≡ Some y → is_less x y ≡ true
-  -- a completed read or row gives the first copy, or what a write gave that began before it ended
+  -- a completed read or row gives the first copy, or the bytes of a write that began before it ended
   pub sourced : (i e : ℕ) (a : Op) (tag : Tag) → At ops i a → is_write a ≡ false → a.end ≡ Some e → a.tag ≡ Some tag →
       ((tag ≡ first_tag) × Gives a []) ⊎ ((j : ℕ) × (w : Op) × (bytes : List ℕ) × At ops j w × WroteWith w tag bytes × (w.begin < e) × Gives a bytes)
 
@@ -216,9 +216,11 @@ ops_at ops places = filter_map (slice_get ops) places
 
 -- the places are a legal order of the operations
 pub record Legal (ops : List Op) (places : List ℕ) : Type 0 where
-  -- each operation stands once at most; a completed one does, and beside these only open writes
+  -- no operation stands twice
   pub once : (i j : ℕ) → i < length places → j < length places → slice_index places i ≡ slice_index places j → i ≡ j
+  -- those that stand are completed, or writes that are open
   pub allowed : (i : ℕ) → Contains places i → (a : Op) × At ops i a × (IsSome a.end ⊎ (is_write a ≡ true))
+  -- each completed operation stands
   pub whole : (i : ℕ) (a : Op) → At ops i a → IsSome a.end → Contains places i
   -- where one ended before another began, it stands before that
   pub in_order : (m n : ℕ) (a b : Op) → m < length places → n < length places → At ops (slice_index places m) a → At ops (slice_index places n) b → Precedes a b → m < n

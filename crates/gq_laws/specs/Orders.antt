@@ -3,7 +3,7 @@ use Rattle.std.specs.Prelude.{◌≡◌, ◌⊎◌, ◌<◌, ◌+◌, ℕ, List,
 use Rattle.std.specs.List.{list_any}
 use Rattle.gq_grid.specs.Grid.{Grid}
 use Rattle.gq_tag.specs.declared.Tag.{Tag}
-use Rattle.gq_tag.specs.Tag.{File, first_tag, is_less, is_tag}
+use Rattle.gq_tag.specs.Tag.{File, first_tag, is_less, equal_tags}
 use Rattle.gq_desk.specs.declared.plans.TenantRow.{TenantRow}
 use Rattle.gq_model.specs.Trace.{Turn}
 use Rattle.gq_laws.specs.declared.ops.Op.{Op}
@@ -19,8 +19,8 @@ tag_of a = by a.tag
     by (Some tag) = tag
 
 -- operations that are completed stand in the order, and open writes whose tag a completed operation gave
-abbrev pub Stands : List Op → Op → Type 0
-Stands ops a = IsSome a.end ⊎ ((is_write a ≡ true) × (j : ℕ) × (b : Op) × At ops j b × IsSome b.end × (b.tag ≡ a.tag))
+abbrev pub IsOrdered : List Op → Op → Type 0
+IsOrdered ops a = IsSome a.end ⊎ ((is_write a ≡ true) × (j : ℕ) × (b : Op) × At ops j b × IsSome b.end × (b.tag ≡ a.tag))
 
 -- a, at place i, stands before b, at place j
 abbrev pub IsBefore : ℕ → Op → ℕ → Op → Type 0
@@ -30,8 +30,8 @@ IsBefore i a j b =
 
 -- the places are those of the operations that stand in the order, and stand in it
 pub record IsOrder (ops : List Op) (places : List ℕ) : Type 0 where
-  pub stands : (m i : ℕ) → slice_get places m ≡ Some i → (a : Op) × At ops i a × Stands ops a
-  pub all : (i : ℕ) (a : Op) → At ops i a → Stands ops a → (m : ℕ) × (slice_get places m ≡ Some i)
+  pub stands : (m i : ℕ) → slice_get places m ≡ Some i → (a : Op) × At ops i a × IsOrdered ops a
+  pub all : (i : ℕ) (a : Op) → At ops i a → IsOrdered ops a → (m : ℕ) × (slice_get places m ≡ Some i)
   pub in_order : (m n i j : ℕ) (a b : Op) → m < n → slice_get places m ≡ Some i → slice_get places n ≡ Some j → At ops i a → At ops j b → IsBefore i a j b
 
 -- of operations that are tagged each order by tag is legal
@@ -45,21 +45,21 @@ abbrev pub key : ℕ → Op → List ℕ
 key i a = (tag_of a).number ∷ (tag_of a).session ∷ (if is_write a then 0 else 1) ∷ a.begin ∷ i ∷ []
 
 -- the first number that differs is less
-abbrev pub is_lex : List ℕ → List ℕ → Bool
-is_lex [] ys = false
-is_lex (x ∷ xs) [] = false
-is_lex (x ∷ xs) (y ∷ ys) = nat_lt x y || ((x == y) && is_lex xs ys)
+abbrev pub is_lex_less : List ℕ → List ℕ → Bool
+is_lex_less [] ys = false
+is_lex_less (x ∷ xs) [] = false
+is_lex_less (x ∷ xs) (y ∷ ys) = nat_lt x y || ((x == y) && is_lex_less xs ys)
 
 -- two tags are the same, or both are missing
-abbrev pub is_option_tag : Option Tag → Option Tag → Bool
-is_option_tag None None = true
-is_option_tag (Some x) (Some y) = is_tag x y
-is_option_tag None (Some y) = false
-is_option_tag (Some x) None = false
+abbrev pub equal_option_tags : Option Tag → Option Tag → Bool
+equal_option_tags None None = true
+equal_option_tags (Some x) (Some y) = equal_tags x y
+equal_option_tags None (Some y) = false
+equal_option_tags (Some x) None = false
 
 -- whether the operation stands in the order
 abbrev pub is_standing : List Op → Op → Bool
-is_standing ops a = is_some a.end || (is_write a && list_any (λ b. is_some b.end && is_option_tag b.tag a.tag) ops)
+is_standing ops a = is_some a.end || (is_write a && list_any (λ b. is_some b.end && equal_option_tags b.tag a.tag) ops)
 
 -- the key of the operation at a place
 abbrev pub key_at : List Op → ℕ → List ℕ
@@ -72,7 +72,7 @@ key_at ops i = by (slice_get ops i)
 -- one more place in its place
 abbrev pub insert : List Op → ℕ → List ℕ → List ℕ
 insert ops i [] = i ∷ []
-insert ops i (j ∷ js) = if is_lex (key_at ops i) (key_at ops j) then i ∷ j ∷ js else j ∷ insert ops i js
+insert ops i (j ∷ js) = if is_lex_less (key_at ops i) (key_at ops j) then i ∷ j ∷ js else j ∷ insert ops i js
 
 -- of these operations, which stand from place i on, those that stand in the order, in order
 abbrev pub order_from : List Op → ℕ → List Op → List ℕ

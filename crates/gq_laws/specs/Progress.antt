@@ -19,7 +19,7 @@ use Rattle.gq_model.specs.declared.events.Refusal.TheVariants.{Busy}
 use Rattle.gq_model.specs.Told.{Told, Done, Abandoned, Refused}
 use Rattle.gq_model.specs.Trace.{Turn, Own, State, Past, questions, operation, task_of}
 use Rattle.gq_model.specs.Lone.{is_refusal, after, said, past_of, told_from, first_operation}
-use Rattle.gq_model.specs.Events.{own, past_at}
+use Rattle.gq_model.specs.Events.{own, past_at, IsRequestOf}
 use Rattle.gq_laws.specs.Tenants.{answers_from}
 
 -- ---- how far an operation has to go
@@ -110,13 +110,6 @@ AllTenantsComplete = (plan : CheckedPlan) (events : List Event) (t k : ℕ) (o :
     StepsLeft plan.grid (row_at plan t) (own t events) (1 + deliveries_left plan.grid o) → TenantCompletes plan events t o (Retry k)
 
 -- ---- requests, and what is abandoned
-
--- the line asks session k for an operation
-abbrev pub IsRequestOf : ℕ → Line → Type 0
-IsRequestOf k (Write session volume file bytes) = session ≡ k
-IsRequestOf k (Read session volume file) = session ≡ k
-IsRequestOf k (ListFiles session volume) = session ≡ k
-IsRequestOf k _ = ⊥
 
 -- whatever the turns, a request that is accepted is completed by deliveries alone
 abbrev pub AllRequestsComplete : Type 0

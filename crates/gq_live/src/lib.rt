@@ -3,10 +3,10 @@
 #![tactic(auto)]
 
 mod attending;
-mod ends;
 mod run;
 mod serving;
 mod starts;
+mod thread_ends;
 
 pub use gq_cell::{
     Board, BoardEntry, Cell, CellEntry, CellRefused, ChangeRefused, Letter, Served, Share, laws,

@@ -9,11 +9,11 @@ ghost use Rattle.gq_live.specs.Openings.{TellsOfNoVolume, TellsOfVolume, refused
 ghost use Rattle.gq_live.specs.Runs.{AllLawful, AllAsked};
 
 use crate::attending::{SessionEnd, attend};
-use crate::ends::{CellRecord, GatedEnd, all_or_least, entries, journals, least};
 use crate::serving::serve;
 use crate::starts::{
     Mailboxes, Order, Seat, Seats, ServerChannels, ServerInbox, Site, all_seats, open_all, sites,
 };
+use crate::thread_ends::{CellRecord, GatedEnd, all_or_least, entries, journals, least};
 use crossbeam_channel::Sender;
 use gq_desk::{Desk, Plan};
 use gq_grid::Grid;

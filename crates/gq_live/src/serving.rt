@@ -4,8 +4,8 @@ ghost use Rattle.gq_tag.specs.Tag.{to_server};
 ghost use Rattle.gq_store.specs.Copies.{empty_store, store_accounts};
 ghost use Rattle.gq_session.specs.Faults.{NoGate};
 
-use crate::ends::{CellRecord, GatedEnd};
 use crate::starts::{Note, Order, ServerInbox, Site, post};
+use crate::thread_ends::{CellRecord, GatedEnd};
 use crossbeam_channel::Receiver;
 use gq_cell::{Cell, CellRefused, Letter, Served, Share};
 use gq_desk::{Desk, OpenRefused, Plan};

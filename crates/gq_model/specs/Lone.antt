@@ -6,9 +6,7 @@
 use Rattle.std.specs.Prelude.{ℕ, ◌+◌, ◌*◌, List, [], ◌∷◌, Bool, true, false, not, nat_lt, nat_le, Option, Some, None, is_some, is_none, unwrap_or, length, fold, if◌then◌else◌}
 use Rattle.gq_grid.specs.Grid.{Grid, Servers, Choice, choose, choice_servers}
 use Rattle.gq_tag.specs.declared.StoredCopy.{StoredCopy}
-use Rattle.gq_tag.specs.declared.Body.{Body}
-use Rattle.gq_tag.specs.declared.Body.TheVariants.{Copy, Store, Stored}
-use Rattle.gq_tag.specs.Tag.{OwnMessage, to_server}
+use Rattle.gq_tag.specs.Tag.{OwnMessage, to_server, answer_body}
 use Rattle.gq_desk.specs.Plans.{is_in}
 use Rattle.gq_desk.specs.declared.plans.TenantRow.{TenantRow}
 use Rattle.gq_desk.specs.Volumes.{OpenFault, WrongSize, NoVolumeLeft, OverShare, free_of, open_fault}
@@ -132,11 +130,6 @@ begin_step grid state k (Some task) = began (round_messages grid state.up (first
   where
     began : List OwnMessage → Step
     began messages = record { told = Began ((state.session k).op + 1) (length state.sent) (length messages); new = messages }
-
--- what a server that holds the copy answers: stored to a store, its copy to an ask
-abbrev pub answer_body : StoredCopy → Body → Body
-answer_body copy (Store stored) = Stored
-answer_body copy _ = Copy copy
 
 -- the message that a server which holds the copy sends back
 abbrev pub reply_to : StoredCopy → OwnMessage → OwnMessage

@@ -144,8 +144,8 @@ task_of volumes (ListFiles s v) = Some (Listing v (files_of volumes v))
 task_of volumes _ = None
 
 -- one session: how many operations it began; what the operation that it has is to do, none where it has none; of the
--- last operation, as it stood before it ended, the round, what was heard in it, and the copies with which its collect
--- rounds ended, in order; and the number of the tag in the last Round answer of a write, or 0
+-- last operation, as it stood before it ended, the round, what was heard in it, and the copy that each of its collect
+-- rounds decided (of a write, the copy that it stores), in order; and the number of the tag in the last Round answer of a write, or 0
 pub record Session : Type 0 where
   pub op : ℕ
   pub current : Option Task
@@ -162,7 +162,7 @@ abbrev pub operation_with : ℕ → Session → Task → Operation
 operation_with k s task =
     record { session = k; op = s.op; task = task; round = s.round; heard = s.heard; collected = s.collected; floor = s.floor }
 
--- the copies collected after a message that ends a round; the session's last number after a round of that tag began
+-- the copies decided after a message that ends a round; the session's last number after a round of that tag began
 abbrev pub collected_by : ℕ → OwnMessage → Session → Option Task → List StoredCopy
 collected_by k message s None = s.collected
 collected_by k message s (Some task) = collected_after (operation_with k s task) message

@@ -21,7 +21,7 @@ use Rattle.gq_laws.specs.declared.ops.Op.{Op}
 use Rattle.gq_laws.specs.Operations.{SessionAnswer, owners, session_of, session_answers_from, session_answers, ending, write_tag, end_place, copy_told, row_told, begun_at, begun_in, opened_in, operations}
 use Rattle.gq_laws.specs.Tenants.{seen_from, seen}
 use Rattle.gq_order.specs.declared.endings.Ending.{Ending}
-use Rattle.gq_order.specs.Passes.{sees, told_sent, sessions_from, opens, files_step, files_from, ended_by, ending_from, copy_in, row_in, copy_at, row_at, read_begun, row_begun, begins, begun_by, with_op, ops_from, read_off}
+use Rattle.gq_order.specs.Passes.{sees, told_sent, sessions_from, opens, files_step, files_from, ended_by, ending_from, copy_given, row_given, copy_given_at, row_given_at, read_begun, row_begun, begins, begun_by, with_op, ops_from, read_off}
 use Rattle.gq_order.proofs.Rests.{IsRest, rest_more, rest_first, rest_whole}
 use Rattle.gq_order.specs.Runs.{line_is_of_byte, event_is_of_byte, sessions_are_bytes}
 
@@ -102,13 +102,13 @@ ending_is t place (e ∷ events) (a ∷ answers) (session ∷ sessions) k = go (
 
 -- the answer at the place of the end is that with which it ends
 abbrev pub Reads : List Answer → Option (ℕ × Outcome) → Type 0
-Reads all end = record { copy : copy_at all (end_place end) ≡ copy_told end; row : (f : ℕ) → row_at f all (end_place end) ≡ row_told f end }
+Reads all end = record { copy : copy_given_at all (end_place end) ≡ copy_told end; row : (f : ℕ) → row_given_at f all (end_place end) ≡ row_told f end }
 
 reads_more : (all : List Answer) (k place session : ℕ) (turn : Turn) (a : Answer) (rest : List SessionAnswer) → slice_get all place ≡ Some a → (session == k) ≡ true →
     Reads all (ending k rest) → Reads all (ending k (session_answer place turn (shown a) session ∷ rest))
-reads_more all k place session turn (IsDone (Wrote s op tag)) rest at same later = rw same (record { copy = ap copy_in at; row = λ f. ap (row_in f) at })
-reads_more all k place session turn (IsDone (Gave s op copy)) rest at same later = rw same (record { copy = ap copy_in at; row = λ f. ap (row_in f) at })
-reads_more all k place session turn (IsDone (Listed s op rows)) rest at same later = rw same (record { copy = ap copy_in at; row = λ f. ap (row_in f) at })
+reads_more all k place session turn (IsDone (Wrote s op tag)) rest at same later = rw same (record { copy = ap copy_given at; row = λ f. ap (row_given f) at })
+reads_more all k place session turn (IsDone (Gave s op copy)) rest at same later = rw same (record { copy = ap copy_given at; row = λ f. ap (row_given f) at })
+reads_more all k place session turn (IsDone (Listed s op rows)) rest at same later = rw same (record { copy = ap copy_given at; row = λ f. ap (row_given f) at })
 reads_more all k place session turn IsAbandoned rest at same later = rw same (record { copy = refl; row = λ f. refl })
 reads_more all k place session turn (HasBegun op first count) rest at same later = rw same (record { copy = refl; row = λ f. refl })
 reads_more all k place session turn _ rest at same later = rw same later

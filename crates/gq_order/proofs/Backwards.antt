@@ -14,7 +14,7 @@ use Rattle.gq_model.specs.declared.events.Answer.TheVariants.{Began}
 use Rattle.gq_laws.specs.declared.ops.Op.{Op}
 use Rattle.gq_order.proofs.Rests.{drop_is}
 use Rattle.gq_order.specs.declared.endings.Ending.{Ending}
-use Rattle.gq_order.specs.Passes.{sent_at, session_at, sessions_from, sees, no_ending, ended_by, ending_in, entered, entered_by, ending_from, begins, begun_by, with_op, as_list, ops_from, write_begun, read_begun, row_begun, copy_at, row_at}
+use Rattle.gq_order.specs.Passes.{sent_at, session_at, sessions_from, sees, no_ending, ended_by, ending_in, entered, entered_by, ending_from, begins, begun_by, with_op, as_list, ops_from, write_begun, read_begun, row_begun, copy_given_at, row_given_at}
 
 -- only the endings of sessions below 256 are looked at
 begins_same : (file : File) (all : List Answer) (place op : ℕ) (line : Line) (f g : ℕ → Ending) → ((k : ℕ) → k < 256 → f k ≡ g k) → begins file all place op line f ≡ begins file all place op line g
@@ -27,12 +27,12 @@ begins_same file all place op (Read k v p) f g same = go (nat_lt k 256) refl
   where
     go : (b : Bool) → nat_lt k 256 ≡ b → begins file all place op (Read k v p) f ≡ begins file all place op (Read k v p) g
     go false is = rw is refl
-    go true is = ap (λ e. if nat_lt k 256 && is_file (record { volume = v; place = p }) file then Some (read_begun k op place e.end (copy_at all e.end)) else None) (same k (omega (arith, ltb-true k 256 is)))
+    go true is = ap (λ e. if nat_lt k 256 && is_file (record { volume = v; place = p }) file then Some (read_begun k op place e.end (copy_given_at all e.end)) else None) (same k (omega (arith, ltb-true k 256 is)))
 begins_same file all place op (ListFiles k v) f g same = go (nat_lt k 256) refl
   where
     go : (b : Bool) → nat_lt k 256 ≡ b → begins file all place op (ListFiles k v) f ≡ begins file all place op (ListFiles k v) g
     go false is = rw is refl
-    go true is = ap (λ e. if nat_lt k 256 && (v == file.volume) then Some (row_begun k op place e.end (row_at file.place all e.end)) else None) (same k (omega (arith, ltb-true k 256 is)))
+    go true is = ap (λ e. if nat_lt k 256 && (v == file.volume) then Some (row_begun k op place e.end (row_given_at file.place all e.end)) else None) (same k (omega (arith, ltb-true k 256 is)))
 begins_same file all place op _ f g same = refl
 
 begun_same : (t : ℕ) (file : File) (all : List Answer) (place : ℕ) (e : Event) (a : Answer) (f g : ℕ → Ending) → ((k : ℕ) → k < 256 → f k ≡ g k) → begun_by t file all place e a f ≡ begun_by t file all place e a g

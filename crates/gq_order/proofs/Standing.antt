@@ -12,7 +12,7 @@ use Rattle.std.proofs.lemmas.List.Sorted.{All-permutation, IsPermutation-sym, su
 use Rattle.gq_tag.specs.declared.Tag.{Tag}
 use Rattle.gq_laws.specs.declared.ops.Op.{Op}
 use Rattle.gq_laws.specs.Operations.{At, is_write, Tagged}
-use Rattle.gq_laws.specs.Orders.{tag_of, Stands, IsOrder, key, key_at, is_lex}
+use Rattle.gq_laws.specs.Orders.{tag_of, IsOrdered, IsOrder, key, key_at, is_lex_less}
 use Rattle.gq_laws.proofs.Sorting.{before_from, key_is, lex_cases, lex_total, lex_trans, lex_less, lex_same, Among, Sorted, among_at, at_among, sorted_at}
 use Rattle.gq_order.proofs.Rests.{IsRest, rest_more, rest_first, rest_whole}
 use Rattle.gq_order.proofs.Rising.{lex_self}
@@ -114,7 +114,7 @@ numbers k = k.number ∷ k.session ∷ k.rank ∷ k.begin ∷ k.place ∷ []
 -- each key is before those after it
 abbrev pub Rising : List Key → Type 0
 Rising [] = ⊤
-Rising (k ∷ keys) = ((l : Key) → Has l keys → is_lex (numbers k) (numbers l) ≡ true) × Rising keys
+Rising (k ∷ keys) = ((l : Key) → Has l keys → is_lex_less (numbers k) (numbers l) ≡ true) × Rising keys
 
 -- the order of keys: by the first number that differs
 abbrev pub key_cmp : Key → Key → Ordering
@@ -130,48 +130,48 @@ same_is x y same = go (ltb x y) refl
     go true e = absurd (let low = ltb-true x y e in omega arith)
     go false e = rw (e, eq-eqb x y same) refl
 
-cmp_less : (k l : Key) → is_lex (numbers k) (numbers l) ≡ true → is_lt (key_cmp k l) ≡ true
+cmp_less : (k l : Key) → is_lex_less (numbers k) (numbers l) ≡ true → is_lt (key_cmp k l) ≡ true
 cmp_less k l h = first (lex_cases k.number l.number (k.session ∷ k.rank ∷ k.begin ∷ k.place ∷ []) (l.session ∷ l.rank ∷ l.begin ∷ l.place ∷ []) h)
   where
-    fifth : k.number ≡ l.number → k.session ≡ l.session → k.rank ≡ l.rank → k.begin ≡ l.begin → (k.place < l.place) ⊎ ((k.place ≡ l.place) × (is_lex [] [] ≡ true)) → is_lt (key_cmp k l) ≡ true
+    fifth : k.number ≡ l.number → k.session ≡ l.session → k.rank ≡ l.rank → k.begin ≡ l.begin → (k.place < l.place) ⊎ ((k.place ≡ l.place) × (is_lex_less [] [] ≡ true)) → is_lt (key_cmp k l) ≡ true
     fifth a b c d (inl low) = rw (same_is k.number l.number a, same_is k.session l.session b, same_is k.rank l.rank c, same_is k.begin l.begin d, less_is k.place l.place low) refl
     fifth a b c d (inr none) = absurd (true≢false (sym none.1))
 
-    fourth : k.number ≡ l.number → k.session ≡ l.session → k.rank ≡ l.rank → (k.begin < l.begin) ⊎ ((k.begin ≡ l.begin) × (is_lex (k.place ∷ []) (l.place ∷ []) ≡ true)) → is_lt (key_cmp k l) ≡ true
+    fourth : k.number ≡ l.number → k.session ≡ l.session → k.rank ≡ l.rank → (k.begin < l.begin) ⊎ ((k.begin ≡ l.begin) × (is_lex_less (k.place ∷ []) (l.place ∷ []) ≡ true)) → is_lt (key_cmp k l) ≡ true
     fourth a b c (inl low) = rw (same_is k.number l.number a, same_is k.session l.session b, same_is k.rank l.rank c, less_is k.begin l.begin low) refl
     fourth a b c (inr (d, rest)) = fifth a b c d (lex_cases k.place l.place [] [] rest)
 
-    third : k.number ≡ l.number → k.session ≡ l.session → (k.rank < l.rank) ⊎ ((k.rank ≡ l.rank) × (is_lex (k.begin ∷ k.place ∷ []) (l.begin ∷ l.place ∷ []) ≡ true)) → is_lt (key_cmp k l) ≡ true
+    third : k.number ≡ l.number → k.session ≡ l.session → (k.rank < l.rank) ⊎ ((k.rank ≡ l.rank) × (is_lex_less (k.begin ∷ k.place ∷ []) (l.begin ∷ l.place ∷ []) ≡ true)) → is_lt (key_cmp k l) ≡ true
     third a b (inl low) = rw (same_is k.number l.number a, same_is k.session l.session b, less_is k.rank l.rank low) refl
     third a b (inr (c, rest)) = fourth a b c (lex_cases k.begin l.begin (k.place ∷ []) (l.place ∷ []) rest)
 
-    second : k.number ≡ l.number → (k.session < l.session) ⊎ ((k.session ≡ l.session) × (is_lex (k.rank ∷ k.begin ∷ k.place ∷ []) (l.rank ∷ l.begin ∷ l.place ∷ []) ≡ true)) → is_lt (key_cmp k l) ≡ true
+    second : k.number ≡ l.number → (k.session < l.session) ⊎ ((k.session ≡ l.session) × (is_lex_less (k.rank ∷ k.begin ∷ k.place ∷ []) (l.rank ∷ l.begin ∷ l.place ∷ []) ≡ true)) → is_lt (key_cmp k l) ≡ true
     second a (inl low) = rw (same_is k.number l.number a, less_is k.session l.session low) refl
     second a (inr (b, rest)) = third a b (lex_cases k.rank l.rank (k.begin ∷ k.place ∷ []) (l.begin ∷ l.place ∷ []) rest)
 
-    first : (k.number < l.number) ⊎ ((k.number ≡ l.number) × (is_lex (k.session ∷ k.rank ∷ k.begin ∷ k.place ∷ []) (l.session ∷ l.rank ∷ l.begin ∷ l.place ∷ []) ≡ true)) → is_lt (key_cmp k l) ≡ true
+    first : (k.number < l.number) ⊎ ((k.number ≡ l.number) × (is_lex_less (k.session ∷ k.rank ∷ k.begin ∷ k.place ∷ []) (l.session ∷ l.rank ∷ l.begin ∷ l.place ∷ []) ≡ true)) → is_lt (key_cmp k l) ≡ true
     first (inl low) = rw (less_is k.number l.number low) refl
     first (inr (a, rest)) = second a (lex_cases k.session l.session (k.rank ∷ k.begin ∷ k.place ∷ []) (l.rank ∷ l.begin ∷ l.place ∷ []) rest)
 
 -- neighbours that are not out of order, and are of two places
-neighbours : (k l : Key) → is_lt (key_cmp l k) ≡ false → k.place ≢ l.place → is_lex (numbers k) (numbers l) ≡ true
-neighbours k l sorted apart = go (is_lex (numbers k) (numbers l)) refl
+neighbours : (k l : Key) → is_lt (key_cmp l k) ≡ false → k.place ≢ l.place → is_lex_less (numbers k) (numbers l) ≡ true
+neighbours k l sorted apart = go (is_lex_less (numbers k) (numbers l)) refl
   where
     last : numbers k ≡ numbers l → k.place ≡ l.place
     last same = let one : slice_get (numbers k) 4 ≡ slice_get (numbers l) 4 = ap (λ z. slice_get z 4) same in let both : Some k.place ≡ Some l.place = one in cc
 
-    turned : (numbers k ≡ numbers l) ⊎ (is_lex (numbers l) (numbers k) ≡ true) → is_lex (numbers k) (numbers l) ≡ true
+    turned : (numbers k ≡ numbers l) ⊎ (is_lex_less (numbers l) (numbers k) ≡ true) → is_lex_less (numbers k) (numbers l) ≡ true
     turned (inl same) = absurd (apart (last same))
     turned (inr less) = absurd (true≢false (sym (cmp_less l k less) ∙ sorted))
 
-    go : (b : Bool) → is_lex (numbers k) (numbers l) ≡ b → is_lex (numbers k) (numbers l) ≡ true
+    go : (b : Bool) → is_lex_less (numbers k) (numbers l) ≡ b → is_lex_less (numbers k) (numbers l) ≡ true
     go true e = e
     go false e = turned (lex_total (numbers k) (numbers l) refl e)
 
 -- each key is before the next
 abbrev Chain : Key → List Key → Type 0
 Chain k [] = ⊤
-Chain k (l ∷ keys) = (is_lex (numbers k) (numbers l) ≡ true) × Chain l keys
+Chain k (l ∷ keys) = (is_lex_less (numbers k) (numbers l) ≡ true) × Chain l keys
 
 sorted_tail : (k : Key) (keys : List Key) → IsSorted key_cmp (k ∷ keys) → IsSorted key_cmp keys
 sorted_tail k keys h i d first low =
@@ -196,9 +196,9 @@ chain k (l ∷ keys) sorted few =
     fewer : (i : ℕ) → counted i (l ∷ keys) ≤ 1
     fewer i = let most : at_place i k + counted i (l ∷ keys) ≤ 1 = few i in omega arith
 
-chain_all : (k : Key) (keys : List Key) → Chain k keys → (l : Key) → Has l keys → is_lex (numbers k) (numbers l) ≡ true
+chain_all : (k : Key) (keys : List Key) → Chain k keys → (l : Key) → Has l keys → is_lex_less (numbers k) (numbers l) ≡ true
 chain_all k [] c l has = absurd has
-chain_all k (m ∷ keys) c l (inl same) = ap (λ z. is_lex (numbers k) (numbers z)) same ∙ c.0
+chain_all k (m ∷ keys) c l (inl same) = ap (λ z. is_lex_less (numbers k) (numbers z)) same ∙ c.0
 chain_all k (m ∷ keys) c l (inr old) = lex_trans (numbers k) (numbers m) (numbers l) c.0 (chain_all m keys c.1 l old)
 
 chain_rises : (k : Key) (keys : List Key) → Chain k keys → Rising (k ∷ keys)
@@ -262,10 +262,10 @@ pub sorted_kept : (ops : List Op) (keys : List Key) → Rising keys → ((k : Ke
 sorted_kept ops [] rises is = tt
 sorted_kept ops (k ∷ keys) rises is = go (is_done ops k.place || is_next k keys) refl (sorted_kept ops keys rises.1 (λ l has. is l (inr has)))
   where
-    before : (x : ℕ) → Among x (kept ops keys) → is_lex (key_at ops k.place) (key_at ops x) ≡ true
+    before : (x : ℕ) → Among x (kept ops keys) → is_lex_less (key_at ops k.place) (key_at ops x) ≡ true
     before x within =
         let l = among_kept ops keys x within in
-        let P : List ℕ → List ℕ → Type 0 = λ y z. is_lex y z ≡ true in
+        let P : List ℕ → List ℕ → Type 0 = λ y z. is_lex_less y z ≡ true in
         subst (λ y. P y (key_at ops x)) (sym (at_key ops k (is k (inl refl)))) (subst (λ z. P (numbers k) z) (sym (ap (key_at ops) l.2 ∙ at_key ops l.0 (is l.0 (inr l.1)))) (rises.0 l.0 l.1))
 
     go : (b : Bool) → (is_done ops k.place || is_next k keys) ≡ b → Sorted ops (kept ops keys) → Sorted ops (kept ops (k ∷ keys))
@@ -273,7 +273,7 @@ sorted_kept ops (k ∷ keys) rises is = go (is_done ops k.place || is_next k key
     go false e later = rw e later
 
 -- where the next key is of the same tag, it is that of a completed read or row, so that an open write stands
-next_open : (ops : List Op) → Tagged ops → (k : Key) (keys : List Key) (a : Op) → At ops k.place a → k ≡ key_of k.place a → may_stand a ≡ true → is_some a.end ≡ false → Rising (k ∷ keys) → ((l : Key) → Has l (k ∷ keys) → IsKey ops l) → is_next k keys ≡ true → Stands ops a
+next_open : (ops : List Op) → Tagged ops → (k : Key) (keys : List Key) (a : Op) → At ops k.place a → k ≡ key_of k.place a → may_stand a ≡ true → is_some a.end ≡ false → Rising (k ∷ keys) → ((l : Key) → Has l (k ∷ keys) → IsKey ops l) → is_next k keys ≡ true → IsOrdered ops a
 next_open ops tagged k [] a at_a is_a may_a goes rises is h = absurd (true≢false (sym h))
 next_open ops tagged k (l ∷ keys) a at_a is_a may_a goes rises is h = by (is l (inr (inl refl)))
   where
@@ -284,9 +284,9 @@ next_open ops tagged k (l ∷ keys) a at_a is_a may_a goes rises is h = by (is l
     writes = let rest : (is_write a && is_some a.tag) ≡ true = rw goes at may_a in (and_parts (is_write a) (is_some a.tag) rest).0
 
     apart : k.place ≡ l.place → ⊥
-    apart same = true≢false (sym (rises.0 l (inl refl)) ∙ ap (λ z. is_lex z (numbers l)) (number_apart k l same ops (is k (inl refl)) (is l (inr (inl refl)))) ∙ lex_self (numbers l))
+    apart same = true≢false (sym (rises.0 l (inl refl)) ∙ ap (λ z. is_lex_less z (numbers l)) (number_apart k l same ops (is k (inl refl)) (is l (inr (inl refl)))) ∙ lex_self (numbers l))
 
-    by : IsKey ops l → Stands ops a
+    by : IsKey ops l → IsOrdered ops a
     by (b, at_b, is_b, may_b) = go (is_write b) refl
       where
         tags : tag_of a ≡ tag_of b
@@ -301,21 +301,21 @@ next_open ops tagged k (l ∷ keys) a at_a is_a may_a goes rises is h = by (is l
         tag_b : b.tag ≡ Some (tag_of a)
         tag_b = has_tag ops tagged l.place b at_b may_b ∙ ap Some (sym tags)
 
-        go : (w : Bool) → is_write b ≡ w → Stands ops a
+        go : (w : Bool) → is_write b ≡ w → IsOrdered ops a
         go true w = absurd (apart (tagged.write_tags_differ k.place l.place a b (tag_of a) at_a at_b writes w tag_a tag_b))
         go false w = inr (writes, l.place, b, at_b, completed b may_b w, tag_b ∙ sym tag_a)
 
-stands_kept : (ops : List Op) → Tagged ops → (keys : List Key) → Rising keys → ((k : Key) → Has k keys → IsKey ops k) → (x : ℕ) → Among x (kept ops keys) → (a : Op) × At ops x a × Stands ops a
+stands_kept : (ops : List Op) → Tagged ops → (keys : List Key) → Rising keys → ((k : Key) → Has k keys → IsKey ops k) → (x : ℕ) → Among x (kept ops keys) → (a : Op) × At ops x a × IsOrdered ops a
 stands_kept ops tagged [] rises is x h = absurd h
 stands_kept ops tagged (k ∷ keys) rises is x h = go (is_done ops k.place || is_next k keys) refl (stands_kept ops tagged keys rises.1 (λ l has. is l (inr has)) x)
   where
     Result : ℕ → Type 0
-    Result y = (a : Op) × At ops y a × Stands ops a
+    Result y = (a : Op) × At ops y a × IsOrdered ops a
 
     mine : (is_done ops k.place || is_next k keys) ≡ true → IsKey ops k → Result k.place
     mine test (a, at_a, is_a, may_a) = (a, at_a, by (is_some a.end) refl)
       where
-        by : (b : Bool) → is_some a.end ≡ b → Stands ops a
+        by : (b : Bool) → is_some a.end ≡ b → IsOrdered ops a
         by true e = inl e
         by false e =
             let not_done : is_done ops k.place ≡ false = done_is ops k.place a at_a ∙ e in
@@ -331,11 +331,11 @@ stands_kept ops tagged (k ∷ keys) rises is x h = go (is_done ops k.place || is
 
 -- ---- all that stand are kept
 
-sandwich : (k l b : Key) → is_lex (numbers k) (numbers l) ≡ true → is_lex (numbers l) (numbers b) ≡ true → k.number ≡ b.number → k.session ≡ b.session → (k.number ≡ l.number) × (k.session ≡ l.session)
+sandwich : (k l b : Key) → is_lex_less (numbers k) (numbers l) ≡ true → is_lex_less (numbers l) (numbers b) ≡ true → k.number ≡ b.number → k.session ≡ b.session → (k.number ≡ l.number) × (k.session ≡ l.session)
 sandwich k l b h h' n s = first (lex_cases k.number l.number (k.session ∷ k.rank ∷ k.begin ∷ k.place ∷ []) (l.session ∷ l.rank ∷ l.begin ∷ l.place ∷ []) h) (lex_cases l.number b.number (l.session ∷ l.rank ∷ l.begin ∷ l.place ∷ []) (b.session ∷ b.rank ∷ b.begin ∷ b.place ∷ []) h')
   where
     Low : ℕ → ℕ → List ℕ → List ℕ → Type 0
-    Low x y xs ys = (x < y) ⊎ ((x ≡ y) × (is_lex xs ys ≡ true))
+    Low x y xs ys = (x < y) ⊎ ((x ≡ y) × (is_lex_less xs ys ≡ true))
 
     second : k.number ≡ l.number → Low k.session l.session (k.rank ∷ k.begin ∷ k.place ∷ []) (l.rank ∷ l.begin ∷ l.place ∷ []) → Low l.session b.session (l.rank ∷ l.begin ∷ l.place ∷ []) (b.rank ∷ b.begin ∷ b.place ∷ []) → (k.number ≡ l.number) × (k.session ≡ l.session)
     second e (inl low) (inl low') = absurd (omega (arith, s))
@@ -361,15 +361,15 @@ next_is k b (l ∷ keys) rises has n s = go has
 
 -- each later key of an operation that may stand is in the list
 abbrev HasLater : List Op → List Key → Type 0
-HasLater ops keys = (k : Key) → Has k keys → (l : Key) → IsKey ops l → is_lex (numbers k) (numbers l) ≡ true → Has l keys
+HasLater ops keys = (k : Key) → Has k keys → (l : Key) → IsKey ops l → is_lex_less (numbers k) (numbers l) ≡ true → Has l keys
 
 tag_same : (a b : Op) → b.tag ≡ a.tag → tag_of b ≡ tag_of a
 tag_same a b same = rw same refl
 
-stands_keeps : (ops : List Op) → Tagged ops → (k : Key) (keys : List Key) (a : Op) → At ops k.place a → k ≡ key_of k.place a → Rising (k ∷ keys) → HasLater ops (k ∷ keys) → Stands ops a → (is_done ops k.place || is_next k keys) ≡ true
+stands_keeps : (ops : List Op) → Tagged ops → (k : Key) (keys : List Key) (a : Op) → At ops k.place a → k ≡ key_of k.place a → Rising (k ∷ keys) → HasLater ops (k ∷ keys) → IsOrdered ops a → (is_done ops k.place || is_next k keys) ≡ true
 stands_keeps ops tagged k keys a at_a is_a rises all stands = go (is_some a.end) refl stands
   where
-    go : (e : Bool) → is_some a.end ≡ e → Stands ops a → (is_done ops k.place || is_next k keys) ≡ true
+    go : (e : Bool) → is_some a.end ≡ e → IsOrdered ops a → (is_done ops k.place || is_next k keys) ≡ true
     go true e s = or_left (is_done ops k.place) (is_next k keys) (done_is ops k.place a at_a ∙ e)
     go false e (inl ended) = absurd (true≢false (sym ended ∙ e))
     go false e (inr (writes, j, b, at_b, ended, same)) = or_right (is_done ops k.place) (is_next k keys) (by (is_write b) refl)
@@ -392,7 +392,7 @@ stands_keeps ops tagged k keys a at_a is_a rises all stands = go (is_some a.end)
         s : k.session ≡ l.session
         s = ap (λ z. z.session) is_a ∙ ap (λ z. z.session) (sym tags)
 
-        low : is_write b ≡ false → is_lex (numbers k) (numbers l) ≡ true
+        low : is_write b ≡ false → is_lex_less (numbers k) (numbers l) ≡ true
         low w =
             let first : k.rank ≡ 0 = ap (λ z. z.rank) is_a ∙ (rw writes refl) in
             let second : l.rank ≡ 1 = rw w refl in
@@ -401,7 +401,7 @@ stands_keeps ops tagged k keys a at_a is_a rises all stands = go (is_some a.end)
             (lex_less k.rank l.rank (k.begin ∷ k.place ∷ []) (l.begin ∷ l.place ∷ []) (omega (arith, first, second))))
 
         there : is_write b ≡ false → (l ≡ k) ⊎ Has l keys → is_next k keys ≡ true
-        there w (inl equal) = absurd (true≢false (sym (low w) ∙ ap (λ z. is_lex (numbers k) (numbers z)) equal ∙ lex_self (numbers k)))
+        there w (inl equal) = absurd (true≢false (sym (low w) ∙ ap (λ z. is_lex_less (numbers k) (numbers z)) equal ∙ lex_self (numbers k)))
         there w (inr old) = next_is k l keys rises old n s
 
         by : (w : Bool) → is_write b ≡ w → is_next k keys ≡ true
@@ -412,7 +412,7 @@ stands_keeps ops tagged k keys a at_a is_a rises all stands = go (is_some a.end)
             true≢false (sym ended ∙ ap (λ z. is_some z.end) equal ∙ e))
         by false w = there w (all k (inl refl) l (b, at_b, refl, may_b) (low w))
 
-all_kept : (ops : List Op) → Tagged ops → (keys : List Key) → Rising keys → ((k : Key) → Has k keys → IsKey ops k) → HasLater ops keys → (k : Key) → Has k keys → (a : Op) → At ops k.place a → Stands ops a → Among k.place (kept ops keys)
+all_kept : (ops : List Op) → Tagged ops → (keys : List Key) → Rising keys → ((k : Key) → Has k keys → IsKey ops k) → HasLater ops keys → (k : Key) → Has k keys → (a : Op) → At ops k.place a → IsOrdered ops a → Among k.place (kept ops keys)
 all_kept ops tagged [] rises is all k has a at stands = absurd has
 all_kept ops tagged (m ∷ keys) rises is all k has a at stands = go has (λ old. all_kept ops tagged keys rises.1 (λ l h. is l (inr h)) tail k old a at stands)
   where
@@ -420,14 +420,14 @@ all_kept ops tagged (m ∷ keys) rises is all k has a at stands = go has (λ old
     tail x x_in l l_is low = by (all x (inr x_in) l l_is low)
       where
         by : (l ≡ m) ⊎ Has l keys → Has l keys
-        by (inl same) = absurd (true≢false (sym (lex_trans (numbers m) (numbers x) (numbers m) (rises.0 x x_in) (ap (λ z. is_lex (numbers x) (numbers z)) (sym same) ∙ low)) ∙ lex_self (numbers m)))
+        by (inl same) = absurd (true≢false (sym (lex_trans (numbers m) (numbers x) (numbers m) (rises.0 x x_in) (ap (λ z. is_lex_less (numbers x) (numbers z)) (sym same) ∙ low)) ∙ lex_self (numbers m)))
         by (inr old) = old
 
     first : k ≡ m → IsKey ops m → (is_done ops m.place || is_next m keys) ≡ true
     first same (b, at_b, is_b, may_b) =
         let both : Some b ≡ Some a = sym at_b ∙ ap (slice_get ops) (ap (λ z. z.place) (sym same)) ∙ at in
         let equal : b ≡ a = cc in
-        let P : Op → Type 0 = λ z. Stands ops z in
+        let P : Op → Type 0 = λ z. IsOrdered ops z in
         stands_keeps ops tagged m keys b at_b is_b rises all (subst P (sym equal) stands)
 
     later : (b : Bool) → (is_done ops m.place || is_next m keys) ≡ b → Among k.place (kept ops keys) → Among k.place (kept ops (m ∷ keys))
@@ -440,7 +440,7 @@ all_kept ops tagged (m ∷ keys) rises is all k has a at stands = go has (λ old
 
 -- ---- the order
 
-stands_may : (ops : List Op) → Tagged ops → (a : Op) → Stands ops a → may_stand a ≡ true
+stands_may : (ops : List Op) → Tagged ops → (a : Op) → IsOrdered ops a → may_stand a ≡ true
 stands_may ops tagged a (inl ended) = or_left (is_some a.end) (is_write a && is_some a.tag) ended
 stands_may ops tagged a (inr (writes, j, b, at_b, ended, same)) =
     or_right (is_some a.end) (is_write a && is_some a.tag) (and_from (is_write a) (is_some a.tag) writes (ap is_some (sym same) ∙ tagged.completed j b at_b ended))
@@ -450,7 +450,7 @@ kept_is ops keys perm sorted tagged = record {
   stands = λ m i at. stands_kept ops tagged keys rises is i (among_at (kept ops keys) m i at);
   all = λ i a at s. at_among (kept ops keys) i (all_kept ops tagged keys rises is (λ k k_in l l_is low. has l l_is) (key_of i a) (has (key_of i a) (a, at, refl, stands_may ops tagged a s)) a at s);
   in_order = λ m n i j a b low at_m at_n at_a at_b. before_from i j a b
-      (let P : List ℕ → List ℕ → Type 0 = λ y z. is_lex y z ≡ true in subst (λ y. P y (key j b)) (key_is ops i a at_a) (subst (λ z. P (key_at ops i) z) (key_is ops j b at_b) (sorted_at ops (kept ops keys) m n i j (sorted_kept ops keys rises is) low at_m at_n)));
+      (let P : List ℕ → List ℕ → Type 0 = λ y z. is_lex_less y z ≡ true in subst (λ y. P y (key j b)) (key_is ops i a at_a) (subst (λ z. P (key_at ops i) z) (key_is ops j b at_b) (sorted_at ops (kept ops keys) m n i j (sorted_kept ops keys rises is) low at_m at_n)));
 }
   where
     zero_plus : (i : ℕ) → 0 + i ≡ i

@@ -96,23 +96,23 @@ ending_from t place (event ∷ events) (answer ∷ answers) (session ∷ session
 ending_from t place _ _ _ k = no_ending
 
 -- the copy that the answer at the place gives; the row of the file
-abbrev pub copy_in : Option Answer → Option StoredCopy
-copy_in (Some (Done (Gave session op copy))) = Some copy
-copy_in _ = None
+abbrev pub copy_given : Option Answer → Option StoredCopy
+copy_given (Some (Done (Gave session op copy))) = Some copy
+copy_given _ = None
 
-abbrev pub row_in : ℕ → Option Answer → Option Row
-row_in f (Some (Done (Listed session op rows))) = slice_get rows f
-row_in f _ = None
+abbrev pub row_given : ℕ → Option Answer → Option Row
+row_given f (Some (Done (Listed session op rows))) = slice_get rows f
+row_given f _ = None
 
-abbrev pub answer_at : List Answer → Option ℕ → Option Answer
-answer_at answers None = None
-answer_at answers (Some place) = slice_get answers place
+abbrev pub answer_in : List Answer → Option ℕ → Option Answer
+answer_in answers None = None
+answer_in answers (Some place) = slice_get answers place
 
-abbrev pub copy_at : List Answer → Option ℕ → Option StoredCopy
-copy_at answers place = copy_in (answer_at answers place)
+abbrev pub copy_given_at : List Answer → Option ℕ → Option StoredCopy
+copy_given_at answers place = copy_given (answer_in answers place)
 
-abbrev pub row_at : ℕ → List Answer → Option ℕ → Option Row
-row_at f answers place = row_in f (answer_at answers place)
+abbrev pub row_given_at : ℕ → List Answer → Option ℕ → Option Row
+row_given_at f answers place = row_given f (answer_in answers place)
 
 -- the operation with this ending that begins at the place
 abbrev pub write_begun : ℕ → ℕ → ℕ → List ℕ → Ending → Op
@@ -129,9 +129,9 @@ abbrev pub begins : File → List Answer → ℕ → ℕ → Line → (ℕ → E
 begins file answers place op (Write k v f bytes) ends =
     if nat_lt k 256 && is_file (record { volume = v; place = f }) file then Some (write_begun k op place bytes (ends k)) else None
 begins file answers place op (Read k v f) ends =
-    if nat_lt k 256 && is_file (record { volume = v; place = f }) file then Some (read_begun k op place (ends k).end (copy_at answers (ends k).end)) else None
+    if nat_lt k 256 && is_file (record { volume = v; place = f }) file then Some (read_begun k op place (ends k).end (copy_given_at answers (ends k).end)) else None
 begins file answers place op (ListFiles k v) ends =
-    if nat_lt k 256 && (v == file.volume) then Some (row_begun k op place (ends k).end (row_at file.place answers (ends k).end)) else None
+    if nat_lt k 256 && (v == file.volume) then Some (row_begun k op place (ends k).end (row_given_at file.place answers (ends k).end)) else None
 begins file answers place op _ ends = None
 
 -- the same of an event and its answer

@@ -4,7 +4,7 @@ use Rattle.gq_laws.specs.declared.ops.Kind.{Kind}
 use Rattle.gq_laws.specs.declared.ops.Kind.TheVariants.{Write as Writes}
 use Rattle.gq_laws.specs.declared.ops.Op.{Op}
 use Rattle.gq_laws.specs.Operations.{is_write}
-use Rattle.gq_laws.specs.Orders.{key_at, is_lex}
+use Rattle.gq_laws.specs.Orders.{key_at, is_lex_less}
 use Rattle.gq_laws.specs.Checks.{is_once, is_open_at, gives}
 
 -- the operation may stand where those up to it began by this place and the register holds these bytes
@@ -49,7 +49,7 @@ completed_at ops (i ∷ places) = (if is_done ops i then 1 else 0) + completed_a
 -- each place's operation is before the next one's, after that at this place
 abbrev pub rises_from : List Op → ℕ → List ℕ → Bool
 rises_from ops i [] = true
-rises_from ops i (j ∷ places) = is_lex (key_at ops i) (key_at ops j) && rises_from ops j places
+rises_from ops i (j ∷ places) = is_lex_less (key_at ops i) (key_at ops j) && rises_from ops j places
 
 abbrev pub rises : List Op → List ℕ → Bool
 rises ops [] = true
@@ -58,7 +58,7 @@ rises ops (i ∷ places) = rises_from ops i places
 -- the operation at the place stands after that at the last one, where there is a last one
 abbrev pub is_after : List Op → Option ℕ → ℕ → Bool
 is_after ops None j = true
-is_after ops (Some i) j = is_lex (key_at ops i) (key_at ops j)
+is_after ops (Some i) j = is_lex_less (key_at ops i) (key_at ops j)
 
 -- the same of the places that are left after one, or of all
 abbrev pub rises_after : List Op → Option ℕ → List ℕ → Bool

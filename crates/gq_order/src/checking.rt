@@ -3,7 +3,7 @@
 ghost use Rattle.std.specs.Prelude.{◌≡◌, ◌==◌, ◌||◌, []};
 ghost use Rattle.std.specs.Bool.{Decides};
 ghost use Rattle.gq_laws.specs.Operations.{Legal};
-ghost use Rattle.gq_laws.specs.Orders.{key_at, is_lex};
+ghost use Rattle.gq_laws.specs.Orders.{key_at, is_lex_less};
 ghost use Rattle.gq_laws.specs.Checks.{gives, is_open_at, has_place, is_once};
 ghost use Rattle.gq_order.specs.Walk.{bytes_after, passes, walks, completed, completed_at, is_after, is_legal_at_once, rises};
 
@@ -121,7 +121,7 @@ fn is_once(order: &[OpRef]) -> bool
 
 // Whether the operation at the one place stands before that at the other, where both are there.
 fn places_rise(ops: &[Op], i: OpRef, j: OpRef) -> bool
-    ensures { result ≡ is_lex (key_at ops.now i) (key_at ops.now j) }
+    ensures { result ≡ is_lex_less (key_at ops.now i) (key_at ops.now j) }
 {
     let Some(a) = ops.get(i) else {
         return false;

@@ -6,7 +6,7 @@ ghost use Rattle.gq_laws.specs.Operations.{operations, Tagged};
 ghost use Rattle.gq_laws.specs.Tenants.{seen, tenant_operations};
 ghost use Rattle.gq_model.specs.Shown.{shown};
 ghost use Rattle.gq_order.specs.Runs.{IsRun, sessions_are_bytes, HasFewSessions};
-ghost use Rattle.gq_order.specs.Passes.{opens, files_from, ending_in, as_list, answer_at, copy_at, row_at, write_begun, read_begun, row_begun, begins, begun_by, ops_from, read_off};
+ghost use Rattle.gq_order.specs.Passes.{opens, files_from, ending_in, as_list, answer_in, copy_given_at, row_given_at, write_begun, read_begun, row_begun, begins, begun_by, ops_from, read_off};
 
 use crate::endings::{Ending, ending_in, enter_by, no_ending};
 use crate::sessions::sessions_of;
@@ -70,7 +70,7 @@ fn keep(ops: &mut Vec<Op>, op: Option<Op>) -> Result<(), OutOfMemory>
 
 // The answer at the place, if there is one.
 fn answer_at<'a>(answers: &'a [Answer], place: Option<usize>) -> Option<&'a Answer>
-    ensures { option_copied result ≡ answer_at answers.now place }
+    ensures { option_copied result ≡ answer_in answers.now place }
 {
     match place {
         Some(place) => answers.get(place),
@@ -80,7 +80,7 @@ fn answer_at<'a>(answers: &'a [Answer], place: Option<usize>) -> Option<&'a Answ
 
 // The copy that the answer at the place gives.
 fn copy_at<'a>(answers: &'a [Answer], place: Option<usize>) -> Option<&'a StoredCopy>
-    ensures { option_copied result ≡ copy_at answers.now place }
+    ensures { option_copied result ≡ copy_given_at answers.now place }
 {
     match answer_at(answers, place) {
         Some(Answer::Done(Outcome::Gave { copy, .. })) => Some(copy),
@@ -90,7 +90,7 @@ fn copy_at<'a>(answers: &'a [Answer], place: Option<usize>) -> Option<&'a Stored
 
 // The row of the file in the listing that the answer at the place gives.
 fn row_at(file: u32, answers: &[Answer], place: Option<usize>) -> Option<Row>
-    ensures { result ≡ row_at file answers.now place }
+    ensures { result ≡ row_given_at file answers.now place }
 {
     match answer_at(answers, place) {
         Some(Answer::Done(Outcome::Listed { rows, .. })) => rows.items.get(file as usize).copied(),

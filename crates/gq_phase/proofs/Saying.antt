@@ -26,7 +26,7 @@ use Rattle.gq_phase.specs.declared.operation.Task.TheVariants.{Write, Read, List
 use Rattle.gq_phase.specs.Course.{Course, round_of}
 use Rattle.gq_phase.specs.Best.{best_with, givers_with}
 use Rattle.gq_phase.specs.Phase.{Task, Reply, Operation, HeardNoted, HeardNext, HeardDone, heard_servers, heard_copies, givers, reply_of, stored_copy, skips_store, round_file, round_body, round_messages, messages_to, round_quorum, is_collect, is_current, ends_round, hear, with_reply, with_decided, decided_copy, begin_store, begin_collect, file_done, listed_row, moved, begun, floor_after}
-use Rattle.gq_phase.specs.Standing.{task_of, StandsFor, HearsAs, Begins, BeginsStore, decided_as, floor_with, outcome_as, IsFresh, ResendsAs, rows_of, rows_with, is_list, reads, skips_as, next_file, file_after, BeginsCollect, SkipsOn, first_ask, is_current_as, quorum_as, ends_as, message_as, store_message, next_ask, ask_after}
+use Rattle.gq_phase.specs.Standing.{task_for, StandsFor, HearsAs, Begins, BeginsStore, decided_as, floor_with, outcome_as, IsFresh, ResendsAs, rows_of, rows_with, is_list, reads, skips_as, next_file, file_after, BeginsCollect, SkipsOn, first_ask, is_current_as, quorum_as, ends_as, message_as, store_message, next_ask, ask_after}
 use Rattle.gq_phase.proofs.Hearing.{heard_servers-hear, latest-hear}
 use Rattle.gq_phase.proofs.Givers.{givers-hear}
 use Rattle.gq_phase.proofs.Retrying.{nothing_heard, one_unheard}
@@ -106,13 +106,13 @@ hear_stored grid up o m cur ended even = rw (cur, ended, even) refl
 
 -- ---- the task
 
-decided_is : (t : CodeTask) (file : FileId) (files : ℕ) (o : Operation) (session floor : ℕ) (best : Option StoredCopy) → task_of t file files ≡ o.task → session ≡ o.session → floor ≡ o.floor → best ≡ latest (heard_copies o.heard) →
+decided_is : (t : CodeTask) (file : FileId) (files : ℕ) (o : Operation) (session floor : ℕ) (best : Option StoredCopy) → task_for t file files ≡ o.task → session ≡ o.session → floor ≡ o.floor → best ≡ latest (heard_copies o.heard) →
     decided_as t session floor (unwrap_or best first_copy) ≡ decided_copy o
 decided_is (Write bytes) file files o session floor best t s f b = rw (← t, s, f, b) refl
 decided_is Read file files o session floor best t s f b = rw (← t, b) refl
 decided_is ListFiles file files o session floor best t s f b = rw (← t, b) refl
 
-floor_is : (t : CodeTask) (file : FileId) (files : ℕ) (task : Task) (tag : Tag) (floor : ℕ) → task_of t file files ≡ task → floor_with t tag floor ≡ floor_after task (Some tag) floor
+floor_is : (t : CodeTask) (file : FileId) (files : ℕ) (task : Task) (tag : Tag) (floor : ℕ) → task_for t file files ≡ task → floor_with t tag floor ≡ floor_after task (Some tag) floor
 floor_is (Write bytes) file files task tag floor e = rw (← e) refl
 floor_is Read file files task tag floor e = rw (← e) refl
 floor_is ListFiles file files task tag floor e = rw (← e) refl
@@ -121,24 +121,24 @@ floor_is ListFiles file files task tag floor e = rw (← e) refl
 same_place : (n r q : ℕ) → r ≡ 2 * n + 1 → q ≡ 2 * (n + 1) → (r - 1) / 2 ≡ (q - 1) / 2
 same_place n r q e f = omega arith
 
-same_file : (t : CodeTask) (file : FileId) (files : ℕ) (task : Task) (n r q : ℕ) → task_of t file files ≡ task → r ≡ 2 * n + 1 → q ≡ 2 * (n + 1) → round_file task r ≡ round_file task q
+same_file : (t : CodeTask) (file : FileId) (files : ℕ) (task : Task) (n r q : ℕ) → task_for t file files ≡ task → r ≡ 2 * n + 1 → q ≡ 2 * (n + 1) → round_file task r ≡ round_file task q
 same_file (Write bytes) file files task n r q t e f = rw (← t) refl
 same_file Read file files task n r q t e f = rw (← t) refl
 same_file ListFiles file files task n r q t e f = rw (← t) (λ i. record { volume = file.volume; place = same_place n r q e f i })
 
-own_file : (t : CodeTask) (file : FileId) (files : ℕ) (task : Task) (tenant : ℕ) → task_of t file files ≡ task → file.tenant ≡ tenant → (is_list t ≡ true → file.file ≡ 0) → file ≡ file_of tenant (round_file task 1)
+own_file : (t : CodeTask) (file : FileId) (files : ℕ) (task : Task) (tenant : ℕ) → task_for t file files ≡ task → file.tenant ≡ tenant → (is_list t ≡ true → file.file ≡ 0) → file ≡ file_of tenant (round_file task 1)
 own_file (Write bytes) file files task tenant e own at_start = rw (← e) (λ i. record { tenant = own i; volume = file.volume; file = file.file })
 own_file Read file files task tenant e own at_start = rw (← e) (λ i. record { tenant = own i; volume = file.volume; file = file.file })
 own_file ListFiles file files task tenant e own at_start = rw (← e) (λ i. record { tenant = own i; volume = file.volume; file = at_start refl i })
 
-finished : (grid : Grid) (up : Servers) (t : CodeTask) (file : FileId) (files : ℕ) (o : Operation) (who : Who) (copy : StoredCopy) (rows : List Row) → task_of t file files ≡ o.task → who.session ≡ o.session → who.op ≡ o.op →
+finished : (grid : Grid) (up : Servers) (t : CodeTask) (file : FileId) (files : ℕ) (o : Operation) (who : Who) (copy : StoredCopy) (rows : List Row) → task_for t file files ≡ o.task → who.session ≡ o.session → who.op ≡ o.op →
     copy ≡ stored_copy o.collected → rows ≡ rows_of t o.collected → (is_list t ≡ true → nat_lt (length o.collected) files ≡ false) →
     file_done grid up o ≡ HeardDone (outcome_as t who copy rows)
 finished grid up (Write bytes) file files o who copy rows t s n c r over = rw (← t, s, n, c) refl
 finished grid up Read file files o who copy rows t s n c r over = rw (← t, s, n, c) refl
 finished grid up ListFiles file files o who copy rows t s n c r over = rw (← t, over refl, s, n, r) refl
 
-continued : (grid : Grid) (up : Servers) (t : CodeTask) (file : FileId) (files : ℕ) (o : Operation) → task_of t file files ≡ o.task → is_list t ≡ true → nat_lt (length o.collected) files ≡ true → file_done grid up o ≡ begin_collect grid up o
+continued : (grid : Grid) (up : Servers) (t : CodeTask) (file : FileId) (files : ℕ) (o : Operation) → task_for t file files ≡ o.task → is_list t ≡ true → nat_lt (length o.collected) files ≡ true → file_done grid up o ≡ begin_collect grid up o
 continued grid up (Write bytes) file files o t lists more = absurd (true≢false (sym lists))
 continued grid up Read file files o t lists more = absurd (true≢false (sym lists))
 continued grid up ListFiles file files o t lists more = rw (← t, more) refl
@@ -148,7 +148,7 @@ rows_push (Write bytes) rows copies copy e = e
 rows_push Read rows copies copy e = e
 rows_push ListFiles rows copies copy e = rw e (sym (map-append listed_row copies (copy ∷ [])))
 
-listed_file : (t : CodeTask) (file : FileId) (files : ℕ) (task : Task) (tenant n : ℕ) → task_of t file files ≡ task → is_list t ≡ true → file.tenant ≡ tenant →
+listed_file : (t : CodeTask) (file : FileId) (files : ℕ) (task : Task) (tenant n : ℕ) → task_for t file files ≡ task → is_list t ≡ true → file.tenant ≡ tenant →
     ◌≡◌ {A = FileId} (record { tenant = file.tenant; volume = file.volume; file = n }) (file_of tenant (round_file task (2 * n + 1)))
 listed_file (Write bytes) file files task tenant n t lists own = absurd (true≢false (sym lists))
 listed_file Read file files task tenant n t lists own = absurd (true≢false (sym lists))
@@ -156,12 +156,12 @@ listed_file ListFiles file files task tenant n t lists own =
     let place : n ≡ (2 * n + 1 - 1) / 2 = omega arith in
     rw (← t) (λ i. record { tenant = own i; volume = file.volume; file = place i })
 
-listed_task : (t : CodeTask) (file : FileId) (files n : ℕ) → is_list t ≡ true → task_of t (record { tenant = file.tenant; volume = file.volume; file = n }) files ≡ task_of t file files
+listed_task : (t : CodeTask) (file : FileId) (files n : ℕ) → is_list t ≡ true → task_for t (record { tenant = file.tenant; volume = file.volume; file = n }) files ≡ task_for t file files
 listed_task (Write bytes) file files n lists = absurd (true≢false (sym lists))
 listed_task Read file files n lists = absurd (true≢false (sym lists))
 listed_task ListFiles file files n lists = refl
 
-listed_floor : (t : CodeTask) (file : FileId) (files : ℕ) (task : Task) (floor : ℕ) → task_of t file files ≡ task → floor ≡ floor_after task None floor
+listed_floor : (t : CodeTask) (file : FileId) (files : ℕ) (task : Task) (floor : ℕ) → task_for t file files ≡ task → floor ≡ floor_after task None floor
 listed_floor (Write bytes) file files task floor e = rw (← e) refl
 listed_floor Read file files task floor e = rw (← e) refl
 listed_floor ListFiles file files task floor e = rw (← e) refl
@@ -237,7 +237,7 @@ module _ (grid : Grid) (tenant : ℕ) (old : Code) (o : Operation) (up : Servers
     skips_is : skips_store grid (with_decided (with_reply o (own_message m))) ≡ skips_as old (servers told)
     skips_is = go old.task o.task s.task
       where
-        go : (t : CodeTask) (task : Task) → task_of t old.file old.course.files ≡ task →
+        go : (t : CodeTask) (task : Task) → task_for t old.file old.course.files ≡ task →
             skips_store grid (record { session = o.session; op = o.op; task = task; round = o.round; heard = (with_reply o (own_message m)).heard; collected = o.collected ++ decided_copy (record { session = o.session; op = o.op; task = task; round = o.round; heard = (with_reply o (own_message m)).heard; collected = o.collected; floor = o.floor }) ∷ []; floor = o.floor }) ≡ (reads t && ends_store old.grid (servers told))
         go (Write bytes) task e = rw (← e) refl
         go Read task e = rw (← e) told_ends
@@ -488,7 +488,7 @@ no_rows ListFiles = refl
 
 -- a fresh value stands for an operation that begins
 pub fresh_begins : (grid : Grid) (up : Servers) (who : Who) (t : CodeTask) (task : Task) (files : ℕ) (file : FileId) (floor : ℕ) (code : Code) (quorum : Servers) (messages : List Message) →
-    task_of t file files ≡ task → file.tenant ≡ who.tenant → (is_list t ≡ true → file.file ≡ 0) → IsFresh code grid who t files file floor → collect_quorum grid up ≡ Some quorum →
+    task_for t file files ≡ task → file.tenant ≡ who.tenant → (is_list t ≡ true → file.file ≡ 0) → IsFresh code grid who t files file floor → collect_quorum grid up ≡ Some quorum →
     messages ≡ sent_to grid (Some quorum) (first_ask who file) → Begins grid who task floor up code messages
 fresh_begins grid up who t task files file floor code quorum messages is_task own at_start f chosen sent =
     let file_is : file ≡ file_of who.tenant (round_file task 1) = own_file t file files task who.tenant is_task own at_start in (

@@ -4,7 +4,7 @@ use Rattle.gq_grid.specs.Grid.{Servers, no_servers, with_server}
 use Rattle.gq_tag.specs.declared.StoredCopy.{StoredCopy}
 use Rattle.gq_tag.specs.declared.Body.{Body}
 use Rattle.gq_tag.specs.declared.Body.TheVariants.{Copy}
-use Rattle.gq_tag.specs.Tag.{is_less, is_tag, newer_of}
+use Rattle.gq_tag.specs.Tag.{is_less, equal_tags, newer_of}
 
 -- the greatest copy, if there is one, where one more reply says this
 abbrev pub best_with : Option StoredCopy → Body → Option StoredCopy
@@ -31,5 +31,5 @@ exceeds (Some best) copy = is_less best.tag copy.tag
 abbrev pub givers_with : Option StoredCopy → Servers → ℕ → Body → Servers
 givers_with None givers server (Copy copy) = with_server server no_servers
 givers_with (Some best) givers server (Copy copy) =
-    if is_less best.tag copy.tag then with_server server no_servers else if is_tag copy.tag best.tag then with_server server givers else givers
+    if is_less best.tag copy.tag then with_server server no_servers else if equal_tags copy.tag best.tag then with_server server givers else givers
 givers_with best givers server _ = givers

@@ -8,7 +8,7 @@ use Rattle.gq_tag.specs.declared.Tag.{Tag}
 use Rattle.gq_tag.specs.declared.StoredCopy.{StoredCopy}
 use Rattle.gq_tag.specs.declared.Body.{Body}
 use Rattle.gq_tag.specs.declared.Body.TheVariants.{Ask, Copy, Store, Stored}
-use Rattle.gq_tag.specs.Tag.{first_copy, greatest, is_tag, File, OwnMessage}
+use Rattle.gq_tag.specs.Tag.{first_copy, greatest, equal_tags, File, OwnMessage}
 use Rattle.gq_phase.specs.declared.Row.{Row}
 use Rattle.gq_phase.specs.declared.Outcome.{Outcome}
 use Rattle.gq_phase.specs.declared.Outcome.TheVariants.{Wrote, Gave, Listed}
@@ -92,22 +92,22 @@ heard_copies heard = filter_map (λ reply. copy reply.body) heard
     copy Stored = None
 
 -- two copies, two bodies, two replies are the same
-abbrev pub is_copy : StoredCopy → StoredCopy → Bool
-is_copy a b = is_tag a.tag b.tag && bytes_eq a.bytes b.bytes
+abbrev pub equal_copies : StoredCopy → StoredCopy → Bool
+equal_copies a b = equal_tags a.tag b.tag && bytes_eq a.bytes b.bytes
 
-abbrev pub is_body : Body → Body → Bool
-is_body Ask Ask = true
-is_body (Copy a) (Copy b) = is_copy a b
-is_body (Store a) (Store b) = is_copy a b
-is_body Stored Stored = true
-is_body _ _ = false
+abbrev pub equal_bodies : Body → Body → Bool
+equal_bodies Ask Ask = true
+equal_bodies (Copy a) (Copy b) = equal_copies a b
+equal_bodies (Store a) (Store b) = equal_copies a b
+equal_bodies Stored Stored = true
+equal_bodies _ _ = false
 
-abbrev pub is_reply : Reply → Reply → Bool
-is_reply a b = (a.server == b.server) && is_body a.body b.body
+abbrev pub equal_replies : Reply → Reply → Bool
+equal_replies a b = (a.server == b.server) && equal_bodies a.body b.body
 
 -- what was heard, without repeats, after one more reply
 abbrev pub hear_reply : List Reply → Reply → List Reply
-hear_reply heard reply = if list_any (is_reply reply) heard then heard else heard ++ reply ∷ []
+hear_reply heard reply = if list_any (equal_replies reply) heard then heard else heard ++ reply ∷ []
 
 -- whether the servers heard end the round
 abbrev pub ends_round : Grid → ℕ → List Reply → Bool
@@ -176,7 +176,7 @@ with_decided o =
 
 -- whether a body tells a copy of the tag
 abbrev pub has_tag : Tag → Body → Bool
-has_tag tag (Copy copy) = is_tag copy.tag tag
+has_tag tag (Copy copy) = equal_tags copy.tag tag
 has_tag tag _ = false
 
 -- the servers that told a copy of the tag
@@ -243,7 +243,7 @@ resent grid o quorum = messages_to grid o (λ server. quorum server && not (hear
 
 -- ---- where the operation then stands
 
--- the copies collected after a message that ends a round
+-- the copies decided after a message that ends a round
 abbrev pub collected_after : Operation → OwnMessage → List StoredCopy
 collected_after o m = if is_collect o.round then o.collected ++ decided_copy (with_reply o m) ∷ [] else o.collected
 

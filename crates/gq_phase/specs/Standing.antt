@@ -40,10 +40,10 @@ messages_of _ = []
 -- ---- what a value stands for
 
 -- what the session was asked to do with the file
-abbrev pub task_of : CodeTask → FileId → ℕ → Task
-task_of (Write bytes) file files = Writing (file_place file) bytes
-task_of Read file files = Reading (file_place file)
-task_of ListFiles file files = Listing file.volume files
+abbrev pub task_for : CodeTask → FileId → ℕ → Task
+task_for (Write bytes) file files = Writing (file_place file) bytes
+task_for Read file files = Reading (file_place file)
+task_for ListFiles file files = Listing file.volume files
 
 -- of a listing, the files whose copies were collected
 abbrev pub rows_of : CodeTask → List StoredCopy → List Row
@@ -60,7 +60,7 @@ pub record StandsFor (grid : Grid) (tenant : ℕ) (code : Code) (o : Operation) 
   pub its_tenant : code.who.tenant ≡ tenant
   pub session : code.who.session ≡ o.session
   pub op : code.who.op ≡ o.op
-  pub task : task_of code.task code.file code.course.files ≡ o.task
+  pub task : task_for code.task code.file code.course.files ≡ o.task
   pub file : code.file ≡ file_of tenant (round_file o.task o.round)
   pub round : round_of code.course ≡ o.round
   pub collected : code.course.collected ≡ length o.collected

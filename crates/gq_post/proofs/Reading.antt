@@ -11,13 +11,13 @@ use Rattle.gq_post.specs.declared.envelopes.Envelope.{Envelope}
 use Rattle.gq_post.specs.declared.envelopes.Says.{Says}
 use Rattle.gq_post.specs.declared.envelopes.Says.TheVariants.{Lost, Ask, Copy, Store, Stored}
 use Rattle.gq_post.specs.Lanes.{Lane, lane_at, message_at}
-use Rattle.gq_post.specs.Envelopes.{said, names_copy, is_lost, with_body, envelopes_at, kept, envelope_at}
-use Rattle.gq_post.specs.Copies.{Slots, copy_at, message_of, lane_of, names, uses, uses_in}
+use Rattle.gq_post.specs.Envelopes.{said_body, names_copy, says_lost, with_body, envelopes_at, unless_lost, envelope_at}
+use Rattle.gq_post.specs.Copies.{Slots, slot_copy, envelope_message, lane_of, names, uses, uses_in}
 
 -- the message that an envelope is, if there is one
 abbrev pub found : Slots → Option Envelope → Option Message
 found slots None = None
-found slots (Some envelope) = message_of slots envelope
+found slots (Some envelope) = envelope_message slots envelope
 
 -- ---- what is read
 
@@ -31,17 +31,17 @@ read_lane slots (envelope ∷ envelopes) zero = refl
 read_lane slots (envelope ∷ envelopes) (suc n) = read_lane slots envelopes n
 
 -- a lost envelope is no message
-lost_or_not : (slots : Slots) (envelope : Envelope) → option_map (with_body envelope) (said envelope.says (copy_at slots envelope.place)) ≡ found slots (cond (is_lost envelope.says) None (Some envelope))
+lost_or_not : (slots : Slots) (envelope : Envelope) → option_map (with_body envelope) (said_body envelope.says (slot_copy slots envelope.place)) ≡ found slots (cond (says_lost envelope.says) None (Some envelope))
 lost_or_not slots envelope = by_says envelope.says refl
   where
-    by_says : (says : Says) → envelope.says ≡ says → option_map (with_body envelope) (said envelope.says (copy_at slots envelope.place)) ≡ found slots (cond (is_lost envelope.says) None (Some envelope))
+    by_says : (says : Says) → envelope.says ≡ says → option_map (with_body envelope) (said_body envelope.says (slot_copy slots envelope.place)) ≡ found slots (cond (says_lost envelope.says) None (Some envelope))
     by_says Lost is = rw is refl
     by_says Ask is = rw is refl
     by_says Copy is = rw is refl
     by_says Store is = rw is refl
     by_says Stored is = rw is refl
 
-found_kept : (slots : Slots) (envelope : Option Envelope) → found slots envelope ≡ found slots (kept envelope)
+found_kept : (slots : Slots) (envelope : Option Envelope) → found slots envelope ≡ found slots (unless_lost envelope)
 found_kept slots None = refl
 found_kept slots (Some envelope) = lost_or_not slots envelope
 
@@ -86,17 +86,17 @@ envelope_there envelopes n envelope is = there (slice_get envelopes n) refl
     not_lost false x h = h
 
     there : (o : Option Envelope) → slice_get envelopes n ≡ o → o ≡ Some envelope
-    there None at = absurd (let no : kept None ≡ Some envelope = sym (ap kept at) ∙ is in cc)
-    there (Some x) at = not_lost (is_lost x.says) x (sym (ap kept at) ∙ is)
+    there None at = absurd (let no : unless_lost None ≡ Some envelope = sym (ap unless_lost at) ∙ is in cc)
+    there (Some x) at = not_lost (says_lost x.says) x (sym (ap unless_lost at) ∙ is)
 
 -- ---- lanes that read alike
 
 -- an envelope that names a place
-said_alike : (says : Says) (a b : Option StoredCopy) → (names_copy says ≡ true → a ≡ b) → said says a ≡ said says b
+said_alike : (says : Says) (a b : Option StoredCopy) → (names_copy says ≡ true → a ≡ b) → said_body says a ≡ said_body says b
 said_alike Lost a b same = refl
 said_alike Ask a b same = refl
-said_alike Copy a b same = ap (said Copy) (same refl)
-said_alike Store a b same = ap (said Store) (same refl)
+said_alike Copy a b same = ap (said_body Copy) (same refl)
+said_alike Store a b same = ap (said_body Store) (same refl)
 said_alike Stored a b same = refl
 
 abbrev pub once : Bool → ℕ
@@ -111,17 +111,17 @@ uses_in_first place envelopes lanes = sum_by-cons (uses place) envelopes lanes
 pub names_own : (envelope : Envelope) → names_copy envelope.says ≡ true → names envelope.place envelope ≡ true
 names_own envelope is = rw is (grind (arith, nat_tests))
 
-pub alike_message : (old new : Slots) (envelope : Envelope) → (names_copy envelope.says ≡ true → copy_at new envelope.place ≡ copy_at old envelope.place) → message_of new envelope ≡ message_of old envelope
-alike_message old new envelope same = ap (option_map (with_body envelope)) (said_alike envelope.says (copy_at new envelope.place) (copy_at old envelope.place) same)
+pub alike_message : (old new : Slots) (envelope : Envelope) → (names_copy envelope.says ≡ true → slot_copy new envelope.place ≡ slot_copy old envelope.place) → envelope_message new envelope ≡ envelope_message old envelope
+alike_message old new envelope same = ap (option_map (with_body envelope)) (said_alike envelope.says (slot_copy new envelope.place) (slot_copy old envelope.place) same)
 
-pub alike_lane : (old new : Slots) (envelopes : List Envelope) → ((place : ℕ) → 0 < uses place envelopes → copy_at new place ≡ copy_at old place) → lane_of new envelopes ≡ lane_of old envelopes
+pub alike_lane : (old new : Slots) (envelopes : List Envelope) → ((place : ℕ) → 0 < uses place envelopes → slot_copy new place ≡ slot_copy old place) → lane_of new envelopes ≡ lane_of old envelopes
 alike_lane old new [] same = refl
 alike_lane old new (envelope ∷ envelopes) same =
     ap₂ (λ m lane. m ∷ lane)
     (alike_message old new envelope (λ named. same envelope.place (let one : once (names envelope.place envelope) ≡ 1 = ap once (names_own envelope named) in omega (arith, uses_first envelope.place envelope envelopes, one))))
     (alike_lane old new envelopes (λ place used. same place (omega (arith, uses_first place envelope envelopes, used))))
 
-pub alike_lanes : (old new : Slots) (lanes : List (List Envelope)) → ((place : ℕ) → 0 < uses_in place lanes → copy_at new place ≡ copy_at old place) → map (lane_of new) lanes ≡ map (lane_of old) lanes
+pub alike_lanes : (old new : Slots) (lanes : List (List Envelope)) → ((place : ℕ) → 0 < uses_in place lanes → slot_copy new place ≡ slot_copy old place) → map (lane_of new) lanes ≡ map (lane_of old) lanes
 alike_lanes old new [] same = refl
 alike_lanes old new (envelopes ∷ lanes) same =
     ap₂ (λ lane rest. lane ∷ rest)

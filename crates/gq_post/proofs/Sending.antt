@@ -14,8 +14,8 @@ use Rattle.gq_post.specs.declared.envelopes.Envelope.{Envelope}
 use Rattle.gq_post.specs.declared.envelopes.Says.{Says}
 use Rattle.gq_post.specs.declared.envelopes.Says.TheVariants.{Lost, Ask, Copy, Store, Stored}
 use Rattle.gq_post.specs.Lanes.{Lane, lane_at, message_at}
-use Rattle.gq_post.specs.Envelopes.{says_of, copy_in, said, is_lost, kept, names_copy, with_body, to_other, lost, envelopes_at, envelope_at}
-use Rattle.gq_post.specs.Copies.{Slots, slot_at, copy_of, copy_at, message_of, lane_of, names, uses, uses_in, IsUsed, Counted, one_less}
+use Rattle.gq_post.specs.Envelopes.{says_of, unless_lost, body_copy, said_body, says_lost, names_copy, with_body, to_other, lost, envelopes_at, envelope_at}
+use Rattle.gq_post.specs.Copies.{Slots, slot_at, copy_of, slot_copy, envelope_message, lane_of, names, uses, uses_in, IsUsed, Counted, one_less}
 use Rattle.gq_post.proofs.Reading.{lane_there, names_own, once, uses_first, alike_lanes, envelope_there}
 use Rattle.gq_post.proofs.Counting.{uses_sent, uses_round, uses_lost, uses_empty, counted_same, counted_change, vacant_unused, used_more, used_less}
 
@@ -32,16 +32,16 @@ pub record Keeps (old new : Slab SharedCopy) (key : ℕ) (copy : Option StoredCo
 pub keeps_nothing : (slab : Slab SharedCopy) (key users : ℕ) → Keeps slab slab key None users
 keeps_nothing slab key users = record { none = λ _. refl; nobody = λ _. refl; vacant = λ _ c is. absurd (cc); kept = λ _ c is. absurd (cc) }
 
-names_says : (b : Body) → names_copy (says_of b) ≡ is_some (copy_in b)
+names_says : (b : Body) → names_copy (says_of b) ≡ is_some (body_copy b)
 names_says body.Ask = refl
 names_says (body.Copy copy) = refl
 names_says (body.Store copy) = refl
 names_says body.Stored = refl
 
-said_says : (b : Body) (copy : Option StoredCopy) → (is_some (copy_in b) ≡ true → copy ≡ copy_in b) → said (says_of b) copy ≡ Some b
+said_says : (b : Body) (copy : Option StoredCopy) → (is_some (body_copy b) ≡ true → copy ≡ body_copy b) → said_body (says_of b) copy ≡ Some b
 said_says body.Ask copy same = refl
-said_says (body.Copy c) copy same = ap (said (says_of (body.Copy c))) (same refl)
-said_says (body.Store c) copy same = ap (said (says_of (body.Store c))) (same refl)
+said_says (body.Copy c) copy same = ap (said_body (says_of (body.Copy c))) (same refl)
+said_says (body.Store c) copy same = ap (said_body (says_of (body.Store c))) (same refl)
 said_says body.Stored copy same = refl
 
 some_or_none : (o : Option StoredCopy) → (o ≡ None) ⊎ ((c : StoredCopy) × (o ≡ Some c))
@@ -69,7 +69,7 @@ to_nobody slots envelope b [] nobody = refl
 to_nobody slots envelope b (server ∷ servers) nobody = absurd (omega (arith, nobody))
 
 -- the envelope that says a body, to some servers: its message to each
-round_lane : (slots : Slots) (envelope : Envelope) (b : Body) (servers : List ℕ) → said envelope.says (copy_at slots envelope.place) ≡ Some b →
+round_lane : (slots : Slots) (envelope : Envelope) (b : Body) (servers : List ℕ) → said_body envelope.says (slot_copy slots envelope.place) ≡ Some b →
     lane_of slots (map (to_other envelope) servers) ≡ map Some (map (λ server. with_body (to_other envelope server) b) servers)
 round_lane slots envelope b [] says = refl
 round_lane slots envelope b (server ∷ servers) says = ap₂ (λ m lane. m ∷ lane) (ap (option_map (with_body (to_other envelope server))) says) (round_lane slots envelope b servers says)
@@ -78,7 +78,7 @@ round_lane slots envelope b (server ∷ servers) says = ap₂ (λ m lane. m ∷ 
 more_view : (slots : Slots) (lanes : List (List Envelope)) (t : ℕ) (more : List Envelope) → map (lane_of slots) (set lanes t (envelopes_at lanes t ++ more)) ≡ set (map (lane_of slots) lanes) t (lane_at (map (lane_of slots) lanes) t ++ lane_of slots more)
 more_view slots lanes t more =
     map-set (lane_of slots) lanes t (envelopes_at lanes t ++ more)
-    ∙ ap (set (map (lane_of slots) lanes) t) (map-append (message_of slots) (envelopes_at lanes t) more ∙ ap (λ lane. lane ++ lane_of slots more) (sym (lane_there slots lanes t)))
+    ∙ ap (set (map (lane_of slots) lanes) t) (map-append (envelope_message slots) (envelopes_at lanes t) more ∙ ap (λ lane. lane ++ lane_of slots more) (sym (lane_there slots lanes t)))
 
 same_slots : (old new : Slab SharedCopy) → new ≡ old → (place : ℕ) → slot_at new.slots place ≡ slot_at old.slots place
 same_slots old new same place = ap (λ (s : Slab SharedCopy). slot_at s.slots place) same
@@ -86,7 +86,7 @@ same_slots old new same place = ap (λ (s : Slab SharedCopy). slot_at s.slots pl
 -- ---- a round is sent
 
 module _ (old mid new : Slab SharedCopy) (lanes : List (List Envelope)) (t : ℕ) (envelope : Envelope) (b : Body) (servers : List ℕ) (within : t < length lanes) (room : mid.slots ≡ old.slots)
-    (says : envelope.says ≡ says_of b) (keeps : Keeps mid new envelope.place (copy_in b) (length servers)) (counted : Counted old.slots lanes) where
+    (says : envelope.says ≡ says_of b) (keeps : Keeps mid new envelope.place (body_copy b) (length servers)) (counted : Counted old.slots lanes) where
   counted_mid : Counted mid.slots lanes
   counted_mid = subst (λ slots. Counted slots lanes) (sym room) counted
 
@@ -94,20 +94,20 @@ module _ (old mid new : Slab SharedCopy) (lanes : List (List Envelope)) (t : ℕ
   grown place = uses_sent place lanes t (map (to_other envelope) servers) within ∙ ap (λ n. uses_in place lanes + n) (uses_round place envelope servers)
 
   -- an envelope without a copy names nothing
-  unnamed : copy_in b ≡ None → (place : ℕ) → names place envelope ≡ false
+  unnamed : body_copy b ≡ None → (place : ℕ) → names place envelope ≡ false
   unnamed none place = let no : names_copy envelope.says ≡ false = ap names_copy says ∙ names_says b ∙ ap is_some none in rw no refl
 
-  named : (c : StoredCopy) → copy_in b ≡ Some c → names envelope.place envelope ≡ true
+  named : (c : StoredCopy) → body_copy b ≡ Some c → names envelope.place envelope ≡ true
   named c is = names_own envelope (ap names_copy says ∙ names_says b ∙ ap is_some is)
 
   -- no envelope used the place of a copy that is new
-  unused : 0 < length servers → (c : StoredCopy) → copy_in b ≡ Some c → uses_in envelope.place lanes ≡ 0
+  unused : 0 < length servers → (c : StoredCopy) → body_copy b ≡ Some c → uses_in envelope.place lanes ≡ 0
   unused some c is = vacant_unused (slot_at mid.slots envelope.place) (uses_in envelope.place lanes) (counted_mid envelope.place) (keeps.vacant some c is)
 
   pub sent_counted : Counted new.slots (set lanes t (envelopes_at lanes t ++ map (to_other envelope) servers))
-  sent_counted = by_copy (some_or_none (copy_in b))
+  sent_counted = by_copy (some_or_none (body_copy b))
     where
-      by_count : (c : StoredCopy) → copy_in b ≡ Some c → (length servers ≡ 0) ⊎ (0 < length servers) → Counted new.slots (set lanes t (envelopes_at lanes t ++ map (to_other envelope) servers))
+      by_count : (c : StoredCopy) → body_copy b ≡ Some c → (length servers ≡ 0) ⊎ (0 < length servers) → Counted new.slots (set lanes t (envelopes_at lanes t ++ map (to_other envelope) servers))
       by_count c is (inl nobody) =
           counted_same mid.slots new.slots lanes (set lanes t (envelopes_at lanes t ++ map (to_other envelope) servers)) (same_slots mid new (keeps.nobody nobody)) (λ place. grown place ∙ (let no = cond_zero (names place envelope) (length servers) nobody in omega (arith, no))) counted_mid
       by_count c is (inr some) =
@@ -118,27 +118,27 @@ module _ (old mid new : Slab SharedCopy) (lanes : List (List Envelope)) (t : ℕ
           rw ((keeps.kept some c is).changed, full) (refl, some))
           counted_mid
 
-      by_copy : (copy_in b ≡ None) ⊎ ((c : StoredCopy) × (copy_in b ≡ Some c)) → Counted new.slots (set lanes t (envelopes_at lanes t ++ map (to_other envelope) servers))
+      by_copy : (body_copy b ≡ None) ⊎ ((c : StoredCopy) × (body_copy b ≡ Some c)) → Counted new.slots (set lanes t (envelopes_at lanes t ++ map (to_other envelope) servers))
       by_copy (inl none) =
           counted_same mid.slots new.slots lanes (set lanes t (envelopes_at lanes t ++ map (to_other envelope) servers)) (same_slots mid new (keeps.none none))
           (λ place. grown place ∙ (let no : cond (names place envelope) (length servers) 0 ≡ 0 = ap (λ b. cond b (length servers) 0) (unnamed none place) in omega (arith, no))) counted_mid
       by_copy (inr copy) = by_count copy.0 copy.1 (none_or_some (length servers))
 
-  alike_mid : new ≡ mid → (place : ℕ) → copy_at new.slots place ≡ copy_at old.slots place
+  alike_mid : new ≡ mid → (place : ℕ) → slot_copy new.slots place ≡ slot_copy old.slots place
   alike_mid same place = ap copy_of (same_slots mid new same place ∙ ap (λ slots. slot_at slots place) room)
 
-  alike : (place : ℕ) → 0 < uses_in place lanes → copy_at new.slots place ≡ copy_at old.slots place
-  alike place used = by_copy (some_or_none (copy_in b))
+  alike : (place : ℕ) → 0 < uses_in place lanes → slot_copy new.slots place ≡ slot_copy old.slots place
+  alike place used = by_copy (some_or_none (body_copy b))
     where
-      by_place : (c : StoredCopy) → copy_in b ≡ Some c → 0 < length servers → (place ≡ envelope.place) ⊎ (place ≢ envelope.place) → copy_at new.slots place ≡ copy_at old.slots place
+      by_place : (c : StoredCopy) → body_copy b ≡ Some c → 0 < length servers → (place ≡ envelope.place) ⊎ (place ≢ envelope.place) → slot_copy new.slots place ≡ slot_copy old.slots place
       by_place c is some (inl same) = absurd (let no : uses_in place lanes ≡ 0 = ap (λ k. uses_in k lanes) same ∙ unused some c is in omega (arith, no, used))
       by_place c is some (inr other) = ap copy_of ((keeps.kept some c is).others place other ∙ ap (λ slots. slot_at slots place) room)
 
-      by_count : (c : StoredCopy) → copy_in b ≡ Some c → (length servers ≡ 0) ⊎ (0 < length servers) → copy_at new.slots place ≡ copy_at old.slots place
+      by_count : (c : StoredCopy) → body_copy b ≡ Some c → (length servers ≡ 0) ⊎ (0 < length servers) → slot_copy new.slots place ≡ slot_copy old.slots place
       by_count c is (inl nobody) = alike_mid (keeps.nobody nobody) place
       by_count c is (inr some) = by_place c is some (cases_eq place envelope.place)
 
-      by_copy : (copy_in b ≡ None) ⊎ ((c : StoredCopy) × (copy_in b ≡ Some c)) → copy_at new.slots place ≡ copy_at old.slots place
+      by_copy : (body_copy b ≡ None) ⊎ ((c : StoredCopy) × (body_copy b ≡ Some c)) → slot_copy new.slots place ≡ slot_copy old.slots place
       by_copy (inl none) = alike_mid (keeps.none none) place
       by_copy (inr copy) = by_count copy.0 copy.1 (none_or_some (length servers))
 
@@ -149,10 +149,10 @@ module _ (old mid new : Slab SharedCopy) (lanes : List (List Envelope)) (t : ℕ
       by_count (inl nobody) = to_nobody new.slots envelope b servers nobody
       by_count (inr some) =
           round_lane new.slots envelope b servers
-          (ap (λ s. said s (copy_at new.slots envelope.place)) says
-          ∙ said_says b (copy_at new.slots envelope.place) (λ is_copy. by_copy is_copy (some_or_none (copy_in b))))
+          (ap (λ s. said_body s (slot_copy new.slots envelope.place)) says
+          ∙ said_says b (slot_copy new.slots envelope.place) (λ is_copy. by_copy is_copy (some_or_none (body_copy b))))
         where
-          by_copy : is_some (copy_in b) ≡ true → (copy_in b ≡ None) ⊎ ((c : StoredCopy) × (copy_in b ≡ Some c)) → copy_at new.slots envelope.place ≡ copy_in b
+          by_copy : is_some (body_copy b) ≡ true → (body_copy b ≡ None) ⊎ ((c : StoredCopy) × (body_copy b ≡ Some c)) → slot_copy new.slots envelope.place ≡ body_copy b
           by_copy is_copy (inl none) = absurd (let no : is_some {T = StoredCopy} None ≡ true = sym (ap is_some none) ∙ is_copy in cc)
           by_copy is_copy (inr copy) = ap copy_of (keeps.kept some copy.0 copy.1).changed ∙ sym copy.1
 
@@ -186,11 +186,11 @@ module _ (old new : Slab SharedCopy) (lanes : List (List Envelope)) (t : ℕ) (e
       rw (updates.changed, more) (used_more (slot_at old.slots envelope.place) shared (uses_in envelope.place lanes) there (counted envelope.place)))
       counted
 
-  alike_shared : (place : ℕ) → copy_at new.slots place ≡ copy_at old.slots place
+  alike_shared : (place : ℕ) → slot_copy new.slots place ≡ slot_copy old.slots place
   alike_shared place = by_place (cases_eq place envelope.place)
     where
-      by_place : (place ≡ envelope.place) ⊎ (place ≢ envelope.place) → copy_at new.slots place ≡ copy_at old.slots place
-      by_place (inl same) = ap (copy_at new.slots) same ∙ ap copy_of (updates.changed) ∙ sym (ap copy_of there) ∙ sym (ap (copy_at old.slots) same)
+      by_place : (place ≡ envelope.place) ⊎ (place ≢ envelope.place) → slot_copy new.slots place ≡ slot_copy old.slots place
+      by_place (inl same) = ap (slot_copy new.slots) same ∙ ap copy_of (updates.changed) ∙ sym (ap copy_of there) ∙ sym (ap (slot_copy old.slots) same)
       by_place (inr other) = ap copy_of (updates.others place other)
 
   pub shared_view : (view : List Lane) → map (lane_of old.slots) lanes ≡ view →
@@ -198,7 +198,7 @@ module _ (old new : Slab SharedCopy) (lanes : List (List Envelope)) (t : ℕ) (e
   shared_view view is =
       more_view new.slots lanes t (envelope ∷ [])
       ∙ ap₂ (λ v m. set v t (lane_at v t ++ m ∷ [])) (alike_lanes old.slots new.slots lanes (λ place _. alike_shared place) ∙ is)
-      (ap (λ s. option_map (with_body envelope) (said s (copy_at new.slots envelope.place))) says ∙ ap (λ c. option_map (with_body envelope) (said (says_of (body.Copy shared.copy)) (copy_of c))) updates.changed)
+      (ap (λ s. option_map (with_body envelope) (said_body s (slot_copy new.slots envelope.place))) says ∙ ap (λ c. option_map (with_body envelope) (said_body (says_of (body.Copy shared.copy)) (copy_of c))) updates.changed)
 
 -- ---- an envelope is lost
 
@@ -218,7 +218,7 @@ module _ (old new : Slab SharedCopy) (lanes : List (List Envelope)) (t n : ℕ) 
       map (lane_of old.slots) (set lanes t (set (envelopes_at lanes t) n (lost envelope))) ≡ set view t (set (lane_at view t) n None)
   lost_lane view same =
       map-set (lane_of old.slots) lanes t (set (envelopes_at lanes t) n (lost envelope))
-      ∙ ap (set (map (lane_of old.slots) lanes) t) (map-set (message_of old.slots) (envelopes_at lanes t) n (lost envelope) ∙ ap (λ lane. set lane n None) (sym (lane_there old.slots lanes t)))
+      ∙ ap (set (map (lane_of old.slots) lanes) t) (map-set (envelope_message old.slots) (envelopes_at lanes t) n (lost envelope) ∙ ap (λ lane. set lane n None) (sym (lane_there old.slots lanes t)))
       ∙ ap (λ v. set v t (set (lane_at v t) n None)) same
 
   pub lost_unnamed_counted : names_copy envelope.says ≡ false → Counted old.slots (set lanes t (set (envelopes_at lanes t) n (lost envelope)))
@@ -241,15 +241,15 @@ module _ (old new : Slab SharedCopy) (lanes : List (List Envelope)) (t n : ℕ) 
         (rw updates.changed (used_less (slot_at old.slots envelope.place) (uses_in envelope.place lanes) (uses_in envelope.place (set lanes t (set (envelopes_at lanes t) n (lost envelope)))) one_named (counted envelope.place)))
         counted
 
-    alike_lost : (place : ℕ) → 0 < uses_in place (set lanes t (set (envelopes_at lanes t) n (lost envelope))) → copy_at new.slots place ≡ copy_at old.slots place
+    alike_lost : (place : ℕ) → 0 < uses_in place (set lanes t (set (envelopes_at lanes t) n (lost envelope))) → slot_copy new.slots place ≡ slot_copy old.slots place
     alike_lost place used = by_place (cases_eq place envelope.place)
       where
-        by_place : (place ≡ envelope.place) ⊎ (place ≢ envelope.place) → copy_at new.slots place ≡ copy_at old.slots place
+        by_place : (place ≡ envelope.place) ⊎ (place ≢ envelope.place) → slot_copy new.slots place ≡ slot_copy old.slots place
         by_place (inl same) =
             let used_here : 0 < uses_in envelope.place (set lanes t (set (envelopes_at lanes t) n (lost envelope))) = subst (λ k. 0 < uses_in k (set lanes t (set (envelopes_at lanes t) n (lost envelope)))) same used in
-            ap (copy_at new.slots) same ∙ ap copy_of (updates.changed)
+            ap (slot_copy new.slots) same ∙ ap copy_of (updates.changed)
             ∙ less_copy (slot_at old.slots envelope.place) (uses_in envelope.place lanes) (uses_in envelope.place (set lanes t (set (envelopes_at lanes t) n (lost envelope)))) one_named used_here (counted envelope.place)
-            ∙ sym (ap (copy_at old.slots) same)
+            ∙ sym (ap (slot_copy old.slots) same)
         by_place (inr other) = ap copy_of (updates.others place other)
 
     pub lost_view : (view : List Lane) → map (lane_of old.slots) lanes ≡ view →
@@ -258,24 +258,24 @@ module _ (old new : Slab SharedCopy) (lanes : List (List Envelope)) (t n : ℕ) 
 
 -- ---- an envelope that is there is a message
 
-not_lost : (envelopes : List Envelope) (n : ℕ) (envelope : Envelope) → envelope_at envelopes n ≡ Some envelope → is_lost envelope.says ≡ false
+not_lost : (envelopes : List Envelope) (n : ℕ) (envelope : Envelope) → envelope_at envelopes n ≡ Some envelope → says_lost envelope.says ≡ false
 not_lost envelopes n envelope is = by_slot (slice_get envelopes n) refl
   where
     by_bool : (b : Bool) (x : Envelope) → cond b None (Some x) ≡ Some envelope → b ≡ false
     by_bool true x h = absurd (cc)
     by_bool false x h = refl
 
-    by_slot : (o : Option Envelope) → slice_get envelopes n ≡ o → is_lost envelope.says ≡ false
-    by_slot None at = absurd (let no : kept None ≡ Some envelope = sym (ap kept at) ∙ is in cc)
+    by_slot : (o : Option Envelope) → slice_get envelopes n ≡ o → says_lost envelope.says ≡ false
+    by_slot None at = absurd (let no : unless_lost None ≡ Some envelope = sym (ap unless_lost at) ∙ is in cc)
     by_slot (Some x) at =
         let same : Some x ≡ Some envelope = sym at ∙ envelope_there envelopes n envelope is in
         let equal : x ≡ envelope = some_is x same in
-        ap (λ l. is_lost l.says) (sym equal) ∙ by_bool (is_lost x.says) x (sym (ap kept at) ∙ is)
+        ap (λ l. says_lost l.says) (sym equal) ∙ by_bool (says_lost x.says) x (sym (ap unless_lost at) ∙ is)
       where
         some_is : (x : Envelope) → Some x ≡ Some envelope → x ≡ envelope
         some_is x e = cc
 
-some_said : (says : Says) (copy : Option StoredCopy) → is_lost says ≡ false → (names_copy says ≡ true → is_some copy ≡ true) → is_some (said says copy) ≡ true
+some_said : (says : Says) (copy : Option StoredCopy) → says_lost says ≡ false → (names_copy says ≡ true → is_some copy ≡ true) → is_some (said_body says copy) ≡ true
 some_said Lost copy alive there = absurd (cc)
 some_said Ask copy alive there = refl
 some_said Copy None alive there = there refl
@@ -292,19 +292,19 @@ used_copy : (slot : Option SharedCopy) (n : ℕ) → 0 < n → IsUsed slot n →
 used_copy None n some used = absurd (let no : n ≡ 0 = used in omega (arith, no, some))
 used_copy (Some shared) n some used = refl
 
-pub message_is : (slots : Slots) (lanes : List (List Envelope)) (t n : ℕ) (envelope : Envelope) → t < length lanes → envelope_at (envelopes_at lanes t) n ≡ Some envelope → Counted slots lanes → is_some (message_of slots envelope) ≡ true
+pub message_is : (slots : Slots) (lanes : List (List Envelope)) (t n : ℕ) (envelope : Envelope) → t < length lanes → envelope_at (envelopes_at lanes t) n ≡ Some envelope → Counted slots lanes → is_some (envelope_message slots envelope) ≡ true
 message_is slots lanes t n envelope within is counted =
-    some_map envelope (said envelope.says (copy_at slots envelope.place)) (some_said envelope.says (copy_at slots envelope.place) (not_lost (envelopes_at lanes t) n envelope is) has_copy)
+    some_map envelope (said_body envelope.says (slot_copy slots envelope.place)) (some_said envelope.says (slot_copy slots envelope.place) (not_lost (envelopes_at lanes t) n envelope is) has_copy)
   where
-    has_copy : names_copy envelope.says ≡ true → is_some (copy_at slots envelope.place) ≡ true
+    has_copy : names_copy envelope.says ≡ true → is_some (slot_copy slots envelope.place) ≡ true
     has_copy named =
         let one : once (names envelope.place envelope) ≡ 1 = ap once (names_own envelope named) in
         let used : 0 < uses_in envelope.place lanes = omega (arith, uses_lost envelope.place lanes t n envelope within (envelope_there (envelopes_at lanes t) n envelope is), one) in
         used_copy (slot_at slots envelope.place) (uses_in envelope.place lanes) used (counted envelope.place)
 
 -- the message with another body
-pub other_body : (slots : Slots) (envelope : Envelope) (message : Message) (b : Body) → message_of slots envelope ≡ Some message → with_body envelope b ≡ record message { body = b }
-other_body slots envelope message b is = by_body (said envelope.says (copy_at slots envelope.place)) is
+pub other_body : (slots : Slots) (envelope : Envelope) (message : Message) (b : Body) → envelope_message slots envelope ≡ Some message → with_body envelope b ≡ record message { body = b }
+other_body slots envelope message b is = by_body (said_body envelope.says (slot_copy slots envelope.place)) is
   where
     some_is : (m : Message) → Some m ≡ Some message → m ≡ message
     some_is m e = cc

@@ -6,7 +6,7 @@ use Rattle.gq_tag.specs.declared.Message.{Message}
 use Rattle.gq_post.specs.declared.copies.SharedCopy.{SharedCopy}
 use Rattle.gq_post.specs.declared.envelopes.Envelope.{Envelope}
 use Rattle.gq_post.specs.Lanes.{Lane}
-use Rattle.gq_post.specs.Envelopes.{said, names_copy, with_body}
+use Rattle.gq_post.specs.Envelopes.{said_body, names_copy, with_body}
 
 -- the slots of a slab: a copy with the number of its users, or nothing
 abbrev pub Slots : Type 0
@@ -18,17 +18,17 @@ slot_at slots place = slice_index_or slots place None
 abbrev pub copy_of : Option SharedCopy → Option StoredCopy
 copy_of slot = option_map (λ shared. shared.copy) slot
 
-abbrev pub copy_at : Slots → ℕ → Option StoredCopy
-copy_at slots place = copy_of (slot_at slots place)
+abbrev pub slot_copy : Slots → ℕ → Option StoredCopy
+slot_copy slots place = copy_of (slot_at slots place)
 
 -- ---- messages
 
 -- the message that the envelope is, and the lane that the envelopes are
-abbrev pub message_of : Slots → Envelope → Option Message
-message_of slots envelope = option_map (with_body envelope) (said envelope.says (copy_at slots envelope.place))
+abbrev pub envelope_message : Slots → Envelope → Option Message
+envelope_message slots envelope = option_map (with_body envelope) (said_body envelope.says (slot_copy slots envelope.place))
 
 abbrev pub lane_of : Slots → List Envelope → Lane
-lane_of slots envelopes = map (message_of slots) envelopes
+lane_of slots envelopes = map (envelope_message slots) envelopes
 
 -- ---- users
 

@@ -15,28 +15,28 @@ says_of (body.Copy copy) = Copy
 says_of (body.Store copy) = Store
 says_of body.Stored = Stored
 
-abbrev pub copy_in : Body → Option StoredCopy
-copy_in body.Ask = None
-copy_in (body.Copy copy) = Some copy
-copy_in (body.Store copy) = Some copy
-copy_in body.Stored = None
+abbrev pub body_copy : Body → Option StoredCopy
+body_copy body.Ask = None
+body_copy (body.Copy copy) = Some copy
+body_copy (body.Store copy) = Some copy
+body_copy body.Stored = None
 
 -- what an envelope says with this copy; nothing where it is lost, or names a copy that is not there
-abbrev pub said : Says → Option StoredCopy → Option Body
-said Lost copy = None
-said Ask copy = Some body.Ask
-said Copy None = None
-said Copy (Some copy) = Some (body.Copy copy)
-said Store None = None
-said Store (Some copy) = Some (body.Store copy)
-said Stored copy = Some body.Stored
+abbrev pub said_body : Says → Option StoredCopy → Option Body
+said_body Lost copy = None
+said_body Ask copy = Some body.Ask
+said_body Copy None = None
+said_body Copy (Some copy) = Some (body.Copy copy)
+said_body Store None = None
+said_body Store (Some copy) = Some (body.Store copy)
+said_body Stored copy = Some body.Stored
 
-abbrev pub is_lost : Says → Bool
-is_lost Lost = true
-is_lost Ask = false
-is_lost Copy = false
-is_lost Store = false
-is_lost Stored = false
+abbrev pub says_lost : Says → Bool
+says_lost Lost = true
+says_lost Ask = false
+says_lost Copy = false
+says_lost Store = false
+says_lost Stored = false
 
 -- whether an envelope that says this names the place of a copy
 abbrev pub names_copy : Says → Bool
@@ -72,9 +72,9 @@ abbrev pub envelopes_at : List (List Envelope) → ℕ → List Envelope
 envelopes_at lanes t = slice_index_or lanes t []
 
 -- envelope n of a lane, none where it was never sent or is lost
-abbrev pub kept : Option Envelope → Option Envelope
-kept None = None
-kept (Some envelope) = cond (is_lost envelope.says) None (Some envelope)
+abbrev pub unless_lost : Option Envelope → Option Envelope
+unless_lost None = None
+unless_lost (Some envelope) = cond (says_lost envelope.says) None (Some envelope)
 
 abbrev pub envelope_at : List Envelope → ℕ → Option Envelope
-envelope_at envelopes n = kept (slice_get envelopes n)
+envelope_at envelopes n = unless_lost (slice_get envelopes n)

@@ -4,8 +4,8 @@ ghost use Rattle.std.specs.Prelude.{◌≡◌, ◌↔◌, ◌+◌, ◌<◌, ℕ,
 ghost use Rattle.slab.specs.Slab.{get, HasRoomFor, Updates};
 ghost use Rattle.gq_tag.specs.View.{body_of};
 ghost use Rattle.gq_tag.specs.declared.StoredCopy.{StoredCopy};
-ghost use Rattle.gq_post.specs.Envelopes.{said, copy_in};
-ghost use Rattle.gq_post.specs.Copies.{copy_at, with_users, one_less};
+ghost use Rattle.gq_post.specs.Envelopes.{said_body, body_copy};
+ghost use Rattle.gq_post.specs.Copies.{slot_copy, with_users, one_less};
 
 use crate::envelopes::{Envelope, Says};
 use gq_tag::{Body, BodyView, StoredCopy, Tag};
@@ -21,7 +21,7 @@ pub(crate) struct SharedCopy {
 // What the envelope says, its copy lent.
 #[inline(always)]
 pub(crate) fn body_said(copies: &Slab<SharedCopy>, envelope: Envelope) -> Option<BodyView<'_>>
-    ensures { option_map body_of result ≡ said envelope.says (copy_at copies.now.slots envelope.place) }
+    ensures { option_map body_of result ≡ said_body envelope.says (slot_copy copies.now.slots envelope.place) }
 {
     match envelope.says {
         Says::Lost => None,
@@ -48,7 +48,7 @@ pub(crate) fn can_share(copies: &Slab<SharedCopy>, place: u32, tag: Tag, bytes: 
 }
 
 fn copy_in(body: Body) -> Option<StoredCopy>
-    ensures { result ≡ copy_in body }
+    ensures { result ≡ body_copy body }
 {
     match body {
         Body::Copy(copy) => Some(copy),
@@ -61,10 +61,10 @@ fn copy_in(body: Body) -> Option<StoredCopy>
 // Keeps the body's copy for so many users under the vacant key. No copy, or no user, takes no place.
 pub(crate) fn keep(copies: &mut Slab<SharedCopy>, body: Body, users: usize)
     requires { HasRoomFor copies.old 1 }
-    ensures none { copy_in body ≡ None → copies.new ≡ copies.old }
+    ensures none { body_copy body ≡ None → copies.new ≡ copies.old }
     ensures nobody { users ≡ 0 → copies.new ≡ copies.old }
-    ensures vacant { 0 < users → (copy : StoredCopy) → copy_in body ≡ Some copy → get copies.old copies.old.vacant_key ≡ None }
-    ensures kept { 0 < users → (copy : StoredCopy) → copy_in body ≡ Some copy → Updates copies.old copies.new copies.old.vacant_key (Some (record { copy = copy; users = users })) }
+    ensures vacant { 0 < users → (copy : StoredCopy) → body_copy body ≡ Some copy → get copies.old copies.old.vacant_key ≡ None }
+    ensures kept { 0 < users → (copy : StoredCopy) → body_copy body ≡ Some copy → Updates copies.old copies.new copies.old.vacant_key (Some (record { copy = copy; users = users })) }
 {
     if users == 0 {
         return;

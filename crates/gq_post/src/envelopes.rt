@@ -5,7 +5,7 @@ ghost use Rattle.gq_grid.specs.Grid.{rising};
 ghost use Rattle.gq_grid.specs.Sets.{servers};
 ghost use Rattle.gq_round.specs.Round.{apart};
 ghost use Rattle.gq_tag.specs.View.{body_of};
-ghost use Rattle.gq_post.specs.Envelopes.{says_of, is_lost, names_copy, with_body, envelope_of, to_other, answering, lost, envelopes_at, envelope_at};
+ghost use Rattle.gq_post.specs.Envelopes.{says_of, says_lost, names_copy, with_body, envelope_of, to_other, answering, lost, envelopes_at, envelope_at};
 ghost use Rattle.gq_post.specs.declared.envelopes.Envelope.{Envelope};
 ghost use Rattle.gq_post.specs.Slips.{heading_of, slip_of, slip_to, opened};
 
@@ -38,7 +38,7 @@ impl Says {
     }
 
     fn is_lost(self) -> bool
-        ensures { result ≡ is_lost self }
+        ensures { result ≡ says_lost self }
     {
         matches!(self, Says::Lost)
     }

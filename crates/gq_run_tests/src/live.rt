@@ -3,7 +3,7 @@
 use crate::gates::{Counting, Meeting, Overtaking, Shut};
 use gq_desk::Plan;
 use gq_inspect::{Mismatch, inspect};
-use gq_live::{CellEntry, Entries, Gate, Journal, LiveFault, OpenGate, Records, Said, live};
+use gq_live::{CellEntry, Entries, Gate, Journal, LiveFault, OpenGate, Records, Said, fits, live};
 use gq_runs::{LiveRunFault, live_run, read_programs};
 use gq_script::{MOST_INPUT, Watched};
 use gq_tag::{Body, Tag};
@@ -21,6 +21,9 @@ const TWO_SESSIONS: &[u8] =
 
 const THREE_TENANTS: &[u8] =
     b"grid 2 2\nblocks 6\ntenant ann 2 2 1000000\ntenant bob 2 1 1000000\ntenant cid 2 1 1000000\ngo\nann open 1 2\nbob open 1 2\ncid open 1 2\nann write 1 0 0 aa\nann read 1 0 0\nann write 2 0 0 bb\nann read 2 0 0\nbob write 1 0 0 cc\nbob read 1 0 0\ncid write 1 0 0 dd\ncid read 1 0 0\n";
+
+const FOUR_VOLUMES: &[u8] =
+    b"grid 1 1\nblocks 4\ntenant ann 4 1 1000000\ngo\nann open 1 1\nann open 1 1\nann open 1 1\nann open 1 1\n";
 
 // The plan of a text, and the records of a run of its programs.
 pub(crate) fn run_of<G: Gate + Send + Sync, R: Abort + Threads + Wait + Sync>(
@@ -143,5 +146,38 @@ fn tells_a_forged_reply_of_many(rt: HostRuntime) {
     match inspect(rt.alloc(), &plan, &records) {
         Err(Mismatch::Reply { server, place }) => assert!(rt; forged == Some((server, place))),
         _ => panic!(rt; "no reply is told"),
+    }
+}
+
+// Which volume a run refuses where the one at that place has more blocks than the tenant may have.
+fn refused_at<R: Abort + Threads + Wait + Sync>(
+    rt: &R,
+    alloc: Global,
+    place: usize,
+) -> Option<usize> {
+    let text = FOUR_VOLUMES;
+    assert!(rt; text.len() <= MOST_INPUT);
+    let Ok((plan, mut programs)) = read_programs(alloc, text) else {
+        panic!(rt; "no programs");
+    };
+    if let Some(volume) = programs.volumes.get_mut(place) {
+        volume.blocks = 5;
+    }
+    let Ok(true) = fits(alloc, &plan, &programs) else {
+        panic!(rt; "the programs do not fit the plan");
+    };
+    match live(rt, alloc, &plan, &programs, &OpenGate) {
+        Err(LiveFault::Volume(told)) => Some(told),
+        _ => None,
+    }
+}
+
+#[test]
+fn tells_the_volume_that_is_refused(rt: HostRuntime) {
+    for place in 0..4 {
+        assert!(rt;
+            refused_at(&rt, rt.alloc(), place) == Some(place),
+            "{place}"
+        );
     }
 }

@@ -54,6 +54,10 @@ fn stamps_rise_with_each_letter(rt: HostRuntime) {
     has_all_stamps(&rt, &records);
 }
 
+// The same of two servers, of which the second serves one letter.
+const TWO_SERVERS: &[u8] =
+    b"grid 1 2\nblocks 1\ntenant ann 1 1 1000000\ngo\nann open 1 1\nann write 1 0 0 6869\n";
+
 // What of the records is forged.
 #[derive(Clone, Copy, Debug)]
 enum Forgery {
@@ -61,6 +65,8 @@ enum Forgery {
     Told,
     // The content that the server was to store.
     Brought,
+    // The server to which the letters of the last server were sent.
+    Server,
     // The tag that the session was told at the end.
     Done,
     // The operation of the letter that it heard last.
@@ -86,6 +92,7 @@ fn forge_letters(journal: &mut Journal, forgery: Forgery) {
         if let CellEntry::Served { letter, reply } = entry {
             match forgery {
                 Forgery::Told => forge_body(&mut reply.message.body),
+                Forgery::Server => letter.message.server = 0,
                 _ => forge_body(&mut letter.message.body),
             }
         }
@@ -120,6 +127,11 @@ fn forge(records: &mut Records, forgery: Forgery) {
                 forge_letters(journal, forgery);
             }
         }
+        Forgery::Server => {
+            if let Some(journal) = records.cells.last_mut() {
+                forge_letters(journal, forgery);
+            }
+        }
         Forgery::Done | Forgery::Operation | Forgery::Stamp => {
             for entries in records.sessions.iter_mut() {
                 if let Some(last) = entries.items.last_mut() {
@@ -138,9 +150,13 @@ fn forge(records: &mut Records, forgery: Forgery) {
     }
 }
 
-// What is told of the records of the smallest run where this is forged.
+// What is told of the records of the smallest run where this is forged, or of that of two servers.
 fn forged<R: Abort + Threads + Wait + Sync>(rt: &R, alloc: Global, forgery: Forgery) -> String {
-    let (plan, mut records) = run_of(rt, alloc, SMALLEST, &OpenGate);
+    let text = match forgery {
+        Forgery::Server => TWO_SERVERS,
+        _ => SMALLEST,
+    };
+    let (plan, mut records) = run_of(rt, alloc, text, &OpenGate);
     forge(&mut records, forgery);
     match inspect(alloc, &plan, &records) {
         Err(mismatch) => format!(in alloc; "{mismatch:?}").expect(rt, "memory"),
@@ -152,10 +168,12 @@ fn forged<R: Abort + Threads + Wait + Sync>(rt: &R, alloc: Global, forgery: Forg
 fn tells_what_is_forged(rt: HostRuntime) {
     let reply = "Reply { server: 0, place: 0 }";
     let receipt = "Receipt { server: 0, place: 1 }";
+    let elsewhere = "Receipt { server: 1, place: 0 }";
     let answer = "Answer { tenant: 0, session: 1, at: 2 }";
     for (forgery, told) in [
         (Forgery::Told, reply),
         (Forgery::Brought, receipt),
+        (Forgery::Server, elsewhere),
         (Forgery::Done, answer),
         (Forgery::Operation, answer),
         (Forgery::Stamp, "Stamp"),

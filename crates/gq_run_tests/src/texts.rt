@@ -1,7 +1,8 @@
-//! What is told of records that are no run. No input of the program brings it about.
+//! What is told of records that are no run, and of threads that gave none. No input of the program brings it about.
 
 use gq_desk::Name;
 use gq_inspect::Mismatch;
+use gq_live::LiveFault;
 use gq_runs::{LiveRunFault, NamedMismatch};
 use std::alloc::Global;
 use std::test::Fail;
@@ -33,6 +34,21 @@ fn prints_a_mismatch(rt: HostRuntime) -> Result<(), Fail> {
         (answer(), Name::new(b"ann"), "mismatch answer ann 1 9"),
     ] {
         assert!(rt; told(rt.alloc(), mismatch, name)?.as_str() == text);
+    }
+    Ok(())
+}
+
+#[test]
+fn prints_a_fault_of_threads(rt: HostRuntime) -> Result<(), Fail> {
+    for (fault, text) in [
+        (LiveFault::Thread, "thread fault"),
+        (LiveFault::Gate, "gate"),
+        (LiveFault::Stamps, "stamps"),
+        (LiveFault::Volume(2), "volume 2"),
+        (LiveFault::Letter, "letter"),
+    ] {
+        let told = format!(in rt.alloc(); "{}", LiveRunFault::Live(fault))?;
+        assert!(rt; told.as_str() == text);
     }
     Ok(())
 }

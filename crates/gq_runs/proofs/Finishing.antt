@@ -46,7 +46,7 @@ use Rattle.gq_runs.specs.declared.finish.Stop.TheVariants.{Idle as NoOperation, 
 use Rattle.gq_script.specs.declared.script.RunFault.{RunFault}
 use Rattle.gq_runs.specs.declared.finish.FinishFault.{FinishFault}
 use Rattle.gq_runs.specs.declared.finish.FinishFault.TheVariants.{Run, Name, Session as NotThere, Idle as NoneThere, Row, Column, Both, Steps as TooFew}
-use Rattle.gq_runs.specs.Finishing.{CauseOf, FinishOf, HasCause, IsOfOutput, finishing, goes_on, operation_left, session_of, Ends, Finishes, Finished, IsEnd, RunsOut, StopsFor}
+use Rattle.gq_runs.specs.Finishing.{CauseOf, FinishOf, HasCause, IsOfOutput, finishing, goes_on, operation_left, outcome_session, Ends, Finishes, Finished, IsEnd, RunsOut, StopsFor}
 
 -- ---- the same operation
 
@@ -137,12 +137,12 @@ left_told grid row p line told apart is = by (nat_le row.steps (min row.steps p.
 
 -- its session had it
 abbrev Owns : Trace → Outcome → Type 0
-Owns t outcome = Has (session_of outcome) (session t (session_of outcome)) outcome
+Owns t outcome = Has (outcome_session outcome) (session t (outcome_session outcome)) outcome
 
-of_session : (o : Operation) (outcome : Outcome) → IsOutcomeOf o outcome → session_of outcome ≡ o.session
+of_session : (o : Operation) (outcome : Outcome) → IsOutcomeOf o outcome → outcome_session outcome ≡ o.session
 of_session o outcome its = by o.task outcome its
   where
-    by : (task : Task) (outcome : Outcome) → IsOutcomeOf (record { session = o.session; op = o.op; task = task; round = o.round; heard = o.heard; collected = o.collected; floor = o.floor }) outcome → session_of outcome ≡ o.session
+    by : (task : Task) (outcome : Outcome) → IsOutcomeOf (record { session = o.session; op = o.op; task = task; round = o.round; heard = o.heard; collected = o.collected; floor = o.floor }) outcome → outcome_session outcome ≡ o.session
     by (Writing file bytes) (Wrote j n tag) its = its.0
     by (Reading file) (Gave j n copy) its = its.0
     by (Listing volume files) (Listed j n rows) its = its.0
@@ -167,7 +167,7 @@ heard_done grid t k o m outcome has h is first done = by (is_current o m) refl (
 owned : (t : Trace) (k : ℕ) (o : Operation) (outcome : Outcome) → operation (questions t) k ≡ Some o → IsOutcomeOf o outcome → Owns t outcome
 owned t k o outcome has its =
     let h = has_operation t k o has in
-    let same : session_of outcome ≡ o.session = of_session o outcome its in
+    let same : outcome_session outcome ≡ o.session = of_session o outcome its in
     let P : ℕ → Type 0 = λ j. Has j (session t j) outcome in
     subst P (sym same) (record { task = o.task; busy = h.busy; its = subst (λ (z : Operation). IsOutcomeOf z outcome) (sym h.is) its })
 
@@ -224,8 +224,8 @@ all_done grid row p (line ∷ lines) (b ∷ before) outcome own going told =
     let rest : told_from grid row (after grid row p (Own line)) (map Own lines) ≡ before ++ Done outcome ∷ [] = cc in
     let goes : goes_on b ≡ true = All-head (λ told. goes_on told ≡ true) b before going in
     let later = all_done grid row (after grid row p (Own line)) lines before outcome (All-tail IsOwn line lines own) (All-tail (λ told. goes_on told ≡ true) b before going) rest in
-    had (session_of outcome) (session p.trace (session_of outcome)) (session (after grid row p (Own line)).trace (session_of outcome)) outcome
-    (goes_same grid row p line (session_of outcome) (All-head IsOwn line lines own) (ap goes_on first ∙ goes)) later
+    had (outcome_session outcome) (session p.trace (outcome_session outcome)) (session (after grid row p (Own line)).trace (outcome_session outcome)) outcome
+    (goes_same grid row p line (outcome_session outcome) (All-head IsOwn line lines own) (ap goes_on first ∙ goes)) later
 
 -- the operation that the session had, of which the outcome is
 pub record Had (plan : CheckedPlan) (events : List Event) (t k : ℕ) (outcome : Outcome) : Type 0 where

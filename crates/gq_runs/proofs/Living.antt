@@ -10,8 +10,9 @@ use Rattle.gq_model.specs.declared.events.Event.{Event}
 use Rattle.gq_model.specs.declared.events.Event.TheVariants.{Tenant}
 use Rattle.gq_model.specs.declared.events.Line.{Line}
 use Rattle.gq_model.specs.declared.events.Line.TheVariants.{NewVolume, Write, Read, List as ListFiles}
+use Rattle.gq_model.specs.Events.{IsRequestOf}
 use Rattle.gq_session.specs.Changed.{picked}
-use Rattle.gq_session.specs.Fitting.{IsRequestOf, plan_sessions}
+use Rattle.gq_session.specs.Fitting.{plan_sessions}
 use Rattle.gq_session.specs.declared.fitting.SessionId.{SessionId}
 use Rattle.gq_session.specs.declared.records.Programs.{Programs}
 use Rattle.gq_session.specs.declared.records.Records.{Records}
@@ -19,7 +20,7 @@ use Rattle.gq_session.specs.declared.records.SessionEntry.{SessionEntry}
 use Rattle.gq_script.specs.Input.{event_of}
 use Rattle.gq_runs.specs.Live.{IsRecordOf, KeepsInput}
 use Rattle.gq_runs.specs.LiveRuns.{IsLiveScript, IsScriptOfRun}
-use Rattle.gq_runs.specs.Programs.{AreOf, IsProgramsOf, change_of, names_session, opening_of, request_for, requests_for}
+use Rattle.gq_runs.specs.Programs.{AreOf, IsProgramsOf, server_line_of, names_session, opening_of, request_for, requests_for}
 use Rattle.gq_runs.proofs.Programming.{requests_named}
 
 -- ---- what is picked
@@ -35,7 +36,7 @@ opens_are = record { openings = λ o. refl; requests = requests; others = others
     others tenant (NewVolume files blocks) is = absurd is
     others tenant _ is = refl
 
-changes_are : PicksChanges change_of
+changes_are : PicksChanges server_line_of
 changes_are = record { changes = λ line. refl; lines = λ tenant line. refl }
 
 named_requests : (k : ℕ) (line : Line) → IsRequestOf k line → names_session k line ≡ true
@@ -75,7 +76,7 @@ pub keeps_input : (plan : CheckedPlan) (programs : Programs) (r : Records) (aske
 keeps_input plan programs r asked events are recorded run = record {
   opens = openings_picked plan r events run opening_of opens_are ∙ recorded.volumes ∙ are.volumes;
   requests = map_same (requests_for events) (requests_for asked) (plan_sessions plan) each;
-  changes = (recorded.changes.0, changes_picked plan r events run change_of changes_are ∙ recorded.changes.1 ∙ ap (picked recorded.changes.0) are.changes);
+  changes = (recorded.changes.0, changes_picked plan r events run server_line_of changes_are ∙ recorded.changes.1 ∙ ap (picked recorded.changes.0) are.changes);
 }
   where
     -- each session asked what the input asks of it

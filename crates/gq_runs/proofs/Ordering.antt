@@ -16,7 +16,7 @@ use Rattle.gq_laws.proofs.OtherOrders.{order_same, ops_at_same}
 use Rattle.gq_laws.proofs.AllTenants.{operations_alone, place_in_all, place_rises}
 use Rattle.gq_script.specs.Input.{event_of}
 use Rattle.gq_script.specs.Out.{output_lines, joined}
-use Rattle.gq_runs.specs.Orders.{line_at, op_line, op_lines, ordered, operations_of}
+use Rattle.gq_runs.specs.Orders.{operation_line_at, op_line, op_lines, ordered, operations_of}
 use Rattle.gq_script.specs.Seeing.{seen_events}
 use Rattle.gq_script.proofs.Answering.{own_seen}
 
@@ -53,10 +53,10 @@ order_written plan world_plan t file lines kept text out is seen told written =
     (ap (λ p. ordered (tenant_operations p kept t file)) is ∙ (ap (λ events. ordered (tenant_operations plan events t file)) seen ∙ ordered_seen plan t (map (event_of plan) lines) file)))
 
 -- the lines of the operations at the places, each by itself
-pub lines_at : (ops : List Op) (places : List ℕ) → flat_map (line_at ops) places ≡ op_lines ops places
+pub lines_at : (ops : List Op) (places : List ℕ) → flat_map (operation_line_at ops) places ≡ op_lines ops places
 lines_at ops [] = refl
 lines_at ops (i ∷ places) = by (slice_get ops i) refl (lines_at ops places)
   where
-    by : (o : Option Op) → slice_get ops i ≡ o → flat_map (line_at ops) places ≡ op_lines ops places → flat_map (line_at ops) (i ∷ places) ≡ op_lines ops (i ∷ places)
+    by : (o : Option Op) → slice_get ops i ≡ o → flat_map (operation_line_at ops) places ≡ op_lines ops places → flat_map (operation_line_at ops) (i ∷ places) ≡ op_lines ops (i ∷ places)
     by None is later = rw is later
     by (Some a) is later = rw is (ap (λ more. op_line a ++ more) later)

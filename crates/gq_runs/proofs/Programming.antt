@@ -7,19 +7,19 @@ use Rattle.std.proofs.lemmas.List.{take_more, get_or-map, length-map}
 use Rattle.std.proofs.lemmas.List.Elements.{All-nil, All-cons, All-head, All-tail}
 use Rattle.gq_desk.specs.CheckedPlan.{CheckedPlan}
 use Rattle.gq_desk.specs.Volumes.{Account}
-use Rattle.gq_model.specs.Events.{IsIn}
+use Rattle.gq_model.specs.Events.{IsIn, IsRequestOf}
 use Rattle.gq_model.specs.declared.events.Event.{Event}
 use Rattle.gq_model.specs.declared.events.Event.TheVariants.{Tenant, Server, Stray}
 use Rattle.gq_model.specs.declared.events.Line.{Line}
 use Rattle.gq_model.specs.declared.events.Line.TheVariants.{Bad, Quorum, NewVolume, Volumes, Write, Read, List as ListFiles, Deliver, Lose, Retry, Abandon}
-use Rattle.gq_session.specs.Fitting.{FitsPlan, HasRequests, IsChange, IsRequestOf, IsTenants, id_at, is_change, plan_sessions}
+use Rattle.gq_session.specs.Fitting.{FitsPlan, HasRequests, IsChange, IsTenants, id_at, is_change, plan_sessions}
 use Rattle.gq_session.specs.declared.TheConstants.{MOST_REQUESTS}
 use Rattle.gq_session.specs.declared.fitting.SessionId.{SessionId}
 use Rattle.gq_session.specs.declared.records.Programs.{Programs}
 use Rattle.gq_session.specs.declared.records.Opening.{Opening}
 use Rattle.gq_runs.specs.declared.programs.ProgramFault.{ProgramFault}
 use Rattle.gq_runs.specs.declared.programs.ProgramFault.TheVariants.{Line as LineFault}
-use Rattle.gq_runs.specs.Programs.{AreOf, change_of, desk_after, first_fault, line_fault, names_session, opening_in, opening_of, request_for, requests_for, unless}
+use Rattle.gq_runs.specs.Programs.{AreOf, server_line_of, desk_after, first_fault, line_fault, names_session, opening_in, opening_of, request_for, requests_for, fault_unless}
 
 mapped_more : {A B : Type 0} (f : A → Option B) (xs : List A) (x : A) → filter_map f (xs ++ x ∷ []) ≡ filter_map f xs ++ cons_option (f x) []
 mapped_more f [] x = refl
@@ -109,21 +109,21 @@ or_none : {A : Type 0} (a b : Option A) → option_or a b ≡ None → (a ≡ No
 or_none None b is = (refl, is)
 or_none (Some x) b is = absurd (cc)
 
-unless_none : (t : Bool) (fault : ProgramFault) → unless t fault ≡ None → t ≡ true
+unless_none : (t : Bool) (fault : ProgramFault) → fault_unless t fault ≡ None → t ≡ true
 unless_none true fault is = refl
 unless_none false fault is = absurd (cc)
 
-change_fits : (plan : CheckedPlan) (desk : List Account) (n : ℕ) (e : Event) → line_fault plan desk n e ≡ None → IfSome (change_of e) (IsChange plan.grid)
+change_fits : (plan : CheckedPlan) (desk : List Account) (n : ℕ) (e : Event) → line_fault plan desk n e ≡ None → IfSome (server_line_of e) (IsChange plan.grid)
 change_fits plan desk n (Tenant tenant line) is = tt
 change_fits plan desk n (Server line) is = unless_none (is_change plan.grid line) (LineFault n) is
 change_fits plan desk n Stray is = tt
 
 -- each server line stops a server of the grid or brings it back
-pub changes_fit : (plan : CheckedPlan) (desk : List Account) (n : ℕ) (events : List Event) → first_fault plan desk n events ≡ None → All (IsChange plan.grid) (filter_map change_of events)
+pub changes_fit : (plan : CheckedPlan) (desk : List Account) (n : ℕ) (events : List Event) → first_fault plan desk n events ≡ None → All (IsChange plan.grid) (filter_map server_line_of events)
 changes_fit plan desk n [] is = All-nil (IsChange plan.grid)
 changes_fit plan desk n (e ∷ events) is =
     let parts = or_none (line_fault plan desk n e) (first_fault plan (desk_after desk e) (n + 1) events) is in
-    all_cons_option (IsChange plan.grid) (change_of e) (filter_map change_of events) (change_fits plan desk n e parts.0) (changes_fit plan (desk_after desk e) (n + 1) events parts.1)
+    all_cons_option (IsChange plan.grid) (server_line_of e) (filter_map server_line_of events) (change_fits plan desk n e parts.0) (changes_fit plan (desk_after desk e) (n + 1) events parts.1)
 
 -- programs of events that are not at fault fit the plan
 pub fits_plan : (plan : CheckedPlan) (desk : List Account) (n : ℕ) (events : List Event) (programs : Programs) → AreOf plan events programs → All (IsIn plan) events → length events ≤ MOST_REQUESTS → first_fault plan desk n events ≡ None → FitsPlan plan programs

@@ -56,15 +56,15 @@ pub record Ends (plan : CheckedPlan) (events : List Event) (t k : ℕ) (numbers 
   pub told : answers_from plan events (map (Tenant t) (finishing k numbers)) ≡ before ++ last ∷ []
 
 -- whose operation ended
-abbrev pub session_of : Outcome → ℕ
-session_of (Wrote session op tag) = session
-session_of (Gave session op copy) = session
-session_of (Listed session op rows) = session
+abbrev pub outcome_session : Outcome → ℕ
+outcome_session (Wrote session op tag) = session
+outcome_session (Gave session op copy) = session
+outcome_session (Listed session op rows) = session
 
 -- they are answered so until the operation of session k is done
 pub record Finishes (plan : CheckedPlan) (events : List Event) (t k : ℕ) (numbers : List ℕ) : Type 0 where
   pub outcome : Outcome
-  pub own : session_of outcome ≡ k
+  pub own : outcome_session outcome ≡ k
   pub ends : Ends plan events t k numbers (Done outcome)
 
 -- they are answered so until the tenant's steps are spent
@@ -82,7 +82,7 @@ pub record Finished (plan : CheckedPlan) (events : List Event) (t k : ℕ) (old 
 pub record IsEnd (k : ℕ) (told : Told) : Type 0 where
   pub outcome : Outcome
   pub is : told ≡ Done outcome
-  pub own : session_of outcome ≡ k
+  pub own : outcome_session outcome ≡ k
 
 -- why no lines complete it
 abbrev pub StopsFor : Stop → CheckedPlan → List Event → ℕ → ℕ → Type 0

@@ -71,11 +71,11 @@ IsFaultOfScript input (Memory _) = Unit {0}
 IsFaultOfScript input _ = ⊥
 
 -- any fault
-abbrev pub IsFaultOf : List ℕ → LiveRunFault → Type 0
-IsFaultOf input Read = Unit {0}
-IsFaultOf input TooBig = MOST_INPUT < length input
-IsFaultOf input Write = GivesPrograms input
-IsFaultOf input fault = IsFaultOfScript input fault
+abbrev pub IsLiveFaultOf : List ℕ → LiveRunFault → Type 0
+IsLiveFaultOf input Read = Unit {0}
+IsLiveFaultOf input TooBig = MOST_INPUT < length input
+IsLiveFaultOf input Write = GivesPrograms input
+IsLiveFaultOf input fault = IsFaultOfScript input fault
 
 -- the name beside a mismatch is that of the tenant's row, where it is of a session's step
 abbrev pub IsNamed : CheckedPlan → MismatchIs → Option (List ℕ) → Type 0

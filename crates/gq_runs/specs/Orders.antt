@@ -39,8 +39,8 @@ abbrev pub op_lines : List Op → List ℕ → List ℕ
 op_lines ops places = joined (map op_line (ops_at ops places))
 
 -- the line of the operation at the place, nothing where there is none
-abbrev pub line_at : List Op → ℕ → List ℕ
-line_at ops place = by (slice_get ops place)
+abbrev pub operation_line_at : List Op → ℕ → List ℕ
+operation_line_at ops place = by (slice_get ops place)
   where
     by : Option Op → List ℕ
     by None = []

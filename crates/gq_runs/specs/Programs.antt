@@ -32,9 +32,9 @@ opening_of (Tenant tenant line) = opening_in tenant line
 opening_of _ = None
 
 -- the server line that the event is, if it is one
-abbrev pub change_of : Event → Option ServerLine
-change_of (Server line) = Some line
-change_of _ = None
+abbrev pub server_line_of : Event → Option ServerLine
+server_line_of (Server line) = Some line
+server_line_of _ = None
 
 -- a write, a read or a listing of the session
 abbrev pub names_session : ℕ → Line → Bool
@@ -54,10 +54,10 @@ requests_for events id = filter_map (request_for id) events
 
 -- ---- faults
 
--- the fault, unless the test holds
-abbrev pub unless : Bool → ProgramFault → Option ProgramFault
-unless true fault = None
-unless false fault = Some fault
+-- the fault, fault_unless the test holds
+abbrev pub fault_unless : Bool → ProgramFault → Option ProgramFault
+fault_unless true fault = None
+fault_unless false fault = Some fault
 
 -- that line n is refused, if the volume can't be opened
 abbrev pub refused_at : ℕ → Option OpenFault → Option ProgramFault
@@ -68,24 +68,24 @@ refused_at n (Some fault) = Some (Refused n)
 -- of which the desk has to take the first, and the others have to name a session of the tenant
 abbrev pub tenant_fault : CheckedPlan → List Account → ℕ → ℕ → Line → Option ProgramFault
 tenant_fault plan desk n tenant (NewVolume files blocks) = refused_at n (open_fault (account_at desk tenant) (record { files = files; blocks = blocks }))
-tenant_fault plan desk n tenant (Write session volume file bytes) = unless (is_in 1 (row_at plan tenant).sessions session) (LineFault n)
-tenant_fault plan desk n tenant (Read session volume file) = unless (is_in 1 (row_at plan tenant).sessions session) (LineFault n)
-tenant_fault plan desk n tenant (ListFiles session volume) = unless (is_in 1 (row_at plan tenant).sessions session) (LineFault n)
+tenant_fault plan desk n tenant (Write session volume file bytes) = fault_unless (is_in 1 (row_at plan tenant).sessions session) (LineFault n)
+tenant_fault plan desk n tenant (Read session volume file) = fault_unless (is_in 1 (row_at plan tenant).sessions session) (LineFault n)
+tenant_fault plan desk n tenant (ListFiles session volume) = fault_unless (is_in 1 (row_at plan tenant).sessions session) (LineFault n)
 tenant_fault plan desk n tenant _ = Some (LineFault n)
 
 -- the fault of line n; a server line has to stop a server of the grid or bring it back
 abbrev pub line_fault : CheckedPlan → List Account → ℕ → Event → Option ProgramFault
 line_fault plan desk n (Tenant tenant line) = tenant_fault plan desk n tenant line
-line_fault plan desk n (Server line) = unless (is_change plan.grid line) (LineFault n)
+line_fault plan desk n (Server line) = fault_unless (is_change plan.grid line) (LineFault n)
 line_fault plan desk n Stray = Some (LineFault n)
 
 -- the desk after a line of the tenant that is not at fault
-abbrev pub desk_with : List Account → ℕ → Line → List Account
-desk_with desk tenant (NewVolume files blocks) = slice_set desk tenant (with_volume (record { files = files; blocks = blocks }) (account_at desk tenant))
-desk_with desk tenant _ = desk
+abbrev pub desk_with_line : List Account → ℕ → Line → List Account
+desk_with_line desk tenant (NewVolume files blocks) = slice_set desk tenant (with_volume (record { files = files; blocks = blocks }) (account_at desk tenant))
+desk_with_line desk tenant _ = desk
 
 abbrev pub desk_after : List Account → Event → List Account
-desk_after desk (Tenant tenant line) = desk_with desk tenant line
+desk_after desk (Tenant tenant line) = desk_with_line desk tenant line
 desk_after desk _ = desk
 
 -- the first fault of the events, of which the first is line n
@@ -117,7 +117,7 @@ fault_of (Err fault) = Some (PlanFault fault.0 fault.1)
 pub record AreOf (plan : CheckedPlan) (events : List Event) (programs : Programs) : Type 0 where
   pub volumes : programs.volumes.items ≡ filter_map opening_of events
   pub sessions : programs.sessions.items ≡ map (requests_for events) (plan_sessions plan)
-  pub changes : programs.changes.items ≡ filter_map change_of events
+  pub changes : programs.changes.items ≡ filter_map server_line_of events
 
 -- the input has this plan, and the programs are those of its lines behind the plan
 pub record IsProgramsOf (input : List ℕ) (plan : CheckedPlan) (programs : Programs) : Type 0 where

@@ -19,7 +19,7 @@ ghost use Rattle.gq_script.specs.Completing.{missing_newline};
 ghost use Rattle.gq_script.specs.Out.{IsAccepted};
 ghost use Rattle.gq_script.specs.Watched.{inner_of, has_failed, AppendsPrefix};
 ghost use Rattle.gq_runs.specs.Orders.{NamesTenant};
-ghost use Rattle.gq_runs.specs.Finishing.{events_of, goes_on, session_of, CauseOf, Finished, FinishOf, HasCause, IsEnd, IsOfOutput, StopsFor};
+ghost use Rattle.gq_runs.specs.Finishing.{events_of, goes_on, outcome_session, CauseOf, Finished, FinishOf, HasCause, IsEnd, IsOfOutput, StopsFor};
 
 use gq_desk::{MOST_STEPS, Plan};
 use gq_grid::{Grid, ServerSet};
@@ -118,7 +118,7 @@ impl Waiting {
 
 // Whether the operation that ended is one of the session.
 fn is_of(outcome: &Outcome, session: u32) -> bool
-    ensures { result ≡ true → session_of outcome.now ≡ session }
+    ensures { result ≡ true → outcome_session outcome.now ≡ session }
 {
     match outcome {
         Outcome::Wrote { session: own, .. }

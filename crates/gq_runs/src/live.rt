@@ -3,7 +3,7 @@
 ghost use Rattle.std.specs.Prelude.{◌≡◌, ◌≢◌, ◌↔◌, ◌≤◌, length, true, false, IfOk, IfErr, IfSome, OnOk, IsErrOf};
 ghost use Rattle.gq_script.specs.Watched.{inner_of, has_failed};
 ghost use Rattle.gq_session.specs.Fitting.{FitsPlan};
-ghost use Rattle.gq_runs.specs.LiveRuns.{IsLiveScript, IsScriptOfRun, IsFaultOf, IsMismatchOf, IsFaultOfRun, IsFaultOfScript, AppendsLive, AppendsLivePrefix, GivesPrograms, NoGateFault};
+ghost use Rattle.gq_runs.specs.LiveRuns.{IsLiveScript, IsScriptOfRun, IsLiveFaultOf, IsMismatchOf, IsFaultOfRun, IsFaultOfScript, AppendsLive, AppendsLivePrefix, GivesPrograms, NoGateFault};
 
 use crate::programs::{ProgramFault, read_programs};
 use gq_desk::{Name, Plan};
@@ -163,7 +163,7 @@ pub fn live_run<R: Read, W: Write, G: Gate + Send + Sync, T: Threads + Wait + Sy
 
     // When each fault comes.
     ensures read { IsErrOf result LiveRunFault.Read ↔ (has_failed reader.new ≡ true) }
-    ensures fault { IfErr result (λ e. IfSome (R.remaining (inner_of reader.old)) (λ input. IsFaultOf input e)) }
+    ensures fault { IfErr result (λ e. IfSome (R.remaining (inner_of reader.old)) (λ input. IsLiveFaultOf input e)) }
     ensures gate { G.never ≡ true → IfErr result NoGateFault }
     ensures write { IsErrOf result LiveRunFault.Write ↔ (has_failed writer.new ≡ true) }
 

@@ -11,7 +11,7 @@ ghost use Rattle.gq_script.specs.PlanText.{plan_of};
 ghost use Rattle.gq_script.specs.Pieces.{words_in};
 ghost use Rattle.gq_script.specs.Watched.{inner_of, has_failed, AppendsPrefix};
 ghost use Rattle.gq_order.specs.Runs.{IsRun};
-ghost use Rattle.gq_runs.specs.Orders.{line_at, op_line, op_lines, ordered, operations_of, NamesTenant, order_out, IsPlanFault, IsFaultOfOutput};
+ghost use Rattle.gq_runs.specs.Orders.{operation_line_at, op_line, op_lines, ordered, operations_of, NamesTenant, order_out, IsPlanFault, IsFaultOfOutput};
 
 use gq_desk::Plan;
 use gq_laws::{Kind, Op};
@@ -96,7 +96,7 @@ fn put_op(out: &mut Vec<u8>, op: &Op) -> Result<(), OutOfMemory>
 
 // Appends the line of the operation at the place, where there is one.
 fn put_at(out: &mut Vec<u8>, ops: &[Op], place: OpRef) -> Result<(), OutOfMemory>
-    ensures { OnOk result (out.new.items ≡ out.old.items ++ line_at ops.now place) }
+    ensures { OnOk result (out.new.items ≡ out.old.items ++ operation_line_at ops.now place) }
 {
     match ops.get(place) {
         Some(op) => put_op(out, op),

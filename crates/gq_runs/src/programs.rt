@@ -13,7 +13,7 @@ ghost use Rattle.gq_script.specs.PlanText.{plan_of};
 ghost use Rattle.gq_session.specs.Fitting.{FitsPlan, is_change};
 ghost use Rattle.gq_session.specs.declared.fitting.SessionId.{SessionId};
 ghost use Rattle.gq_runs.specs.Gathering.{AreByTenant, line_for, list_at, request_in, requests_at};
-ghost use Rattle.gq_runs.specs.Programs.{AreOf, IsProgramsOf, change_of, desk_after, desk_with, events_fault, fault_of, first_fault, line_fault, names_session, new_desk, opening_of, refused_at, steps_fault, tenant_fault, unless};
+ghost use Rattle.gq_runs.specs.Programs.{AreOf, IsProgramsOf, server_line_of, desk_after, desk_with_line, events_fault, fault_of, first_fault, line_fault, names_session, new_desk, opening_of, refused_at, steps_fault, tenant_fault, fault_unless};
 
 use gq_desk::{Desk, MOST_STEPS, OpenRefused, Plan, TenantRow};
 use gq_memory::{GrowVec, OutOfMemory};
@@ -70,7 +70,7 @@ fn steps_fault(rows: &[TenantRow]) -> Option<ProgramFault>
 // The fault of a line that names this session of the tenant.
 fn session_fault(plan: &Plan, tenant: u8, session: u32, number: u64) -> Option<ProgramFault>
     requires { tenant < length plan.now.rows }
-    ensures { result ≡ unless (is_in 1 (row_at plan.now tenant).sessions session) (ProgramFault.Line number) }
+    ensures { result ≡ fault_unless (is_in 1 (row_at plan.now tenant).sessions session) (ProgramFault.Line number) }
 {
     if session < 1 || session > plan.row(tenant).sessions {
         Some(ProgramFault::Line(number))
@@ -81,7 +81,7 @@ fn session_fault(plan: &Plan, tenant: u8, session: u32, number: u64) -> Option<P
 
 // The fault of a server line.
 fn server_fault(plan: &Plan, line: ServerLine, number: u64) -> Option<ProgramFault>
-    ensures { result ≡ unless (is_change plan.now.grid line) (ProgramFault.Line number) }
+    ensures { result ≡ fault_unless (is_change plan.now.grid line) (ProgramFault.Line number) }
 {
     match line {
         ServerLine::Down { server } | ServerLine::Up { server }
@@ -122,7 +122,7 @@ fn test_line(
     requires row { tenant < length plan.now.rows }
     requires account { tenant < length desk.old }
     ensures ok { OnOk result (tenant_fault plan.now desk.old number tenant line.now ≡ None) }
-    ensures desk { OnOk result (desk.new ≡ desk_with desk.old tenant line.now) }
+    ensures desk { OnOk result (desk.new ≡ desk_with_line desk.old tenant line.now) }
     ensures fault { IfErr result (λ fault. fault ≢ ProgramFault.Memory tt → tenant_fault plan.now desk.old number tenant line.now ≡ Some fault) }
 {
     let fault = match line {
@@ -212,7 +212,7 @@ fn opening_of(event: &Event) -> Option<Opening>
 
 // The server line that the event is, if it is one.
 fn change_of(event: &Event) -> Option<ServerLine>
-    ensures { result ≡ change_of event.now }
+    ensures { result ≡ server_line_of event.now }
 {
     match event {
         Event::Server { line } => Some(*line),
@@ -243,7 +243,7 @@ fn volumes_of(alloc: Global, events: &[Event]) -> Result<Vec<Opening>, OutOfMemo
 
 // The server lines among the events, in order.
 fn changes_of(alloc: Global, events: &[Event]) -> Result<Vec<ServerLine>, OutOfMemory>
-    ensures { IfOk result (λ changes. changes.items ≡ filter_map change_of events.now) }
+    ensures { IfOk result (λ changes. changes.items ≡ filter_map server_line_of events.now) }
 {
     let mut changes = Vec::new(alloc);
     for event in events {

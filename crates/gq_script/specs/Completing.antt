@@ -11,7 +11,8 @@ use Rattle.gq_model.specs.declared.events.Line.TheVariants.{Deliver, Retry}
 use Rattle.gq_model.specs.Told.{Told, Done}
 use Rattle.gq_model.specs.Trace.{Own, State, operation, task_of}
 use Rattle.gq_model.specs.Lone.{is_refusal, said, past_of, first_operation}
-use Rattle.gq_laws.specs.Progress.{deliveries_left, IsOutcomeOf, QuorumsUp, state_after, StepsLeft, IsRequestOf}
+use Rattle.gq_model.specs.Events.{IsRequestOf}
+use Rattle.gq_laws.specs.Progress.{deliveries_left, IsOutcomeOf, QuorumsUp, state_after, StepsLeft}
 use Rattle.gq_script.specs.declared.script.TheConstants.{MOST_INPUT}
 use Rattle.gq_script.specs.Words.{Word}
 use Rattle.gq_script.specs.Output.{line_text, told_words}

@@ -2,10 +2,10 @@
 #![tactic(auto)]
 
 mod canonical;
+mod first_bytes;
 mod input;
 pub mod laws;
 mod lines;
-mod near;
 mod output;
 mod pieces;
 mod plan_text;

@@ -3,7 +3,7 @@
 ghost use Rattle.std.specs.Prelude.{◌≡◌, ◌∷◌, ◌<◌, length};
 ghost use Rattle.gq_script.specs.Lines.{lines_of, IsRest, IsCut};
 
-use crate::near::near;
+use crate::first_bytes::near;
 use crate::words::first_word;
 use memchr::memchr;
 

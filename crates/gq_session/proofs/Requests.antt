@@ -4,8 +4,9 @@ use Rattle.std.proofs.lemmas.List.{get_or_default}
 use Rattle.gq_desk.specs.CheckedPlan.{CheckedPlan}
 use Rattle.gq_model.specs.declared.events.Line.{Line}
 use Rattle.gq_model.specs.declared.events.Line.TheVariants.{Bad, Quorum, NewVolume, Volumes, Write, Read, List as ListFiles, Deliver, Lose, Retry, Abandon}
+use Rattle.gq_model.specs.Events.{IsRequestOf}
 use Rattle.gq_session.specs.declared.records.Programs.{Programs}
-use Rattle.gq_session.specs.Fitting.{IsRequest, IsRequestOf, FitsPlan, id_at, plan_sessions}
+use Rattle.gq_session.specs.Fitting.{IsRequest, FitsPlan, id_at, plan_sessions}
 
 is_request : (k : ℕ) (line : Line) → IsRequestOf k line → IsRequest line
 is_request k Bad is = absurd is

@@ -1,8 +1,8 @@
 -- The board with the list of changes: what a step of a session, and a change of the list, does there.
 use Rattle.std.specs.Prelude.{ℕ, ◌≡◌, ◌≢◌, ◌≤◌, ◌^◌, ◌⊎◌, [], ◌∷◌, ◌++◌, true, false, Some, length, slice_get, if◌then◌else◌}
 use Rattle.gq_grid.specs.Grid.{Servers}
-use Rattle.gq_cell.specs.Boards.{up_of, with_change}
-use Rattle.gq_cell.specs.Journal.{is_up, last_of}
+use Rattle.gq_cell.specs.Boards.{up_of, board_with}
+use Rattle.gq_cell.specs.Journal.{is_up, last_stamp_of}
 use Rattle.gq_cell.specs.Keeping.{Journaled}
 use Rattle.gq_cell.specs.Serving.{with_entry}
 use Rattle.gq_cell.specs.Stamps.{stamp_after}
@@ -53,7 +53,7 @@ pub record PassesBy (old new : Agenda) : Type 0 where
 -- the next change of the list is done at the board, at the stamp
 pub record Changes (old new : Agenda) (change : Change) (seen stamp : ℕ) : Type 0 where
   pub above : stamp ≡ stamp_after old.board.last seen
-  pub board : new.board ≡ with_change stamp change.server change.up old.board
+  pub board : new.board ≡ board_with stamp change.server change.up old.board
   pub list : new.list.items ≡ old.list.items
   pub done : new.done.items ≡ old.done.items ++ true ∷ []
 
@@ -83,7 +83,7 @@ pub record CellChanges (old new : Agenda) (before after : Journaled) : Type 0 wh
   pub server : change.server ≡ before.server
   pub differs : is_up before.journal ≢ change.up
   pub stamp : ℕ
-  pub agenda : Changes old new change (last_of before.journal) stamp
+  pub agenda : Changes old new change (last_stamp_of before.journal) stamp
   pub cell : after ≡ with_entry (if change.up then Back stamp else Stop stamp) before
 
 abbrev pub ChangesCell : Agenda → Agenda → Journaled → Journaled → Type 0
@@ -92,6 +92,6 @@ ChangesCell old new before after = HasNone old new before after ⊎ (CellPasses 
 -- no stamp is left, or the next change is of another server
 abbrev pub IsChangeFault : Agenda → Journaled → LiveFault → Type 0
 IsChangeFault agenda cell (Memory _) = Unit {0}
-IsChangeFault agenda cell Stamps = 2 ^ 64 ≤ stamp_after agenda.board.last (last_of cell.journal)
+IsChangeFault agenda cell Stamps = 2 ^ 64 ≤ stamp_after agenda.board.last (last_stamp_of cell.journal)
 IsChangeFault agenda cell Letter = (change : Change) × (IsNext agenda change × (change.server ≢ cell.server))
 IsChangeFault agenda cell _ = ⊥

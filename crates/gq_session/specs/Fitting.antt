@@ -6,6 +6,7 @@ use Rattle.gq_model.specs.declared.events.Line.{Line}
 use Rattle.gq_model.specs.declared.events.Line.TheVariants.{Write, Read, List as ListFiles}
 use Rattle.gq_model.specs.declared.events.ServerLine.{ServerLine}
 use Rattle.gq_model.specs.declared.events.ServerLine.TheVariants.{Bad, Down, Up}
+use Rattle.gq_model.specs.Events.{IsRequestOf}
 use Rattle.gq_session.specs.declared.TheConstants.{MOST_REQUESTS}
 use Rattle.gq_session.specs.declared.fitting.SessionId.{SessionId}
 use Rattle.gq_session.specs.declared.records.Opening.{Opening}
@@ -20,13 +21,6 @@ is_request _ = false
 
 abbrev pub IsRequest : Line → Type 0
 IsRequest line = is_request line ≡ true
-
--- a write, a read or a listing that names the session
-abbrev pub IsRequestOf : ℕ → Line → Type 0
-IsRequestOf k (Write session volume file bytes) = session ≡ k
-IsRequestOf k (Read session volume file) = session ≡ k
-IsRequestOf k (ListFiles session volume) = session ≡ k
-IsRequestOf k _ = ⊥
 
 -- a stop or a return of a server of the grid
 abbrev pub is_change : Grid → ServerLine → Bool

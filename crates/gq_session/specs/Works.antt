@@ -50,26 +50,26 @@ no_work = record { begun = 0; round = 0; last = 0; operation = None }
 -- ---- a request
 
 -- how many bytes the file of the volume may hold, where it is there
-abbrev pub limit_at : List VolumeRow → ℕ → ℕ → Option ℕ
-limit_at volumes v f = option_and_then (limit_in f) (slice_get volumes v)
+abbrev pub volume_limit : List VolumeRow → ℕ → ℕ → Option ℕ
+volume_limit volumes v f = option_and_then (limit_in f) (slice_get volumes v)
 
-abbrev pub no_volume : List VolumeRow → ℕ → Cause
-no_volume volumes v = (is_none (slice_get volumes v), NoVolume)
+abbrev pub no_volume_in : List VolumeRow → ℕ → Cause
+no_volume_in volumes v = (is_none (slice_get volumes v), NoVolume)
 
-abbrev pub no_file : List VolumeRow → ℕ → ℕ → Cause
-no_file volumes v f = (is_none (limit_at volumes v f), NoFile)
+abbrev pub no_file_in : List VolumeRow → ℕ → ℕ → Cause
+no_file_in volumes v f = (is_none (volume_limit volumes v f), NoFile)
 
-abbrev pub too_long : List VolumeRow → ℕ → ℕ → List ℕ → Cause
-too_long volumes v f bytes = (nat_lt (unwrap_or (limit_at volumes v f) 0) (length bytes), TooLong)
+abbrev pub too_long_in : List VolumeRow → ℕ → ℕ → List ℕ → Cause
+too_long_in volumes v f bytes = (nat_lt (unwrap_or (volume_limit volumes v f) 0) (length bytes), TooLong)
 
-abbrev pub no_quorum : Grid → Servers → Cause
-no_quorum grid up = (is_none (collect_quorum grid up), NoQuorum)
+abbrev pub no_row_up : Grid → Servers → Cause
+no_row_up grid up = (is_none (collect_quorum grid up), NoQuorum)
 
 -- the causes why the request of a session with no operation is refused, in their order
 abbrev pub request_causes : Home → Servers → Line → List Cause
-request_causes home up (Write k v f bytes) = no_volume home.volumes v ∷ no_file home.volumes v f ∷ too_long home.volumes v f bytes ∷ no_quorum home.grid up ∷ []
-request_causes home up (Read k v f) = no_volume home.volumes v ∷ no_file home.volumes v f ∷ no_quorum home.grid up ∷ []
-request_causes home up (ListFiles k v) = no_volume home.volumes v ∷ no_quorum home.grid up ∷ []
+request_causes home up (Write k v f bytes) = no_volume_in home.volumes v ∷ no_file_in home.volumes v f ∷ too_long_in home.volumes v f bytes ∷ no_row_up home.grid up ∷ []
+request_causes home up (Read k v f) = no_volume_in home.volumes v ∷ no_file_in home.volumes v f ∷ no_row_up home.grid up ∷ []
+request_causes home up (ListFiles k v) = no_volume_in home.volumes v ∷ no_row_up home.grid up ∷ []
 request_causes home up _ = []
 
 abbrev pub request_refusal : Home → Servers → Line → Option Refusal
@@ -111,13 +111,13 @@ fits_round Stored round = round % 2 == 0
 fits_round _ round = false
 
 -- whether the message is a reply to the session
-abbrev pub is_reply : Home → Message → Bool
-is_reply home m =
+abbrev pub is_reply_to : Home → Message → Bool
+is_reply_to home m =
     (m.tenant == home.tenant) && (m.session == home.number) && nat_lt m.server (home.grid.rows * home.grid.cols) && fits_round m.body m.round
 
 -- whether it is of the session's operation and round
-abbrev pub is_current : Work → Message → Bool
-is_current work m = is_some work.operation && (m.op == work.begun) && (m.round == work.round)
+abbrev pub is_of_work : Work → Message → Bool
+is_of_work work m = is_some work.operation && (m.op == work.begun) && (m.round == work.round)
 
 -- what is said where the operation says this, and what the session's work then is
 abbrev pub said_of : Heard → Said
@@ -170,8 +170,8 @@ said_ending None = Refused Idle
 said_ending (Some o) = Abandoned
 
 -- no operation is left
-abbrev pub ended : Work → Work
-ended work = record { begun = work.begun; round = work.round; last = last_number work.last work.operation; operation = None }
+abbrev pub ended_work : Work → Work
+ended_work work = record { begun = work.begun; round = work.round; last = last_number work.last work.operation; operation = None }
 
 -- ---- faults, want of memory apart
 
@@ -190,5 +190,5 @@ IsSpent (Some o) = floor_of o ≡ 18446744073709551615
 abbrev pub IsHearFault : Home → Work → Message → LiveFault → Type 0
 IsHearFault home work message (Memory _) = Unit {0}
 IsHearFault home work message Stamps = (copied_number message.body ≡ 18446744073709551615) ⊎ IsSpent work.operation
-IsHearFault home work message Letter = is_reply home message ≡ false
+IsHearFault home work message Letter = is_reply_to home message ≡ false
 IsHearFault home work message _ = ⊥

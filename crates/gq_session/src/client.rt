@@ -12,7 +12,7 @@ ghost use Rattle.gq_phase.specs.Standing.{IsGoing, Begins};
 ghost use Rattle.gq_model.specs.Lone.{first_cause};
 ghost use Rattle.gq_session.specs.Began.{IsNotBegun, BeginsRequest};
 ghost use Rattle.gq_session.specs.Fitting.{IsRequest};
-ghost use Rattle.gq_session.specs.Works.{no_work, no_volume, no_file, AsksAs, fits_round, is_reply, is_current, HearsIn, RetriesIn, said_ending, ended, IsAskFault, IsHearFault};
+ghost use Rattle.gq_session.specs.Works.{no_work, no_volume_in, no_file_in, AsksAs, fits_round, is_reply_to, is_of_work, HearsIn, RetriesIn, said_ending, ended_work, IsAskFault, IsHearFault};
 
 use crate::records::LiveFault;
 use bytes::Bytes;
@@ -154,7 +154,7 @@ impl Client {
 
     // Whether the message is of its operation and round.
     pub(crate) fn is_current(&self, message: &Message) -> bool
-        ensures { result ≡ is_current (work_of self.now) message.now }
+        ensures { result ≡ is_of_work (work_of self.now) message.now }
     {
         self.current.is_some() && message.op == self.op && message.round == self.round
     }
@@ -180,7 +180,7 @@ impl Client {
     fn volume(&self, number: u32) -> Result<VolumeRow, Refusal>
         ensures sized { IfOk result (λ row. is_sized row ≡ true) }
         ensures row { IfOk result (λ row. slice_get self.now.volumes.items number ≡ Some row) }
-        ensures refusal { IfErr result (λ refusal. first_cause (no_volume self.now.volumes.items number ∷ []) ≡ Some refusal) }
+        ensures refusal { IfErr result (λ refusal. first_cause (no_volume_in self.now.volumes.items number ∷ []) ≡ Some refusal) }
     {
         match self.volumes.get(number as usize) {
             Some(row) => Ok(*row),
@@ -193,7 +193,7 @@ impl Client {
         ensures row { IfOk result (λ row. slice_get self.now.volumes.items number ≡ Some row) }
         ensures file { IfOk result (λ row. file < row.files) }
         ensures refusal { IfErr result (λ refusal.
-            first_cause (no_volume self.now.volumes.items number ∷ no_file self.now.volumes.items number file ∷ []) ≡ Some refusal) }
+            first_cause (no_volume_in self.now.volumes.items number ∷ no_file_in self.now.volumes.items number file ∷ []) ≡ Some refusal) }
     {
         let row = self.volume(number)?;
         if file >= row.files {
@@ -316,7 +316,7 @@ impl Client {
 
     // Whether the message is a reply to the session.
     fn is_reply(&self, message: &Message) -> bool
-        ensures reply { result ≡ is_reply (home_of self.now) message.now }
+        ensures reply { result ≡ is_reply_to (home_of self.now) message.now }
         ensures server { result ≡ true → message.now.server < MOST_SERVERS }
     {
         message.tenant == self.tenant
@@ -329,7 +329,7 @@ impl Client {
     pub(crate) fn hear(&mut self, message: &Message, up: ServerSet) -> Result<Step, LiveFault>
         ensures hears { IfOk result (λ step. HearsIn self.old.current (work_of self.old) (work_of self.new)
             (servers up) message.now step.said step.messages) }
-        ensures reply { OnOk result (is_reply (home_of self.old) message.now ≡ true) }
+        ensures reply { OnOk result (is_reply_to (home_of self.old) message.now ≡ true) }
         ensures home { home_of self.new ≡ home_of self.old }
         ensures fault { IfErr result (λ fault. IsHearFault (home_of self.old) (work_of self.old) message.now fault) }
         ensures same { OnErr result (work_of self.new ≡ work_of self.old) }
@@ -404,7 +404,7 @@ impl Client {
         ensures said { result.said ≡ said_ending self.old.current }
         ensures messages { result.messages ≡ [] }
         ensures home { home_of self.new ≡ home_of self.old }
-        ensures work { work_of self.new ≡ ended (work_of self.old) }
+        ensures work { work_of self.new ≡ ended_work (work_of self.old) }
     {
         let Some(operation) = self.current.take() else {
             return quiet(&self.grid, Said::Refused(Refusal::Idle));

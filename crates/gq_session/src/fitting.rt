@@ -1,7 +1,8 @@
 //! Whether programs fit a plan.
 ghost use Rattle.std.specs.Prelude.{◌≡◌, ◌≤◌, ◌<◌, ◌++◌, ℕ, List, All, IfOk, OnOk, true, length};
 ghost use Rattle.gq_desk.specs.declared.limits.TheConstants.{MOST_SESSIONS};
-ghost use Rattle.gq_session.specs.Fitting.{is_change, IsChange, IsRequestOf, IsTenants, HasRequests, FitsPlan, numbered, plan_sessions};
+ghost use Rattle.gq_session.specs.Fitting.{is_change, IsChange, IsTenants, HasRequests, FitsPlan, numbered, plan_sessions};
+ghost use Rattle.gq_model.specs.Events.{IsRequestOf};
 
 use crate::MOST_REQUESTS;
 use crate::records::{Lines, Opening, Programs};

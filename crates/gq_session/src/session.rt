@@ -8,7 +8,7 @@ ghost use Rattle.gq_session.specs.Asked.{asked_of};
 ghost use Rattle.gq_session.specs.Faults.{NoGate};
 ghost use Rattle.gq_session.specs.Fitting.{IsRequest};
 ghost use Rattle.gq_session.specs.Sessions.{Sitting, AsksNext, HearsLetter, Retries, with_step, is_stuck, IsAskNextFault, IsHearLetterFault};
-ghost use Rattle.gq_session.specs.Works.{no_work, is_reply, is_current, said_ending, ended};
+ghost use Rattle.gq_session.specs.Works.{no_work, is_reply_to, is_of_work, said_ending, ended_work};
 
 use crate::agenda::Agenda;
 use crate::client::{Client, Step};
@@ -97,7 +97,7 @@ impl Session {
 
     /// Whether the message is of its operation and its round.
     pub fn is_current(&self, message: &Message) -> bool
-        ensures { result ≡ is_current self.now.work message.now }
+        ensures { result ≡ is_of_work self.now.work message.now }
     {
         self.client.is_current(message)
     }
@@ -114,7 +114,7 @@ impl Session {
         ensures none { self.old.left ≡ [] → result ≡ Ok None }
         ensures quiet { IfOk result (λ o. ForNone o (IsSameAgenda agenda.old agenda.new)) }
         ensures idle { IfOk result (λ o. ForNone o (self.new ≡ self.old)) }
-        ensures ended { IfOk result (λ o. ForNone o (self.old.left ≡ [])) }
+        ensures ended_work { IfOk result (λ o. ForNone o (self.old.left ≡ [])) }
         ensures fault { IfErr result (λ fault. IsAskNextFault self.old agenda.old.board.last fault) }
         ensures same { OnErr result (self.new ≡ self.old) }
         ensures keeps { KeepsChanges agenda.old agenda.new }
@@ -143,7 +143,7 @@ impl Session {
         ensures hears { IfOk result (λ outbox. HearsLetter self.old self.new (servers_up agenda.old) letter
             outbox.stamp outbox.messages outbox.stuck) }
         ensures stamp { IfOk result (λ outbox. IsStamped agenda.old agenda.new letter.stamp outbox.stamp) }
-        ensures reply { OnOk result (is_reply self.old.home letter.message ≡ true) }
+        ensures reply { OnOk result (is_reply_to self.old.home letter.message ≡ true) }
         ensures fault { IfErr result (λ fault. IsHearLetterFault self.old letter agenda.old.board.last fault) }
         ensures same { OnErr result (self.new ≡ self.old) }
         ensures keeps { KeepsChanges agenda.old agenda.new }
@@ -190,7 +190,7 @@ impl Session {
     /// The faults are `Memory`, and `Stamps` where no greater stamp is left. After a fault the session is as it was.
     pub fn give_up(&mut self, agenda: &mut Agenda) -> Result<Outbox, LiveFault>
         ensures ends { IfOk result (λ outbox. self.new
-            ≡ with_step self.old outbox.stamp Did.GaveUp (said_ending self.old.work.operation) (ended self.old.work)) }
+            ≡ with_step self.old outbox.stamp Did.GaveUp (said_ending self.old.work.operation) (ended_work self.old.work)) }
         ensures quiet { IfOk result (λ outbox. outbox.messages ≡ []) }
         ensures waits { IfOk result (λ outbox. outbox.stuck ≡ is_none self.old.work.operation) }
         ensures stamp { IfOk result (λ outbox. IsStamped agenda.old agenda.new 0 outbox.stamp) }

@@ -1,4 +1,4 @@
--- What a shard sees is answered as in the run of all.
+-- What a shard sees_mark is answered as in the run of all.
 use Rattle.std.proofs.Common.{◌≡◌, ◌≢◌, ◌⊎◌, ◌∙◌, ℕ, suc, zero, ◌+◌, ◌-◌, ◌<◌, ◌≤◌, Bool, true, false, List, [], ◌∷◌, ◌++◌, None, map, length, append_assoc, append-nil, refl, sym, ap, subst, inl, inr, arith}
 use Rattle.std.specs.Prelude.{◌==◌, ◌||◌, filter, codes, slice_index_or, Result, Ok, Err, IfOk}
 use Rattle.std.specs.List.{cons_option}
@@ -21,18 +21,18 @@ use Rattle.gq_script.specs.Lines.{lines_of}
 use Rattle.gq_script.specs.PlanText.{Reading, plan_of}
 use Rattle.gq_script.specs.Out.{answer_lines, output_lines, output_of, out, joined}
 use Rattle.gq_world.specs.Tables.{Tables, Stands}
-use Rattle.gq_shards.specs.Shards.{shard_of, mark_of, marks_of, tells, sees, of_shard, lines_from, out_lines, IsPart, IsText, EachTold, AreTold}
+use Rattle.gq_shards.specs.Shards.{shard_of, mark_of, marks_of, tells, sees_mark, of_shard, lines_from, out_lines, IsPart, IsText, EachTold, AreTold}
 use Rattle.gq_shards.specs.declared.telling.Told.{Told}
 
--- the shard sees the event; the events that it sees
+-- the shard sees_mark the event; the events that it sees_mark
 abbrev pub sees_event : ℕ → ℕ → Event → Bool
-sees_event n k e = sees k (mark_of n e)
+sees_event n k e = sees_mark k (mark_of n e)
 
 abbrev pub part_events : ℕ → ℕ → List Event → List Event
 part_events n k events = filter (sees_event n k) events
 
--- a tenant's line that the shard sees is its own
-mine_of : (k m : ℕ) → sees k (m + 1) ≡ true → m ≡ k
+-- a tenant's line that the shard sees_mark is its own
+mine_of : (k m : ℕ) → sees_mark k (m + 1) ≡ true → m ≡ k
 mine_of k m is = by (m + 1 == 0) refl (tells k (m + 1)) refl is
   where
     by : (a : Bool) → (m + 1 == 0) ≡ a → (b : Bool) → tells k (m + 1) ≡ b → (a || b) ≡ true → m ≡ k
@@ -59,7 +59,7 @@ unseen_server n k (Tenant u line) not = refl
 unseen_server n k (Server line) not = absurd (let no : true ≡ false = not in cc)
 unseen_server n k Stray not = refl
 
--- the shard sees all turns of its tenants
+-- the shard sees_mark all turns of its tenants
 own_part : (n k t : ℕ) (events : List Event) → shard_of n t ≡ k → own t (part_events n k events) ≡ own t events
 own_part n k t [] mine = refl
 own_part n k t (e ∷ events) mine = by (sees_event n k e) refl (own_part n k t events mine)
@@ -84,7 +84,7 @@ server_lines_part n k (e ∷ events) = by (sees_event n k e) refl (server_lines_
         let first : part_events n k (e ∷ events) ≡ part_events n k events = rw is refl in
         ap server_lines first ∙ (later ∙ sym (ap (λ o. cons_option o (server_lines events)) (unseen_server n k e is)))
 
--- what it sees is answered as in the run of all
+-- what it sees_mark is answered as in the run of all
 pub answer_part : (n k : ℕ) (plan part : CheckedPlan) (events : List Event) (e : Event) → IsPart n k plan part → sees_event n k e ≡ true → answer_to part (part_events n k events) e ≡ answer_to plan events e
 answer_part n k plan part events (Tenant t line) is seen =
     let mine : shard_of n t ≡ k = mine_of k (shard_of n t) seen in
@@ -134,13 +134,13 @@ one_more text lengths x told is = record {
 -- one line more
 pub tells_more : (n k : ℕ) (plan : CheckedPlan) (world world' : Tables) (text text' lengths lengths' every : List ℕ) (mark : ℕ) (marks line : List ℕ) (left rest all : List (List ℕ)) (e : Event) → Tells n k plan world text lengths (mark ∷ marks) every left all
     → left ≡ line ∷ rest → world'.plan ≡ world.plan → e ≡ event_of plan line
-    → (sees k mark ≡ false → (world' ≡ world) × (text' ≡ text) × (lengths' ≡ lengths))
-    → (sees k mark ≡ true → (before : List Event) → Stands world before → Stands world' (before ++ e ∷ []))
-    → (sees k mark ≡ true → tells k mark ≡ false → (text' ≡ text) × (lengths' ≡ lengths))
+    → (sees_mark k mark ≡ false → (world' ≡ world) × (text' ≡ text) × (lengths' ≡ lengths))
+    → (sees_mark k mark ≡ true → (before : List Event) → Stands world before → Stands world' (before ++ e ∷ []))
+    → (sees_mark k mark ≡ true → tells k mark ≡ false → (text' ≡ text) × (lengths' ≡ lengths))
     → (tells k mark ≡ true → (before : List Event) → Stands world before → (text' ≡ text ++ answer_line world.plan e (answer_to world.plan before e)) × (lengths' ≡ lengths ++ length (answer_line world.plan e (answer_to world.plan before e)) ∷ []))
     → Tells n k plan world' text' lengths' marks every rest all
 tells_more n k plan world world' text text' lengths lengths' every mark marks line left rest all e s is same reads unseen stands silent told =
-    by (sees k mark) refl (tells k mark) refl
+    by (sees_mark k mark) refl (tells k mark) refl
   where
     marks_now : mark ∷ marks ≡ mark_of n (event_of plan line) ∷ marks_of plan n rest
     marks_now = s.marked ∙ ap (marks_of plan n) is
@@ -163,21 +163,21 @@ tells_more n k plan world world' text text' lengths lengths' every mark marks li
     part : IsPart n k plan world'.plan
     part = subst (IsPart n k plan) (sym same) s.part
 
-    more_seen : sees k mark ≡ true → part_events n k (s.events ++ e ∷ []) ≡ part_events n k s.events ++ e ∷ []
+    more_seen : sees_mark k mark ≡ true → part_events n k (s.events ++ e ∷ []) ≡ part_events n k s.events ++ e ∷ []
     more_seen seen =
-        let here : sees_event n k e ≡ true = ap (sees k) (sym mark_is) ∙ seen in
+        let here : sees_event n k e ≡ true = ap (sees_mark k) (sym mark_is) ∙ seen in
         filter-append (sees_event n k) s.events (e ∷ []) ∙ ap (λ z. part_events n k s.events ++ z) (rw here refl)
 
-    same_seen : sees k mark ≡ false → part_events n k (s.events ++ e ∷ []) ≡ part_events n k s.events
+    same_seen : sees_mark k mark ≡ false → part_events n k (s.events ++ e ∷ []) ≡ part_events n k s.events
     same_seen unseen =
-        let here : sees_event n k e ≡ false = ap (sees k) (sym mark_is) ∙ unseen in
+        let here : sees_event n k e ≡ false = ap (sees_mark k) (sym mark_is) ∙ unseen in
         let none : part_events n k (e ∷ []) ≡ [] = rw here refl in
         filter-append (sees_event n k) s.events (e ∷ []) ∙ (ap (λ z. part_events n k s.events ++ z) none ∙ append-nil (part_events n k s.events))
 
     skipped : tells k mark ≡ false → s.told ++ of_shard k marks ys ≡ of_shard k every (answer_lines plan [] (map (event_of plan) all))
     skipped not = let step : of_shard k (mark ∷ marks) (x ∷ ys) ≡ of_shard k marks ys = rw not refl in ap (λ z. s.told ++ z) (sym step) ∙ whole
 
-    by : (a : Bool) → sees k mark ≡ a → (b : Bool) → tells k mark ≡ b → Tells n k plan world' text' lengths' marks every rest all
+    by : (a : Bool) → sees_mark k mark ≡ a → (b : Bool) → tells k mark ≡ b → Tells n k plan world' text' lengths' marks every rest all
     by false away b tells_is =
         let kept = unseen away in
         let silent_too : tells k mark ≡ false = (or_parts (mark == 0) (tells k mark) away).1 in
@@ -202,7 +202,7 @@ tells_more n k plan world world' text text' lengths lengths' every mark marks li
           rest = skipped quiet;
         }
     by true seen_it true tells_it =
-        let here : sees_event n k e ≡ true = ap (sees k) (sym mark_is) ∙ seen_it in
+        let here : sees_event n k e ≡ true = ap (sees_mark k) (sym mark_is) ∙ seen_it in
         let says : answer_line world.plan e (answer_to world.plan (part_events n k s.events) e) ≡ x =
         ap (answer_line world.plan e) (answer_part n k plan world.plan s.events e s.part here) ∙ line_part n k plan world.plan e (answer_to plan s.events e) s.part here in
         let now = told tells_it (part_events n k s.events) s.stands in

@@ -8,7 +8,7 @@ ghost use Rattle.gq_model.specs.Shown.{shown};
 ghost use Rattle.gq_script.specs.Lines.{lines_of};
 ghost use Rattle.gq_script.specs.Output.{answer_line};
 ghost use Rattle.gq_script.specs.Out.{output_lines};
-ghost use Rattle.gq_shards.specs.Shards.{event_cut, line_cut, marks_of, of_shard, sees, tells, IsText};
+ghost use Rattle.gq_shards.specs.Shards.{event_cut, line_cut, marks_of, of_shard, sees_mark, tells, IsText};
 
 use crate::parts::part_of;
 use gq_desk::Plan;
@@ -63,11 +63,11 @@ fn next(
     requires grid { quorum.old.grid ≡ world.old.tables.plan.grid }
     ensures grid { quorum.new.grid ≡ quorum.old.grid }
     ensures plan { world.new.tables.plan ≡ world.old.tables.plan }
-    ensures unseen { OnOk result (sees shard mark ≡ false →
+    ensures unseen { OnOk result (sees_mark shard mark ≡ false →
         (world.new ≡ world.old) × (text.new.items ≡ text.old.items) × (lengths.new.items ≡ lengths.old.items)) }
     ensures silent { OnOk result (tells shard mark ≡ false →
         (text.new.items ≡ text.old.items) × (lengths.new.items ≡ lengths.old.items)) }
-    ensures stands { OnOk result (sees shard mark ≡ true → (before : List Event) → Stands world.old.tables before →
+    ensures stands { OnOk result (sees_mark shard mark ≡ true → (before : List Event) → Stands world.old.tables before →
         Stands world.new.tables (before ++ event_cut world.old.tables.plan first.now words.now ∷ [])) }
     ensures text { OnOk result (tells shard mark ≡ true → (before : List Event) → Stands world.old.tables before →
         text.new.items ≡ text.old.items ++ line_cut world.old.tables.plan before first.now words.now) }

@@ -11,7 +11,7 @@ use Rattle.gq_tag.specs.declared.StoredCopy.{StoredCopy}
 use Rattle.gq_tag.specs.Tag.{first_copy}
 use Rattle.gq_desk.specs.declared.volumes.VolumeRow.{VolumeRow}
 use Rattle.gq_desk.specs.Volumes.{Account, account_at, with_volume, reserved, blocks_of, free_of}
-use Rattle.gq_store.specs.Copies.{TenantCopies, VolumeCopies, no_tenant, no_volume, tenant_in, volume_in, copy_in, copies_account, volume_size, taken, volume_taken, tenant_taken, new_volume}
+use Rattle.gq_store.specs.Copies.{TenantCopies, VolumeCopies, no_tenant, empty_volume, tenant_in, volume_in, volume_copy, copies_account, volume_size, taken, volume_taken, tenant_taken, new_volume}
 use Rattle.gq_store.specs.Balance.{Balanced, IsWithinFiles}
 use Rattle.gq_store.proofs.There.{account_at-store_accounts}
 
@@ -44,29 +44,29 @@ accounts-tenants_grown tenants t files blocks =
 -- ---- the copies
 
 abbrev copy_of : List TenantCopies → FileId → StoredCopy
-copy_of tenants id = copy_in (volume_in (tenant_in tenants id.tenant) id.volume) id.file
+copy_of tenants id = volume_copy (volume_in (tenant_in tenants id.tenant) id.volume) id.file
 
-new_copy : (files blocks place : ℕ) → copy_in (new_volume files blocks) place ≡ first_copy
+new_copy : (files blocks place : ℕ) → volume_copy (new_volume files blocks) place ≡ first_copy
 new_copy files blocks place =
     elim (cases_lt place files) [
       | inl within ↦ get_or-replicate files place first_copy first_copy within
       | inr past ↦ get_or_past (replicate files first_copy) place first_copy (omega (arith, length-replicate files first_copy))
     ]
 
-no_copy : (place : ℕ) → copy_in no_volume place ≡ first_copy
+no_copy : (place : ℕ) → volume_copy empty_volume place ≡ first_copy
 no_copy place = get_or_past [] place first_copy (omega arith)
 
 -- a tenant's file has the copy that it had, or is new and has its first
-grown_copy : (x : TenantCopies) (files blocks number place : ℕ) → copy_in (volume_in (grown x files blocks) number) place ≡ copy_in (volume_in x number) place
+grown_copy : (x : TenantCopies) (files blocks number place : ℕ) → volume_copy (volume_in (grown x files blocks) number) place ≡ volume_copy (volume_in x number) place
 grown_copy x files blocks number place =
     let new = new_volume files blocks in
     elim (cases_lt number (length x.volumes)) [
-      | inl there ↦ ap (λ (y : VolumeCopies). copy_in y place) (get_or_append_left x.volumes (new ∷ []) no_volume number there)
+      | inl there ↦ ap (λ (y : VolumeCopies). volume_copy y place) (get_or_append_left x.volumes (new ∷ []) empty_volume number there)
       | inr past ↦
-          let before : copy_in (volume_in x number) place ≡ first_copy = ap (λ (y : VolumeCopies). copy_in y place) (get_or_past x.volumes number no_volume past) ∙ no_copy place in
+          let before : volume_copy (volume_in x number) place ≡ first_copy = ap (λ (y : VolumeCopies). volume_copy y place) (get_or_past x.volumes number empty_volume past) ∙ no_copy place in
           elim (cases_eq number (length x.volumes)) [
-            | inl last ↦ ap (λ (y : VolumeCopies). copy_in y place) (get_or_push x.volumes new no_volume number (sym last)) ∙ (new_copy files blocks place ∙ sym before)
-            | inr apart ↦ ap (λ (y : VolumeCopies). copy_in y place) (get_or_past (x.volumes ++ new ∷ []) number no_volume (omega (arith, length_push x.volumes new))) ∙ (no_copy place ∙ sym before)
+            | inl last ↦ ap (λ (y : VolumeCopies). volume_copy y place) (get_or_push x.volumes new empty_volume number (sym last)) ∙ (new_copy files blocks place ∙ sym before)
+            | inr apart ↦ ap (λ (y : VolumeCopies). volume_copy y place) (get_or_past (x.volumes ++ new ∷ []) number empty_volume (omega (arith, length_push x.volumes new))) ∙ (no_copy place ∙ sym before)
           ]
     ]
 
@@ -75,9 +75,9 @@ copy_of-grown tenants t files blocks id lt =
     let x = tenant_in tenants t in let new = grown x files blocks in
     elim (cases_eq id.tenant t) [
       | inl e ↦
-          rw e (ap (λ (y : TenantCopies). copy_in (volume_in y id.volume) id.file) (get_or-set_same tenants t new no_tenant lt)
+          rw e (ap (λ (y : TenantCopies). volume_copy (volume_in y id.volume) id.file) (get_or-set_same tenants t new no_tenant lt)
           ∙ grown_copy x files blocks id.volume id.file)
-      | inr e ↦ ap (λ (y : TenantCopies). copy_in (volume_in y id.volume) id.file) (get_or-set_other tenants t id.tenant new no_tenant e)
+      | inr e ↦ ap (λ (y : TenantCopies). volume_copy (volume_in y id.volume) id.file) (get_or-set_other tenants t id.tenant new no_tenant e)
     ]
 
 -- ---- the blocks

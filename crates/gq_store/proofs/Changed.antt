@@ -7,7 +7,7 @@ use Rattle.gq_tag.specs.declared.FileId.{FileId}
 use Rattle.gq_tag.specs.declared.StoredCopy.{StoredCopy}
 use Rattle.gq_tag.specs.declared.Tag.{Tag}
 use Rattle.gq_tag.specs.Tag.{first_copy, is_less, tag_cmp}
-use Rattle.gq_store.specs.Copies.{StoreCopies, TenantCopies, VolumeCopies, no_tenant, no_volume, tenant_in, volume_in, copy_in, copies_account, volume_size, volume_with, tenant_with, tenants_with}
+use Rattle.gq_store.specs.Copies.{StoreCopies, TenantCopies, VolumeCopies, no_tenant, empty_volume, tenant_in, volume_in, volume_copy, copies_account, volume_size, volume_with, tenant_with, tenants_with}
 use Rattle.gq_store.proofs.There.{IsThere}
 
 -- a comparison by `<` tells the lesser tag
@@ -28,7 +28,7 @@ volume_size-volume_with x f copy = λ i. record { files = length-set x.copies f 
 
 pub copies_account-tenant_with : (x : TenantCopies) (v f : ℕ) (copy : StoredCopy) → copies_account (tenant_with x v f copy) ≡ copies_account x
 copies_account-tenant_with x v f copy =
-    λ i. record { share = x.share; volumes = map-set_same volume_size x.volumes v (volume_with (volume_in x v) f copy) no_volume (volume_size-volume_with (volume_in x v) f copy) i }
+    λ i. record { share = x.share; volumes = map-set_same volume_size x.volumes v (volume_with (volume_in x v) f copy) empty_volume (volume_size-volume_with (volume_in x v) f copy) i }
 
 pub accounts-tenants_with : (tenants : List TenantCopies) (id : FileId) (copy : StoredCopy) → map copies_account (tenants_with tenants id copy) ≡ map copies_account tenants
 accounts-tenants_with tenants id copy =
@@ -38,14 +38,14 @@ accounts-tenants_with tenants id copy =
 -- ---- the file's copy
 
 abbrev copy_of : List TenantCopies → FileId → StoredCopy
-copy_of tenants id = copy_in (volume_in (tenant_in tenants id.tenant) id.volume) id.file
+copy_of tenants id = volume_copy (volume_in (tenant_in tenants id.tenant) id.volume) id.file
 
 pub copy_of-same : (store : StoreCopies) (id : FileId) (n : ℕ) (copy : StoredCopy) → IsThere store id n → copy_of (tenants_with store.tenants id copy) id ≡ copy
 copy_of-same store id n copy is =
     let x = tenant_in store.tenants id.tenant in let y = volume_in x id.volume in
     let at_tenant = get_or-set_same store.tenants id.tenant (tenant_with x id.volume id.file copy) no_tenant is.tenant in
-    let at_volume = get_or-set_same x.volumes id.volume (volume_with y id.file copy) no_volume is.volume in
-    ap (λ (t : TenantCopies). copy_in (volume_in t id.volume) id.file) at_tenant ∙ (ap (λ (v : VolumeCopies). copy_in v id.file) at_volume ∙ get_or-set_same y.copies id.file copy first_copy is.file)
+    let at_volume = get_or-set_same x.volumes id.volume (volume_with y id.file copy) empty_volume is.volume in
+    ap (λ (t : TenantCopies). volume_copy (volume_in t id.volume) id.file) at_tenant ∙ (ap (λ (v : VolumeCopies). volume_copy v id.file) at_volume ∙ get_or-set_same y.copies id.file copy first_copy is.file)
 
 -- ---- the copies of other files
 
@@ -53,15 +53,15 @@ copy_of-same store id n copy is =
 same_file : (a b : FileId) → a.tenant ≡ b.tenant → a.volume ≡ b.volume → a.file ≡ b.file → a ≡ b
 same_file a b t v f = λ i. record { tenant = t i; volume = v i; file = f i }
 
-in_file : (y : VolumeCopies) (f g : ℕ) (copy : StoredCopy) → g ≢ f → copy_in (volume_with y f copy) g ≡ copy_in y g
+in_file : (y : VolumeCopies) (f g : ℕ) (copy : StoredCopy) → g ≢ f → volume_copy (volume_with y f copy) g ≡ volume_copy y g
 in_file y f g copy differs = get_or-set_other y.copies f g copy first_copy differs
 
-in_volume : (x : TenantCopies) (v f w g : ℕ) (copy : StoredCopy) → v < length x.volumes → (w ≡ v → g ≢ f) → copy_in (volume_in (tenant_with x v f copy) w) g ≡ copy_in (volume_in x w) g
+in_volume : (x : TenantCopies) (v f w g : ℕ) (copy : StoredCopy) → v < length x.volumes → (w ≡ v → g ≢ f) → volume_copy (volume_in (tenant_with x v f copy) w) g ≡ volume_copy (volume_in x w) g
 in_volume x v f w g copy lt differs =
     let new = volume_with (volume_in x v) f copy in
     elim (cases_eq w v) [
-      | inl e ↦ rw e (ap (λ (y : VolumeCopies). copy_in y g) (get_or-set_same x.volumes v new no_volume lt) ∙ in_file (volume_in x v) f g copy (differs e))
-      | inr e ↦ ap (λ (y : VolumeCopies). copy_in y g) (get_or-set_other x.volumes v w new no_volume e)
+      | inl e ↦ rw e (ap (λ (y : VolumeCopies). volume_copy y g) (get_or-set_same x.volumes v new empty_volume lt) ∙ in_file (volume_in x v) f g copy (differs e))
+      | inr e ↦ ap (λ (y : VolumeCopies). volume_copy y g) (get_or-set_other x.volumes v w new empty_volume e)
     ]
 
 pub copy_of-other : (store : StoreCopies) (id other : FileId) (n : ℕ) (copy : StoredCopy) → IsThere store id n → other ≢ id → copy_of (tenants_with store.tenants id copy) other ≡ copy_of store.tenants other
@@ -69,7 +69,7 @@ copy_of-other store id other n copy is differs =
     let x = tenant_in store.tenants id.tenant in let new = tenant_with x id.volume id.file copy in
     elim (cases_eq other.tenant id.tenant) [
       | inl e ↦
-          rw e (ap (λ (t : TenantCopies). copy_in (volume_in t other.volume) other.file) (get_or-set_same store.tenants id.tenant new no_tenant is.tenant)
+          rw e (ap (λ (t : TenantCopies). volume_copy (volume_in t other.volume) other.file) (get_or-set_same store.tenants id.tenant new no_tenant is.tenant)
           ∙ in_volume x id.volume id.file other.volume other.file copy is.volume (λ same_volume same. differs (same_file other id e same_volume same)))
-      | inr e ↦ ap (λ (t : TenantCopies). copy_in (volume_in t other.volume) other.file) (get_or-set_other store.tenants id.tenant other.tenant new no_tenant e)
+      | inr e ↦ ap (λ (t : TenantCopies). volume_copy (volume_in t other.volume) other.file) (get_or-set_other store.tenants id.tenant other.tenant new no_tenant e)
     ]

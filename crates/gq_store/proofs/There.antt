@@ -11,7 +11,7 @@ use Rattle.gq_tag.specs.declared.FileId.{FileId}
 use Rattle.gq_pool.specs.declared.TheConstants.{BLOCK_BYTES}
 use Rattle.gq_pool.specs.Blocks.{blocks_for}
 use Rattle.gq_desk.specs.Volumes.{Account, account_at, no_account, limit_in}
-use Rattle.gq_store.specs.Copies.{StoreCopies, TenantCopies, VolumeCopies, no_tenant, no_volume, tenant_in, volume_in, copies_account, volume_size, file_limit}
+use Rattle.gq_store.specs.Copies.{StoreCopies, TenantCopies, VolumeCopies, no_tenant, empty_volume, tenant_in, volume_in, copies_account, volume_size, file_limit}
 
 -- the account of a tenant of the store
 pub account_at-store_accounts : (tenants : List TenantCopies) (t : ℕ) → account_at (map copies_account tenants) t ≡ copies_account (tenant_in tenants t)
@@ -32,10 +32,10 @@ in_volume x f n h =
     ]
 
 in_volumes : (volumes : List VolumeCopies) (v f n : ℕ) (o : Option VolumeCopies) → slice_get volumes v ≡ o → option_and_then (limit_in f) (option_map volume_size o) ≡ Some n
-    → (v < length volumes) × (f < length (get_or volumes v no_volume).copies) × (n ≡ BLOCK_BYTES * (get_or volumes v no_volume).blocks)
+    → (v < length volumes) × (f < length (get_or volumes v empty_volume).copies) × (n ≡ BLOCK_BYTES * (get_or volumes v empty_volume).blocks)
 in_volumes volumes v f n None e h = absurd (cc)
 in_volumes volumes v f n (Some x) e h =
-    let at : get_or volumes v no_volume ≡ x = get_or_from_slice_get volumes v x no_volume e in
+    let at : get_or volumes v empty_volume ≡ x = get_or_from_slice_get volumes v x empty_volume e in
     let parts = in_volume x f n h in
     (slice_get_within volumes v x e, rw at parts.0, rw at parts.1)
 

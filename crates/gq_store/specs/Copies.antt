@@ -27,24 +27,24 @@ pub record StoreCopies : Type 0 where
 
 -- ---- a file's copy
 
-abbrev pub no_volume : VolumeCopies
-no_volume = record { blocks = 0; copies = [] }
+abbrev pub empty_volume : VolumeCopies
+empty_volume = record { blocks = 0; copies = [] }
 
 abbrev pub no_tenant : TenantCopies
 no_tenant = record { share = 0; volumes = [] }
 
-abbrev pub copy_in : VolumeCopies → ℕ → StoredCopy
-copy_in volume file = slice_index_or volume.copies file first_copy
+abbrev pub volume_copy : VolumeCopies → ℕ → StoredCopy
+volume_copy volume file = slice_index_or volume.copies file first_copy
 
 abbrev pub volume_in : TenantCopies → ℕ → VolumeCopies
-volume_in tenant number = slice_index_or tenant.volumes number no_volume
+volume_in tenant number = slice_index_or tenant.volumes number empty_volume
 
 abbrev pub tenant_in : List TenantCopies → ℕ → TenantCopies
 tenant_in tenants place = slice_index_or tenants place no_tenant
 
 -- the file's copy; the first copy where the file is not there
 abbrev pub copy_at : StoreCopies → FileId → StoredCopy
-copy_at store id = copy_in (volume_in (tenant_in store.tenants id.tenant) id.volume) id.file
+copy_at store id = volume_copy (volume_in (tenant_in store.tenants id.tenant) id.volume) id.file
 
 -- ---- which files are there
 

@@ -2,17 +2,12 @@
 use Rattle.std.specs.Prelude.{ℕ, Option, Some, None, nat_lt, length, if◌then◌else◌}
 use Rattle.gq_tag.specs.declared.StoredCopy.{StoredCopy}
 use Rattle.gq_tag.specs.declared.Body.{Body}
-use Rattle.gq_tag.specs.declared.Body.TheVariants.{Copy, Store, Stored}
+use Rattle.gq_tag.specs.declared.Body.TheVariants.{Store}
 use Rattle.gq_tag.specs.declared.Message.{Message}
-use Rattle.gq_tag.specs.Tag.{newer_of}
+use Rattle.gq_tag.specs.Tag.{newer_of, answer_body}
 use Rattle.gq_store.specs.Copies.{StoreCopies, file_limit}
 use Rattle.gq_store.specs.declared.store.ServeRefused.{ServeRefused}
 use Rattle.gq_store.specs.declared.store.ServeRefused.TheVariants.{File, Long}
-
--- what is answered where that copy is held: a store is acknowledged, an ask is given the copy
-abbrev pub answer_body : StoredCopy → Body → Body
-answer_body held (Store copy) = Stored
-answer_body held _ = Copy held
 
 -- the answer to a message, in the same round
 abbrev pub server_reply : StoredCopy → Message → Message

@@ -4,7 +4,7 @@ ghost use Rattle.std.specs.Option.{option_and_then};
 ghost use Rattle.gq_desk.specs.Volumes.{limit_in};
 ghost use Rattle.gq_pool.specs.Blocks.{blocks_for};
 ghost use Rattle.gq_tag.specs.Tag.{first_copy};
-ghost use Rattle.gq_store.specs.Copies.{volume_size, copies_account, copy_in, volume_in, taken, volume_taken, tenant_taken, new_volume, volume_with, tenant_with};
+ghost use Rattle.gq_store.specs.Copies.{volume_size, copies_account, volume_copy, volume_in, taken, volume_taken, tenant_taken, new_volume, volume_with, tenant_with};
 
 use crate::entry::Entry;
 use gq_memory::{OutOfMemory, RoomInVec, room_for};
@@ -70,7 +70,7 @@ impl Volume {
     // The file's copy.
     fn entry(&self, file: u32) -> &Entry
         requires { file < length self.now.copies }
-        ensures { result.now ≡ copy_in self.now file }
+        ensures { result.now ≡ volume_copy self.now file }
     {
         &self.files[file as usize]
     }
@@ -79,10 +79,10 @@ impl Volume {
     #[inline(always)]
     fn put(&mut self, pool: &mut Pool, file: u32, tag: Tag, bytes: &[u8])
         requires there { file < length self.old.copies }
-        requires fits { pool.old + taken (copy_in self.old file) < 2 ^ 64 }
-        requires room { blocks_for (length bytes.now) ≤ pool.old + taken (copy_in self.old file) }
+        requires fits { pool.old + taken (volume_copy self.old file) < 2 ^ 64 }
+        requires room { blocks_for (length bytes.now) ≤ pool.old + taken (volume_copy self.old file) }
         ensures copy { self.new ≡ volume_with self.old file (record { tag = tag; bytes = bytes.now }) }
-        ensures free { pool.new + blocks_for (length bytes.now) ≡ pool.old + taken (copy_in self.old file) }
+        ensures free { pool.new + blocks_for (length bytes.now) ≡ pool.old + taken (volume_copy self.old file) }
     {
         self.files[file as usize].put(pool, tag, bytes);
     }
@@ -145,7 +145,7 @@ impl Tenant {
     pub(crate) fn entry(&self, volume: u32, file: u32) -> &Entry
         requires volume { volume < length self.now.volumes }
         requires file { file < length (volume_in self.now volume).copies }
-        ensures { result.now ≡ copy_in (volume_in self.now volume) file }
+        ensures { result.now ≡ volume_copy (volume_in self.now volume) file }
     {
         self.volumes[volume as usize].entry(file)
     }
@@ -155,10 +155,10 @@ impl Tenant {
     pub(crate) fn put(&mut self, pool: &mut Pool, volume: u32, file: u32, tag: Tag, bytes: &[u8])
         requires volume { volume < length self.old.volumes }
         requires file { file < length (volume_in self.old volume).copies }
-        requires fits { pool.old + taken (copy_in (volume_in self.old volume) file) < 2 ^ 64 }
-        requires room { blocks_for (length bytes.now) ≤ pool.old + taken (copy_in (volume_in self.old volume) file) }
+        requires fits { pool.old + taken (volume_copy (volume_in self.old volume) file) < 2 ^ 64 }
+        requires room { blocks_for (length bytes.now) ≤ pool.old + taken (volume_copy (volume_in self.old volume) file) }
         ensures copy { self.new ≡ tenant_with self.old volume file (record { tag = tag; bytes = bytes.now }) }
-        ensures free { pool.new + blocks_for (length bytes.now) ≡ pool.old + taken (copy_in (volume_in self.old volume) file) }
+        ensures free { pool.new + blocks_for (length bytes.now) ≡ pool.old + taken (volume_copy (volume_in self.old volume) file) }
     {
         self.volumes[volume as usize].put(pool, file, tag, bytes);
     }

@@ -7,7 +7,7 @@ use Rattle.std.specs.Cmp.Rules.{comparing}
 use Rattle.std.specs.Ordering.{nat_cmp, on, then_cmp, as_partial_cmp, eq_by_cmp}
 use Rattle.std.proofs.lemmas.Bool.Decides.{nat_tests}
 use Rattle.gq_tag.specs.declared.Tag.{Tag}
-use Rattle.gq_tag.specs.Tag.{tag_cmp, is_tag}
+use Rattle.gq_tag.specs.Tag.{tag_cmp, equal_tags}
 
 -- by number, then by session, in std's words
 abbrev pub by_parts : Tag → Tag → Ordering
@@ -22,8 +22,8 @@ by_parts_total = search (comparing, rules)
 pub tag_cmp_total : IsTotalOrder tag_cmp
 tag_cmp_total = subst IsTotalOrder (λ i a b. sym (tag_cmp-parts a b) i) by_parts_total
 
-pub tag_cmp_eq : (a b : Tag) → is_tag a b ≡ eq_by_cmp tag_cmp a b
+pub tag_cmp_eq : (a b : Tag) → equal_tags a b ≡ eq_by_cmp tag_cmp a b
 tag_cmp_eq a b = grind (arith, nat_tests)
 
-pub tag_partial_cmp_laws : IsPartialOrder is_tag (as_partial_cmp tag_cmp)
+pub tag_partial_cmp_laws : IsPartialOrder equal_tags (as_partial_cmp tag_cmp)
 tag_partial_cmp_laws = po tag_cmp_total tag_cmp_eq

@@ -21,8 +21,8 @@ abbrev pub tag_cmp : Tag → Tag → Ordering
 tag_cmp a b = if is_less a b then Less else if is_less b a then Greater else Equal
 
 -- two tags are the same
-abbrev pub is_tag : Tag → Tag → Bool
-is_tag a b = (a.number == b.number) && (a.session == b.session)
+abbrev pub equal_tags : Tag → Tag → Bool
+equal_tags a b = (a.number == b.number) && (a.session == b.session)
 
 -- ---- copies
 
@@ -91,3 +91,8 @@ to_server Ask = true
 to_server (Copy copy) = false
 to_server (Store copy) = true
 to_server Stored = false
+
+-- what a server that holds the copy answers: stored to a store, its copy to an ask
+abbrev pub answer_body : StoredCopy → Body → Body
+answer_body copy (Store stored) = Stored
+answer_body copy _ = Copy copy

@@ -21,10 +21,10 @@ use Rattle.gq_model.specs.Told.{Told, Refused, Resent, Listed}
 use Rattle.gq_model.specs.Trace.{Own, State, changed, account_of, files_of, operation, operation_with}
 use Rattle.gq_model.specs.Lone.{Step, Cause, first_cause, session_causes, session_step, asked_step, unless, no_session, busy, idle, no_volume, no_file, too_long, no_quorum, quiet, entry_of, retry_step, choice_told, is_refusal}
 use Rattle.gq_world.specs.Bounds.{room, TaskFits, volume_of, IsBounded}
-use Rattle.gq_world.specs.Machine.{state_after}
+use Rattle.gq_world.specs.Machine.{state_after_turn}
 use Rattle.gq_world.proofs.Composing.{KeepsBounds}
 use Rattle.gq_world.proofs.Keeping.{bounded_more, begun_bounded}
-use Rattle.gq_world.proofs.MoreSteps.{open_bounded, lose_bounded, retried_bounded, abandoned_bounded}
+use Rattle.gq_world.proofs.BoundedSteps.{open_bounded, lose_bounded, retried_bounded, abandoned_bounded}
 use Rattle.gq_world.proofs.Steps.{same_bounded, deliver_bounded, file_there, has_room}
 use Rattle.gq_world.proofs.Requests.{in_range, not_false, first_none, write_task, read_task, begun_state, first_messages, own_begins, other_stays, writes, reads, lists}
 
@@ -57,12 +57,12 @@ keeps_volumes grid row n known h =
 
 -- where it is refused nothing changes
 asks_bounded : (grid : Grid) (row : TenantRow) (n : ℕ) (state : State) (line : Line) → IsBounded grid row n state →
-    (first_cause (session_causes grid row state line) ≡ None → IsBounded grid row (n + 1) (state_after state (Own line) (session_step grid state line))) →
-    IsBounded grid row (n + 1) (state_after state (Own line) (asked_step grid row state line))
+    (first_cause (session_causes grid row state line) ≡ None → IsBounded grid row (n + 1) (state_after_turn state (Own line) (session_step grid state line))) →
+    IsBounded grid row (n + 1) (state_after_turn state (Own line) (asked_step grid row state line))
 asks_bounded grid row n state line h goes = by (first_cause (session_causes grid row state line)) refl
   where
     S : Option Refusal → Type 0
-    S o = IsBounded grid row (n + 1) (state_after state (Own line) (unless o (session_step grid state line)))
+    S o = IsBounded grid row (n + 1) (state_after_turn state (Own line) (unless o (session_step grid state line)))
 
     by : (o : Option Refusal) → first_cause (session_causes grid row state line) ≡ o → S (first_cause (session_causes grid row state line))
     by (Some word) is = subst S (sym is) (bounded_more grid row n state h)
@@ -161,7 +161,7 @@ keeps_retry k grid row n known h = asks_bounded grid row n known.state (Retry k)
     again range.0 range.1 (state.session k).current refl)
   where
     S : Step → Type 0
-    S s = IsBounded grid row (n + 1) (state_after known.state (Own (Retry k)) s)
+    S s = IsBounded grid row (n + 1) (state_after_turn known.state (Own (Retry k)) s)
 
     more : IsBounded grid row (n + 1) known.state
     more = bounded_more grid row n known.state h

@@ -14,29 +14,29 @@ use Rattle.gq_tag.specs.declared.Body.{Body}
 use Rattle.gq_tag.specs.declared.Body.TheVariants.{Ask, Copy, Store, Stored}
 use Rattle.gq_tag.specs.Tag.{OwnMessage, greatest, first_copy, is_unexceeded}
 use Rattle.gq_desk.specs.declared.volumes.VolumeRow.{VolumeRow}
-use Rattle.gq_phase.specs.Phase.{Task, Writing, Reading, Listing, Reply, Operation, Heard as Saying, HeardStale, HeardNoted, HeardNext, HeardDone, hear, hear_reply, is_reply, reply_of, heard_copies, with_reply, with_decided, decided_copy, is_current, is_collect, round_file, round_body, round_quorum, round_messages, messages_to, stored_copy, in_round, begin_store, begin_collect, moved, floor_after, collected_after}
+use Rattle.gq_phase.specs.Phase.{Task, Writing, Reading, Listing, Reply, Operation, Heard as Saying, HeardStale, HeardNoted, HeardNext, HeardDone, hear, hear_reply, equal_replies, reply_of, heard_copies, with_reply, with_decided, decided_copy, is_current, is_collect, round_file, round_body, round_quorum, round_messages, messages_to, stored_copy, in_round, begin_store, begin_collect, moved, floor_after, collected_after}
 use Rattle.gq_phase.proofs.Saying.{even_is}
 use Rattle.gq_model.specs.Trace.{files_of}
-use Rattle.gq_world.specs.Bounds.{Fits, BodyFits, room, volume_of, TaskFits, OperationFits}
+use Rattle.gq_world.specs.Bounds.{CopyFits, BodyFits, room, volume_of, TaskFits, OperationFits}
 use Rattle.gq_world.proofs.Hearing.{hear_cases}
 
 -- ---- copies
 
-pub fits_more : (n size : ℕ) (copy : StoredCopy) → Fits n size copy → Fits (n + 1) size copy
+pub fits_more : (n size : ℕ) (copy : StoredCopy) → CopyFits n size copy → CopyFits (n + 1) size copy
 fits_more n size copy h = record { number = let k = h.number in omega arith; long = h.long }
 
-pub first_fits : (n size : ℕ) → Fits n size first_copy
+pub first_fits : (n size : ℕ) → CopyFits n size first_copy
 first_fits n size = record { number = omega arith; long = omega arith }
 
-found_fits : (p : StoredCopy → Bool) (n size : ℕ) (xs : List StoredCopy) → All (Fits n size) xs → Fits n size (unwrap_or (find p xs) first_copy)
+found_fits : (p : StoredCopy → Bool) (n size : ℕ) (xs : List StoredCopy) → All (CopyFits n size) xs → CopyFits n size (unwrap_or (find p xs) first_copy)
 found_fits p n size [] all = first_fits n size
-found_fits p n size (x ∷ xs) all = by (p x) refl (found_fits p n size xs (All-tail (Fits n size) x xs all))
+found_fits p n size (x ∷ xs) all = by (p x) refl (found_fits p n size xs (All-tail (CopyFits n size) x xs all))
   where
-    by : (b : Bool) → p x ≡ b → Fits n size (unwrap_or (find p xs) first_copy) → Fits n size (unwrap_or (find p (x ∷ xs)) first_copy)
-    by true is rest = rw is (All-head (Fits n size) x xs all)
+    by : (b : Bool) → p x ≡ b → CopyFits n size (unwrap_or (find p xs) first_copy) → CopyFits n size (unwrap_or (find p (x ∷ xs)) first_copy)
+    by true is rest = rw is (All-head (CopyFits n size) x xs all)
     by false is rest = rw is rest
 
-pub greatest_fits : (n size : ℕ) (xs : List StoredCopy) → All (Fits n size) xs → Fits n size (greatest xs)
+pub greatest_fits : (n size : ℕ) (xs : List StoredCopy) → All (CopyFits n size) xs → CopyFits n size (greatest xs)
 greatest_fits n size xs all = found_fits (is_unexceeded xs) n size xs all
 
 last_push : (o : Option StoredCopy) (copies : List StoredCopy) (c : StoredCopy) → last_or o (copies ++ c ∷ []) ≡ Some c
@@ -48,19 +48,19 @@ stored_push copies c = ap (λ last. unwrap_or last first_copy) (last_push None c
 
 -- ---- what was heard
 
-one_fits : (n size server : ℕ) (body : Body) → BodyFits n size body → All (Fits n size) (heard_copies (record { server = server; body = body } ∷ []))
-one_fits n size server Ask h = All-nil (Fits n size)
-one_fits n size server (Copy copy) h = All-cons (Fits n size) copy [] h (All-nil (Fits n size))
-one_fits n size server (Store copy) h = All-nil (Fits n size)
-one_fits n size server Stored h = All-nil (Fits n size)
+one_fits : (n size server : ℕ) (body : Body) → BodyFits n size body → All (CopyFits n size) (heard_copies (record { server = server; body = body } ∷ []))
+one_fits n size server Ask h = All-nil (CopyFits n size)
+one_fits n size server (Copy copy) h = All-cons (CopyFits n size) copy [] h (All-nil (CopyFits n size))
+one_fits n size server (Store copy) h = All-nil (CopyFits n size)
+one_fits n size server Stored h = All-nil (CopyFits n size)
 
-pub heard_fits : (n size : ℕ) (heard : List Reply) (message : OwnMessage) → All (Fits n size) (heard_copies heard) → BodyFits n size message.body → All (Fits n size) (heard_copies (hear_reply heard (reply_of message)))
-heard_fits n size heard message all fits = by (list_any (is_reply (reply_of message)) heard) refl
+pub heard_fits : (n size : ℕ) (heard : List Reply) (message : OwnMessage) → All (CopyFits n size) (heard_copies heard) → BodyFits n size message.body → All (CopyFits n size) (heard_copies (hear_reply heard (reply_of message)))
+heard_fits n size heard message all fits = by (list_any (equal_replies (reply_of message)) heard) refl
   where
-    more : All (Fits n size) (heard_copies (heard ++ reply_of message ∷ []))
-    more = rw filter_map-append (All-append (Fits n size) (heard_copies heard) (heard_copies (reply_of message ∷ [])) all (one_fits n size message.server message.body fits))
+    more : All (CopyFits n size) (heard_copies (heard ++ reply_of message ∷ []))
+    more = rw filter_map-append (All-append (CopyFits n size) (heard_copies heard) (heard_copies (reply_of message ∷ [])) all (one_fits n size message.server message.body fits))
 
-    by : (b : Bool) → list_any (is_reply (reply_of message)) heard ≡ b → All (Fits n size) (heard_copies (hear_reply heard (reply_of message)))
+    by : (b : Bool) → list_any (equal_replies (reply_of message)) heard ≡ b → All (CopyFits n size) (heard_copies (hear_reply heard (reply_of message)))
     by true is = rw is all
     by false is = rw is more
 
@@ -79,8 +79,8 @@ store_file (Listing volume files) round k is = omega arith
 
 -- ---- what is decided
 
-decided_fits : (n : ℕ) (volumes : List VolumeRow) (o : Operation) (task : Task) → o.task ≡ task → TaskFits volumes task → o.floor ≤ n → All (Fits n (room volumes (volume_of task))) (heard_copies o.heard) →
-    Fits (n + 1) (room volumes (volume_of task)) (decided_copy o)
+decided_fits : (n : ℕ) (volumes : List VolumeRow) (o : Operation) (task : Task) → o.task ≡ task → TaskFits volumes task → o.floor ≤ n → All (CopyFits n (room volumes (volume_of task))) (heard_copies o.heard) →
+    CopyFits (n + 1) (room volumes (volume_of task)) (decided_copy o)
 decided_fits n volumes o (Reading file) is fits low all = rw is (fits_more n (room volumes file.volume) (greatest (heard_copies o.heard)) (greatest_fits n (room volumes file.volume) (heard_copies o.heard) all))
 decided_fits n volumes o (Listing volume files) is fits low all = rw is (fits_more n (room volumes volume) (greatest (heard_copies o.heard)) (greatest_fits n (room volumes volume) (heard_copies o.heard) all))
 decided_fits n volumes o (Writing file bytes) is fits low all =
@@ -101,14 +101,14 @@ pub record IsOfRound (grid : Grid) (n : ℕ) (volumes : List VolumeRow) (o : Ope
 below_all : (n : ℕ) → All (λ s. s < n) (below n)
 below_all n = All-from_get_or (λ s. s < n) (below n) 0 (λ i within. let size = length-range_with_len 0 n in let k : i < n = omega arith in let at = get_or-range_with_len 0 n i 0 k in omega arith)
 
-body_fits : (n size round : ℕ) (collected : List StoredCopy) → Fits n size (stored_copy collected) → BodyFits n size (round_body round collected)
+body_fits : (n size round : ℕ) (collected : List StoredCopy) → CopyFits n size (stored_copy collected) → BodyFits n size (round_body round collected)
 body_fits n size round collected stored = by (is_collect round) refl
   where
     by : (b : Bool) → is_collect round ≡ b → BodyFits n size (round_body round collected)
     by true is = rw is tt
     by false is = rw is stored
 
-pub sent_to_fits : (grid : Grid) (n : ℕ) (volumes : List VolumeRow) (o : Operation) (set : Servers) → (round_file o.task o.round).place < files_of volumes (volume_of o.task) → Fits n (room volumes (volume_of o.task)) (stored_copy o.collected) →
+pub sent_to_fits : (grid : Grid) (n : ℕ) (volumes : List VolumeRow) (o : Operation) (set : Servers) → (round_file o.task o.round).place < files_of volumes (volume_of o.task) → CopyFits n (room volumes (volume_of o.task)) (stored_copy o.collected) →
     All (IsOfRound grid n volumes o) (messages_to grid o set)
 sent_to_fits grid n volumes o set file stored =
     let f : ℕ → OwnMessage = λ server. record { session = o.session; op = o.op; round = o.round; server = server; file = round_file o.task o.round; body = round_body o.round o.collected } in
@@ -123,7 +123,7 @@ sent_to_fits grid n volumes o set file stored =
       body = body_fits n (room volumes (volume_of o.task)) o.round o.collected stored;
     }) (rising grid set) (All-filter set (λ s. s < N) (below N) (below_all N)))
 
-pub round_fits : (grid : Grid) (up : Servers) (n : ℕ) (volumes : List VolumeRow) (o : Operation) → (round_file o.task o.round).place < files_of volumes (volume_of o.task) → Fits n (room volumes (volume_of o.task)) (stored_copy o.collected) →
+pub round_fits : (grid : Grid) (up : Servers) (n : ℕ) (volumes : List VolumeRow) (o : Operation) → (round_file o.task o.round).place < files_of volumes (volume_of o.task) → CopyFits n (room volumes (volume_of o.task)) (stored_copy o.collected) →
     All (IsOfRound grid n volumes o) (round_messages grid up o)
 round_fits grid up n volumes o file stored = by (round_quorum grid up o.round) refl
   where
@@ -151,13 +151,13 @@ none_floor (Listing volume files) floor = refl
 
 -- the copy that was decided is the last one collected
 decided_stored : (n : ℕ) (volumes : List VolumeRow) (o : Operation) (message : OwnMessage) → OperationFits n volumes o → BodyFits n (room volumes (volume_of o.task)) message.body →
-    Fits (n + 1) (room volumes (volume_of o.task)) (stored_copy (o.collected ++ decided_copy (with_reply o message) ∷ []))
+    CopyFits (n + 1) (room volumes (volume_of o.task)) (stored_copy (o.collected ++ decided_copy (with_reply o message) ∷ []))
 decided_stored n volumes o message fits body =
     let p : Operation = with_reply o message in
     let size : ℕ = room volumes (volume_of o.task) in
-    let all : All (Fits n size) (heard_copies p.heard) = heard_fits n size o.heard message fits.heard body in
-    let good : Fits (n + 1) size (decided_copy p) = decided_fits n volumes p o.task refl fits.task fits.floor all in
-    subst (Fits (n + 1) size) (sym (stored_push o.collected (decided_copy p))) good
+    let all : All (CopyFits n size) (heard_copies p.heard) = heard_fits n size o.heard message fits.heard body in
+    let good : CopyFits (n + 1) size (decided_copy p) = decided_fits n volumes p o.task refl fits.task fits.floor all in
+    subst (CopyFits (n + 1) size) (sym (stored_push o.collected (decided_copy p))) good
 
 -- the store round begins
 stores_fits : (grid : Grid) (up : Servers) (n : ℕ) (volumes : List VolumeRow) (o : Operation) (message : OwnMessage) → OperationFits n volumes o → BodyFits n (room volumes (volume_of o.task)) message.body → is_collect o.round ≡ true →
@@ -167,7 +167,7 @@ stores_fits grid up n volumes o message fits body odd =
     let size : ℕ = room volumes (volume_of o.task) in
     let decided : StoredCopy = decided_copy p in
     let copies : List StoredCopy = o.collected ++ decided ∷ [] in
-    let stored : Fits (n + 1) size (stored_copy copies) = decided_stored n volumes o message fits body in
+    let stored : CopyFits (n + 1) size (stored_copy copies) = decided_stored n volumes o message fits body in
     let count : length copies ≡ length o.collected + 1 = length_push o.collected decided in
     let round : 2 * length copies ≡ 2 * (length o.collected + 1) = omega arith in
     let file : (round_file o.task (2 * length copies)).place < files_of volumes (volume_of o.task) =
@@ -182,8 +182,8 @@ stores_fits grid up n volumes o message fits body odd =
         task = fits.task;
         file = file;
         collects = λ is. absurd (true≢false (sym is ∙ even_is (length copies)));
-        heard = All-nil (Fits (n + 1) size);
-        stored = subst (λ cs. Fits (n + 1) size (stored_copy cs)) (sym after) stored;
+        heard = All-nil (CopyFits (n + 1) size);
+        stored = subst (λ cs. CopyFits (n + 1) size (stored_copy cs)) (sym after) stored;
       },
       All-weaker (IsOfRound grid (n + 1) volumes (in_round (with_decided p) (2 * length copies))) (IsOfRound grid (n + 1) volumes o)
           (λ l h. record { server = h.server; session = h.session; op = h.op; volume = h.volume; file = h.file; body = h.body })
@@ -193,7 +193,7 @@ stores_fits grid up n volumes o message fits body odd =
 
 -- the collect round of a listing's next file begins, where these copies were collected
 next_fits : (grid : Grid) (up : Servers) (n : ℕ) (volumes : List VolumeRow) (o : Operation) (message : OwnMessage) (heard : List Reply) (copies : List StoredCopy) (volume files : ℕ) → OperationFits n volumes o → collected_after o message ≡ copies →
-    Fits (n + 1) (room volumes (volume_of o.task)) (stored_copy copies) → o.task ≡ Listing volume files → nat_lt (length copies) files ≡ true →
+    CopyFits (n + 1) (room volumes (volume_of o.task)) (stored_copy copies) → o.task ≡ Listing volume files → nat_lt (length copies) files ≡ true →
     HeardFits grid n volumes o message (begin_collect grid up (record { session = o.session; op = o.op; task = o.task; round = o.round; heard = heard; collected = copies; floor = o.floor }))
 next_fits grid up n volumes o message heard copies volume files fits after stored is more =
     let p : Operation = record { session = o.session; op = o.op; task = o.task; round = o.round; heard = heard; collected = copies; floor = o.floor } in
@@ -211,8 +211,8 @@ next_fits grid up n volumes o message heard copies volume files fits after store
         task = fits.task;
         file = file;
         collects = λ odd. ap (λ cs. 2 * length cs + 1) (sym after);
-        heard = All-nil (Fits (n + 1) size);
-        stored = subst (λ cs. Fits (n + 1) size (stored_copy cs)) (sym after) stored;
+        heard = All-nil (CopyFits (n + 1) size);
+        stored = subst (λ cs. CopyFits (n + 1) size (stored_copy cs)) (sym after) stored;
       },
       All-weaker (IsOfRound grid (n + 1) volumes (in_round p (2 * k + 1))) (IsOfRound grid (n + 1) volumes o)
           (λ l h. record { server = h.server; session = h.session; op = h.op; volume = h.volume; file = h.file; body = h.body })
@@ -246,7 +246,7 @@ hear_fits grid up n volumes o message fits body =
       task = fits.task;
       file = fits.file;
       collects = fits.collects;
-      heard = All-weaker (Fits n size) (Fits (n + 1) size) (fits_more n size) (heard_copies (hear_reply o.heard (reply_of message))) (heard_fits n size o.heard message fits.heard (body cur));
+      heard = All-weaker (CopyFits n size) (CopyFits (n + 1) size) (fits_more n size) (heard_copies (hear_reply o.heard (reply_of message))) (heard_fits n size o.heard message fits.heard (body cur));
       stored = fits_more n size (stored_copy o.collected) fits.stored;
     })
     (λ cur odd. stores_fits grid up n volumes o message fits (body cur) odd)

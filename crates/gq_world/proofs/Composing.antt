@@ -13,9 +13,9 @@ use Rattle.gq_model.specs.declared.events.Refusal.TheVariants.{Spent}
 use Rattle.gq_model.specs.Told.{Told, Refused}
 use Rattle.gq_model.specs.Trace.{Own, State, Known}
 use Rattle.gq_world.specs.Bounds.{IsBounded}
-use Rattle.gq_world.specs.Tables.{Tables, Agrees, IsReady, IsSound, taken_at, up_in}
+use Rattle.gq_world.specs.Tables.{Tables, Agrees, IsReady, IsKnown, taken_at, up_in}
 use Rattle.gq_model.specs.Lone.{Step, quiet, step, line_step}
-use Rattle.gq_world.specs.Machine.{counted, state_after, next, next_seen, acted, Advances, Acts, Tells, TellsLine}
+use Rattle.gq_world.specs.Machine.{counted, state_after_turn, next, next_seen, acted, Advances, Acts, Tells, TellsLine}
 use Rattle.gq_model.specs.Events.{turn_of}
 
 -- ---- a step is taken
@@ -50,7 +50,7 @@ taken_other w t u known other agrees = record {
 }
 
 -- the tenant whose step is taken is ready
-pub taken_ready : (w : Tables) (t : ℕ) → t < length w.lines → taken_at w t + 1 < 4294967296 → IsSound w t → IsReady (taken w t) t
+pub taken_ready : (w : Tables) (t : ℕ) → t < length w.lines → taken_at w t + 1 < 4294967296 → IsKnown w t → IsReady (taken w t) t
 taken_ready w t within few sound = record {
   known = record { lines = sound.known.lines + 1; state = sound.known.state };
   agrees = taken_own w t sound.known within sound.agrees;
@@ -93,7 +93,7 @@ left_lines row lines line left = rw left refl
 
 -- so many lines, and what is known after the step
 abbrev known_with : State → Line → ℕ → Step → Known
-known_with state line lines s = record { lines = lines; state = state_after state (Own line) s }
+known_with state line lines s = record { lines = lines; state = state_after_turn state (Own line) s }
 
 spent_known : (grid : Grid) (row : TenantRow) (known : Known) (line : Line) → nat_le row.steps known.lines ≡ true → next grid row known (Own line) ≡ known
 spent_known grid row known line spent =

@@ -27,7 +27,7 @@ use Rattle.gq_world.specs.declared.sessions.Seat.{Seat}
 use Rattle.gq_world.specs.Tables.{Tables, Agrees, SeatAgrees, Sits, seats_at, seat_in}
 use Rattle.gq_world.specs.Seats.{SeatHears, said_by, operation_after, last_of}
 use Rattle.gq_world.specs.Saying.{with_sent, heard_told}
-use Rattle.gq_world.specs.Machine.{Acts, TellsLine, acted, state_after}
+use Rattle.gq_world.specs.Machine.{Acts, TellsLine, acted, state_after_turn}
 use Rattle.gq_world.proofs.Hearing.{said_by_up}
 use Rattle.gq_world.proofs.Lanes.{sent_count, sent_messages, new_not_lost, lane_there, quorums_in}
 use Rattle.gq_world.proofs.Ready.{found}
@@ -47,7 +47,7 @@ step_is : (grid : Grid) (row : TenantRow) (state : State) (n : ℕ) (message : O
 step_is grid row state n message s there goes says =
     rw (there, goes) (hears_as grid state message (operation state message.session) ∙ ap (heard_step (length state.sent)) says)
 
-accepted : (state : State) (n first : ℕ) (message : OwnMessage) (s : Saying) → own_message_at state n ≡ Some message → state_after state (Own (Deliver n)) (heard_step first s) ≡ changed (delivery n message first s) state
+accepted : (state : State) (n first : ℕ) (message : OwnMessage) (s : Saying) → own_message_at state n ≡ Some message → state_after_turn state (Own (Deliver n)) (heard_step first s) ≡ changed (delivery n message first s) state
 accepted state n first message HeardStale there = ap (λ l. changed (record { turn = Own (Deliver n); message = l; told = (heard_step first HeardStale).told; new = [] }) state) there
 accepted state n first message HeardNoted there = ap (λ l. changed (record { turn = Own (Deliver n); message = l; told = (heard_step first HeardNoted).told; new = [] }) state) there
 accepted state n first message (HeardNext round tag messages) there = ap (λ l. changed (record { turn = Own (Deliver n); message = l; told = (heard_step first (HeardNext round tag messages)).told; new = messages }) state) there
@@ -56,7 +56,7 @@ accepted state n first message (HeardDone outcome) there = ap (λ l. changed (re
 pub heard_known : (grid : Grid) (row : TenantRow) (known : Known) (n : ℕ) (message : OwnMessage) (s : Saying) → own_message_at known.state n ≡ Some message → to_server message.body ≡ false → said_by grid known.state.up (operation known.state message.session) message ≡ s →
     acted grid row known (Deliver n) ≡ record known { state = changed (delivery n message (length known.state.sent) s) known.state }
 heard_known grid row known n message s there goes says =
-    ap (λ step. record known { state = state_after known.state (Own (Deliver n)) step }) (step_is grid row known.state n message s there goes says)
+    ap (λ step. record known { state = state_after_turn known.state (Own (Deliver n)) step }) (step_is grid row known.state n message s there goes says)
     ∙ ap (λ state. record known { state = state }) (accepted known.state n (length known.state.sent) message s there)
 
 -- ---- what is told and sent

@@ -13,7 +13,7 @@ use Rattle.gq_desk.specs.declared.volumes.VolumeRow.{VolumeRow}
 use Rattle.gq_phase.specs.Phase.{Task, Reply, Operation, Heard as Saying, HeardStale, HeardNoted, HeardNext, HeardDone, hear, stored_copy, heard_copies, begun, round_file, round_messages}
 use Rattle.gq_model.specs.Trace.{State, Session, changed, own_message_at, operation, operation_with, session_by, heard_deed, files_of}
 use Rattle.gq_model.specs.Lone.{heard_step}
-use Rattle.gq_world.specs.Bounds.{Fits, BodyFits, room, volume_of, TaskFits, OperationFits, SessionFits, MessageFits, IsOf, IsBounded}
+use Rattle.gq_world.specs.Bounds.{CopyFits, BodyFits, room, volume_of, TaskFits, OperationFits, SessionFits, MessageFits, IsOfSession, IsBounded}
 use Rattle.gq_world.specs.Seats.{said_by}
 use Rattle.gq_world.proofs.Ready.{all_at, sent_at}
 use Rattle.gq_world.proofs.Bounding.{fits_more, IsOfRound, HeardFits, hear_fits, round_fits}
@@ -37,7 +37,7 @@ operation_more n volumes o h = record {
   task = h.task;
   file = h.file;
   collects = h.collects;
-  heard = All-weaker (Fits n (room volumes (volume_of o.task))) (Fits (n + 1) (room volumes (volume_of o.task))) (fits_more n (room volumes (volume_of o.task))) (heard_copies o.heard) h.heard;
+  heard = All-weaker (CopyFits n (room volumes (volume_of o.task))) (CopyFits (n + 1) (room volumes (volume_of o.task))) (fits_more n (room volumes (volume_of o.task))) (heard_copies o.heard) h.heard;
   stored = fits_more n (room volumes (volume_of o.task)) (stored_copy o.collected) h.stored;
 }
 
@@ -52,7 +52,7 @@ pub bounded_more : (grid : Grid) (row : TenantRow) (n : ℕ) (state : State) →
 bounded_more grid row n state h = record {
   messages = All-weaker (MessageFits grid row n state.volumes) (MessageFits grid row (n + 1) state.volumes) (message_more grid row n state.volumes) state.sent h.messages;
   owners = h.owners;
-  brought = λ server file. All-weaker (Fits n (room state.volumes file.volume)) (Fits (n + 1) (room state.volumes file.volume)) (fits_more n (room state.volumes file.volume)) (state.brought server file) (h.brought server file);
+  brought = λ server file. All-weaker (CopyFits n (room state.volumes file.volume)) (CopyFits (n + 1) (room state.volumes file.volume)) (fits_more n (room state.volumes file.volume)) (state.brought server file) (h.brought server file);
   sessions = λ k. session_more n state.volumes k (state.session k) (h.sessions k);
   sized = h.sized;
 }
@@ -67,30 +67,30 @@ pub record ActsIn (grid : Grid) (row : TenantRow) (n k : ℕ) (old new : State) 
   pub own : new.session k ≡ after
   pub others : (j : ℕ) → k ≢ j → new.session j ≡ old.session j
   pub fits : SessionFits (n + 1) old.volumes k after
-  pub keeps : (l : OwnMessage) → IsOf (old.session k) l → IsOf after l
-  pub these : All (λ l. MessageFits grid row (n + 1) old.volumes l × (l.session ≡ k) × IsOf after l) messages
+  pub keeps : (l : OwnMessage) → IsOfSession (old.session k) l → IsOfSession after l
+  pub these : All (λ l. MessageFits grid row (n + 1) old.volumes l × (l.session ≡ k) × IsOfSession after l) messages
 
 pub acts_in : (grid : Grid) (row : TenantRow) (n k : ℕ) (old new : State) (after : Session) (messages : List OwnMessage) → IsBounded grid row n old → ActsIn grid row n k old new after messages → IsBounded grid row (n + 1) new
 acts_in grid row n k old new after messages h a =
     let L : OwnMessage → Type 0 = MessageFits grid row (n + 1) old.volumes in
-    let O : OwnMessage → Type 0 = λ l. IsOf (new.session l.session) l in
-    let T : OwnMessage → Type 0 = λ l. L l × (l.session ≡ k) × IsOf after l in
+    let O : OwnMessage → Type 0 = λ l. IsOfSession (new.session l.session) l in
+    let T : OwnMessage → Type 0 = λ l. L l × (l.session ≡ k) × IsOfSession after l in
     let all : All L (old.sent ++ messages) =
     All-append L old.sent messages (All-weaker (MessageFits grid row n old.volumes) L (message_more grid row n old.volumes) old.sent h.messages) (All-weaker T L (λ l t. t.0) messages a.these) in
-    let olds : All O old.sent = All-weaker (λ l. IsOf (old.session l.session) l) O (λ l is. elim (cases_eq k l.session) [
+    let olds : All O old.sent = All-weaker (λ l. IsOfSession (old.session l.session) l) O (λ l is. elim (cases_eq k l.session) [
       | inl same ↦ (
-          let before : IsOf (old.session k) l = subst (λ j. IsOf (old.session j) l) (sym same) is in
-          let now : IsOf (new.session k) l = subst (λ s. IsOf s l) (sym a.own) (a.keeps l before) in
-          subst (λ j. IsOf (new.session j) l) same now)
-      | inr other ↦ (subst (λ s. IsOf s l) (sym (a.others l.session other)) is)
+          let before : IsOfSession (old.session k) l = subst (λ j. IsOfSession (old.session j) l) (sym same) is in
+          let now : IsOfSession (new.session k) l = subst (λ s. IsOfSession s l) (sym a.own) (a.keeps l before) in
+          subst (λ j. IsOfSession (new.session j) l) same now)
+      | inr other ↦ (subst (λ s. IsOfSession s l) (sym (a.others l.session other)) is)
     ]) old.sent h.owners in
-    let news : All O messages = All-weaker T O (λ l t. subst (λ j. IsOf (new.session j) l) (sym t.1) (subst (λ s. IsOf s l) (sym a.own) t.2)) messages a.these in
+    let news : All O messages = All-weaker T O (λ l t. subst (λ j. IsOfSession (new.session j) l) (sym t.1) (subst (λ s. IsOfSession s l) (sym a.own) t.2)) messages a.these in
     record {
       messages = subst (λ vs. All (MessageFits grid row (n + 1) vs) new.sent) (sym a.volumes) (subst (All L) (sym a.sent) all);
       owners = subst (All O) (sym a.sent) (All-append O old.sent messages olds news);
-      brought = λ server file. subst (λ vs. All (Fits (n + 1) (room vs file.volume)) (new.brought server file)) (sym a.volumes)
-          (subst (All (Fits (n + 1) (room old.volumes file.volume))) (sym (a.brought server file))
-          (All-weaker (Fits n (room old.volumes file.volume)) (Fits (n + 1) (room old.volumes file.volume)) (fits_more n (room old.volumes file.volume)) (old.brought server file) (h.brought server file)));
+      brought = λ server file. subst (λ vs. All (CopyFits (n + 1) (room vs file.volume)) (new.brought server file)) (sym a.volumes)
+          (subst (All (CopyFits (n + 1) (room old.volumes file.volume))) (sym (a.brought server file))
+          (All-weaker (CopyFits n (room old.volumes file.volume)) (CopyFits (n + 1) (room old.volumes file.volume)) (fits_more n (room old.volumes file.volume)) (old.brought server file) (h.brought server file)));
       sessions = λ j. subst (λ vs. SessionFits (n + 1) vs j (new.session j)) (sym a.volumes) (elim (cases_eq k j) [
         | inl same ↦ (subst (λ i. SessionFits (n + 1) old.volumes i (new.session i)) same (subst (SessionFits (n + 1) old.volumes k) (sym a.own) a.fits))
         | inr other ↦ (subst (SessionFits (n + 1) old.volumes j) (sym (a.others j other)) (session_more n old.volumes j (old.session j) (h.sessions j)))
@@ -141,7 +141,7 @@ after_fits grid n volumes k first message op (Some task) round heard collected f
 }
 
 -- the session's messages are of it as before
-heard_keeps : (volumes : List VolumeRow) (k first : ℕ) (message : OwnMessage) (s : Saying) (session : Session) (l : OwnMessage) → IsOf session l → IsOf (session_by volumes k (heard_deed message (heard_step first s).told) session) l
+heard_keeps : (volumes : List VolumeRow) (k first : ℕ) (message : OwnMessage) (s : Saying) (session : Session) (l : OwnMessage) → IsOfSession session l → IsOfSession (session_by volumes k (heard_deed message (heard_step first s).told) session) l
 heard_keeps volumes k first message HeardStale session l is = is
 heard_keeps volumes k first message HeardNoted session l is = record { begun = is.begun; volume = is.volume }
 heard_keeps volumes k first message (HeardNext r tag messages) session l is = record { begun = is.begun; volume = is.volume }
@@ -150,14 +150,14 @@ heard_keeps volumes k first message (HeardDone outcome) session l is = record { 
 these_fit : (grid : Grid) (row : TenantRow) (n : ℕ) (volumes : List VolumeRow) (k first : ℕ) (message : OwnMessage) (op : ℕ) (current : Option Task) (round : ℕ) (heard : List Reply) (collected : List StoredCopy) (floor : ℕ) (s : Saying) →
     1 ≤ k → k ≤ row.sessions → (current ≡ None → s ≡ HeardStale) →
     ((task : Task) → current ≡ Some task → HeardFits grid n volumes (operation_with k (session_of op current round heard collected floor) task) message s) →
-    All (λ l. MessageFits grid row (n + 1) volumes l × (l.session ≡ k) × IsOf (session_by volumes k (heard_deed message (heard_step first s).told) (session_of op current round heard collected floor)) l) (heard_step first s).new
+    All (λ l. MessageFits grid row (n + 1) volumes l × (l.session ≡ k) × IsOfSession (session_by volumes k (heard_deed message (heard_step first s).told) (session_of op current round heard collected floor)) l) (heard_step first s).new
 these_fit grid row n volumes k first message op current round heard collected floor HeardStale low high none fits = All-nil _
 these_fit grid row n volumes k first message op current round heard collected floor HeardNoted low high none fits = All-nil _
 these_fit grid row n volumes k first message op current round heard collected floor (HeardDone outcome) low high none fits = All-nil _
 these_fit grid row n volumes k first message op None round heard collected floor (HeardNext r tag messages) low high none fits = let e = none refl in absurd (cc)
 these_fit grid row n volumes k first message op (Some task) round heard collected floor (HeardNext r tag messages) low high none fits =
     let o : Operation = operation_with k (session_of op (Some task) round heard collected floor) task in
-    All-weaker (IsOfRound grid (n + 1) volumes o) (λ l. MessageFits grid row (n + 1) volumes l × (l.session ≡ k) × IsOf (session_by volumes k (heard_deed message (heard_step first (HeardNext r tag messages)).told) (session_of op (Some task) round heard collected floor)) l)
+    All-weaker (IsOfRound grid (n + 1) volumes o) (λ l. MessageFits grid row (n + 1) volumes l × (l.session ≡ k) × IsOfSession (session_by volumes k (heard_deed message (heard_step first (HeardNext r tag messages)).told) (session_of op (Some task) round heard collected floor)) l)
     (λ l h. (
       round_message grid row (n + 1) volumes o l low high h,
       h.session,
@@ -177,7 +177,7 @@ heard_bounded grid row n state number message h there goes =
     let s : Saying = said_by grid state.up (operation state k) message in
     let sent = sent_at state number message there in
     let fits : MessageFits grid row n state.volumes message = all_at (MessageFits grid row n state.volumes) state.sent number message h.messages sent in
-    let owner : IsOf session message = all_at (λ l. IsOf (state.session l.session) l) state.sent number message h.owners sent in
+    let owner : IsOfSession session message = all_at (λ l. IsOfSession (state.session l.session) l) state.sent number message h.owners sent in
     let none : session.current ≡ None → s ≡ HeardStale = says_stale grid state.up k session message s refl in
     let says : (task : Task) → session.current ≡ Some task → HeardFits grid n state.volumes (operation_with k session task) message s = λ task is.
     let o : Operation = operation_with k session task in
@@ -207,7 +207,7 @@ begun_fits n volumes k s task h fits file = record {
   task = fits;
   file = file;
   collects = λ odd. refl;
-  heard = All-nil (Fits (n + 1) (room volumes (volume_of task)));
+  heard = All-nil (CopyFits (n + 1) (room volumes (volume_of task)));
   stored = record { number = omega arith; long = omega arith };
 }
 
@@ -238,7 +238,7 @@ begun_bounded grid row n k old new task h low high task_fits file volumes sent b
         begun = let e = is.begun in omega arith;
         volume = λ also e same. let low' = is.begun in absurd (omega arith);
       };
-      these = All-weaker (IsOfRound grid (n + 1) old.volumes o) (λ l. MessageFits grid row (n + 1) old.volumes l × (l.session ≡ k) × IsOf after l)
+      these = All-weaker (IsOfRound grid (n + 1) old.volumes o) (λ l. MessageFits grid row (n + 1) old.volumes l × (l.session ≡ k) × IsOfSession after l)
           (λ l r. (
             round_message grid row (n + 1) old.volumes o l low high r,
             r.session,

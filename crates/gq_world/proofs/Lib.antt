@@ -1,4 +1,4 @@
-pub mod Again
+pub mod RetriesAndAbandons
 pub mod AllLines
 pub mod Bounding
 pub mod Choosing
@@ -9,7 +9,7 @@ pub mod Keeping
 pub mod Lanes
 pub mod Listing
 pub mod Losing
-pub mod MoreSteps
+pub mod BoundedSteps
 pub mod Opening
 pub mod Quiet
 pub mod Ready

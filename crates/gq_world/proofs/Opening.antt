@@ -16,9 +16,9 @@ use Rattle.gq_model.specs.Told.{Opened}
 use Rattle.gq_model.specs.Trace.{Own, Known, own_message_at}
 use Rattle.gq_model.specs.Lone.{quiet, open_told}
 use Rattle.gq_world.specs.Tables.{Tables, Agrees, IsReady, IsShaped, IsOfPlan, no_store, store_at}
-use Rattle.gq_world.specs.Adding.{HasRoom, IsAdded, IsKept}
-use Rattle.gq_world.specs.Machine.{Acts, TellsLine, acted, state_after}
-use Rattle.gq_world.proofs.MoreSteps.{open_step, open_refused, refused_state}
+use Rattle.gq_world.specs.Adding.{HasRoomForFiles, IsAdded, IsKept}
+use Rattle.gq_world.specs.Machine.{Acts, TellsLine, acted, state_after_turn}
+use Rattle.gq_world.proofs.BoundedSteps.{open_step, open_refused, refused_state}
 
 -- ---- accounts with another one
 
@@ -42,12 +42,12 @@ abbrev pub opened_tables : Tables → ℕ → ℕ → ℕ → List StoreCopies �
 opened_tables w t files blocks stores = record w { desk = slice_set w.desk t (with_volume (record { files = files; blocks = blocks }) (account_at w.desk t)); stores = stores }
 
 opened_known : (w : Tables) (t files blocks : ℕ) (known : Known) → Agrees w t known → open_fault (account_at w.desk t) (record { files = files; blocks = blocks }) ≡ None →
-    acted w.plan.grid (row_at w.plan t) known (NewVolume files blocks) ≡ record known { state = state_after known.state (Own (NewVolume files blocks)) (quiet (Opened (length known.state.volumes))) }
+    acted w.plan.grid (row_at w.plan t) known (NewVolume files blocks) ≡ record known { state = state_after_turn known.state (Own (NewVolume files blocks)) (quiet (Opened (length known.state.volumes))) }
 opened_known w t files blocks known agrees sound =
-    ap (λ step. record known { state = state_after known.state (Own (NewVolume files blocks)) step }) (open_step w.plan.grid (row_at w.plan t) known (record { files = files; blocks = blocks }) None (rw agrees.account at sound))
+    ap (λ step. record known { state = state_after_turn known.state (Own (NewVolume files blocks)) step }) (open_step w.plan.grid (row_at w.plan t) known (record { files = files; blocks = blocks }) None (rw agrees.account at sound))
 
 opened_own : (w : Tables) (t files blocks : ℕ) (stores : List StoreCopies) (known : Known) → Opens w t files blocks stores → Agrees w t known →
-    Agrees (opened_tables w t files blocks stores) t (record known { state = state_after known.state (Own (NewVolume files blocks)) (quiet (Opened (length known.state.volumes))) })
+    Agrees (opened_tables w t files blocks stores) t (record known { state = state_after_turn known.state (Own (NewVolume files blocks)) (quiet (Opened (length known.state.volumes))) })
 opened_own w t files blocks stores known h agrees =
     let v : VolumeRow = record { files = files; blocks = blocks } in
     let a : Account = account_at w.desk t in
@@ -111,7 +111,7 @@ refused_acts w t files blocks word is = record {
   own = λ known agrees.
       let v : VolumeRow = record { files = files; blocks = blocks } in
       let same : acted w.plan.grid (row_at w.plan t) known (NewVolume files blocks) ≡ known =
-      ap (λ step. record known { state = state_after known.state (Own (NewVolume files blocks)) step }) (open_step w.plan.grid (row_at w.plan t) known v (Some word) (rw agrees.account at is))
+      ap (λ step. record known { state = state_after_turn known.state (Own (NewVolume files blocks)) step }) (open_step w.plan.grid (row_at w.plan t) known v (Some word) (rw agrees.account at is))
       ∙ ap (λ state. record known { state = state }) (refused_state known.state (NewVolume files blocks) (quiet (open_told (length known.state.volumes) (Some word))) (open_refused (length known.state.volumes) word)) in
       subst (Agrees w t) (sym same) agrees;
   others = λ u other known agrees. agrees;
@@ -132,14 +132,14 @@ fits_free a v is = elim (cases_Bool (is_sized v)) [
   ])
 ]
 
-pub room_everywhere : (w : Tables) (t files blocks : ℕ) → IsReady w t → IsShaped w → t < length w.plan.rows → open_fault (account_at w.desk t) (record { files = files; blocks = blocks }) ≡ None → All (HasRoom t files blocks) w.stores
+pub room_everywhere : (w : Tables) (t files blocks : ℕ) → IsReady w t → IsShaped w → t < length w.plan.rows → open_fault (account_at w.desk t) (record { files = files; blocks = blocks }) ≡ None → All (HasRoomForFiles t files blocks) w.stores
 room_everywhere w t files blocks r shaped within sound s d inside =
     let v : VolumeRow = record { files = files; blocks = blocks } in
     let server : s < w.plan.grid.rows * w.plan.grid.cols = let count = shaped.servers in omega arith in
     let store : get_or w.stores s d ≡ store_at w.stores s = default w.stores s d _ inside in
     let count : length (store_accounts (store_at w.stores s)) ≡ length w.plan.rows = (shaped.stores s no_store inside).tenants in
     let tenants : t < length (store_accounts (store_at w.stores s)) = rw count within in
-    subst (HasRoom t files blocks) (sym store) (record {
+    subst (HasRoomForFiles t files blocks) (sym store) (record {
       tenant = tenants;
       share = subst (λ (a : Account). files * blocks ≤ free_of a) (sym (r.agrees.accounts s server)) (fits_free (account_at w.desk t) v sound);
     })

@@ -31,7 +31,7 @@ use Rattle.gq_phase.specs.Laws.{SameQuorums}
 use Rattle.gq_world.specs.declared.sessions.Seat.{Seat}
 use Rattle.gq_world.specs.Tables.{Tables, Agrees, SeatAgrees, Sits, IsReady, IsShaped, seats_at, seat_in, no_seat}
 use Rattle.gq_world.specs.Asking.{volume_causes, file_causes, write_causes, busy_seat, begun_tables}
-use Rattle.gq_world.specs.Machine.{Acts, TellsLine, acted, state_after}
+use Rattle.gq_world.specs.Machine.{Acts, TellsLine, acted, state_after_turn}
 use Rattle.gq_world.proofs.Lanes.{sent_count, sent_messages, new_not_lost, lane_there, quorums_in}
 
 -- ---- a session of the tables
@@ -230,7 +230,7 @@ refused_tells w t line word refuses known agrees = sym (ap (λ (s : Step). s.tol
 pub refused_acts : (w : Tables) (t : ℕ) (line : Line) (word : Refusal) → Refuses w t line word → Acts w t line w
 refused_acts w t line word refuses = record {
   plan = refl;
-  own = λ known agrees. subst (Agrees w t) (sym (ap (λ s. record known { state = state_after known.state (Own line) s }) (refuses known agrees))) agrees;
+  own = λ known agrees. subst (Agrees w t) (sym (ap (λ s. record known { state = state_after_turn known.state (Own line) s }) (refuses known agrees))) agrees;
   others = λ u other known agrees. agrees;
   servers = refl;
 }
@@ -283,7 +283,7 @@ begins_so w t k task line causes known r agrees asked there =
 begun_known : (w : Tables) (t k : ℕ) (task : Task) (line : Line) (causes : List Cause) (known : Known) → IsRequest w t k task line causes → Agrees w t known → first_cause causes ≡ None → collect_quorum w.plan.grid (servers w.up) ≢ None →
     acted w.plan.grid (row_at w.plan t) known line ≡ record known { state = begun_state known.state k task (first_messages w.plan.grid known.state k task) }
 begun_known w t k task line causes known r agrees asked there =
-    ap (λ s. record known { state = state_after known.state (Own line) s }) (begins_so w t k task line causes known r agrees asked there)
+    ap (λ s. record known { state = state_after_turn known.state (Own line) s }) (begins_so w t k task line causes known r agrees asked there)
     ∙ ap (λ state. record known { state = state }) (r.begins known agrees (begin_step w.plan.grid known.state k (Some task)))
 
 -- the operation that it begins in the tables is that of the model

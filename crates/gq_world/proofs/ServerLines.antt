@@ -14,10 +14,10 @@ use Rattle.gq_model.specs.Told.{Told}
 use Rattle.gq_model.specs.Trace.{Serving, State, Known, changed, up_by}
 use Rattle.gq_model.specs.Lone.{quiet, entry_of, change_refusal, server_told, is_refusal}
 use Rattle.gq_world.specs.Tables.{Tables, Agrees, up_in}
-use Rattle.gq_world.specs.Machine.{state_after, servers_after, Advances}
+use Rattle.gq_world.specs.Machine.{state_after_turn, servers_after, Advances}
 
 -- what is known after it: the servers that are up, and nothing else, may be others
-server_state : (state : State) (line : ServerLine) (told : Told) → state_after state (Serving line) (quiet told) ≡ record state { up = if is_refusal told then state.up else up_by (Serving line) state.up }
+server_state : (state : State) (line : ServerLine) (told : Told) → state_after_turn state (Serving line) (quiet told) ≡ record state { up = if is_refusal told then state.up else up_by (Serving line) state.up }
 server_state state line told = by (is_refusal told)
   where
     by : (b : Bool) → (if b then state else changed (entry_of state (Serving line) (quiet told)) state) ≡ record state { up = if b then state.up else up_by (Serving line) state.up }

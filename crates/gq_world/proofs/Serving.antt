@@ -21,16 +21,16 @@ use Rattle.gq_desk.specs.declared.volumes.VolumeRow.{VolumeRow}
 use Rattle.gq_desk.specs.Volumes.{Account, account_at, limit_in}
 use Rattle.gq_post.specs.Lanes.{lane_at, message_at}
 use Rattle.gq_store.specs.Copies.{StoreCopies, store_accounts, copy_at, file_limit}
-use Rattle.gq_store.specs.Serving.{answer_body, server_reply, held_after, serve_fault, fault_in}
+use Rattle.gq_store.specs.Serving.{server_reply, held_after, serve_fault, fault_in}
 use Rattle.gq_model.specs.declared.events.Line.TheVariants.{Deliver}
 use Rattle.gq_model.specs.Told.{Replied, IsDown}
 use Rattle.gq_model.specs.Trace.{Own, Entry, State, Session, Known, changed, own_message_at, held, operation_with, brought_by, account_of}
-use Rattle.gq_model.specs.Lone.{Step, quiet, reply_to, answer_body as model_body, line_step}
+use Rattle.gq_model.specs.Lone.{Step, quiet, reply_to, line_step}
 use Rattle.gq_world.specs.declared.sessions.Seat.{Seat}
 use Rattle.gq_world.specs.Bounds.{room, BodyFits, IsThere}
 use Rattle.gq_world.specs.Tables.{Tables, Agrees, SeatAgrees, Sits, IsReady, store_at, no_store, seats_at, seat_in, up_in}
 use Rattle.gq_world.specs.Saying.{with_sent}
-use Rattle.gq_world.specs.Machine.{Acts, TellsLine, acted, state_after}
+use Rattle.gq_world.specs.Machine.{Acts, TellsLine, acted, state_after_turn}
 use Rattle.gq_world.proofs.Lanes.{sent_count, sent_messages, new_not_lost, lane_there}
 use Rattle.gq_world.proofs.Ready.{found, message_fits}
 
@@ -58,13 +58,13 @@ down_is grid row state n message there goes down = rw (there, goes, down) refl
 pub served_known : (grid : Grid) (row : TenantRow) (known : Known) (n : ℕ) (message : OwnMessage) → own_message_at known.state n ≡ Some message → to_server message.body ≡ true → known.state.up message.server ≡ true →
     acted grid row known (Deliver n) ≡ record known { state = changed (serving n message (length known.state.sent) (held known.state message.server message.file)) known.state }
 served_known grid row known n message there goes up =
-    ap (λ step. record known { state = state_after known.state (Own (Deliver n)) step }) (serve_is grid row known.state n message there goes up)
+    ap (λ step. record known { state = state_after_turn known.state (Own (Deliver n)) step }) (serve_is grid row known.state n message there goes up)
     ∙ ap (λ l. record known { state = changed (record { turn = Own (Deliver n); message = l; told = Replied (length known.state.sent); new = reply_to (held known.state message.server message.file) message ∷ [] }) known.state }) there
 
 pub down_known : (grid : Grid) (row : TenantRow) (known : Known) (n : ℕ) (message : OwnMessage) → own_message_at known.state n ≡ Some message → to_server message.body ≡ true → known.state.up message.server ≡ false →
     acted grid row known (Deliver n) ≡ record known { state = changed (record { turn = Own (Deliver n); message = Some message; told = IsDown; new = [] }) known.state }
 down_known grid row known n message there goes down =
-    ap (λ step. record known { state = state_after known.state (Own (Deliver n)) step }) (down_is grid row known.state n message there goes down)
+    ap (λ step. record known { state = state_after_turn known.state (Own (Deliver n)) step }) (down_is grid row known.state n message there goes down)
     ∙ ap (λ l. record known { state = changed (record { turn = Own (Deliver n); message = l; told = IsDown; new = [] }) known.state }) there
 
 -- ---- the copies
@@ -115,13 +115,7 @@ abbrev pub served_tables : Tables → ℕ → Message → Message → StoreCopie
 served_tables w t m reply store = record w { stores = slice_set w.stores m.server store; lanes = with_sent w.lanes t (reply ∷ []) }
 
 reply_as : (t : ℕ) (copy : StoredCopy) (message : OwnMessage) → to_server message.body ≡ true → server_reply copy (message_of t message) ≡ message_of t (reply_to copy message)
-reply_as t copy message goes = ap (λ body. record (message_of t message) { body = body }) (by message.body)
-  where
-    by : (body : Body) → answer_body copy body ≡ model_body copy body
-    by Ask = refl
-    by (Copy c) = refl
-    by (Store c) = refl
-    by Stored = refl
+reply_as t copy message goes = refl
 
 -- the accounts of the stores stay
 account_stays : (w : Tables) (u : ℕ) (m : Message) (store : StoreCopies) (s : ℕ) → m.server < length w.stores → store_accounts store ≡ store_accounts (store_at w.stores m.server) → account_at (store_accounts (store_at w.stores s)) u ≡ account_at w.desk u →

@@ -10,7 +10,7 @@ use Rattle.gq_model.specs.Trace.{Turn, Own, Serving, State, Known, changed}
 use Rattle.gq_model.specs.Lone.{entry_of, quiet, server_told, is_refusal}
 use Rattle.gq_model.specs.Events.{turn_of}
 use Rattle.gq_world.specs.Bounds.{IsBounded}
-use Rattle.gq_world.specs.Tables.{Tables, IsSound}
+use Rattle.gq_world.specs.Tables.{Tables, IsKnown}
 use Rattle.gq_world.specs.Whole.{AllSound}
 use Rattle.gq_world.specs.Machine.{next, next_seen, Advances}
 use Rattle.gq_world.proofs.Composing.{next_bounded}
@@ -39,7 +39,7 @@ seen_bounded grid row known (Some (Serving line)) h = served_bounded grid row kn
 pub sound_after : (old new : Tables) (e : Event) → Advances old e new → AllSound old → AllSound new
 sound_after old new e advances sound t within =
     let inside : t < length old.plan.rows = subst (λ (p : CheckedPlan). t < length p.rows) advances.plan within in
-    let s : IsSound old t = sound t inside in
+    let s : IsKnown old t = sound t inside in
     let row : TenantRow = row_at old.plan t in
     let known : Known = next_seen old.plan.grid row s.known (turn_of t e) in
     record {

@@ -15,7 +15,7 @@ use Rattle.gq_model.specs.Trace.{Turn, Own, Serving, Trace, Past, State, Known, 
 use Rattle.gq_model.specs.Lone.{Step, entry_of, step, step_at, server_told, is_refusal, lines_after, trace_after, after, past_of}
 use Rattle.gq_model.specs.Events.{turn_of, server_turn, past_at, server_past, IsIn, answer_to}
 use Rattle.gq_world.specs.Tables.{Tables, Agrees, up_in, Stands}
-use Rattle.gq_world.specs.Machine.{counted, state_after, next, next_seen, servers_after, Advances, Tells}
+use Rattle.gq_world.specs.Machine.{counted, state_after_turn, next, next_seen, servers_after, Advances, Tells}
 
 -- ---- each question, after one more turn
 
@@ -26,7 +26,7 @@ counted_on : (row : TenantRow) (lines : ℕ) (turn : Turn) → min row.steps (li
 counted_on row lines (Own line) = lines_on row.steps lines
 counted_on row lines (Serving line) = refl
 
-state_on : (t : Trace) (turn : Turn) (s : Step) → questions (trace_after t turn s) ≡ state_after (questions t) turn s
+state_on : (t : Trace) (turn : Turn) (s : Step) → questions (trace_after t turn s) ≡ state_after_turn (questions t) turn s
 state_on t turn s = by (is_refusal s.told)
   where
     by : (b : Bool) → questions (if b then t else entry_of (questions t) turn s ∷ t) ≡ (if b then questions t else changed (entry_of (questions t) turn s) (questions t))

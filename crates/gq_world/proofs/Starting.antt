@@ -18,7 +18,7 @@ use Rattle.gq_desk.specs.declared.plans.TenantRow.{TenantRow}
 use Rattle.gq_desk.specs.CheckedPlan.{CheckedPlan, nobody, row_at}
 use Rattle.gq_desk.specs.Volumes.{Account, no_account, account_at}
 use Rattle.gq_post.specs.Lanes.{lane_at, message_at}
-use Rattle.gq_store.specs.Copies.{StoreCopies, VolumeCopies, copies_account, store_accounts, new_tenant, empty_store, tenant_in, copy_in, copy_at, no_volume}
+use Rattle.gq_store.specs.Copies.{StoreCopies, VolumeCopies, copies_account, store_accounts, new_tenant, empty_store, tenant_in, volume_copy, copy_at, empty_volume}
 use Rattle.gq_model.specs.Trace.{questions}
 use Rattle.gq_world.specs.declared.sessions.Seat.{Seat}
 use Rattle.gq_world.specs.Tables.{Tables, Agrees, Stands, SeatAgrees, IsOfPlan, IsShaped, up_in, store_at, no_store, seats_at, seat_in, no_seat}
@@ -69,7 +69,7 @@ no_volumes (row ∷ rows) zero = refl
 no_volumes (row ∷ rows) (suc t) = no_volumes rows t
 
 copy_first : (plan : CheckedPlan) (t : ℕ) (file : File) → copy_at (empty_store plan) (file_of t file) ≡ first_copy
-copy_first plan t file = ap (λ (volumes : List VolumeCopies). copy_in (get_or volumes file.volume no_volume) file.place) (no_volumes plan.rows t)
+copy_first plan t file = ap (λ (volumes : List VolumeCopies). volume_copy (get_or volumes file.volume empty_volume) file.place) (no_volumes plan.rows t)
 
 store_first : (plan : CheckedPlan) (w : Tables) (s : ℕ) → IsFirst plan w → s < plan.grid.rows * plan.grid.cols → store_at w.stores s ≡ empty_store plan
 store_first plan w s first within = ap (λ stores. store_at stores s) first.stores ∙ get_or-replicate (plan.grid.rows * plan.grid.cols) s (empty_store plan) no_store within

@@ -10,15 +10,15 @@ use Rattle.gq_grid.specs.Grid.{Grid, Servers}
 use Rattle.gq_tag.specs.declared.StoredCopy.{StoredCopy}
 use Rattle.gq_tag.specs.declared.Body.{Body}
 use Rattle.gq_tag.specs.declared.Body.TheVariants.{Ask, Copy, Store, Stored}
-use Rattle.gq_tag.specs.Tag.{File, is_file, OwnMessage, to_server, greatest, first_copy}
+use Rattle.gq_tag.specs.Tag.{File, is_file, OwnMessage, to_server, greatest, first_copy, answer_body}
 use Rattle.gq_desk.specs.declared.plans.TenantRow.{TenantRow}
 use Rattle.gq_desk.specs.declared.volumes.VolumeRow.{VolumeRow}
 use Rattle.gq_desk.specs.Volumes.{limit_in}
 use Rattle.gq_model.specs.declared.events.Line.TheVariants.{Deliver}
 use Rattle.gq_model.specs.Told.{IsDown}
 use Rattle.gq_model.specs.Trace.{Own, State, Known, changed, own_message_at, held, brought_by, files_of, questions}
-use Rattle.gq_model.specs.Lone.{reply_to, answer_body}
-use Rattle.gq_world.specs.Bounds.{Fits, BodyFits, room, SessionFits, MessageFits, IsOf, IsBounded}
+use Rattle.gq_model.specs.Lone.{reply_to}
+use Rattle.gq_world.specs.Bounds.{CopyFits, BodyFits, room, SessionFits, MessageFits, IsOfSession, IsBounded}
 use Rattle.gq_world.specs.Machine.{acted}
 use Rattle.gq_world.proofs.Ready.{all_at, sent_at}
 use Rattle.gq_world.proofs.Bounding.{greatest_fits, first_fits}
@@ -33,39 +33,39 @@ pub same_bounded : (grid : Grid) (row : TenantRow) (n : ℕ) (old new : State) �
     ((k : ℕ) → new.session k ≡ old.session k) → IsBounded grid row n new
 same_bounded grid row n old new h volumes sent brought session = record {
   messages = subst (λ vs. All (MessageFits grid row n vs) new.sent) (sym volumes) (subst (All (MessageFits grid row n old.volumes)) (sym sent) h.messages);
-  owners = subst (All (λ l. IsOf (new.session l.session) l)) (sym sent) (All-weaker (λ l. IsOf (old.session l.session) l) (λ l. IsOf (new.session l.session) l) (λ l is. subst (λ s. IsOf s l) (sym (session l.session)) is) old.sent h.owners);
-  brought = λ server file. subst (λ vs. All (Fits n (room vs file.volume)) (new.brought server file)) (sym volumes) (subst (All (Fits n (room old.volumes file.volume))) (sym (brought server file)) (h.brought server file));
+  owners = subst (All (λ l. IsOfSession (new.session l.session) l)) (sym sent) (All-weaker (λ l. IsOfSession (old.session l.session) l) (λ l. IsOfSession (new.session l.session) l) (λ l is. subst (λ s. IsOfSession s l) (sym (session l.session)) is) old.sent h.owners);
+  brought = λ server file. subst (λ vs. All (CopyFits n (room vs file.volume)) (new.brought server file)) (sym volumes) (subst (All (CopyFits n (room old.volumes file.volume))) (sym (brought server file)) (h.brought server file));
   sessions = λ k. subst (λ vs. SessionFits n vs k (new.session k)) (sym volumes) (subst (SessionFits n old.volumes k) (sym (session k)) (h.sessions k));
   sized = rw volumes h.sized;
 }
 
 -- ---- a delivery to a server
 
-body_answer : (n size : ℕ) (copy : StoredCopy) (body : Body) → Fits n size copy → BodyFits n size (answer_body copy body)
+body_answer : (n size : ℕ) (copy : StoredCopy) (body : Body) → CopyFits n size copy → BodyFits n size (answer_body copy body)
 body_answer n size copy Ask fits = fits
 body_answer n size copy (Copy other) fits = fits
 body_answer n size copy (Store other) fits = tt
 body_answer n size copy Stored fits = fits
 
-held_fits : (n size : ℕ) (copies : List StoredCopy) → All (Fits n size) copies → Fits n size (greatest (first_copy ∷ copies))
-held_fits n size copies all = greatest_fits n size (first_copy ∷ copies) (All-cons (Fits n size) first_copy copies (first_fits n size) all)
+held_fits : (n size : ℕ) (copies : List StoredCopy) → All (CopyFits n size) copies → CopyFits n size (greatest (first_copy ∷ copies))
+held_fits n size copies all = greatest_fits n size (first_copy ∷ copies) (All-cons (CopyFits n size) first_copy copies (first_fits n size) all)
 
 brought_fits : (n : ℕ) (volumes : List VolumeRow) (up : Servers) (session op round server : ℕ) (file : File) (body : Body) (before : ℕ → File → List StoredCopy) (s : ℕ) (f : File) →
-    BodyFits n (room volumes file.volume) body → All (Fits n (room volumes f.volume)) (before s f) → (is_file file f ≡ true → file.volume ≡ f.volume) →
-    All (Fits n (room volumes f.volume)) (brought_by up (Some (record { session = session; op = op; round = round; server = server; file = file; body = body })) before s f)
+    BodyFits n (room volumes file.volume) body → All (CopyFits n (room volumes f.volume)) (before s f) → (is_file file f ≡ true → file.volume ≡ f.volume) →
+    All (CopyFits n (room volumes f.volume)) (brought_by up (Some (record { session = session; op = op; round = round; server = server; file = file; body = body })) before s f)
 brought_fits n volumes up session op round server file Ask before s f fits all same = all
 brought_fits n volumes up session op round server file (Copy copy) before s f fits all same = all
 brought_fits n volumes up session op round server file Stored before s f fits all same = all
 brought_fits n volumes up session op round server file (Store copy) before s f fits all same = by (server == s) (is_file file f) refl (up s)
   where
     F : StoredCopy → Type 0
-    F = Fits n (room volumes f.volume)
+    F = CopyFits n (room volumes f.volume)
 
-    by : (a b : Bool) → is_file file f ≡ b → (c : Bool) → All (Fits n (room volumes f.volume)) (if a && b && c then before s f ++ copy ∷ [] else before s f)
+    by : (a b : Bool) → is_file file f ≡ b → (c : Bool) → All (CopyFits n (room volumes f.volume)) (if a && b && c then before s f ++ copy ∷ [] else before s f)
     by false b is c = all
     by true false is c = all
     by true true is false = all
-    by true true is true = All-append F (before s f) (copy ∷ []) all (All-cons F copy [] (subst (λ v. Fits n (room volumes v) copy) (same is) fits) (All-nil F))
+    by true true is true = All-append F (before s f) (copy ∷ []) all (All-cons F copy [] (subst (λ v. CopyFits n (room volumes v) copy) (same is) fits) (All-nil F))
 
 file_volume : (a b : File) → is_file a b ≡ true → a.volume ≡ b.volume
 file_volume a b is = let parts = and_parts (a.volume == b.volume) (a.place == b.place) is in eqb-true a.volume b.volume parts.0
@@ -75,13 +75,13 @@ served_bounded : (grid : Grid) (row : TenantRow) (n : ℕ) (state : State) (numb
 served_bounded grid row n state number message h there goes =
     let sent = sent_at state number message there in
     let fits : MessageFits grid row n state.volumes message = all_at (MessageFits grid row n state.volumes) state.sent number message h.messages sent in
-    let owner : IsOf (state.session message.session) message = all_at (λ l. IsOf (state.session l.session) l) state.sent number message h.owners sent in
+    let owner : IsOfSession (state.session message.session) message = all_at (λ l. IsOfSession (state.session l.session) l) state.sent number message h.owners sent in
     let copy : StoredCopy = held state message.server message.file in
     let size : ℕ = room state.volumes message.file.volume in
     let answer : OwnMessage = reply_to copy message in
     let new : State = changed (serving number message (length state.sent) copy) state in
-    let good : Fits n size copy = held_fits n size (state.brought message.server message.file) (h.brought message.server message.file) in
-    let O : OwnMessage → Type 0 = λ l. IsOf (new.session l.session) l in
+    let good : CopyFits n size copy = held_fits n size (state.brought message.server message.file) (h.brought message.server message.file) in
+    let O : OwnMessage → Type 0 = λ l. IsOfSession (new.session l.session) l in
     record {
       messages = All-append (MessageFits grid row n state.volumes) state.sent (answer ∷ []) h.messages (All-cons (MessageFits grid row n state.volumes) answer [] (record {
         server = fits.server;
@@ -91,8 +91,8 @@ served_bounded grid row n state number message h there goes =
         body = body_answer n size copy message.body good;
       }) (All-nil (MessageFits grid row n state.volumes)));
       owners = All-append O state.sent (answer ∷ [])
-          (All-weaker (λ l. IsOf (state.session l.session) l) O (λ l is. subst (λ s. IsOf s l) (sym (no_deed state number (length state.sent) l.session message copy goes)) is) state.sent h.owners)
-          (All-cons O answer [] (subst (λ s. IsOf s answer) (sym (no_deed state number (length state.sent) message.session message copy goes)) (record { begun = owner.begun; volume = owner.volume })) (All-nil O));
+          (All-weaker (λ l. IsOfSession (state.session l.session) l) O (λ l is. subst (λ s. IsOfSession s l) (sym (no_deed state number (length state.sent) l.session message copy goes)) is) state.sent h.owners)
+          (All-cons O answer [] (subst (λ s. IsOfSession s answer) (sym (no_deed state number (length state.sent) message.session message copy goes)) (record { begun = owner.begun; volume = owner.volume })) (All-nil O));
       brought = λ server file. brought_fits n state.volumes state.up message.session message.op message.round message.server message.file message.body state.brought server file fits.body (h.brought server file) (file_volume message.file file);
       sessions = λ k. subst (SessionFits n state.volumes k) (sym (no_deed state number (length state.sent) k message copy goes)) (h.sessions k);
       sized = h.sized;
@@ -106,7 +106,7 @@ down_bounded grid row n state number message h there goes =
     let same : (k : ℕ) → new.session k ≡ state.session k = λ k. quiet_deed state number k message goes in
     record {
       messages = subst (All (MessageFits grid row n state.volumes)) (sym (append-nil state.sent)) h.messages;
-      owners = subst (All (λ l. IsOf (new.session l.session) l)) (sym (append-nil state.sent)) (All-weaker (λ l. IsOf (state.session l.session) l) (λ l. IsOf (new.session l.session) l) (λ l is. subst (λ s. IsOf s l) (sym (same l.session)) is) state.sent h.owners);
+      owners = subst (All (λ l. IsOfSession (new.session l.session) l)) (sym (append-nil state.sent)) (All-weaker (λ l. IsOfSession (state.session l.session) l) (λ l. IsOfSession (new.session l.session) l) (λ l is. subst (λ s. IsOfSession s l) (sym (same l.session)) is) state.sent h.owners);
       brought = λ server file. brought_fits n state.volumes state.up message.session message.op message.round message.server message.file message.body state.brought server file fits.body (h.brought server file) (file_volume message.file file);
       sessions = λ k. subst (SessionFits n state.volumes k) (sym (same k)) (h.sessions k);
       sized = h.sized;
@@ -168,8 +168,8 @@ has_room volumes v f size there is = by (slice_get volumes v) refl
 pub start_bounded : (grid : Grid) (row : TenantRow) → IsBounded grid row 0 (questions [])
 start_bounded grid row = record {
   messages = All-nil (MessageFits grid row 0 []);
-  owners = All-nil (λ l. IsOf ((questions []).session l.session) l);
-  brought = λ server file. All-nil (Fits 0 (room [] file.volume));
+  owners = All-nil (λ l. IsOfSession ((questions []).session l.session) l);
+  brought = λ server file. All-nil (CopyFits 0 (room [] file.volume));
   sessions = λ k. record { op = omega arith; floor = omega arith; works = λ task is. absurd (cc) };
   sized = refl;
 }

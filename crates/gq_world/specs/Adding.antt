@@ -5,7 +5,7 @@ use Rattle.gq_desk.specs.Volumes.{with_volume, free_of}
 use Rattle.gq_store.specs.Copies.{StoreCopies, store_accounts, tenant_account, copy_at}
 
 -- the volume fits in what the tenant's volumes leave
-pub record HasRoom (t files blocks : ℕ) (store : StoreCopies) : Type 0 where
+pub record HasRoomForFiles (t files blocks : ℕ) (store : StoreCopies) : Type 0 where
   pub tenant : t < length (store_accounts store)
   pub share : files * blocks ≤ free_of (tenant_account store t)
 

@@ -22,14 +22,14 @@ volume_causes w t k v =
     ∷ (not (nat_lt v (length (account_at w.desk t).volumes)), NoVolume)
     ∷ []
 
-abbrev pub limit_at : Tables → ℕ → ℕ → ℕ → Option ℕ
-limit_at w t v f = limit_of w.desk (file_of t (record { volume = v; place = f }))
+abbrev pub table_limit : Tables → ℕ → ℕ → ℕ → Option ℕ
+table_limit w t v f = limit_of w.desk (file_of t (record { volume = v; place = f }))
 
 abbrev pub file_causes : Tables → ℕ → ℕ → ℕ → ℕ → List Cause
-file_causes w t k v f = volume_causes w t k v ++ (is_none (limit_at w t v f), NoFile) ∷ []
+file_causes w t k v f = volume_causes w t k v ++ (is_none (table_limit w t v f), NoFile) ∷ []
 
 abbrev pub write_causes : Tables → ℕ → ℕ → ℕ → ℕ → List ℕ → List Cause
-write_causes w t k v f bytes = file_causes w t k v f ++ (nat_lt (unwrap_or (limit_at w t v f) 0) (length bytes), TooLong) ∷ []
+write_causes w t k v f bytes = file_causes w t k v f ++ (nat_lt (unwrap_or (table_limit w t v f) 0) (length bytes), TooLong) ∷ []
 
 abbrev pub idle_causes : Tables → ℕ → ℕ → List Cause
 idle_causes w t k =

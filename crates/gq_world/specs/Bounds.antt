@@ -27,14 +27,14 @@ abbrev pub IsThere : List VolumeRow → File → Type 0
 IsThere volumes file = file.place < files_of volumes file.volume
 
 -- a copy of a number of at most n, of at most so many bytes
-pub record Fits (n size : ℕ) (copy : StoredCopy) : Type 0 where
+pub record CopyFits (n size : ℕ) (copy : StoredCopy) : Type 0 where
   pub number : copy.tag.number ≤ n
   pub long : length copy.bytes ≤ size
 
 abbrev pub BodyFits : ℕ → ℕ → Body → Type 0
 BodyFits n size Ask = Unit {0}
-BodyFits n size (Copy copy) = Fits n size copy
-BodyFits n size (Store copy) = Fits n size copy
+BodyFits n size (Copy copy) = CopyFits n size copy
+BodyFits n size (Store copy) = CopyFits n size copy
 BodyFits n size Stored = Unit {0}
 
 -- ---- tasks and operations
@@ -58,8 +58,8 @@ pub record OperationFits (n : ℕ) (volumes : List VolumeRow) (o : Operation) : 
   pub task : TaskFits volumes o.task
   pub file : (round_file o.task o.round).place < files_of volumes (volume_of o.task)
   pub collects : is_collect o.round ≡ true → o.round ≡ 2 * length o.collected + 1
-  pub heard : All (Fits n (room volumes (volume_of o.task))) (heard_copies o.heard)
-  pub stored : Fits n (room volumes (volume_of o.task)) (stored_copy o.collected)
+  pub heard : All (CopyFits n (room volumes (volume_of o.task))) (heard_copies o.heard)
+  pub stored : CopyFits n (room volumes (volume_of o.task)) (stored_copy o.collected)
 
 -- ---- sessions and messages
 
@@ -77,7 +77,7 @@ pub record MessageFits (grid : Grid) (row : TenantRow) (n : ℕ) (volumes : List
   pub body : BodyFits n (room volumes message.file.volume) message.body
 
 -- the message is of an operation that its session began; where that is the one that it has, of a file of its volume
-pub record IsOf (s : Session) (message : OwnMessage) : Type 0 where
+pub record IsOfSession (s : Session) (message : OwnMessage) : Type 0 where
   pub begun : message.op ≤ s.op
   pub volume : (task : Task) → s.current ≡ Some task → message.op ≡ s.op → message.file.volume ≡ volume_of task
 
@@ -85,7 +85,7 @@ pub record IsOf (s : Session) (message : OwnMessage) : Type 0 where
 
 pub record IsBounded (grid : Grid) (row : TenantRow) (n : ℕ) (state : State) : Type 0 where
   pub messages : All (MessageFits grid row n state.volumes) state.sent
-  pub owners : All (λ message. IsOf (state.session message.session) message) state.sent
-  pub brought : (server : ℕ) (file : File) → All (Fits n (room state.volumes file.volume)) (state.brought server file)
+  pub owners : All (λ message. IsOfSession (state.session message.session) message) state.sent
+  pub brought : (server : ℕ) (file : File) → All (CopyFits n (room state.volumes file.volume)) (state.brought server file)
   pub sessions : (k : ℕ) → SessionFits n state.volumes k (state.session k)
   pub sized : list_all is_sized state.volumes ≡ true

@@ -18,12 +18,12 @@ counted row lines (Own line) = if nat_le row.steps lines then lines else lines +
 counted row lines (Serving line) = lines
 
 -- the answers to the questions after a turn at which this was told and sent
-abbrev pub state_after : State → Turn → Step → State
-state_after state turn step = if is_refusal step.told then state else changed (entry_of state turn step) state
+abbrev pub state_after_turn : State → Turn → Step → State
+state_after_turn state turn step = if is_refusal step.told then state else changed (entry_of state turn step) state
 
 -- what is known after a turn
 abbrev pub next : Grid → TenantRow → Known → Turn → Known
-next grid row known turn = record { lines = counted row known.lines turn; state = state_after known.state turn (step grid row known turn) }
+next grid row known turn = record { lines = counted row known.lines turn; state = state_after_turn known.state turn (step grid row known turn) }
 
 -- what is known after an event that the tenant may see
 abbrev pub next_seen : Grid → TenantRow → Known → Option Turn → Known
@@ -52,7 +52,7 @@ Tells w Stray answer = answer ≡ StrayBad
 
 -- what is known after it
 abbrev pub acted : Grid → TenantRow → Known → Line → Known
-acted grid row known line = record { lines = known.lines; state = state_after known.state (Own line) (line_step grid row known.state line) }
+acted grid row known line = record { lines = known.lines; state = state_after_turn known.state (Own line) (line_step grid row known.state line) }
 
 -- it leads from the old tables to the new: the tenant's part goes on, and the others' are unchanged
 pub record Acts (old : Tables) (t : ℕ) (line : Line) (new : Tables) : Type 0 where

@@ -105,7 +105,7 @@ pub record IsShaped (w : Tables) : Type 0 where
   pub grid : w.plan.grid.rows * w.plan.grid.cols ≤ MOST_SERVERS
 
 -- the tables have for the tenant something that can be known of its run, with its numbers at most the steps taken
-pub record IsSound (w : Tables) (t : ℕ) : Type 0 where
+pub record IsKnown (w : Tables) (t : ℕ) : Type 0 where
   pub known : Known
   pub agrees : Agrees w t known
   pub bounded : IsBounded w.plan.grid (row_at w.plan t) known.lines known.state

@@ -5,7 +5,7 @@ use Rattle.gq_grid.specs.Sets.{servers}
 use Rattle.gq_desk.specs.CheckedPlan.{CheckedPlan, row_at}
 use Rattle.gq_desk.specs.declared.limits.TheConstants.{MOST_SESSIONS}
 use Rattle.gq_store.specs.Copies.{empty_store}
-use Rattle.gq_world.specs.Tables.{Tables, IsSound, no_seat}
+use Rattle.gq_world.specs.Tables.{Tables, IsKnown, no_seat}
 
 -- the tables, and whether memory ran out
 pub record Whole : Type 0 where
@@ -14,7 +14,7 @@ pub record Whole : Type 0 where
 
 -- for each tenant there is something that can be known of its run which the tables have
 abbrev pub AllSound : Tables → Type 0
-AllSound w = (t : ℕ) → t < length w.plan.rows → IsSound w t
+AllSound w = (t : ℕ) → t < length w.plan.rows → IsKnown w t
 
 -- each tenant has at most the most sessions that a plan may give
 abbrev pub FewSessions : CheckedPlan → Type 0

@@ -1,8 +1,8 @@
 //! All tenants at once: each is answered as in its run by itself.
 #![tactic(auto)]
 
-mod adding;
 mod chooser;
+mod new_files;
 mod replies;
 mod sending;
 mod sessions;

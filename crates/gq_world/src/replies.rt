@@ -3,9 +3,10 @@
 ghost use Rattle.std.specs.Prelude.{◌≡◌, ◌≢◌, ◌<◌, ◌∷◌, [], length, None, Some, IsSome, IfOk, OnOk};
 ghost use Rattle.gq_tag.specs.declared.FileId.{FileId};
 ghost use Rattle.gq_tag.specs.declared.Message.{Message};
+ghost use Rattle.gq_tag.specs.Tag.{answer_body};
 ghost use Rattle.gq_post.specs.Lanes.{lane_at, message_at};
 ghost use Rattle.gq_store.specs.Copies.{copy_at, file_limit, store_accounts};
-ghost use Rattle.gq_store.specs.Serving.{answer_body, held_after, serve_fault};
+ghost use Rattle.gq_store.specs.Serving.{held_after, serve_fault};
 ghost use Rattle.gq_world.specs.Saying.{with_sent};
 ghost use Rattle.gq_world.specs.Response.{body_in};
 

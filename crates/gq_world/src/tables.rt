@@ -15,8 +15,8 @@ ghost use Rattle.gq_store.specs.Copies.{empty_store, blocks_free};
 ghost use Rattle.gq_world.specs.Tables.{no_seat};
 ghost use Rattle.gq_world.specs.Whole.{FewSessions};
 
-use crate::adding::add_everywhere;
 use crate::chooser::Chooser;
+use crate::new_files::add_everywhere;
 use crate::replies::{answer, serve};
 use crate::sending::answer_heard;
 use crate::sessions::Seats;

@@ -6,7 +6,7 @@ ghost use Rattle.gq_model.specs.Events.{IsIn};
 use crate::{End, Fault};
 use gq_desk::Plan;
 use gq_inspect::inspect;
-use gq_live::{OpenGate, Records, Said, SessionEntry, live, sessions_of};
+use gq_live::{Gate, GaveUp, OpenGate, Records, Said, SessionEntry, live, sessions_of};
 use gq_memory::{GrowCopies, OutOfMemory};
 use gq_model::{Answer, Event, Line};
 use gq_runs::read_programs;
@@ -15,6 +15,24 @@ use std::alloc::Global;
 use std::io::Write;
 use std::sync::Wait;
 use std::thread::Threads;
+
+// It gives up where a worker holds a cell.
+#[derive(Drop)]
+struct Shut;
+
+impl Gate for Shut {
+    ghost use Rattle.std.specs.Prelude.{false};
+
+    ghost never = { false };
+
+    fn before(&self, _server: u32) -> Result<(), GaveUp> {
+        Ok(())
+    }
+
+    fn inside(&self, _server: u32) -> Result<(), GaveUp> {
+        Err(GaveUp)
+    }
+}
 
 // Whether the event's tenant is in the plan.
 fn is_in(plan: &Plan, event: &Event) -> bool
@@ -124,4 +142,14 @@ pub fn run<R: Threads + Wait + Sync>(rt: &R, alloc: Global, input: &[u8]) -> Res
     let mut out = Vec::new(alloc);
     put_run(alloc, &plan, &records, &mut out)?;
     Ok(out)
+}
+
+/// Runs the programs of an input in threads under a gate that gives up. It gives nothing but the fault, if there is one.
+pub fn run_shut<R: Threads + Wait + Sync>(rt: &R, alloc: Global, input: &[u8]) -> Result<(), End> {
+    if input.len() > MOST_INPUT {
+        return Err(End::Call(Fault::Usage));
+    }
+    let (plan, programs) = read_programs(alloc, input)?;
+    live(rt, alloc, &plan, &programs, &Shut)?;
+    Ok(())
 }

@@ -13,11 +13,12 @@
 //!
 //! `live` reads the programs of a live run, runs them in threads, and prints the script of that run, then a line `answers`, and
 //! then for each session a line `session TENANT SESSION` (the tenant's place in the plan) and what it was told; in each answer
-//! the messages are numbered from 0.
+//! the messages are numbered from 0. `live shut` runs them under a gate that gives up, and prints the fault.
 //!
 //! `stream READ_EACH READ_ALL WRITE_EACH WRITE_ALL END run` runs a script between a reader that gives at most so many bytes
 //! a call and fails after so many in all, and a writer that takes at most so many; where END is `fails` it fails after
-//! these, where it is `none` it takes none. It prints what the writer took. With `order NAME VOLUME FILE` in place of `run`
+//! these, where it is `none` it takes none. It prints what the writer took, and on standard error how often the reader was
+//! called and how often it failed, and the same of the writer. With `order NAME VOLUME FILE` in place of `run`
 //! it asks for the order of the operations on a file too, and with `shards N` it runs the script in so many shards.
 //!
 //! `shards N` runs a script in so many shards on the standard streams, also a short one.
@@ -50,7 +51,7 @@ use std::process::ExitCode;
 use std::sync::Wait;
 use std::thread::Threads;
 use std::{env, io};
-use streams::{Sink, Source};
+use streams::{Sink, Source, Streams};
 
 // A fault of the input, of reading or of writing.
 const FAULT: u8 = 1;
@@ -241,7 +242,7 @@ fn run_of<'a>(words: &'a [String]) -> Result<Run<'a>, Fault> {
     }
 }
 
-// Does what is asked for between the reader and the writer. What the writer took comes into `out`.
+// Does what is asked for between the reader and the writer, and tells their calls. What the writer took comes into `out`.
 fn between<R: Threads + Sync>(
     threads: &R,
     alloc: Global,
@@ -249,16 +250,29 @@ fn between<R: Threads + Sync>(
     sink: Sink,
     asked: Run<'_>,
     out: &mut Vec<u8>,
-) -> Result<(), End> {
+) -> (Streams, Result<(), OrderFault>) {
     match asked {
-        Run::Plain => Ok(streams::run_between(alloc, source, sink, out)?),
-        Run::Shards(shards) => Ok(streams::shards_between(
-            threads, alloc, shards, source, sink, out,
-        )?),
-        Run::Order(name, volume, file) => Ok(streams::order_between(
-            alloc, source, sink, name, volume, file, out,
-        )?),
+        Run::Plain => {
+            let (calls, ended) = streams::run_between(alloc, source, sink, out);
+            (calls, ended.map_err(OrderFault::Run))
+        }
+        Run::Shards(shards) => {
+            let (calls, ended) = streams::shards_between(threads, alloc, shards, source, sink, out);
+            (calls, ended.map_err(OrderFault::Run))
+        }
+        Run::Order(name, volume, file) => {
+            streams::order_between(alloc, source, sink, name, volume, file, out)
+        }
     }
+}
+
+// Tells on standard error how often each was called, and how often it failed.
+fn tell_calls(rt: &HostRuntime, calls: Streams) {
+    let Streams { reader, writer } = calls;
+    let _ = eprintln!(rt;
+        "reader {} {} writer {} {}",
+        reader.made, reader.failed, writer.made, writer.failed
+    );
 }
 
 // The same with the reader and the writer that the words name; the reader gives standard input.
@@ -286,7 +300,9 @@ fn stream<R: Threads + Sync>(
     let script = input(rt)?;
     let source = Source::new(script.as_slice(), read_each, read_all);
     let sink = Sink::new(rt.alloc(), write_each, write_all, fails);
-    between(threads, rt.alloc(), source, sink, asked, out)
+    let (calls, ended) = between(threads, rt.alloc(), source, sink, asked, out);
+    tell_calls(rt, calls);
+    Ok(ended?)
 }
 
 // Runs a script in so many shards on the standard streams.
@@ -314,6 +330,9 @@ fn go<R: Threads + Wait + Sync>(
         ("live", []) => {
             *out = live::run(threads, rt.alloc(), input(rt)?.as_slice())?;
             Ok(())
+        }
+        ("live", [gate]) if gate.as_str() == "shut" => {
+            live::run_shut(threads, rt.alloc(), input(rt)?.as_slice())
         }
         ("calls", [part]) => {
             calls::make(rt.alloc(), part.as_str(), input(rt)?.as_slice(), out)?;

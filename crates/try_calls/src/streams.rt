@@ -8,23 +8,57 @@ use std::io;
 use std::io::{Read, Write};
 use std::thread::Threads;
 
+/// How often a reader or a writer was called, and how often it failed, or took none of some bytes.
+#[derive(Clone, Copy)]
+pub struct Calls {
+    pub made: usize,
+    pub failed: usize,
+}
+
+impl Calls {
+    fn none() -> Calls {
+        Calls { made: 0, failed: 0 }
+    }
+
+    fn count(&mut self, fails: bool) {
+        self.made = self.made.saturating_add(1);
+        if fails {
+            self.failed = self.failed.saturating_add(1);
+        }
+    }
+}
+
+/// The calls of the reader and the writer of a run.
+#[derive(Clone, Copy)]
+pub struct Streams {
+    pub reader: Calls,
+    pub writer: Calls,
+}
+
 /// Gives at most so many bytes a call, and fails after so many in all.
 #[derive(Drop)]
 pub struct Source<'a> {
     text: &'a [u8],
     each: usize,
     left: usize,
+    calls: Calls,
 }
 
 impl<'a> Source<'a> {
     /// A reader of the text.
     pub fn new(text: &'a [u8], each: usize, left: usize) -> Source<'a> {
-        Source { text, each, left }
+        Source {
+            text,
+            each,
+            left,
+            calls: Calls::none(),
+        }
     }
 }
 
 impl<'a> Read for Source<'a> {
     fn read(&mut self, buf: &mut [u8]) -> io::Result<usize> {
+        self.calls.count(self.left == 0);
         if self.left == 0 {
             return Err(io::Error::from(io::ErrorKind::Other));
         }
@@ -44,6 +78,7 @@ pub struct Sink {
     each: usize,
     left: usize,
     fails: bool,
+    calls: Calls,
 }
 
 impl Sink {
@@ -54,16 +89,18 @@ impl Sink {
             each,
             left,
             fails,
+            calls: Calls::none(),
         }
     }
 }
 
 impl Write for Sink {
     fn write(&mut self, buf: &[u8]) -> io::Result<usize> {
+        let n = buf.len().min(self.each).min(self.left);
+        self.calls.count(n == 0 && !buf.is_empty());
         if self.left == 0 && self.fails {
             return Err(io::Error::from(io::ErrorKind::Other));
         }
-        let n = buf.len().min(self.each).min(self.left);
         self.held.extend_from_slice(&buf[..n])?;
         self.left -= n;
         Ok(n)
@@ -74,18 +111,28 @@ impl Write for Sink {
     }
 }
 
+// The calls of both, and what the writer took, which comes into `out`.
+fn taken(reader: Watched<Source>, writer: Watched<Sink>, out: &mut Vec<u8>) -> Streams {
+    let source = reader.into_inner();
+    let sink = writer.into_inner();
+    *out = sink.held;
+    Streams {
+        reader: source.calls,
+        writer: sink.calls,
+    }
+}
+
 /// Runs the script that the reader gives. What the writer took comes into `out`, however the run ended.
 pub fn run_between(
     alloc: Global,
     source: Source,
     sink: Sink,
     out: &mut Vec<u8>,
-) -> Result<(), RunFault> {
+) -> (Streams, Result<(), RunFault>) {
     let mut reader = Watched::new(source);
     let mut writer = Watched::new(sink);
     let ended = run(alloc, &mut reader, &mut writer);
-    *out = writer.into_inner().held;
-    ended
+    (taken(reader, writer, out), ended)
 }
 
 /// The same in so many shards, also of a short input.
@@ -96,12 +143,11 @@ pub fn shards_between<T: Threads + Sync>(
     source: Source,
     sink: Sink,
     out: &mut Vec<u8>,
-) -> Result<(), RunFault> {
+) -> (Streams, Result<(), RunFault>) {
     let mut reader = Watched::new(source);
     let mut writer = Watched::new(sink);
     let ended = run_in_shards(rt, alloc, shards, 0, &mut reader, &mut writer);
-    *out = writer.into_inner().held;
-    ended
+    (taken(reader, writer, out), ended)
 }
 
 /// Runs the script with the order of the operations on the file of the tenant of this name behind it.
@@ -113,10 +159,9 @@ pub fn order_between(
     volume: u32,
     file: u32,
     out: &mut Vec<u8>,
-) -> Result<(), OrderFault> {
+) -> (Streams, Result<(), OrderFault>) {
     let mut reader = Watched::new(source);
     let mut writer = Watched::new(sink);
     let ended = order_run(alloc, &mut reader, &mut writer, name, volume, file);
-    *out = writer.into_inner().held;
-    ended
+    (taken(reader, writer, out), ended)
 }

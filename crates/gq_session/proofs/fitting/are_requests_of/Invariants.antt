@@ -1,6 +1,6 @@
 use Rattle.std.proofs.Common.{ℕ, ◌<◌, get_or}
 use Rattle.gq_model.specs.declared.events.Line.{Line}
-use Rattle.gq_session.specs.Fitting.{IsRequestOf}
+use Rattle.gq_model.specs.Events.{IsRequestOf}
 use Rattle.gq_session.proofs.fitting.are_requests_of.Given as goal
 
 abbrev pub invariant-loop-place : goal.invariant-loop-place

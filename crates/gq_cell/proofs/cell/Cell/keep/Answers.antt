@@ -2,7 +2,7 @@ use Rattle.std.proofs.Common.{rules, ap₂, ◌≡◌, ◌<◌, ◌∷◌, ◌++
 use Rattle.gq_tag.specs.Tag.{to_server}
 use Rattle.gq_cell.specs.declared.letter.CellEntry.TheVariants.{Served}
 use Rattle.gq_cell.specs.Keeping.{Journaled}
-use Rattle.gq_cell.specs.Journal.{is_up, last_of, held, answer_at}
+use Rattle.gq_cell.specs.Journal.{is_up, last_stamp_of, copy_after, answer_at}
 use Rattle.gq_cell.proofs.Growing.{replied, letter_with, server_reply-store}
 use Rattle.gq_cell.proofs.cell.Cell.keep.Goals as goal
 
@@ -11,10 +11,10 @@ invariant_of-self-2 g c =
     let old = c.self.inside in let l = c.args.letter.now in
     let letter : c.in_ok-heard.heard ≡ l = search rules in
     let reply : c.answer-kept.result ≡ answer_at old.server old.journal.items c.args.stamp l =
-    c.answer-kept.ensures ∙ ap (letter_with old.server c.args.stamp) (c.reply.ensures ∙ sym (server_reply-store (held old.journal.items l.message.file) l.message c.requires.store.0 c.requires.store.1)) in
+    c.answer-kept.ensures ∙ ap (letter_with old.server c.args.stamp) (c.reply.ensures ∙ sym (server_reply-store (copy_after old.journal.items l.message.file) l.message c.requires.store.0 c.requires.store.1)) in
     let items : c.push_reserved.new.self.items ≡ old.journal.items ++ Served c.in_ok-heard.heard c.answer-kept.result ∷ [] = search rules in
     let same : c.push_reserved.new.self.items ≡ old.journal.items ++ Served l (answer_at old.server old.journal.items c.args.stamp l) ∷ [] = items ∙ ap₂ (λ a b. old.journal.items ++ Served a b ∷ []) letter reply in
-    let above : old.last < c.args.stamp = omega (arith, c.self.invariant.stamp, ap (λ (v : Journaled). last_of v.journal) c.self.view_is, c.requires.stamp.0) in
+    let above : old.last < c.args.stamp = omega (arith, c.self.invariant.stamp, ap (λ (v : Journaled). last_stamp_of v.journal) c.self.view_is, c.requires.stamp.0) in
     let running : is_up old.journal.items ≡ true = ap (λ (v : Journaled). is_up v.journal) c.self.view_is ∙ c.requires.up in
     let here : l.message.server ≡ old.server = c.requires.here ∙ sym (ap (λ (v : Journaled). v.server) c.self.view_is) in
     let asks : to_server l.message.body ≡ true = ap to_server c.requires.store.1 in

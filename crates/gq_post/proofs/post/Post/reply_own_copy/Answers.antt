@@ -6,7 +6,7 @@ use Rattle.gq_tag.specs.declared.Body.TheVariants as body
 use Rattle.gq_post.specs.declared.copies.SharedCopy.{SharedCopy}
 use Rattle.gq_post.specs.declared.envelopes.Says.TheVariants.{Copy}
 use Rattle.gq_post.specs.Lanes.{lane_at}
-use Rattle.gq_post.specs.Envelopes.{copy_in, answering}
+use Rattle.gq_post.specs.Envelopes.{body_copy, answering}
 use Rattle.gq_post.specs.Copies.{lane_of}
 use Rattle.gq_post.proofs.Reading.{within_lanes, envelope_of_message, message_in}
 use Rattle.gq_post.proofs.Sending.{Keeps, sent_counted, sent_view, other_body}
@@ -24,7 +24,7 @@ invariant_of-self-2 c =
     let own = body.Copy (record { tag = c.args.tag; bytes = c.in_ok-bytes.bytes }) in
     let key : c.in_ok-hint.hint ≡ c.make_place.new.self.vacant_key = c.in_ok-hint.ensures.place ∙ sym (ap (λ (s : Slab SharedCopy). s.vacant_key) c.make_place.ensures.rest_kept) in
     let room : c.make_place.new.self.slots ≡ c.self.inside.copies.slots = ap (λ (s : Slab SharedCopy). s.slots) c.make_place.ensures.rest_kept in
-    let keeps : Keeps c.make_place.new.self c.keep.new.copies c.in_ok-hint.hint (copy_in own) 1 =
+    let keeps : Keeps c.make_place.new.self c.keep.new.copies c.in_ok-hint.hint (body_copy own) 1 =
     rw key record { none = c.keep.ensures.none; nobody = c.keep.ensures.nobody; vacant = c.keep.ensures.vacant; kept = c.keep.ensures.kept } in
     rw (c.in_ok-number.ensures.ok asked.0 asked.1)
     (sent_counted c.self.inside.copies c.make_place.new.self c.keep.new.copies c.self.inside.lanes.items c.args.tenant (answering asked.0 Copy c.in_ok-hint.hint) own (asked.0.server ∷ []) within room refl keeps c.self.invariant)
@@ -36,7 +36,7 @@ returns-clause-sent c = λ message is.
     let own = body.Copy (record { tag = c.args.tag; bytes = c.in_ok-bytes.bytes }) in
     let key : c.in_ok-hint.hint ≡ c.make_place.new.self.vacant_key = c.in_ok-hint.ensures.place ∙ sym (ap (λ (s : Slab SharedCopy). s.vacant_key) c.make_place.ensures.rest_kept) in
     let room : c.make_place.new.self.slots ≡ c.self.inside.copies.slots = ap (λ (s : Slab SharedCopy). s.slots) c.make_place.ensures.rest_kept in
-    let keeps : Keeps c.make_place.new.self c.keep.new.copies c.in_ok-hint.hint (copy_in own) 1 =
+    let keeps : Keeps c.make_place.new.self c.keep.new.copies c.in_ok-hint.hint (body_copy own) 1 =
     rw key record { none = c.keep.ensures.none; nobody = c.keep.ensures.nobody; vacant = c.keep.ensures.vacant; kept = c.keep.ensures.kept } in
     ap (map (lane_of c.keep.new.copies.slots)) (c.in_ok-number.ensures.ok asked.0 asked.1)
     ∙ sent_view c.self.inside.copies c.make_place.new.self c.keep.new.copies c.self.inside.lanes.items c.args.tenant (answering asked.0 Copy c.in_ok-hint.hint) own (asked.0.server ∷ []) within room refl keeps c.self.invariant

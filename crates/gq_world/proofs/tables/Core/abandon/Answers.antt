@@ -9,7 +9,7 @@ use Rattle.gq_world.specs.Tables.{Tables, IsShaped, seats_at, seat_in}
 use Rattle.gq_world.specs.Asking.{idle_causes, rested_seat, rested_tables}
 use Rattle.gq_world.specs.Machine.{Acts}
 use Rattle.gq_world.proofs.Quiet.{refused_acts, refused_tells}
-use Rattle.gq_world.proofs.Again.{at_work, abandon_refused, abandon_tells, abandon_acts}
+use Rattle.gq_world.proofs.RetriesAndAbandons.{at_work, abandon_refused, abandon_tells, abandon_acts}
 use Rattle.gq_world.proofs.tables.Core.abandon.Goals as goal
 
 pub returns-in-Some-clause-answer : goal.returns-in-Some-clause-answer

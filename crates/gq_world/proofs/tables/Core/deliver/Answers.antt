@@ -6,11 +6,11 @@ use Rattle.std.proofs.lemmas.List.{get_or_default}
 use Rattle.gq_grid.specs.Sets.{servers}
 use Rattle.gq_grid.specs.declared.TheConstants.{MOST_SERVERS}
 use Rattle.gq_tag.specs.declared.Message.{Message}
-use Rattle.gq_tag.specs.Tag.{to_server}
+use Rattle.gq_tag.specs.Tag.{to_server, answer_body}
 use Rattle.gq_post.specs.Lanes.{Lane, lane_at, message_at}
 use Rattle.gq_phase.specs.declared.Heard.{Heard}
 use Rattle.gq_store.specs.Copies.{StoreCopies, copy_at, file_limit, store_accounts}
-use Rattle.gq_store.specs.Serving.{answer_body, held_after, serve_fault}
+use Rattle.gq_store.specs.Serving.{held_after, serve_fault}
 use Rattle.gq_model.specs.Told.{Replied}
 use Rattle.gq_model.specs.declared.events.Answer.{Answer}
 use Rattle.gq_model.specs.declared.events.Line.TheVariants.{Deliver}

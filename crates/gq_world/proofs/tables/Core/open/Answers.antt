@@ -7,7 +7,7 @@ use Rattle.gq_desk.specs.Volumes.{Account, account_at, with_volume, open_fault}
 use Rattle.gq_store.specs.Copies.{StoreCopies}
 use Rattle.gq_model.specs.declared.events.Line.TheVariants.{NewVolume}
 use Rattle.gq_world.specs.Tables.{Tables, IsShaped, no_store, store_at}
-use Rattle.gq_world.specs.Adding.{HasRoom, IsAdded}
+use Rattle.gq_world.specs.Adding.{HasRoomForFiles, IsAdded}
 use Rattle.gq_world.specs.Machine.{Acts}
 use Rattle.gq_world.proofs.Opening.{Opens, opened_acts, opened_shaped, room_everywhere}
 use Rattle.gq_world.proofs.tables.Core.open.Goals as goal
@@ -21,8 +21,8 @@ add_everywhere-requires c =
     let is : V ≡ w = c.self.view_is in
     let shaped : IsShaped w = subst IsShaped is c.self.invariant.1 in
     let sound : open_fault (account_at w.desk t) v ≡ None = subst (λ (x : Tables). open_fault (account_at x.desk t) v ≡ None) is c.in-Ok.ensures.sound in
-    let room : All (HasRoom t c.args.files c.args.blocks) w.stores = room_everywhere w t c.args.files c.args.blocks c.requires.ready shaped c.requires.tenant sound in
-    subst (λ (x : Tables). All (HasRoom t c.args.files c.args.blocks) x.stores) (sym is) room
+    let room : All (HasRoomForFiles t c.args.files c.args.blocks) w.stores = room_everywhere w t c.args.files c.args.blocks c.requires.ready shaped c.requires.tenant sound in
+    subst (λ (x : Tables). All (HasRoomForFiles t c.args.files c.args.blocks) x.stores) (sym is) room
 
 pub invariant_of-self : goal.invariant_of-self
 invariant_of-self c =
@@ -53,7 +53,7 @@ returns-in_ok-add_everywhere-in-Ok-clause-acts c =
     let is : V ≡ w = c.self.view_is in
     let shaped : IsShaped w = subst IsShaped is c.self.invariant.1 in
     let sound : open_fault (account_at w.desk t) v ≡ None = subst (λ (x : Tables). open_fault (account_at x.desk t) v ≡ None) is c.in-Ok.ensures.sound in
-    let room : All (HasRoom t c.args.files c.args.blocks) w.stores = room_everywhere w t c.args.files c.args.blocks c.requires.ready shaped c.requires.tenant sound in
+    let room : All (HasRoomForFiles t c.args.files c.args.blocks) w.stores = room_everywhere w t c.args.files c.args.blocks c.requires.ready shaped c.requires.tenant sound in
     let new : List StoreCopies = c.add_everywhere.new.stores.items in
     let added : (s : ℕ) → s < length w.stores → IsAdded t c.args.files c.args.blocks (store_at w.stores s) (store_at new s) =
     subst (λ (x : Tables). (s : ℕ) → s < length x.stores → IsAdded t c.args.files c.args.blocks (store_at x.stores s) (store_at new s)) is c.in_ok-add_everywhere-in-Ok.ensures.added in

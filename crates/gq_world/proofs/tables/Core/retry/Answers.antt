@@ -15,7 +15,7 @@ use Rattle.gq_world.specs.Saying.{with_sent}
 use Rattle.gq_world.specs.Seats.{IsAtWork, SeatResends, SeatRefuses}
 use Rattle.gq_world.specs.Machine.{Acts, TellsLine}
 use Rattle.gq_world.proofs.Quiet.{refused_acts, refused_tells}
-use Rattle.gq_world.proofs.Again.{works, Resends, retry_refused, none_refused, again_tells, again_acts}
+use Rattle.gq_world.proofs.RetriesAndAbandons.{works, Resends, retry_refused, none_refused, again_tells, again_acts}
 use Rattle.gq_world.proofs.tables.Core.retry.Goals as goal
 
 pub returns-in-Some-clause-answer : goal.returns-in-Some-clause-answer

@@ -1,6 +1,6 @@
 -- The lowest mark is the first place.
 use Rattle.gq_script.proofs.Marking.{none_before, marked_here}
-use Rattle.gq_script.proofs.near.near.Goals as goal
+use Rattle.gq_script.proofs.first_bytes.near.Goals as goal
 
 pub returns-clause-before : goal.returns-clause-before
 returns-clause-before c = none_before c.args.text.now c.args.byte c.marks.result c.lowest.result c.marks.ensures c.lowest.ensures.below

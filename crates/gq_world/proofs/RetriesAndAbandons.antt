@@ -26,7 +26,7 @@ use Rattle.gq_world.specs.Tables.{Tables, Agrees, SeatAgrees, Sits, IsReady, sea
 use Rattle.gq_world.specs.Asking.{idle_causes, rested_seat, rested_tables}
 use Rattle.gq_world.specs.Saying.{with_sent}
 use Rattle.gq_world.specs.Seats.{IsAtWork, SeatResends, SeatRefuses}
-use Rattle.gq_world.specs.Machine.{Acts, TellsLine, acted, state_after}
+use Rattle.gq_world.specs.Machine.{Acts, TellsLine, acted, state_after_turn}
 use Rattle.gq_world.proofs.Hearing.{length-rising}
 use Rattle.gq_world.proofs.Lanes.{sent_count, sent_messages, new_not_lost, lane_there, quorums_in}
 use Rattle.gq_world.proofs.Requests.{in_range, not_false, first_none, seat_of}
@@ -129,7 +129,7 @@ given_up k state = record state { session = λ j. session_by state.volumes j (de
 
 abandon_known : (w : Tables) (t k : ℕ) (known : Known) → first_cause (idle_causes w t k) ≡ None → Agrees w t known → acted w.plan.grid (row_at w.plan t) known (Abandon k) ≡ record known { state = given_up k known.state }
 abandon_known w t k known is agrees =
-    ap (λ step. record known { state = state_after known.state (Own (Abandon k)) step }) (abandon_step w t k is known agrees)
+    ap (λ step. record known { state = state_after_turn known.state (Own (Abandon k)) step }) (abandon_step w t k is known agrees)
     ∙ ap (λ messages. record known { state = record (given_up k known.state) { sent = messages } }) (append-nil known.state.sent)
 
 rested : (state : State) (k : ℕ) → (given_up k state).session k ≡ record { op = (state.session k).op; current = None; round = (state.session k).round; heard = (state.session k).heard; collected = (state.session k).collected; floor = (state.session k).floor }
@@ -311,7 +311,7 @@ again_own w t k messages known h agrees =
     let state : State = known.state in
     let lanes_is = ap (λ ms. with_sent w.lanes t ms) a.are in
     let after : State = record state { sent = state.sent ++ a.new } in
-    subst (Agrees (record w { lanes = with_sent w.lanes t messages }) t) (sym (ap (λ step. record known { state = state_after state (Own (Retry k)) step }) a.step)) (record {
+    subst (Agrees (record w { lanes = with_sent w.lanes t messages }) t) (sym (ap (λ step. record known { state = state_after_turn state (Own (Retry k)) step }) a.step)) (record {
       lines = agrees.lines;
       up = agrees.up;
       account = agrees.account;

@@ -2,7 +2,7 @@
 use Rattle.std.proofs.Common.{◌≡◌, ℕ, ◌<◌, ◌≤◌, length}
 use Rattle.gq_world.specs.Adding.{IsAdded, IsKept}
 use Rattle.gq_world.specs.Tables.{store_at}
-use Rattle.gq_world.proofs.adding.add_everywhere.Given as goal
+use Rattle.gq_world.proofs.new_files.add_everywhere.Given as goal
 
 abbrev pub invariant-loop-server : goal.invariant-loop-server
 invariant-loop-server l = record {

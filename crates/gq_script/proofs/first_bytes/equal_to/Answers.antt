@@ -3,7 +3,7 @@ use Rattle.memchr.proofs.lemmas.LaneLemmas.{HasLanes-select}
 use Rattle.memchr.specs.Lanes.{HasLanes}
 use Rattle.std.proofs.lemmas.Simd.{tops_compared}
 use Rattle.std.specs.Simd.Lanes.{sel_l}
-use Rattle.gq_script.proofs.near.equal_to.Goals as goal
+use Rattle.gq_script.proofs.first_bytes.equal_to.Goals as goal
 
 pub returns : goal.returns
 returns c =

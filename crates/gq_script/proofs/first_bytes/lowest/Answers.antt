@@ -1,7 +1,7 @@
 -- The lowest bit is the first that is set.
 use Rattle.std.proofs.Common.{arith, w64}
 use Rattle.std.proofs.lemmas.Nat.Bits.{bit_at-trailing_zeros, bit_at-zero}
-use Rattle.gq_script.proofs.near.lowest.Goals as goal
+use Rattle.gq_script.proofs.first_bytes.lowest.Goals as goal
 
 pub returns-then-bits-eq0-clause-below : goal.returns-then-bits-eq0-clause-below
 returns-then-bits-eq0-clause-below c = λ k h. rw c.if-bits-eq0.true (bit_at-zero k)

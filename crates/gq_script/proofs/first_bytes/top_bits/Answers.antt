@@ -1,7 +1,7 @@
 use Rattle.std.proofs.Common.{◌≡◌, ◌↔◌, ◌≤◌, get_or, sym, subst, arith}
 use Rattle.memchr.proofs.lemmas.LaneLemmas.{bit_at-mask_l, top_bitmask}
 use Rattle.std.specs.Int.{bit_at}
-use Rattle.gq_script.proofs.near.top_bits.Goals as goal
+use Rattle.gq_script.proofs.first_bytes.top_bits.Goals as goal
 
 pub returns : goal.returns
 returns c k =

@@ -2,7 +2,7 @@ use Rattle.std.proofs.Common.{◌≡◌, ◌≢◌, None, length, vec_len}
 use Rattle.std.specs.Option.{ForSome}
 use Rattle.gq_live.specs.Runs.{AllAsked}
 use Rattle.gq_session.specs.declared.records.LiveFault.TheVariants as FaultIs
-use Rattle.gq_live.proofs.ends.entries.Given as goal
+use Rattle.gq_live.proofs.thread_ends.entries.Given as goal
 
 abbrev pub invariant-loop-end : goal.invariant-loop-end
 invariant-loop-end l =

@@ -7,7 +7,7 @@ ghost use Rattle.gq_world.specs.Tables.{Stands};
 ghost use Rattle.gq_inspect.specs.Replay.{Names, sent_by, message_after};
 ghost use Rattle.gq_inspect.specs.Tapes.{before_of, listed};
 
-use crate::alike::is_message;
+use crate::equality::is_message;
 use crate::steps::Step;
 use gq_cell::Letter;
 use gq_desk::Plan;

@@ -18,8 +18,8 @@ use Rattle.gq_model.specs.declared.events.Line.TheVariants.{NewVolume, Retry, Ab
 use Rattle.gq_model.specs.Told.{Told, Opened, Abandoned}
 use Rattle.gq_model.specs.Trace.{Own, Entry, State, Session, Known, changed, account_of, files_of, own_message_at, operation_with}
 use Rattle.gq_model.specs.Lone.{Step, quiet, line_step, is_refusal, open_told, lose_told}
-use Rattle.gq_world.specs.Bounds.{Fits, BodyFits, room, volume_of, TaskFits, OperationFits, MessageFits, IsOf, IsBounded}
-use Rattle.gq_world.specs.Machine.{acted, state_after}
+use Rattle.gq_world.specs.Bounds.{CopyFits, BodyFits, room, volume_of, TaskFits, OperationFits, MessageFits, IsOfSession, IsBounded}
+use Rattle.gq_world.specs.Machine.{acted, state_after_turn}
 use Rattle.gq_world.proofs.Bounding.{fits_more, IsOfRound, sent_to_fits}
 use Rattle.gq_world.proofs.Keeping.{bounded_more, session_more, round_message, acts_in}
 use Rattle.gq_world.proofs.Steps.{same_bounded}
@@ -36,7 +36,7 @@ more_room [] v u = omega arith
 more_room (x ∷ vs) v zero = omega arith
 more_room (x ∷ vs) v (suc u) = more_room vs v u
 
-wider : (n small large : ℕ) (copy : StoredCopy) → small ≤ large → Fits n small copy → Fits n large copy
+wider : (n small large : ℕ) (copy : StoredCopy) → small ≤ large → CopyFits n small copy → CopyFits n large copy
 wider n small large copy le h = record { number = h.number; long = let long = h.long in omega arith }
 
 wider_body : (n small large : ℕ) (body : Body) → small ≤ large → BodyFits n small body → BodyFits n large body
@@ -66,7 +66,7 @@ operation_grown n vs v o h =
       task = task_grown vs v o.task h.task;
       file = let there = h.file in omega arith;
       collects = h.collects;
-      heard = All-weaker (Fits n (room vs u)) (Fits n (room (vs ++ v ∷ []) u)) (λ copy fits. wider n (room vs u) (room (vs ++ v ∷ []) u) copy bytes fits) (heard_copies o.heard) h.heard;
+      heard = All-weaker (CopyFits n (room vs u)) (CopyFits n (room (vs ++ v ∷ []) u)) (λ copy fits. wider n (room vs u) (room (vs ++ v ∷ []) u) copy bytes fits) (heard_copies o.heard) h.heard;
       stored = wider n (room vs u) (room (vs ++ v ∷ []) u) (stored_copy o.collected) bytes h.stored;
     }
 
@@ -91,7 +91,7 @@ grown_bounded : (grid : Grid) (row : TenantRow) (n : ℕ) (state : State) (v : V
 grown_bounded grid row n state v h sized = record {
   messages = All-weaker (MessageFits grid row n state.volumes) (MessageFits grid row n (state.volumes ++ v ∷ [])) (message_grown grid row n state.volumes v) state.sent h.messages;
   owners = h.owners;
-  brought = λ server file. All-weaker (Fits n (room state.volumes file.volume)) (Fits n (room (state.volumes ++ v ∷ []) file.volume))
+  brought = λ server file. All-weaker (CopyFits n (room state.volumes file.volume)) (CopyFits n (room (state.volumes ++ v ∷ []) file.volume))
       (λ copy fits. wider n (room state.volumes file.volume) (room (state.volumes ++ v ∷ []) file.volume) copy (more_room state.volumes v file.volume) fits) (state.brought server file) (h.brought server file);
   sessions = λ k. record {
     op = (h.sessions k).op;
@@ -106,7 +106,7 @@ open_refused number WrongSize = refl
 open_refused number NoVolumeLeft = refl
 open_refused number (OverShare free) = refl
 
-pub refused_state : (state : State) (line : Line) (s : Step) → is_refusal s.told ≡ true → state_after state (Own line) s ≡ state
+pub refused_state : (state : State) (line : Line) (s : Step) → is_refusal s.told ≡ true → state_after_turn state (Own line) s ≡ state
 refused_state state line s is = rw is refl
 
 pub open_step : (grid : Grid) (row : TenantRow) (known : Known) (v : VolumeRow) (o : Option OpenFault) → open_fault (account_of row known.state) v ≡ o → line_step grid row known.state (NewVolume v.files v.blocks) ≡ quiet (open_told (length known.state.volumes) o)
@@ -121,24 +121,24 @@ open_bounded grid row n known files blocks h = by (open_fault (account_of row kn
     by : (o : Option OpenFault) → open_fault (account_of row known.state) v ≡ o → IsBounded grid row (n + 1) (acted grid row known (NewVolume files blocks)).state
     by (Some word) is =
         let same : (acted grid row known (NewVolume files blocks)).state ≡ known.state =
-        ap (state_after known.state (Own (NewVolume files blocks))) (open_step grid row known v (Some word) is) ∙ refused_state known.state (NewVolume files blocks) (quiet (open_told (length known.state.volumes) (Some word))) (open_refused (length known.state.volumes) word) in
+        ap (state_after_turn known.state (Own (NewVolume files blocks))) (open_step grid row known v (Some word) is) ∙ refused_state known.state (NewVolume files blocks) (quiet (open_told (length known.state.volumes) (Some word))) (open_refused (length known.state.volumes) word) in
         subst (IsBounded grid row (n + 1)) (sym same) (bounded_more grid row n known.state h)
     by None is =
         let grown : State = record known.state { volumes = known.state.volumes ++ v ∷ [] } in
-        let after : State = state_after known.state (Own (NewVolume files blocks)) (quiet (Opened (length known.state.volumes))) in
+        let after : State = state_after_turn known.state (Own (NewVolume files blocks)) (quiet (Opened (length known.state.volumes))) in
         let good : IsBounded grid row (n + 1) grown = bounded_more grid row n grown (grown_bounded grid row n known.state v h (sized_volume 0 row known.state v is)) in
-        subst (IsBounded grid row (n + 1)) (sym (ap (state_after known.state (Own (NewVolume files blocks))) (open_step grid row known v None is)))
+        subst (IsBounded grid row (n + 1)) (sym (ap (state_after_turn known.state (Own (NewVolume files blocks))) (open_step grid row known v None is)))
         (same_bounded grid row (n + 1) grown after good refl (append-nil known.state.sent) (λ server file. refl) (λ k. refl))
 
 -- ---- a retry
 
 again_fits : (grid : Grid) (row : TenantRow) (n : ℕ) (state : State) (k : ℕ) (task : Task) (quorum : Servers) → IsBounded grid row n state → 1 ≤ k → k ≤ row.sessions → (state.session k).current ≡ Some task →
-    All (λ l. MessageFits grid row (n + 1) state.volumes l × (l.session ≡ k) × IsOf (state.session k) l) (resent grid (operation_with k (state.session k) task) quorum)
+    All (λ l. MessageFits grid row (n + 1) state.volumes l × (l.session ≡ k) × IsOfSession (state.session k) l) (resent grid (operation_with k (state.session k) task) quorum)
 again_fits grid row n state k task quorum h low high is =
     let o : Operation = operation_with k (state.session k) task in
     let fits : OperationFits n state.volumes o = (h.sessions k).works task is in
     let set : Servers = λ server. quorum server && not (heard_servers o.heard server) in
-    All-weaker (IsOfRound grid (n + 1) state.volumes o) (λ l. MessageFits grid row (n + 1) state.volumes l × (l.session ≡ k) × IsOf (state.session k) l)
+    All-weaker (IsOfRound grid (n + 1) state.volumes o) (λ l. MessageFits grid row (n + 1) state.volumes l × (l.session ≡ k) × IsOfSession (state.session k) l)
     (λ l r. (
       round_message grid row (n + 1) state.volumes o l low high r,
       r.session,
@@ -186,7 +186,7 @@ abandoned_bounded grid row n state k h =
         works = λ task is. absurd (cc);
       };
       keeps = λ l of. record { begun = of.begun; volume = λ task is. absurd (cc) };
-      these = All-nil (λ l. MessageFits grid row (n + 1) state.volumes l × (l.session ≡ k) × IsOf after l);
+      these = All-nil (λ l. MessageFits grid row (n + 1) state.volumes l × (l.session ≡ k) × IsOfSession after l);
     })
   where
     ends : (state : State) (k : ℕ) → (changed (record { turn = Own (Abandon k); message = None; told = Abandoned; new = [] }) state).session k ≡ record { op = (state.session k).op; current = None; round = (state.session k).round; heard = (state.session k).heard; collected = (state.session k).collected; floor = (state.session k).floor }
@@ -207,7 +207,7 @@ lose_bounded grid row n known number h = by (own_message_at known.state number) 
     more = bounded_more grid row n known.state h
 
     after : Option OwnMessage → State
-    after o = state_after known.state (Own (Lose number)) (quiet (lose_told o))
+    after o = state_after_turn known.state (Own (Lose number)) (quiet (lose_told o))
 
     by : (o : Option OwnMessage) → own_message_at known.state number ≡ o → S (acted grid row known (Lose number)).state
     by None is = subst (λ o. S (after o)) (sym is) more

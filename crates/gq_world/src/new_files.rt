@@ -1,7 +1,7 @@
 //! The files of a new volume, at every server.
 
 ghost use Rattle.std.specs.Prelude.{◌≡◌, ℕ, ◌<◌, All, length, OnOk};
-ghost use Rattle.gq_world.specs.Adding.{HasRoom, IsAdded, IsKept};
+ghost use Rattle.gq_world.specs.Adding.{HasRoomForFiles, IsAdded, IsKept};
 ghost use Rattle.gq_world.specs.Tables.{store_at};
 
 use gq_memory::OutOfMemory;
@@ -14,7 +14,7 @@ pub(crate) fn add_everywhere(
     files: u32,
     blocks: u32,
 ) -> Result<(), OutOfMemory>
-    requires { All (HasRoom tenant files blocks) stores.old.items }
+    requires { All (HasRoomForFiles tenant files blocks) stores.old.items }
     ensures added { OnOk result ((s : ℕ) → s < length stores.old.items → IsAdded tenant files blocks (store_at stores.old.items s) (store_at stores.new.items s)) }
     ensures count { length stores.new.items ≡ length stores.old.items }
     ensures kept { (s : ℕ) → IsKept (store_at stores.old.items s) (store_at stores.new.items s) }

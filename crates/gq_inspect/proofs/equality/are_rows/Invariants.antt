@@ -1,5 +1,5 @@
 use Rattle.std.proofs.Common.{◌≡◌, take}
-use Rattle.gq_inspect.proofs.alike.are_rows.Given as goal
+use Rattle.gq_inspect.proofs.equality.are_rows.Given as goal
 
 abbrev pub invariant-loop-place : goal.invariant-loop-place
 invariant-loop-place l = take l.place l.one ≡ take l.place l.two
