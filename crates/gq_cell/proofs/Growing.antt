@@ -40,9 +40,9 @@ stored_by_journal-append file (x ∷ es) fs = ap (λ r. stored_by_entry file x +
 pub stored_by_journal-push : (file : FileId) (es : List CellEntry) (e : CellEntry) → stored_by_journal file (es ++ e ∷ []) ≡ stored_by_journal file es ++ stored_by_entry file e
 stored_by_journal-push file es e = stored_by_journal-append file es (e ∷ []) ∙ ap (λ r. stored_by_journal file es ++ r) (append-nil (stored_by_entry file e))
 
--- ---- the copy copy_after
+-- ---- the copy held
 
--- it is found by going through what was stored_by_journal
+-- it is found by going through what stores brought
 pub copy_after-fold : (j : List CellEntry) (file : FileId) → copy_after j file ≡ fold newer_of first_copy (stored_by_journal file j)
 copy_after-fold j file = ap (λ o. unwrap_or o first_copy) (latest-cons first_copy (stored_by_journal file j))
 
@@ -152,7 +152,7 @@ replied server up last total store store' j j' l stamp is same above seen up_is 
 abbrev pub letter_with : ℕ → ℕ → Message → Letter
 letter_with server stamp message = record { place = server + 1; stamp = stamp; index = 0; message = message }
 
--- a store is acknowledged, whatever is copy_after
+-- a store is acknowledged, whatever is held
 pub server_reply-store : (held : StoredCopy) (m : Message) (c : StoredCopy) → m.body ≡ Store c → server_reply held m ≡ record m { body = Stored }
 server_reply-store held m c is = ap (λ b. record m { body = answer_body held b }) is
 

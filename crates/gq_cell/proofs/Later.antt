@@ -14,12 +14,12 @@ use Rattle.gq_cell.specs.Journal.{is_file_id, stored_by_body, stored_by_journal,
 use Rattle.gq_cell.specs.Laws.{LaterRepliesNoOlder}
 use Rattle.gq_cell.proofs.Growing.{copy_after-append, is_file_id-refl}
 
--- what was stored_by_journal makes a copy no older
+-- what stores brought makes a copy no older
 grows : (c : StoredCopy) (xs : List StoredCopy) → IsAtMost c.tag (fold newer_of c xs).tag
 grows c [] = at_most_refl c.tag
 grows c (x ∷ xs) = at_most_trans c.tag (newer_of c x).tag (fold newer_of (newer_of c x) xs).tag (newer_of-left c x) (grows (newer_of c x) xs)
 
--- after a store the copy copy_after is no older than the one that it stored_by_journal
+-- after a store the copy held is no older than the one that it brought
 copy_after-no_older : (j k : List CellEntry) (l r : Letter) (file : FileId) (c : StoredCopy) → l.message.body ≡ Store c → file ≡ l.message.file → IsAtMost c.tag (copy_after (j ++ Served l r ∷ k) file).tag
 copy_after-no_older j k l r file c is same =
     let there : is_file_id l.message.file file ≡ true = ap (is_file_id l.message.file) same ∙ is_file_id-refl l.message.file in

@@ -53,7 +53,7 @@ served (e ∷ es) = served_by e + served es
 abbrev pub is_file_id : FileId → FileId → Bool
 is_file_id a b = (a.tenant == b.tenant) && is_file (file_place a) (file_place b)
 
--- the copies of the file that stores stored_by_journal, in order
+-- the copies of the file that stores brought, in order
 abbrev pub stored_by_body : Body → List StoredCopy
 stored_by_body (Store copy) = copy ∷ []
 stored_by_body _ = []
@@ -67,14 +67,14 @@ abbrev pub stored_by_journal : FileId → List CellEntry → List StoredCopy
 stored_by_journal file [] = []
 stored_by_journal file (e ∷ es) = stored_by_entry file e ++ stored_by_journal file es
 
--- the file's copy that the server holds: the greatest of the first copy and those stored_by_journal
+-- the file's copy that the server holds: the greatest of the first copy and those that stores brought
 abbrev pub copy_after : List CellEntry → FileId → StoredCopy
 copy_after journal file = greatest (first_copy ∷ stored_by_journal file journal)
 
 -- ---- lawful journals
 
 -- the letter that answers a letter at that stamp: from the server's place, the only one of its step, with what the copy
--- copy_after gives
+-- held then gives
 abbrev pub answer_at : ℕ → List CellEntry → ℕ → Letter → Letter
 answer_at server before stamp letter =
     record { place = server + 1; stamp = stamp; index = 0; message = server_reply (copy_after before letter.message.file) letter.message }

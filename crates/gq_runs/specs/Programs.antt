@@ -54,7 +54,7 @@ requests_for events id = filter_map (request_for id) events
 
 -- ---- faults
 
--- the fault, fault_unless the test holds
+-- the fault, unless the test holds
 abbrev pub fault_unless : Bool → ProgramFault → Option ProgramFault
 fault_unless true fault = None
 fault_unless false fault = Some fault

@@ -1,4 +1,4 @@
--- What a shard sees_mark is answered as in the run of all.
+-- What a shard sees is answered as in the run of all.
 use Rattle.std.proofs.Common.{◌≡◌, ◌≢◌, ◌⊎◌, ◌∙◌, ℕ, suc, zero, ◌+◌, ◌-◌, ◌<◌, ◌≤◌, Bool, true, false, List, [], ◌∷◌, ◌++◌, None, map, length, append_assoc, append-nil, refl, sym, ap, subst, inl, inr, arith}
 use Rattle.std.specs.Prelude.{◌==◌, ◌||◌, filter, codes, slice_index_or, Result, Ok, Err, IfOk}
 use Rattle.std.specs.List.{cons_option}
@@ -24,14 +24,14 @@ use Rattle.gq_world.specs.Tables.{Tables, Stands}
 use Rattle.gq_shards.specs.Shards.{shard_of, mark_of, marks_of, tells, sees_mark, of_shard, lines_from, out_lines, IsPart, IsText, EachTold, AreTold}
 use Rattle.gq_shards.specs.declared.telling.Told.{Told}
 
--- the shard sees_mark the event; the events that it sees_mark
+-- the shard sees the event; the events that it sees
 abbrev pub sees_event : ℕ → ℕ → Event → Bool
 sees_event n k e = sees_mark k (mark_of n e)
 
 abbrev pub part_events : ℕ → ℕ → List Event → List Event
 part_events n k events = filter (sees_event n k) events
 
--- a tenant's line that the shard sees_mark is its own
+-- a tenant's line that the shard sees is its own
 mine_of : (k m : ℕ) → sees_mark k (m + 1) ≡ true → m ≡ k
 mine_of k m is = by (m + 1 == 0) refl (tells k (m + 1)) refl is
   where
@@ -59,7 +59,7 @@ unseen_server n k (Tenant u line) not = refl
 unseen_server n k (Server line) not = absurd (let no : true ≡ false = not in cc)
 unseen_server n k Stray not = refl
 
--- the shard sees_mark all turns of its tenants
+-- the shard sees all turns of its tenants
 own_part : (n k t : ℕ) (events : List Event) → shard_of n t ≡ k → own t (part_events n k events) ≡ own t events
 own_part n k t [] mine = refl
 own_part n k t (e ∷ events) mine = by (sees_event n k e) refl (own_part n k t events mine)
@@ -84,7 +84,7 @@ server_lines_part n k (e ∷ events) = by (sees_event n k e) refl (server_lines_
         let first : part_events n k (e ∷ events) ≡ part_events n k events = rw is refl in
         ap server_lines first ∙ (later ∙ sym (ap (λ o. cons_option o (server_lines events)) (unseen_server n k e is)))
 
--- what it sees_mark is answered as in the run of all
+-- what it sees is answered as in the run of all
 pub answer_part : (n k : ℕ) (plan part : CheckedPlan) (events : List Event) (e : Event) → IsPart n k plan part → sees_event n k e ≡ true → answer_to part (part_events n k events) e ≡ answer_to plan events e
 answer_part n k plan part events (Tenant t line) is seen =
     let mine : shard_of n t ≡ k = mine_of k (shard_of n t) seen in

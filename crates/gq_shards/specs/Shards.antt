@@ -42,7 +42,7 @@ line_cut plan before first rest = answer_line plan (event_cut plan first rest) (
 abbrev pub marks_of : CheckedPlan → ℕ → List (List ℕ) → List ℕ
 marks_of plan shards lines = map (λ line. mark_of shards (event_of plan line)) lines
 
--- the shard tells the answer to a line of this mark; it sees_mark the line
+-- the shard tells the answer to a line of this mark; it sees the line
 abbrev pub tells : ℕ → ℕ → Bool
 tells shard mark = mark - 1 == shard
 
