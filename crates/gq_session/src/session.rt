@@ -114,7 +114,7 @@ impl Session {
         ensures none { self.old.left ≡ [] → result ≡ Ok None }
         ensures quiet { IfOk result (λ o. ForNone o (IsSameAgenda agenda.old agenda.new)) }
         ensures idle { IfOk result (λ o. ForNone o (self.new ≡ self.old)) }
-        ensures ended_work { IfOk result (λ o. ForNone o (self.old.left ≡ [])) }
+        ensures ended { IfOk result (λ o. ForNone o (self.old.left ≡ [])) }
         ensures fault { IfErr result (λ fault. IsAskNextFault self.old agenda.old.board.last fault) }
         ensures same { OnErr result (self.new ≡ self.old) }
         ensures keeps { KeepsChanges agenda.old agenda.new }
