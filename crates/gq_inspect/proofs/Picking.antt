@@ -29,7 +29,7 @@ use Rattle.gq_session.proofs.Asking.{append-none}
 use Rattle.gq_inspect.specs.declared.steps.Step.{Step}
 use Rattle.gq_inspect.specs.declared.steps.Origin.{Origin}
 use Rattle.gq_inspect.specs.declared.steps.Origin.TheVariants.{Board as OfBoard, Session as OfSession, Server as OfServer}
-use Rattle.gq_inspect.specs.Replay.{Before, IsDeed, StepFitsAs, Replays, opening_event, IsRunOf}
+use Rattle.gq_inspect.specs.Replay.{Before, IsDeed, StepFitsAs, OrderFits, opening_event, IsRunOf}
 use Rattle.gq_inspect.specs.Steps.{board_steps, session_steps}
 use Rattle.gq_inspect.proofs.InOrder.{is_of, same_list, board_in_order, session_in_order}
 use Rattle.gq_inspect.proofs.Sessions.{session_once}
@@ -57,7 +57,7 @@ one_more plan r step b after (OfServer server) plays = ap (λ (x : Before). x.ev
 abbrev has_all : {B : Type 0} → (Origin → ℕ → List B) → List Step → List B
 has_all has order = flat_map (λ (s : Step). has s.origin s.at) order
 
-picked_along : {B : Type 0} (plan : CheckedPlan) (r : Records) (pick : Event → Option B) (has : Origin → ℕ → List B) → Picks plan r pick has → (order : List Step) (b : Before) (events : List Event) → Replays plan r order b events → filter_map pick events ≡ filter_map pick b.events ++ has_all has order
+picked_along : {B : Type 0} (plan : CheckedPlan) (r : Records) (pick : Event → Option B) (has : Origin → ℕ → List B) → Picks plan r pick has → (order : List Step) (b : Before) (events : List Event) → OrderFits plan r order b events → filter_map pick events ≡ filter_map pick b.events ++ has_all has order
 picked_along plan r pick has picks [] b events goes = ap (filter_map pick) (sym goes) ∙ sym (append-none (filter_map pick b.events))
 picked_along plan r pick has picks (step ∷ order) b events goes =
     let after = goes.0 in

@@ -18,7 +18,7 @@ use Rattle.gq_inspect.specs.declared.steps.Step.{Step}
 use Rattle.gq_inspect.specs.declared.steps.Origin.{Origin}
 use Rattle.gq_inspect.specs.declared.steps.Origin.TheVariants.{Board as OfBoard, Session as OfSession, Server as OfServer}
 use Rattle.gq_inspect.specs.declared.replaying.First.{First}
-use Rattle.gq_inspect.specs.Replay.{Before, sent_by, with_line, before_with, Names, StepFitsAs, Replays, opening_event, Opens, IsRunOf}
+use Rattle.gq_inspect.specs.Replay.{Before, sent_by, with_line, before_with, Names, StepFitsAs, OrderFits, opening_event, Opens, IsRunOf}
 use Rattle.gq_inspect.proofs.Sessions.{session_within}
 
 abbrev IsOf : CheckedPlan → First → Type 0
@@ -63,7 +63,7 @@ step_within plan r step b after (OfServer server) goes is =
     let low = named_within plan b is goes.letter goes.plays.number goes.plays.names in
     subst (IsWithin plan) (sym goes.plays.left) (line_within plan step b goes.letter.message.tenant (Deliver goes.plays.number) low is)
 
-steps_within : (plan : CheckedPlan) (r : Records) (order : List Step) (b : Before) (events : List Event) → Replays plan r order b events → IsWithin plan b → All (IsIn plan) events
+steps_within : (plan : CheckedPlan) (r : Records) (order : List Step) (b : Before) (events : List Event) → OrderFits plan r order b events → IsWithin plan b → All (IsIn plan) events
 steps_within plan r [] b events goes is = subst (All (IsIn plan)) goes is.events
 steps_within plan r (step ∷ order) b events goes is = steps_within plan r order goes.0 events goes.2 (step_within plan r step b goes.0 step.origin goes.1 is)
 

@@ -153,9 +153,9 @@ StepFits plan r step b after = StepFitsAs step.origin plan r step b after
 -- ---- the run
 
 -- each step fits what stood before it, and at last these are the events
-abbrev pub Replays : CheckedPlan → Records → List Step → Before → List Event → Type 0
-Replays plan r [] b events = b.events ≡ events
-Replays plan r (step ∷ order) b events = (after : Before) × StepFits plan r step b after × Replays plan r order after events
+abbrev pub OrderFits : CheckedPlan → Records → List Step → Before → List Event → Type 0
+OrderFits plan r [] b events = b.events ≡ events
+OrderFits plan r (step ∷ order) b events = (after : Before) × StepFits plan r step b after × OrderFits plan r order after events
 
 -- the event that asks for the volume
 abbrev pub opening_event : Opening → Event
@@ -181,4 +181,4 @@ pub record IsRunOf (plan : CheckedPlan) (r : Records) (events : List Event) : Ty
   pub flips : AllFlips r
   pub order : List Step
   pub is_order : IsOrderOf r order
-  pub goes : Replays plan r order (record { events = map opening_event r.volumes.items; firsts = [] }) events
+  pub goes : OrderFits plan r order (record { events = map opening_event r.volumes.items; firsts = [] }) events

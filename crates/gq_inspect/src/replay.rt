@@ -4,7 +4,7 @@ ghost use Rattle.std.specs.Prelude.{◌≡◌, ◌*◌, ◌++◌, ◌∷◌, [],
 ghost use Rattle.gq_model.specs.Events.{IsIn};
 ghost use Rattle.gq_world.specs.Tables.{Stands};
 ghost use Rattle.gq_session.specs.Fitting.{plan_sessions};
-ghost use Rattle.gq_inspect.specs.Replay.{IsRunOf, IsOpened, Opens, Replays, opening_event};
+ghost use Rattle.gq_inspect.specs.Replay.{IsRunOf, IsOpened, Opens, OrderFits, opening_event};
 ghost use Rattle.gq_inspect.specs.Tapes.{before_of};
 
 use crate::lists::{all_climb, all_flips};
@@ -66,7 +66,7 @@ fn play_all(
 ) -> Result<(), Mismatch>
     requires stands { Stands tape.old.world.tables tape.old.events.items }
     requires ids { ids.now ≡ plan_sessions tape.old.world.tables.plan }
-    ensures { OnOk result (Replays tape.old.world.tables.plan records.now order.now (before_of tape.old) tape.new.events.items) }
+    ensures { OnOk result (OrderFits tape.old.world.tables.plan records.now order.now (before_of tape.old) tape.new.events.items) }
 {
     for step in order.iter() {
         play(tape, records, ids, *step)?;

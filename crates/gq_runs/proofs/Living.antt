@@ -20,7 +20,7 @@ use Rattle.gq_session.specs.declared.records.SessionEntry.{SessionEntry}
 use Rattle.gq_script.specs.Input.{event_of}
 use Rattle.gq_runs.specs.Live.{IsRecordOf, KeepsInput}
 use Rattle.gq_runs.specs.LiveRuns.{IsLiveScript, IsScriptOfRun}
-use Rattle.gq_runs.specs.Programs.{AreOf, IsProgramsOf, server_line_of, names_session, opening_of, request_for, requests_for}
+use Rattle.gq_runs.specs.Programs.{AreOf, IsProgramsOf, server_line_in, names_session, opening_of, request_for, requests_for}
 use Rattle.gq_runs.proofs.Programming.{requests_named}
 
 -- ---- what is picked
@@ -36,7 +36,7 @@ opens_are = record { openings = λ o. refl; requests = requests; others = others
     others tenant (NewVolume files blocks) is = absurd is
     others tenant _ is = refl
 
-changes_are : PicksChanges server_line_of
+changes_are : PicksChanges server_line_in
 changes_are = record { changes = λ line. refl; lines = λ tenant line. refl }
 
 named_requests : (k : ℕ) (line : Line) → IsRequestOf k line → names_session k line ≡ true
@@ -76,7 +76,7 @@ pub keeps_input : (plan : CheckedPlan) (programs : Programs) (r : Records) (aske
 keeps_input plan programs r asked events are recorded run = record {
   opens = openings_picked plan r events run opening_of opens_are ∙ recorded.volumes ∙ are.volumes;
   requests = map_same (requests_for events) (requests_for asked) (plan_sessions plan) each;
-  changes = (recorded.changes.0, changes_picked plan r events run server_line_of changes_are ∙ recorded.changes.1 ∙ ap (picked recorded.changes.0) are.changes);
+  changes = (recorded.changes.0, changes_picked plan r events run server_line_in changes_are ∙ recorded.changes.1 ∙ ap (picked recorded.changes.0) are.changes);
 }
   where
     -- each session asked what the input asks of it

@@ -19,7 +19,7 @@ use Rattle.gq_session.specs.declared.records.Programs.{Programs}
 use Rattle.gq_session.specs.declared.records.Opening.{Opening}
 use Rattle.gq_runs.specs.declared.programs.ProgramFault.{ProgramFault}
 use Rattle.gq_runs.specs.declared.programs.ProgramFault.TheVariants.{Line as LineFault}
-use Rattle.gq_runs.specs.Programs.{AreOf, server_line_of, desk_after, first_fault, line_fault, names_session, opening_in, opening_of, request_for, requests_for, fault_unless}
+use Rattle.gq_runs.specs.Programs.{AreOf, server_line_in, desk_after, first_fault, line_fault, names_session, opening_in, opening_of, request_for, requests_for, fault_unless}
 
 mapped_more : {A B : Type 0} (f : A → Option B) (xs : List A) (x : A) → filter_map f (xs ++ x ∷ []) ≡ filter_map f xs ++ cons_option (f x) []
 mapped_more f [] x = refl
@@ -113,17 +113,17 @@ unless_none : (t : Bool) (fault : ProgramFault) → fault_unless t fault ≡ Non
 unless_none true fault is = refl
 unless_none false fault is = absurd (cc)
 
-change_fits : (plan : CheckedPlan) (desk : List Account) (n : ℕ) (e : Event) → line_fault plan desk n e ≡ None → IfSome (server_line_of e) (IsChange plan.grid)
+change_fits : (plan : CheckedPlan) (desk : List Account) (n : ℕ) (e : Event) → line_fault plan desk n e ≡ None → IfSome (server_line_in e) (IsChange plan.grid)
 change_fits plan desk n (Tenant tenant line) is = tt
 change_fits plan desk n (Server line) is = unless_none (is_change plan.grid line) (LineFault n) is
 change_fits plan desk n Stray is = tt
 
 -- each server line stops a server of the grid or brings it back
-pub changes_fit : (plan : CheckedPlan) (desk : List Account) (n : ℕ) (events : List Event) → first_fault plan desk n events ≡ None → All (IsChange plan.grid) (filter_map server_line_of events)
+pub changes_fit : (plan : CheckedPlan) (desk : List Account) (n : ℕ) (events : List Event) → first_fault plan desk n events ≡ None → All (IsChange plan.grid) (filter_map server_line_in events)
 changes_fit plan desk n [] is = All-nil (IsChange plan.grid)
 changes_fit plan desk n (e ∷ events) is =
     let parts = or_none (line_fault plan desk n e) (first_fault plan (desk_after desk e) (n + 1) events) is in
-    all_cons_option (IsChange plan.grid) (server_line_of e) (filter_map server_line_of events) (change_fits plan desk n e parts.0) (changes_fit plan (desk_after desk e) (n + 1) events parts.1)
+    all_cons_option (IsChange plan.grid) (server_line_in e) (filter_map server_line_in events) (change_fits plan desk n e parts.0) (changes_fit plan (desk_after desk e) (n + 1) events parts.1)
 
 -- programs of events that are not at fault fit the plan
 pub fits_plan : (plan : CheckedPlan) (desk : List Account) (n : ℕ) (events : List Event) (programs : Programs) → AreOf plan events programs → All (IsIn plan) events → length events ≤ MOST_REQUESTS → first_fault plan desk n events ≡ None → FitsPlan plan programs

@@ -8,14 +8,14 @@ use Rattle.gq_session.specs.Changed.{IsSubsequence, changes_of}
 use Rattle.gq_session.specs.Fitting.{plan_sessions}
 use Rattle.gq_session.specs.declared.records.Programs.{Programs}
 use Rattle.gq_session.specs.declared.records.Records.{Records}
-use Rattle.gq_runs.specs.Programs.{server_line_of, opening_of, requests_for}
+use Rattle.gq_runs.specs.Programs.{server_line_in, opening_of, requests_for}
 
 -- the events open the volumes that were asked, in order; each session's requests are those that were asked of it, in order;
 -- and the server lines are some of those that were asked, in order
 pub record KeepsInput (plan : CheckedPlan) (asked events : List Event) : Type 0 where
   pub opens : filter_map opening_of events ≡ filter_map opening_of asked
   pub requests : map (requests_for events) (plan_sessions plan) ≡ map (requests_for asked) (plan_sessions plan)
-  pub changes : IsSubsequence (filter_map server_line_of events) (filter_map server_line_of asked)
+  pub changes : IsSubsequence (filter_map server_line_in events) (filter_map server_line_in asked)
 
 -- a live run of the programs recorded this: the volumes are those of the programs, there is a lawful journal for each server
 -- of the grid and a list for each session, each session asked its requests, all, in order, and the changes on the board are

@@ -32,9 +32,9 @@ opening_of (Tenant tenant line) = opening_in tenant line
 opening_of _ = None
 
 -- the server line that the event is, if it is one
-abbrev pub server_line_of : Event → Option ServerLine
-server_line_of (Server line) = Some line
-server_line_of _ = None
+abbrev pub server_line_in : Event → Option ServerLine
+server_line_in (Server line) = Some line
+server_line_in _ = None
 
 -- a write, a read or a listing of the session
 abbrev pub names_session : ℕ → Line → Bool
@@ -117,7 +117,7 @@ fault_of (Err fault) = Some (PlanFault fault.0 fault.1)
 pub record AreOf (plan : CheckedPlan) (events : List Event) (programs : Programs) : Type 0 where
   pub volumes : programs.volumes.items ≡ filter_map opening_of events
   pub sessions : programs.sessions.items ≡ map (requests_for events) (plan_sessions plan)
-  pub changes : programs.changes.items ≡ filter_map server_line_of events
+  pub changes : programs.changes.items ≡ filter_map server_line_in events
 
 -- the input has this plan, and the programs are those of its lines behind the plan
 pub record IsProgramsOf (input : List ℕ) (plan : CheckedPlan) (programs : Programs) : Type 0 where

@@ -13,7 +13,7 @@ ghost use Rattle.gq_script.specs.PlanText.{plan_of};
 ghost use Rattle.gq_session.specs.Fitting.{FitsPlan, is_change};
 ghost use Rattle.gq_session.specs.declared.fitting.SessionId.{SessionId};
 ghost use Rattle.gq_runs.specs.Gathering.{AreByTenant, line_for, list_at, request_in, requests_at};
-ghost use Rattle.gq_runs.specs.Programs.{AreOf, IsProgramsOf, server_line_of, desk_after, desk_with_line, events_fault, fault_of, first_fault, line_fault, names_session, new_desk, opening_of, refused_at, steps_fault, tenant_fault, fault_unless};
+ghost use Rattle.gq_runs.specs.Programs.{AreOf, IsProgramsOf, server_line_in, desk_after, desk_with_line, events_fault, fault_of, first_fault, line_fault, names_session, new_desk, opening_of, refused_at, steps_fault, tenant_fault, fault_unless};
 
 use gq_desk::{Desk, MOST_STEPS, OpenRefused, Plan, TenantRow};
 use gq_memory::{GrowVec, OutOfMemory};
@@ -212,7 +212,7 @@ fn opening_of(event: &Event) -> Option<Opening>
 
 // The server line that the event is, if it is one.
 fn change_of(event: &Event) -> Option<ServerLine>
-    ensures { result ≡ server_line_of event.now }
+    ensures { result ≡ server_line_in event.now }
 {
     match event {
         Event::Server { line } => Some(*line),
@@ -243,7 +243,7 @@ fn volumes_of(alloc: Global, events: &[Event]) -> Result<Vec<Opening>, OutOfMemo
 
 // The server lines among the events, in order.
 fn changes_of(alloc: Global, events: &[Event]) -> Result<Vec<ServerLine>, OutOfMemory>
-    ensures { IfOk result (λ changes. changes.items ≡ filter_map server_line_of events.now) }
+    ensures { IfOk result (λ changes. changes.items ≡ filter_map server_line_in events.now) }
 {
     let mut changes = Vec::new(alloc);
     for event in events {

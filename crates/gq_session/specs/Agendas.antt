@@ -7,7 +7,7 @@ use Rattle.gq_cell.specs.Keeping.{Journaled}
 use Rattle.gq_cell.specs.Serving.{with_entry}
 use Rattle.gq_cell.specs.Stamps.{stamp_after}
 use Rattle.gq_cell.specs.declared.letter.CellEntry.TheVariants.{Stop, Back}
-use Rattle.gq_session.specs.Changed.{line_of}
+use Rattle.gq_session.specs.Changed.{change_line}
 use Rattle.gq_session.specs.declared.agenda.Agenda.{Agenda}
 use Rattle.gq_session.specs.declared.agenda.Change.{Change}
 use Rattle.gq_session.specs.declared.records.LiveFault.{LiveFault}
@@ -59,7 +59,7 @@ pub record Changes (old new : Agenda) (change : Change) (seen stamp : ℕ) : Typ
 
 -- the change is the list's next
 abbrev pub IsNext : Agenda → Change → Type 0
-IsNext agenda change = slice_get agenda.list.items (length agenda.done.items) ≡ Some (line_of change)
+IsNext agenda change = slice_get agenda.list.items (length agenda.done.items) ≡ Some (change_line change)
 
 -- no change of the list is left, and nothing differs
 pub record HasNone (old new : Agenda) (before after : Journaled) : Type 0 where

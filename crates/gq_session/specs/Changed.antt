@@ -18,8 +18,8 @@ server_line server true = Up server
 server_line server false = Down server
 
 -- the server line that a change is
-abbrev pub line_of : Change → ServerLine
-line_of change = server_line change.server change.up
+abbrev pub change_line : Change → ServerLine
+change_line change = server_line change.server change.up
 
 -- the server lines that entries of the board are
 abbrev pub entry_line : BoardEntry → ServerLine

@@ -4,7 +4,7 @@ ghost use Rattle.std.specs.Option.{ForSome, ForNone};
 ghost use Rattle.gq_grid.specs.Grid.{all_servers};
 ghost use Rattle.gq_grid.specs.Sets.{servers};
 ghost use Rattle.gq_cell.specs.Stamps.{stamp_after};
-ghost use Rattle.gq_session.specs.Changed.{line_of, picked, changes_of, IsSubsequence};
+ghost use Rattle.gq_session.specs.Changed.{change_line, picked, changes_of, IsSubsequence};
 ghost use Rattle.gq_session.specs.Fitting.{IsChange};
 
 use crate::records::LiveFault;
@@ -34,7 +34,7 @@ pub struct Change {
 // The change that the line tells, of a server of the grid.
 fn change_in(grid: &Grid, line: ServerLine) -> Change
     requires { IsChange grid.now line }
-    ensures line { line ≡ line_of result }
+    ensures line { line ≡ change_line result }
     ensures server { result.server < grid.now.rows * grid.now.cols }
 {
     let _servers = grid.servers();
@@ -100,7 +100,7 @@ impl Agenda {
 
     /// The next change of the list, if one is left. It is of a server of the grid.
     pub fn next(&self) -> Option<Change>
-        ensures line { IfSome result (λ change. slice_get self.now.list.items (length self.now.done.items) ≡ Some (line_of change)) }
+        ensures line { IfSome result (λ change. slice_get self.now.list.items (length self.now.done.items) ≡ Some (change_line change)) }
         ensures server { IfSome result (λ change. change.server < self.now.board.grid.rows * self.now.board.grid.cols) }
         ensures none { IfNone result (length self.now.list.items ≤ length self.now.done.items) }
     {
@@ -121,7 +121,7 @@ impl Agenda {
 
     // Does the change, which is the next, at the board, and gives its stamp. None where it is already so.
     pub(crate) fn change(&mut self, change: Change, seen: u64) -> Result<Option<u64>, LiveFault>
-        requires next { slice_get self.old.list.items (length self.old.done.items) ≡ Some (line_of change) }
+        requires next { slice_get self.old.list.items (length self.old.done.items) ≡ Some (change_line change) }
         requires server { change.server < self.old.board.grid.rows * self.old.board.grid.cols }
         ensures above { IfOk result (λ o. ForSome o (λ n. seen < n)) }
         ensures changed { IfOk result (λ o. ForSome o (λ stamp. Changes self.old self.new change seen stamp)) }

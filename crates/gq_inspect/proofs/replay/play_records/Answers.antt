@@ -7,7 +7,7 @@ use Rattle.gq_session.specs.declared.records.Opening.{Opening}
 use Rattle.gq_session.specs.declared.records.Records.{Records}
 use Rattle.gq_inspect.specs.declared.steps.Step.{Step}
 use Rattle.gq_inspect.specs.declared.replaying.First.{First}
-use Rattle.gq_inspect.specs.Replay.{Replays, IsRunOf, Opens, opening_event}
+use Rattle.gq_inspect.specs.Replay.{OrderFits, IsRunOf, Opens, opening_event}
 use Rattle.gq_inspect.specs.Tapes.{before_of}
 use Rattle.gq_inspect.proofs.replay.play_records.Goals as goal
 
@@ -15,12 +15,12 @@ opens_as : (plan : CheckedPlan) (events : List Event) (openings also_openings : 
 opens_as plan events openings also_openings none listed opens = rw (← none, ← listed) opens
 
 goes_as : (r : Records) (plan also : CheckedPlan) (order also_order : List Step) (openings : List Opening) (events played : List Event) (firsts : List First) → also ≡ plan → also_order ≡ order → events ≡ map opening_event openings → firsts ≡ [] →
-    Replays also r also_order (record { events = events; firsts = firsts }) played → Replays plan r order (record { events = map opening_event openings; firsts = [] }) played
+    OrderFits also r also_order (record { events = events; firsts = firsts }) played → OrderFits plan r order (record { events = map opening_event openings; firsts = [] }) played
 goes_as r plan also order also_order openings events played firsts same in_order opened none goes = rw (← same, ← in_order, ← opened, ← none) goes
 
 pub returns : goal.returns
 returns c =
-    on_ok_weaker {P = Replays c.open_all.new.tape.world.tables.plan c.args.records.now c.as_slice-2.result.now (before_of c.open_all.new.tape) c.play_all.new.tape.events.items}
+    on_ok_weaker {P = OrderFits c.open_all.new.tape.world.tables.plan c.args.records.now c.as_slice-2.result.now (before_of c.open_all.new.tape) c.play_all.new.tape.events.items}
     {Q = IsRunOf c.args.tape.now.world.tables.plan c.args.records.now c.play_all.new.tape.events.items} c.play_all.result
     (λ goes. record {
       servers = c.requires.servers;

@@ -6,14 +6,14 @@ use Rattle.gq_session.specs.Fitting.{IsChange}
 use Rattle.gq_cell.specs.declared.board.BoardEntry.{BoardEntry}
 use Rattle.gq_cell.specs.Boards.{Posted}
 use Rattle.gq_model.specs.declared.events.ServerLine.{ServerLine}
-use Rattle.gq_session.specs.Changed.{line_of, picked, changes_of}
+use Rattle.gq_session.specs.Changed.{change_line, picked, changes_of}
 use Rattle.gq_session.proofs.Changing.{picked-skip, picked-take, changes_of-push}
 use Rattle.gq_session.proofs.agenda.Agenda.change.Goals as goal
 
 pub invariant_of-self-in-Ok : goal.invariant_of-self-in-Ok
 invariant_of-self-in-Ok c =
     let old = c.args.self.now in
-    let line : ServerLine = line_of c.args.change in
+    let line : ServerLine = change_line c.args.change in
     let fits : All (IsChange c.change.new.self.grid) old.list.items = subst (λ (g : Grid). All (IsChange g) old.list.items) (sym (ap (λ (b : Posted). b.grid) c.in-Ok.ensures.changed)) old.fits in
     let e : BoardEntry = record { stamp = c.in-Ok.stamp; server = c.args.change.server; up = c.args.change.up } in
     let is : c.push_reserved.new.self.items ≡ old.done.items ++ true ∷ [] = search rules in
