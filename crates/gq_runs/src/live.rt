@@ -92,7 +92,7 @@ fn inspection_fault(plan: &Plan, mismatch: Mismatch) -> LiveRunFault
 }
 
 // Runs the programs in threads, inspects what was recorded, and gives the run's script.
-fn script_of<G: Gate + Send + Sync, T: Threads + Wait + Sync>(
+fn recorded_script<G: Gate + Send + Sync, T: Threads + Wait + Sync>(
     rt: &T,
     alloc: Global,
     plan: &Plan,
@@ -120,7 +120,7 @@ fn script_of<G: Gate + Send + Sync, T: Threads + Wait + Sync>(
 }
 
 // The script of a live run of an input.
-fn script<G: Gate + Send + Sync, T: Threads + Wait + Sync>(
+fn live_script<G: Gate + Send + Sync, T: Threads + Wait + Sync>(
     rt: &T,
     alloc: Global,
     input: &[u8],
@@ -133,7 +133,7 @@ fn script<G: Gate + Send + Sync, T: Threads + Wait + Sync>(
     ensures gate { G.never ≡ true → IfErr result NoGateFault }
 {
     match read_programs(alloc, input) {
-        Ok((plan, programs)) => script_of(rt, alloc, &plan, &programs, gate),
+        Ok((plan, programs)) => recorded_script(rt, alloc, &plan, &programs, gate),
         Err(ProgramFault::Memory(refused)) => Err(LiveRunFault::Memory(refused)),
         Err(fault) => Err(LiveRunFault::Program(fault)),
     }
@@ -179,7 +179,7 @@ pub fn live_run<R: Read, W: Write, G: Gate + Send + Sync, T: Threads + Wait + Sy
         Err(RunFault::Memory(refused)) => return Err(LiveRunFault::Memory(refused)),
         Err(_) => unreachable!(),
     };
-    let text = script(rt, alloc, input.as_slice(), gate)?;
+    let text = live_script(rt, alloc, input.as_slice(), gate)?;
     match write_whole(writer, text.as_slice()) {
         Ok(()) => Ok(()),
         Err(_) => Err(LiveRunFault::Write),

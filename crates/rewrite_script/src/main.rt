@@ -4,7 +4,7 @@
 //! The status is 0, 1 where the plan is at fault (and nothing is written) or a stream fails, and 3 where memory was wanting.
 #![tactic(auto)]
 
-ghost use Rattle.std.specs.Prelude.{◌≡◌, ◌∷◌, ◌<◌, length, map, IfOk};
+ghost use Rattle.std.specs.Prelude.{◌≡◌, map, IfOk};
 ghost use Rattle.std.specs.List.{All};
 ghost use Rattle.gq_model.specs.Events.{IsIn};
 ghost use Rattle.gq_script.specs.Lines.{lines_of};
@@ -14,8 +14,7 @@ ghost use Rattle.rewrite_script.specs.Rewriting.{IsRewriting};
 use gq_desk::Plan;
 use gq_memory::{GrowVec, OutOfMemory};
 use gq_model::Event;
-use gq_script::{PlanText, read_line, read_plan, write_script};
-use memchr::memchr;
+use gq_script::{PlanText, first_line, read_line, read_plan, write_script};
 use std::alloc::Global;
 use std::fmt::{Display, Error as FormatError, Formatter, Write as FormatWrite};
 use std::io;
@@ -71,18 +70,6 @@ impl From<io::Error> for Fault {
             io::ErrorKind::OutOfMemory => Fault::StreamMemory,
             _ => Fault::Stream,
         }
-    }
-}
-
-// The first line of a text without its newline, and what follows it.
-fn first_line(text: &[u8]) -> (&[u8], &[u8])
-    requires { 0 < length text.now }
-    ensures lines { lines_of text.now ≡ result.0.now ∷ lines_of result.1.now }
-    ensures shorter { length result.1.now < length text.now }
-{
-    match memchr(b'\n', text) {
-        Some(end) => (&text[..end], &text[end + 1..]),
-        None => (text, &[]),
     }
 }
 

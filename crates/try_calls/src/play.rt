@@ -1,26 +1,14 @@
 //! A world that answers the lines of a script one by one, also after want of memory.
 
-ghost use Rattle.std.specs.Prelude.{◌≡◌, ◌<◌, length, IfOk};
+ghost use Rattle.std.specs.Prelude.{IfOk};
 ghost use Rattle.gq_model.specs.Events.{IsIn};
 
 use crate::Fault;
 use gq_desk::Plan;
 use gq_memory::{GrowCopies, GrowVec, OutOfMemory};
-use gq_script::{read_line, read_plan, write_answer};
+use gq_script::{first_line, read_line, read_plan, write_answer};
 use gq_world::{Event, World};
-use memchr::memchr;
 use std::alloc::Global;
-
-/// The first line of a text without its newline, and what follows it.
-pub fn first_line(text: &[u8]) -> (&[u8], &[u8])
-    requires { 0 < length text.now }
-    ensures { length result.1.now < length text.now }
-{
-    match memchr(b'\n', text) {
-        Some(end) => (&text[..end], &text[end + 1..]),
-        None => (text, &[]),
-    }
-}
 
 // The event of a line. Where memory is refused, the line is read once more.
 fn event_of(alloc: Global, line: &[u8], plan: &Plan) -> Result<Event, OutOfMemory>

@@ -3,7 +3,7 @@ use Rattle.std.specs.List.{All}
 use Rattle.gq_model.specs.Events.{IsIn}
 use Rattle.gq_inspect.specs.Replay.{IsRunOf}
 use Rattle.gq_script.specs.Canonical.{IsScriptOf, script_text}
-use Rattle.gq_runs.proofs.live.script_of.Goals as goal
+use Rattle.gq_runs.proofs.live.recorded_script.Goals as goal
 
 pub write_script-requires : goal.write_script-requires
 write_script-requires g c = subst (All (IsIn c.args.plan.now)) (sym c.as_slice.ensures.value) c.in-Ok-inspect.ensures.within

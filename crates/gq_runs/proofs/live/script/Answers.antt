@@ -1,5 +1,0 @@
-use Rattle.gq_runs.proofs.Living.{scripts_are}
-use Rattle.gq_runs.proofs.live.script.Goals as goal
-
-pub returns-in-Ok-clause-script : goal.returns-in-Ok-clause-script
-returns-in-Ok-clause-script g c = scripts_are c.args.input.now _ _ c.in-Ok.ensures.programs c.script_of.result c.script_of.ensures.script
