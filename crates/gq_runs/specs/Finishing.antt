@@ -1,8 +1,7 @@
 -- What `finish` writes: the lines that complete an operation which an input leaves going.
 use Rattle.std.specs.Prelude.{◌≡◌, ℕ, List, [], ◌∷◌, ◌++◌, Bool, true, false, Option, Some, None, All, map}
-use Rattle.std.specs.List.{position_from}
 use Rattle.gq_desk.specs.CheckedPlan.{CheckedPlan, row_at}
-use Rattle.gq_desk.specs.Plans.{is_in, is_of}
+use Rattle.gq_desk.specs.Plans.{is_in}
 use Rattle.gq_phase.specs.declared.Outcome.{Outcome}
 use Rattle.gq_phase.specs.declared.Outcome.TheVariants.{Wrote, Gave, Listed}
 use Rattle.gq_phase.specs.Phase.{Operation}
@@ -15,7 +14,7 @@ use Rattle.gq_model.specs.Told.{Told, Replied, Noted, Round, Done, Resent, Refus
 use Rattle.gq_model.specs.Trace.{questions, operation}
 use Rattle.gq_model.specs.Events.{past_at}
 use Rattle.gq_laws.specs.Tenants.{answers_from}
-use Rattle.gq_script.specs.Input.{event_of}
+use Rattle.gq_script.specs.Input.{event_of, place_named}
 use Rattle.gq_script.specs.Alone.{Accepts}
 use Rattle.gq_script.specs.Out.{IsAccepted, IsPlanFaultOf}
 use Rattle.gq_script.specs.Completing.{missing_newline, own_lines, CompletesBy}
@@ -108,7 +107,7 @@ pub record OfTenant (P : CheckedPlan → List (List ℕ) → ℕ → Type 0) (na
   pub lines : List (List ℕ)
   pub accepts : Accepts input plan lines
   pub t : ℕ
-  pub place : position_from (is_of name) 0 plan.rows ≡ Some t
+  pub place : place_named plan name ≡ Some t
   pub holds : P plan lines t
 
 -- the text completes the operation that the input leaves session k of the tenant of this name

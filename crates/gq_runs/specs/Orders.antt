@@ -1,9 +1,7 @@
 -- What `order` writes: the output of the run, and behind it the order of a file's operations.
 use Rattle.std.specs.Prelude.{ℕ, List, [], ◌∷◌, ◌++◌, Option, Some, None, Ok, Err, IsSome, IsOk, codes, decimal, map, slice_get}
-use Rattle.std.specs.List.{position_from}
 use Rattle.gq_tag.specs.Tag.{File}
 use Rattle.gq_desk.specs.CheckedPlan.{CheckedPlan}
-use Rattle.gq_desk.specs.Plans.{is_of}
 use Rattle.gq_laws.specs.declared.ops.Kind.{Kind}
 use Rattle.gq_laws.specs.declared.ops.Kind.TheVariants.{Write as Writes, Read as Reads, Row as Rows}
 use Rattle.gq_laws.specs.declared.ops.Op.{Op}
@@ -12,7 +10,7 @@ use Rattle.gq_laws.specs.Orders.{order}
 use Rattle.gq_laws.specs.Tenants.{tenant_operations}
 use Rattle.gq_script.specs.Words.{Word}
 use Rattle.gq_script.specs.Lines.{lines_of}
-use Rattle.gq_script.specs.Input.{event_of}
+use Rattle.gq_script.specs.Input.{event_of, place_named}
 use Rattle.gq_script.specs.PlanText.{Reading, plan_of}
 use Rattle.gq_script.specs.Output.{content_word, line_text}
 use Rattle.gq_script.specs.Out.{joined, out, IsPlanFaultOf}
@@ -56,7 +54,7 @@ operations_of plan lines t file = tenant_operations plan (map (event_of plan) li
 
 -- the place of the tenant of this name in the plan that was read
 abbrev pub place_of : Reading (CheckedPlan × List (List ℕ)) → List ℕ → Option ℕ
-place_of (Ok read) name = position_from (is_of name) 0 read.0.rows
+place_of (Ok read) name = place_named read.0 name
 place_of (Err fault) name = None
 
 -- the name is that of a tenant of the input's plan
@@ -65,7 +63,7 @@ NamesTenant name input = IsSome (place_of (plan_of (lines_of input)) name)
 
 -- what is written behind the output of the run
 abbrev pub order_of : Reading (CheckedPlan × List (List ℕ)) → List ℕ → File → List ℕ
-order_of (Ok read) name file = by (position_from (is_of name) 0 read.0.rows)
+order_of (Ok read) name file = by (place_named read.0 name)
   where
     by : Option ℕ → List ℕ
     by None = []
