@@ -9,7 +9,7 @@ use Rattle.gq_tag.specs.Tag.{OwnMessage}
 use Rattle.gq_desk.specs.declared.plans.TenantRow.{TenantRow}
 use Rattle.gq_phase.specs.Phase.{Operation, with_reply, with_decided, in_round, round_messages}
 use Rattle.gq_model.specs.Trace.{Turn, Entry, Trace, Past, sent, up}
-use Rattle.gq_model.specs.Told.{Told, Chosen, Opened, Listed as ToldListed, Began, Replied, IsDown, Stale, Round, Lost, Resent, Refused, ServerOk, ServerRefused}
+use Rattle.gq_model.specs.Told.{Told, Chosen, Opened, VolumesAre, Began, Replied, IsDown, Stale, Round, Lost, Resent, Refused, ServerOk, ServerRefused}
 use Rattle.gq_model.specs.Lone.{after, said, told_from, is_refusal}
 use Rattle.gq_laws.proofs.Words.{op, round}
 use Rattle.gq_laws.specs.Operations.{SessionAnswer, answered_from, session_answers_from, owners, session_of}
@@ -62,7 +62,7 @@ refusal_passive (Refused word) h = tt
 refusal_passive (ServerRefused word) h = tt
 refusal_passive (Chosen choice servers) h = tt
 refusal_passive (Opened v) h = tt
-refusal_passive (ToldListed f v) h = tt
+refusal_passive (VolumesAre f v) h = tt
 refusal_passive IsDown h = tt
 refusal_passive Stale h = tt
 refusal_passive Lost h = tt

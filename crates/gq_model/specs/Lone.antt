@@ -19,7 +19,7 @@ use Rattle.gq_model.specs.declared.events.Refusal.{Refusal}
 use Rattle.gq_model.specs.declared.events.Refusal.TheVariants.{Spent, Bad as BadLine, NoSession, Busy, Idle, NoVolume, NoFile, TooLong, NoQuorum, NoMessage, Size, Volumes as TooMany, Share}
 use Rattle.gq_model.specs.declared.events.ServerRefusal.{ServerRefusal}
 use Rattle.gq_model.specs.declared.events.ServerRefusal.TheVariants.{Bad as ServerBad, NoServer, Same}
-use Rattle.gq_model.specs.Told.{Told, Chosen, Opened, Listed, Began, Replied, IsDown, Stale, Noted, Round, Done, Lost, Resent, Abandoned, Refused, ServerOk, ServerRefused}
+use Rattle.gq_model.specs.Told.{Told, Chosen, Opened, VolumesAre, Began, Replied, IsDown, Stale, Noted, Round, Done, Lost, Resent, Abandoned, Refused, ServerOk, ServerRefused}
 use Rattle.gq_model.specs.Trace.{Turn, Own, Serving, Entry, Trace, State, Known, Past, start, asked, questions, own_message_at, held, operation, account_of, limit_at, task_of}
 
 -- ---- server lines
@@ -123,7 +123,7 @@ lose_told (Some message) = Lost
 abbrev pub first_operation : State → ℕ → Task → Operation
 first_operation state k task = begun k ((state.session k).op + 1) task (state.session k).floor
 
--- a request begins an operation, whose first round asks
+-- a request begins an operation, whose first round asks; every request has a task, and that none is there fills the word up
 abbrev pub begin_step : Grid → State → ℕ → Option Task → Step
 begin_step grid state k None = quiet (Refused BadLine)
 begin_step grid state k (Some task) = began (round_messages grid state.up (first_operation state k task))
@@ -151,7 +151,7 @@ heard_step first HeardNoted = quiet Noted
 heard_step first (HeardNext round tag messages) = record { told = Round round tag first (length messages); new = messages }
 heard_step first (HeardDone outcome) = quiet (Done outcome)
 
--- a message comes to its session, which has this operation
+-- a message comes to its session, which has this operation or none
 abbrev pub hear_step : Grid → State → OwnMessage → Option Operation → Step
 hear_step grid state message None = quiet Stale
 hear_step grid state message (Some o) = heard_step (length state.sent) (hear grid state.up o message)
@@ -165,7 +165,8 @@ deliver_step grid state (Some message) = by (to_server message.body)
     by true = serve_step state message
     by false = hear_step grid state message (operation state message.session)
 
--- the round's message goes out once more
+-- the round's message goes out once more; a retry that is not refused has an operation and a quorum (`session_causes`), and
+-- what is said without one fills the word up
 abbrev pub retry_step : Grid → State → Option Operation → Step
 retry_step grid state None = quiet (Refused Idle)
 retry_step grid state (Some o) = by (round_quorum grid state.up o.round)
@@ -182,7 +183,7 @@ abbrev pub unless : Option Refusal → Step → Step
 unless (Some word) step = quiet (Refused word)
 unless None step = step
 
--- what is told and sent to a session's line that is not refused
+-- what is told and sent to a session's line that is not refused; the last row fills the word up, as no such line comes here
 abbrev pub session_step : Grid → State → Line → Step
 session_step grid state (Write k v f bytes) = begin_step grid state k (task_of state.volumes (Write k v f bytes))
 session_step grid state (Read k v f) = begin_step grid state k (task_of state.volumes (Read k v f))
@@ -200,7 +201,7 @@ abbrev pub line_step : Grid → TenantRow → State → Line → Step
 line_step grid row state Bad = quiet (Refused BadLine)
 line_step grid row state Quorum = quiet (choice_told grid (choose grid state.up))
 line_step grid row state (NewVolume files blocks) = quiet (open_told (length state.volumes) (open_fault (account_of row state) (record { files = files; blocks = blocks })))
-line_step grid row state Volumes = quiet (Listed (free_of (account_of row state)) state.volumes)
+line_step grid row state Volumes = quiet (VolumesAre (free_of (account_of row state)) state.volumes)
 line_step grid row state (Write k v f bytes) = asked_step grid row state (Write k v f bytes)
 line_step grid row state (Read k v f) = asked_step grid row state (Read k v f)
 line_step grid row state (ListFiles k v) = asked_step grid row state (ListFiles k v)

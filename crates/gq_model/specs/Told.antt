@@ -13,7 +13,7 @@ pub data Told : Type 0 where
   -- the number of the volume
   Opened : (volume : ℕ) → Told
   -- the blocks that are free, and the volumes
-  Listed : (free : ℕ) (volumes : List VolumeRow) → Told
+  VolumesAre : (free : ℕ) (volumes : List VolumeRow) → Told
   -- the number of the session's operation, and its messages: the number of the first, and how many they are
   Began : (op first count : ℕ) → Told
   -- the number of the server's reply

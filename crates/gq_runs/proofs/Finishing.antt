@@ -37,7 +37,7 @@ use Rattle.gq_script.specs.PlanText.{plan_of}
 use Rattle.gq_script.specs.Alone.{Accepts}
 use Rattle.gq_script.specs.Out.{IsPlanFaultOf}
 use Rattle.gq_script.specs.declared.script.TheConstants.{MOST_INPUT}
-use Rattle.gq_script.specs.Output.{line_text}
+use Rattle.gq_script.specs.AnswerText.{line_text}
 use Rattle.gq_script.specs.Canonical.{line_words}
 use Rattle.gq_script.specs.Completing.{missing_newline, own_lines}
 use Rattle.gq_script.proofs.Completing.{behind_by, next_told}

@@ -12,7 +12,7 @@ use Rattle.gq_script.specs.Words.{Word}
 use Rattle.gq_script.specs.Lines.{lines_of}
 use Rattle.gq_script.specs.Input.{event_of, place_named}
 use Rattle.gq_script.specs.PlanText.{Reading, plan_of}
-use Rattle.gq_script.specs.Output.{content_word, line_text}
+use Rattle.gq_script.specs.AnswerText.{content_word, line_text}
 use Rattle.gq_script.specs.Out.{joined, out, IsPlanFaultOf}
 use Rattle.gq_script.specs.Steps.{IsFaultOfLines}
 use Rattle.gq_runs.specs.declared.order.OrderFault.{OrderFault}

@@ -13,7 +13,7 @@ ghost use Rattle.gq_model.specs.Told.{Done, Refused as IsRefused};
 ghost use Rattle.gq_model.specs.declared.events.Refusal.TheVariants.{Spent, Idle as NoOperation};
 ghost use Rattle.gq_world.specs.Tables.{Stands};
 ghost use Rattle.gq_script.specs.Lines.{lines_of};
-ghost use Rattle.gq_script.specs.Output.{line_text};
+ghost use Rattle.gq_script.specs.AnswerText.{line_text};
 ghost use Rattle.gq_script.specs.Canonical.{line_words};
 ghost use Rattle.gq_script.specs.Completing.{missing_newline};
 ghost use Rattle.gq_script.specs.Out.{IsAccepted};

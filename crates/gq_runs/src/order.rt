@@ -5,7 +5,7 @@ ghost use Rattle.std.specs.Io.KnownBytes.{Appends};
 ghost use Rattle.gq_tag.specs.Tag.{file_place};
 ghost use Rattle.gq_laws.specs.Tenants.{tenant_operations};
 ghost use Rattle.gq_script.specs.Lines.{lines_of};
-ghost use Rattle.gq_script.specs.Output.{ended};
+ghost use Rattle.gq_script.specs.AnswerText.{ended};
 ghost use Rattle.gq_script.specs.Out.{joined, output_lines, IsAccepted, IsPlanFaultOf};
 ghost use Rattle.gq_script.specs.PlanText.{plan_of};
 ghost use Rattle.gq_script.specs.Pieces.{words_in};

@@ -17,7 +17,7 @@ use Rattle.gq_model.specs.Events.{turn_of, own, past_at, answer_to}
 use Rattle.gq_script.specs.Words.{words_of}
 use Rattle.gq_script.specs.Lines.{lines_of}
 use Rattle.gq_script.specs.Input.{event_of}
-use Rattle.gq_script.specs.Output.{answer_line}
+use Rattle.gq_script.specs.AnswerText.{answer_line}
 use Rattle.gq_script.specs.Out.{answer_lines, output_lines, output_of}
 use Rattle.gq_script.specs.Alone.{is_own, seen_lines, lines_to, turn_from, turns_of, own_text, lone_text, AnswersEachLine, TellsAsAlone, TellsTheSame}
 use Rattle.gq_script.proofs.PlanNames.{HasPlace, has_place}

@@ -17,7 +17,7 @@ use Rattle.gq_order.specs.Runs.{IsRun}
 use Rattle.gq_order.proofs.Growing.{runs-grow}
 use Rattle.gq_script.specs.Lines.{lines_of}
 use Rattle.gq_script.specs.Input.{event_of}
-use Rattle.gq_script.specs.Output.{answer_line}
+use Rattle.gq_script.specs.AnswerText.{answer_line}
 use Rattle.gq_script.specs.Out.{answer_lines, output_lines, joined}
 use Rattle.gq_script.specs.Seeing.{is_seen, seen_events}
 

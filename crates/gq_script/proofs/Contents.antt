@@ -6,7 +6,7 @@ use Rattle.std.proofs.Math.Dec.{eqb-suc-zero}
 use Rattle.hex.specs.declared.error.FromHexError.{FromHexError}
 use Rattle.hex.specs.Hex.{IsBytes, decode_of, encode_with, encode_lower, lower_digits}
 use Rattle.hex.proofs.HexLemmas.{decode_of-encode_lower}
-use Rattle.gq_script.specs.Output.{content_word}
+use Rattle.gq_script.specs.AnswerText.{content_word}
 use Rattle.gq_script.specs.Words.{bytes_from, content_of}
 
 -- a word that is neither `-` nor empty

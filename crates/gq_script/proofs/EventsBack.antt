@@ -20,7 +20,7 @@ use Rattle.gq_model.specs.declared.events.ServerLine.TheVariants.{Bad as ServerB
 use Rattle.gq_script.specs.Words.{Word}
 use Rattle.gq_script.specs.Lines.{lines_of}
 use Rattle.gq_script.specs.Input.{line_of, server_line_of, place_named, tenant_event, event_of, event_of_words, one_number_of, two_numbers_of, three_numbers_of, file_content_of}
-use Rattle.gq_script.specs.Output.{spaced}
+use Rattle.gq_script.specs.AnswerText.{spaced}
 use Rattle.gq_script.specs.Canonical.{line_words, server_line_words, event_line, IsPlan, FitsLine, FitsServerLine, Fits}
 use Rattle.gq_script.proofs.Numbers.{numbers_read_back}
 use Rattle.gq_script.proofs.Plain.{is_plain, are_plain, decimal_plain, name_plain, content_plain}

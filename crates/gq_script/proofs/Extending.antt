@@ -6,7 +6,7 @@ use Rattle.std.proofs.lemmas.List.{map-append, take_more}
 use Rattle.std.proofs.lemmas.List.Concat.{flat_map-append}
 use Rattle.std.proofs.lemmas.List.Elements.{filter-append}
 use Rattle.gq_grid.specs.Grid.{Servers, below}
-use Rattle.gq_script.specs.Output.{spaced}
+use Rattle.gq_script.specs.AnswerText.{spaced}
 use Rattle.gq_script.specs.Pieces.{Extends}
 
 pub extends_more : (old mid new more : List ℕ) → mid ≡ old ++ more → Extends mid new → Extends old new

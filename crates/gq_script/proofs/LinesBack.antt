@@ -4,7 +4,7 @@ use Rattle.std.specs.Prelude.{nat_le}
 use Rattle.std.proofs.lemmas.Bool.{and_parts, ne_eqb, leb-true}
 use Rattle.gq_script.specs.Words.{Word, words_of}
 use Rattle.gq_script.specs.Lines.{lines_of}
-use Rattle.gq_script.specs.Output.{spaced, ended, line_text}
+use Rattle.gq_script.specs.AnswerText.{spaced, ended, line_text}
 use Rattle.gq_script.proofs.Plain.{is_plain, are_plain, is_inner, plain_parts, line_inner}
 
 -- a first word, and the words after it

@@ -14,7 +14,7 @@ use Rattle.gq_script.specs.Words.{Word}
 use Rattle.gq_script.specs.Lines.{lines_of}
 use Rattle.gq_script.specs.Input.{event_of}
 use Rattle.gq_script.specs.PlanText.{plan_of}
-use Rattle.gq_script.specs.Output.{line_text, answer_line}
+use Rattle.gq_script.specs.AnswerText.{line_text, answer_line}
 use Rattle.gq_script.specs.Canonical.{line_words, event_line, IsPlan, FitsLine, Fits}
 use Rattle.gq_script.specs.Out.{answer_lines, joined, output_of, out}
 use Rattle.gq_script.specs.Completing.{missing_newline, own_lines, longer, told_line}

@@ -9,7 +9,7 @@ use Rattle.hex.specs.Hex.{IsBytes, encode_with, lower_digits, hex_digit_value}
 use Rattle.hex.proofs.HexLemmas.{IsDigits-lower_digits}
 use Rattle.gq_desk.specs.Names.{is_letter, is_name}
 use Rattle.gq_script.specs.Words.{Word}
-use Rattle.gq_script.specs.Output.{content_word, spaced}
+use Rattle.gq_script.specs.AnswerText.{content_word, spaced}
 
 -- each byte is above a space
 abbrev pub is_plain : Word → Bool

@@ -4,10 +4,10 @@ use Rattle.std.specs.Prelude.{codes}
 use Rattle.std.proofs.lemmas.List.{append_cancel_left}
 use Rattle.std.proofs.lemmas.List.Elements.{All-nil, All-cons, All-head, All-tail}
 use Rattle.gq_grid.specs.Grid.{Grid}
-use Rattle.gq_model.specs.Told.{Told, Chosen, Opened, Listed, Began, Replied, IsDown, Stale, Noted, Round, Done, Lost, Resent, Abandoned, Refused, ServerOk, ServerRefused, StrayBad}
+use Rattle.gq_model.specs.Told.{Told, Chosen, Opened, VolumesAre, Began, Replied, IsDown, Stale, Noted, Round, Done, Lost, Resent, Abandoned, Refused, ServerOk, ServerRefused, StrayBad}
 use Rattle.gq_model.specs.Lone.{is_refusal}
 use Rattle.gq_script.specs.Words.{Word}
-use Rattle.gq_script.specs.Output.{ended, line_text, told_words}
+use Rattle.gq_script.specs.AnswerText.{ended, line_text, told_words}
 use Rattle.gq_script.specs.Completing.{told_line, IsRefusal}
 use Rattle.gq_script.proofs.FewMessages.{is_stray}
 
@@ -20,7 +20,7 @@ not_refused : (grid : Grid) (name : Word) (told : Told) → is_refusal told ≡ 
 unfolding told_words
 not_refused grid name (Chosen choice servers) fine own h = let bad : 113 ≡ 114 = byte_is name (told_words grid (Chosen choice servers)) h.0 h.1 1 in omega (arith, bad)
 not_refused grid name (Opened volume) fine own h = let bad : 118 ≡ 114 = byte_is name (told_words grid (Opened volume)) h.0 h.1 1 in omega (arith, bad)
-not_refused grid name (Listed free volumes) fine own h = let bad : 118 ≡ 114 = byte_is name (told_words grid (Listed free volumes)) h.0 h.1 1 in omega (arith, bad)
+not_refused grid name (VolumesAre free volumes) fine own h = let bad : 118 ≡ 114 = byte_is name (told_words grid (VolumesAre free volumes)) h.0 h.1 1 in omega (arith, bad)
 not_refused grid name (Began op first count) fine own h = let bad : 111 ≡ 114 = byte_is name (told_words grid (Began op first count)) h.0 h.1 1 in omega (arith, bad)
 not_refused grid name (Replied number) fine own h = let bad : 112 ≡ 102 = byte_is name (told_words grid (Replied number)) h.0 h.1 3 in omega (arith, bad)
 not_refused grid name IsDown fine own h = let bad : 100 ≡ 114 = byte_is name (told_words grid IsDown) h.0 h.1 1 in omega (arith, bad)

@@ -19,7 +19,7 @@ use Rattle.gq_script.specs.Words.{Word, words_of}
 use Rattle.gq_script.specs.Lines.{lines_of}
 use Rattle.gq_script.specs.Input.{one_number_of, two_numbers_of}
 use Rattle.gq_script.specs.PlanText.{then_read, at_line, line_at, grid_told, blocks_told, row_told, row_then, rows_from, checked, plan_of}
-use Rattle.gq_script.specs.Output.{spaced, line_text}
+use Rattle.gq_script.specs.AnswerText.{spaced, line_text}
 use Rattle.gq_script.specs.Canonical.{event_line, row_line, plan_text, script_text, IsScriptOf, IsNumber, IsPlan, Fits}
 use Rattle.gq_script.proofs.Numbers.{numbers_read_back}
 use Rattle.gq_script.proofs.Plain.{are_plain, decimal_plain, name_plain}

@@ -13,7 +13,7 @@ use Rattle.gq_script.specs.Words.{Word, words_of}
 use Rattle.gq_script.specs.Lines.{lines_of}
 use Rattle.gq_script.specs.Input.{line_of, server_line_of}
 use Rattle.gq_script.specs.PlanText.{plan_of}
-use Rattle.gq_script.specs.Output.{line_text, told_words}
+use Rattle.gq_script.specs.AnswerText.{line_text, told_words}
 use Rattle.gq_script.specs.Out.{output_lines, joined, out}
 
 -- the bytes of a line before its first space

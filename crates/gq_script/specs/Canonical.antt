@@ -16,7 +16,7 @@ use Rattle.gq_script.specs.Words.{Word}
 use Rattle.gq_script.specs.Lines.{lines_of}
 use Rattle.gq_script.specs.Input.{event_of}
 use Rattle.gq_script.specs.PlanText.{plan_of}
-use Rattle.gq_script.specs.Output.{content_word, line_text}
+use Rattle.gq_script.specs.AnswerText.{content_word, line_text}
 
 -- the words of a tenant's line, after its name
 abbrev pub line_words : Line → List Word

@@ -15,7 +15,7 @@ use Rattle.gq_model.specs.Events.{IsRequestOf}
 use Rattle.gq_laws.specs.Progress.{deliveries_left, IsOutcomeOf, QuorumsUp, state_after, StepsLeft}
 use Rattle.gq_script.specs.declared.script.TheConstants.{MOST_INPUT}
 use Rattle.gq_script.specs.Words.{Word}
-use Rattle.gq_script.specs.Output.{line_text, told_words}
+use Rattle.gq_script.specs.AnswerText.{line_text, told_words}
 use Rattle.gq_script.specs.Canonical.{line_words, FitsLine}
 use Rattle.gq_script.specs.Out.{joined, out, IsAccepted}
 use Rattle.gq_script.specs.Alone.{turns_of, Accepts}

@@ -2,7 +2,7 @@ pub mod Words
 pub mod Lines
 pub mod Input
 pub mod PlanText
-pub mod Output
+pub mod AnswerText
 pub mod Pieces
 pub mod QuorumText
 pub mod Watched

@@ -10,7 +10,7 @@ use Rattle.gq_script.specs.declared.script.RunFault.TheVariants.{Plan}
 use Rattle.gq_script.specs.Lines.{lines_of}
 use Rattle.gq_script.specs.Input.{event_of}
 use Rattle.gq_script.specs.PlanText.{Reading, plan_of}
-use Rattle.gq_script.specs.Output.{answer_line}
+use Rattle.gq_script.specs.AnswerText.{answer_line}
 
 -- the lines that answer the events, those before them being so
 abbrev pub answer_lines : CheckedPlan → List Event → List Event → List (List ℕ)

@@ -5,7 +5,7 @@ use Rattle.gq_grid.specs.Sets.{servers}
 use Rattle.gq_script.specs.declared.pieces.Piece.{Piece}
 use Rattle.gq_script.specs.declared.pieces.Piece.TheVariants.{Text, Number, OfTag, Range, Content, Servers, Volumes, Files}
 use Rattle.gq_script.specs.Words.{Word}
-use Rattle.gq_script.specs.Output.{volume_word, file_word, content_word, tag_words, range_words}
+use Rattle.gq_script.specs.AnswerText.{volume_word, file_word, content_word, tag_words, range_words}
 
 -- the words that a piece stands for
 abbrev pub words_in : Piece → List Word

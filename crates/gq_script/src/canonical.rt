@@ -6,7 +6,7 @@ ghost use Rattle.hex.specs.Hex.{IsBytes};
 ghost use Rattle.gq_grid.specs.Grid.{is_side};
 ghost use Rattle.gq_model.specs.Events.{IsIn};
 ghost use Rattle.gq_model.specs.declared.events.Line.TheVariants.{Write};
-ghost use Rattle.gq_script.specs.Output.{line_text};
+ghost use Rattle.gq_script.specs.AnswerText.{line_text};
 ghost use Rattle.gq_script.specs.Pieces.{words_in, Extends};
 ghost use Rattle.gq_script.specs.Canonical.{line_words, server_line_words, event_line, row_line, head_text, plan_text, script_text, IsPlan, FitsLine, FitsServerLine, Fits, IsScriptOf};
 

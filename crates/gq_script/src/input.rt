@@ -90,7 +90,7 @@ fn write_line(alloc: Global, text: &[u8]) -> Result<Line, OutOfMemory>
 // The line of the words after a tenant's name. The most frequent kinds are seen without a search for the ends of words.
 #[inline(always)]
 #[tactic(auto, unfolding(crate::specs::Input::line_of))]
-fn tenant_line(alloc: Global, text: &[u8]) -> Result<Line, OutOfMemory>
+fn line_behind_name(alloc: Global, text: &[u8]) -> Result<Line, OutOfMemory>
     ensures { IfOk result (λ line. line ≡ line_of (words_after text.now)) }
 {
     if let Some(word) = text.strip_prefix(b" deliver ".as_slice()) {
@@ -239,7 +239,7 @@ pub fn read_cut_line(
     match plan.find_word(first) {
         Some(tenant) => Ok(Event::Tenant {
             tenant,
-            line: tenant_line(alloc, rest)?,
+            line: line_behind_name(alloc, rest)?,
         }),
         None => Ok(Event::Stray),
     }

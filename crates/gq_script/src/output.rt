@@ -4,7 +4,7 @@ ghost use Rattle.std.specs.Prelude.{◌≡◌, [], ◌∷◌, ◌++◌, codes, O
 ghost use Rattle.gq_model.specs.Events.{IsIn};
 ghost use Rattle.gq_model.specs.Shown.{shown};
 ghost use Rattle.gq_script.specs.Pieces.{Extends};
-ghost use Rattle.gq_script.specs.Output.{answer_line, told_words, outcome_words, refusal_words, server_refusal_word, ended, who};
+ghost use Rattle.gq_script.specs.AnswerText.{answer_line, told_words, outcome_words, refusal_words, server_refusal_word, ended, who};
 
 use crate::pieces::{Piece, put_words};
 use crate::quorum_text::{QuorumText, put_quorum};
@@ -97,7 +97,7 @@ fn put_done(out: &mut Vec<u8>, outcome: &Outcome) -> Result<(), OutOfMemory>
 
 // Appends the words of an answer, and the newline.
 #[inline(always)]
-#[tactic(auto, unfolding(crate::specs::Output::told_words))]
+#[tactic(auto, unfolding(crate::specs::AnswerText::told_words))]
 fn put_answer(out: &mut Vec<u8>, grid: &Grid, answer: &Answer) -> Result<(), OutOfMemory>
     ensures ok { OnOk result (out.new.items ≡
         out.old.items ++ ended (told_words grid.now (shown answer.now))) }
@@ -218,7 +218,7 @@ fn put_line(
 
 // Appends the line of a chosen quorum, whose words are put together only where they are not those of the last one.
 #[inline(always)]
-#[tactic(auto, unfolding(crate::specs::Output::told_words))]
+#[tactic(auto, unfolding(crate::specs::AnswerText::told_words))]
 fn put_quorum_line(
     out: &mut Vec<u8>,
     plan: &Plan,

@@ -5,7 +5,7 @@ ghost use Rattle.std.specs.List.{flat_map};
 ghost use Rattle.hex.specs.Hex.{encode_lower};
 ghost use Rattle.gq_grid.specs.Grid.{rising};
 ghost use Rattle.gq_grid.specs.Sets.{servers};
-ghost use Rattle.gq_script.specs.Output.{spaced, ended, volume_word, file_word, content_word, tag_words, range_words};
+ghost use Rattle.gq_script.specs.AnswerText.{spaced, ended, volume_word, file_word, content_word, tag_words, range_words};
 ghost use Rattle.gq_script.specs.Pieces.{words_in, Extends};
 
 use gq_desk::VolumeRow;

@@ -16,7 +16,7 @@ use Rattle.gq_model.specs.Events.{turn_of, own, server_turn, server_lines, answe
 use Rattle.gq_script.specs.Input.{event_of}
 use Rattle.gq_grid.specs.Grid.{Grid}
 use Rattle.gq_desk.specs.declared.plans.TenantRow.{TenantRow}
-use Rattle.gq_script.specs.Output.{answer_line, line_text, told_words}
+use Rattle.gq_script.specs.AnswerText.{answer_line, line_text, told_words}
 use Rattle.gq_script.specs.Lines.{lines_of}
 use Rattle.gq_script.specs.PlanText.{Reading, plan_of}
 use Rattle.gq_script.specs.Out.{answer_lines, output_lines, output_of, out, joined}

@@ -15,7 +15,7 @@ use Rattle.gq_script.specs.declared.script.RunFault.TheVariants.{Memory, Write}
 use Rattle.gq_script.specs.Words.{words_after}
 use Rattle.gq_script.specs.Input.{event_of_words, event_of}
 use Rattle.gq_model.specs.Events.{answer_to}
-use Rattle.gq_script.specs.Output.{answer_line}
+use Rattle.gq_script.specs.AnswerText.{answer_line}
 use Rattle.gq_script.specs.Lines.{lines_of}
 use Rattle.gq_script.specs.PlanText.{Reading, plan_of}
 use Rattle.gq_script.specs.Out.{joined, output_lines}

@@ -6,7 +6,7 @@ ghost use Rattle.gq_model.specs.Events.{IsIn};
 ghost use Rattle.gq_world.specs.Tables.{Stands};
 ghost use Rattle.gq_model.specs.Shown.{shown};
 ghost use Rattle.gq_script.specs.Lines.{lines_of};
-ghost use Rattle.gq_script.specs.Output.{answer_line};
+ghost use Rattle.gq_script.specs.AnswerText.{answer_line};
 ghost use Rattle.gq_script.specs.Out.{output_lines};
 ghost use Rattle.gq_shards.specs.Shards.{event_cut, line_cut, marks_of, of_shard, sees_mark, tells, IsText};
 

@@ -17,7 +17,7 @@ use Rattle.gq_model.specs.declared.events.Line.{Line}
 use Rattle.gq_model.specs.declared.events.Line.TheVariants.{Bad, Quorum, NewVolume, Volumes, Write, Read, List as ListFiles, Deliver, Lose, Retry, Abandon}
 use Rattle.gq_model.specs.declared.events.Refusal.{Refusal}
 use Rattle.gq_model.specs.declared.events.Refusal.TheVariants.{NoQuorum}
-use Rattle.gq_model.specs.Told.{Told, Refused, Resent, Listed}
+use Rattle.gq_model.specs.Told.{Told, Refused, Resent, VolumesAre}
 use Rattle.gq_model.specs.Trace.{Own, State, changed, account_of, files_of, operation, operation_with}
 use Rattle.gq_model.specs.Lone.{Step, Cause, first_cause, session_causes, session_step, asked_step, unless, no_session, busy, idle, no_volume, no_file, too_long, no_quorum, quiet, entry_of, retry_step, choice_told, is_refusal}
 use Rattle.gq_world.specs.Bounds.{room, TaskFits, volume_of, IsBounded}
@@ -50,7 +50,7 @@ keeps_quorum grid row n known h =
 pub keeps_volumes : KeepsBounds Volumes
 keeps_volumes grid row n known h =
     let state : State = known.state in
-    let after : State = changed (entry_of state (Own Volumes) (quiet (Listed (free_of (account_of row state)) state.volumes))) state in
+    let after : State = changed (entry_of state (Own Volumes) (quiet (VolumesAre (free_of (account_of row state)) state.volumes))) state in
     same_bounded grid row (n + 1) state after (bounded_more grid row n state h) refl (append-nil state.sent) (λ server file. refl) (λ k. refl)
 
 -- ---- a session's line

@@ -1,5 +1,5 @@
 use Rattle.std.proofs.Common.{◌≡◌, ◌++◌, take, map}
-use Rattle.gq_script.specs.Output.{spaced, file_word}
+use Rattle.gq_script.specs.AnswerText.{spaced, file_word}
 use Rattle.gq_script.proofs.pieces.put_files.Given as goal
 
 abbrev pub invariant-loop-file : goal.invariant-loop-file

@@ -1,6 +1,6 @@
 use Rattle.std.proofs.Common.{◌≡◌, ◌++◌, take}
 use Rattle.std.specs.List.{flat_map}
-use Rattle.gq_script.specs.Output.{spaced}
+use Rattle.gq_script.specs.AnswerText.{spaced}
 use Rattle.gq_script.specs.Pieces.{words_in}
 use Rattle.gq_script.proofs.pieces.put_pieces.Given as goal
 

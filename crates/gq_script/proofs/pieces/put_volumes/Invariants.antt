@@ -1,5 +1,5 @@
 use Rattle.std.proofs.Common.{◌≡◌, ◌++◌, take, map}
-use Rattle.gq_script.specs.Output.{spaced, volume_word}
+use Rattle.gq_script.specs.AnswerText.{spaced, volume_word}
 use Rattle.gq_script.proofs.pieces.put_volumes.Given as goal
 
 abbrev pub invariant-loop-volume : goal.invariant-loop-volume

@@ -9,7 +9,7 @@ use Rattle.gq_world.specs.Tables.{Stands}
 use Rattle.gq_script.specs.Input.{event_of, event_of_words}
 use Rattle.gq_script.specs.Lines.{lines_of}
 use Rattle.gq_script.specs.Words.{words_after}
-use Rattle.gq_script.specs.Output.{answer_line}
+use Rattle.gq_script.specs.AnswerText.{answer_line}
 use Rattle.gq_script.specs.QuorumText.{Held}
 use Rattle.gq_script.proofs.Answering.{keeps_first, keeps_more, keeps_all}
 use Rattle.gq_script.proofs.script.answers.Goals as goal

@@ -5,7 +5,7 @@ use Rattle.std.proofs.lemmas.Bool.Decides.{Decides-eqb}
 use Rattle.std.proofs.lemmas.Slice.Eq.{text_from_reads, strip_prefix_is}
 use Rattle.gq_script.specs.Input.{line_of}
 use Rattle.gq_script.proofs.OneNumber.{delivered, lost}
-use Rattle.gq_script.proofs.input.tenant_line.Goals as goal
+use Rattle.gq_script.proofs.input.line_behind_name.Goals as goal
 
 pub returns-in-32-2 : goal.returns-in-32-2
 unfolding line_of

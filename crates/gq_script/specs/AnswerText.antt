@@ -8,14 +8,14 @@ use Rattle.gq_desk.specs.declared.volumes.VolumeRow.{VolumeRow}
 use Rattle.gq_desk.specs.CheckedPlan.{CheckedPlan, row_at}
 use Rattle.gq_phase.specs.declared.Row.{Row}
 use Rattle.gq_phase.specs.declared.Outcome.{Outcome}
-use Rattle.gq_phase.specs.declared.Outcome.TheVariants.{Wrote, Gave, Listed as FilesListed}
+use Rattle.gq_phase.specs.declared.Outcome.TheVariants.{Wrote, Gave, Listed}
 use Rattle.gq_model.specs.declared.events.Event.{Event}
 use Rattle.gq_model.specs.declared.events.Event.TheVariants.{Tenant, Server, Stray}
 use Rattle.gq_model.specs.declared.events.Refusal.{Refusal}
 use Rattle.gq_model.specs.declared.events.Refusal.TheVariants.{Spent, Bad, NoSession, Busy, Idle, NoVolume, NoFile, TooLong, NoQuorum, NoMessage, Size, Volumes, Share}
 use Rattle.gq_model.specs.declared.events.ServerRefusal.{ServerRefusal}
 use Rattle.gq_model.specs.declared.events.ServerRefusal.TheVariants.{Bad as ServerBad, NoServer, Same}
-use Rattle.gq_model.specs.Told.{Told, Chosen, Opened, Listed, Began, Replied, IsDown, Stale, Noted, Round, Done, Lost, Resent, Abandoned, Refused, ServerOk, ServerRefused, StrayBad}
+use Rattle.gq_model.specs.Told.{Told, Chosen, Opened, VolumesAre, Began, Replied, IsDown, Stale, Noted, Round, Done, Lost, Resent, Abandoned, Refused, ServerOk, ServerRefused, StrayBad}
 use Rattle.gq_script.specs.Words.{Word}
 
 abbrev pub volume_word : VolumeRow → Word
@@ -47,7 +47,7 @@ range_words first (suc more) = decimal first ∷ codes "to" ∷ decimal (first +
 abbrev pub outcome_words : Outcome → List Word
 outcome_words (Wrote session op tag) = codes "write" ∷ decimal session ∷ decimal op ∷ tag_words tag
 outcome_words (Gave session op copy) = codes "read" ∷ decimal session ∷ decimal op ∷ tag_words copy.tag ++ content_word copy.bytes ∷ []
-outcome_words (FilesListed session op files) = codes "list" ∷ decimal session ∷ decimal op ∷ map file_word files
+outcome_words (Listed session op files) = codes "list" ∷ decimal session ∷ decimal op ∷ map file_word files
 
 -- the words of a refusal; that of the share is followed by the blocks that are free
 abbrev pub refusal_words : Refusal → List Word
@@ -74,7 +74,7 @@ server_refusal_word Same = codes "same"
 unfoldable pub told_words : Grid → Told → List Word
 told_words grid (Chosen choice servers) = codes "quorum" ∷ decimal choice.row ∷ decimal choice.col ∷ codes "servers" ∷ map decimal (rising grid servers)
 told_words grid (Opened volume) = codes "volume" ∷ decimal volume ∷ []
-told_words grid (Listed free volumes) = codes "volumes" ∷ codes "free" ∷ decimal free ∷ map volume_word volumes
+told_words grid (VolumesAre free volumes) = codes "volumes" ∷ codes "free" ∷ decimal free ∷ map volume_word volumes
 told_words grid (Began op first count) = codes "op" ∷ decimal op ∷ codes "sent" ∷ range_words first count
 told_words grid (Replied number) = codes "reply" ∷ decimal number ∷ []
 told_words grid IsDown = codes "down" ∷ []
