@@ -68,7 +68,7 @@ AsksToOrder words = (own : List Text) × (drop 1 words ≡ codes "order" ∷ own
 abbrev pub AsksToFinish : List Text → Type 0
 AsksToFinish words = (own : List Text) × (drop 1 words ≡ codes "finish" ∷ own)
 
--- what was asked for is what the words ask for
+-- the words name the subcommand by which it was asked for
 abbrev pub IsAskedBy : List Text → Request → Type 0
 IsAskedBy words (Run jobs) = AsksToRun words
 IsAskedBy words (Order name volume file) = AsksToOrder words

@@ -1,13 +1,14 @@
 //! From the words of a command line to what they ask for.
 
-ghost use Rattle.std.specs.Prelude.{◌≡◌, ◌∷◌, [], false, codes, IfOk, IfErr, IsErrAnd};
-ghost use Rattle.clap.specs.Matches.{subcommand_name_of};
-ghost use Rattle.clap.specs.Simple.{app_of, new_app};
-ghost use Rattle.clap.specs.Walk.{rule_of};
+ghost use Rattle.std.specs.Prelude.{◌≡◌, ◌∷◌, [], Some, false, codes, IfOk, IfErr, IsErrAnd};
+ghost use Rattle.clap.specs.Matches.{found_of, subcommand_name_of};
+ghost use Rattle.clap.specs.Simple.{app_of, new_app, subcommand_rows_of};
+ghost use Rattle.clap.specs.Walk.{rows_of, rule_of};
 ghost use Rattle.clap.specs.declared.builder.command.Command.TheViews.{out-Command as fields_of};
 ghost use Rattle.clap.specs.Walk.{Text, texts};
 ghost use Rattle.clap.specs.declared.error.kind.ErrorKind.TheVariants.{DisplayHelp, DisplayVersion};
 ghost use Rattle.gq_cli.specs.Words.{AsksForLive, IsAlone, IsAskedBy, IsMemory, IsOf, ShownFor, Shows, finish_shape, gridfs, name_rule, number_rule, jobs_rule, order_shape, run_shape};
+ghost use Rattle.gq_cli.specs.Given.{HasValues, IsNumberGiven, given_by, name_of, rows_behind, text_given};
 
 use clap::error::ErrorKind;
 use clap::{Arg, ArgAction, ArgMatches, Command, Error};
@@ -267,38 +268,47 @@ fn command<'a>(alloc: Global) -> Result<Command<'a>, AllocError>
     Ok(gridfs)
 }
 
-// How many threads the words behind `run` ask for.
-fn jobs_of<'a>(run: Option<&ArgMatches<'a>>) -> u32 {
-    match run {
-        Some(run) => run.get_one::<u32>("JOBS").unwrap_or(1),
-        None => 1,
-    }
+// The text given for this id, the empty one where none is.
+fn text_of<'a>(matches: &ArgMatches<'a>, id: &str) -> &'a str
+    ensures { result.now ≡ text_given (rows_of (found_of matches.now)) id.now }
+{
+    matches.get_str(id).unwrap_or("")
+}
+
+// The number given for this id, the other one where none is.
+fn number_of(matches: &ArgMatches<'_>, id: &str, otherwise: u32) -> u32
+    ensures { IsNumberGiven (rows_of (found_of matches.now)) id.now otherwise result }
+{
+    matches.get_one::<u32>(id).unwrap_or(otherwise)
 }
 
 // What a parse of the words found. clap has refused words of `order` and of `finish` that leave one out, or that give a number
 // in another form.
 fn request_of<'a>(matches: &ArgMatches<'a>) -> Request<'a>
-    ensures { IsOf (subcommand_name_of matches.now) result }
+    ensures subcommand { IsOf (subcommand_name_of matches.now) result }
+    ensures values { subcommand_name_of matches.now ≡ Some (name_of result) → HasValues (rows_behind (subcommand_rows_of matches.now)) result }
 {
     if matches.subcommand_matches("live").is_some() {
         return Request::Live;
     }
     if let Some(finish) = matches.subcommand_matches("finish") {
         return Request::Finish {
-            name: finish.get_str("NAME").unwrap_or(""),
-            session: finish.get_one::<u32>("SESSION").unwrap_or(0),
+            name: text_of(finish, "NAME"),
+            session: number_of(finish, "SESSION", 0),
         };
     }
-    let Some(order) = matches.subcommand_matches("order") else {
-        return Request::Run {
-            jobs: jobs_of(matches.subcommand_matches("run")),
+    if let Some(order) = matches.subcommand_matches("order") {
+        return Request::Order {
+            name: text_of(order, "NAME"),
+            volume: number_of(order, "VOLUME", 0),
+            file: number_of(order, "FILE", 0),
         };
+    }
+    let jobs = match matches.subcommand_matches("run") {
+        Some(run) => number_of(run, "JOBS", 1),
+        None => 1,
     };
-    Request::Order {
-        name: order.get_str("NAME").unwrap_or(""),
-        volume: order.get_one::<u32>("VOLUME").unwrap_or(0),
-        file: order.get_one::<u32>("FILE").unwrap_or(0),
-    }
+    Request::Run { jobs }
 }
 
 /// Reads the words of a command line, of which the first is the program's name. Words that ask for help or for the version,
@@ -306,6 +316,7 @@ fn request_of<'a>(matches: &ArgMatches<'a>) -> Request<'a>
 /// memory is wanting, that is told before any text. Behind `live` no word may come but `--`, by which clap ends the options.
 pub fn read_words<'a>(alloc: Global, words: &'a [&'a str]) -> Result<Request<'a>, Usage>
     ensures request { IfOk result (IsAskedBy (texts words.entry.now)) }
+    ensures values { IfOk result (HasValues (given_by (texts words.entry.now))) }
     ensures run { IsAlone (codes "run") (texts words.entry.now) → IfErr result IsMemory }
     ensures live { AsksForLive (texts words.entry.now) → IfErr result IsMemory }
     ensures shown { IfErr result (ShownFor (texts words.entry.now)) }

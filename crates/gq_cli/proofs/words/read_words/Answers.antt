@@ -5,9 +5,10 @@ use Rattle.clap.specs.Simple.{App, HasMatchesOf}
 use Rattle.clap.specs.Values.{kind_of}
 use Rattle.clap.specs.Walk.{texts}
 use Rattle.clap.specs.declared.error.kind.ErrorKind.TheVariants.{OutOfMemory}
-use Rattle.gq_cli.specs.Words.{faults_in}
+use Rattle.gq_cli.specs.Words.{faults_in, gridfs}
 use Rattle.gq_cli.proofs.Asking.{asks}
 use Rattle.gq_cli.proofs.Naming.{asked_by, found_is_named, rules_are_exact}
+use Rattle.gq_cli.proofs.Values.{given_is, name_is}
 use Rattle.gq_cli.proofs.Faults.{asked_is_right, help_is_shown, live_is_right, version_is_shown}
 use Rattle.gq_cli.proofs.words.read_words.Goals as goal
 
@@ -22,7 +23,16 @@ pub returns-in-Ok-try_get_matches_from-clause-request :
 returns-in-Ok-try_get_matches_from-clause-request c =
     let words = texts c.args.words.now in
     asked_by words _ c.request_of.result (asks words (right c))
-    (found_is_named words _ (subst (λ (a : App). HasMatchesOf a words c.in-Ok-try_get_matches_from.matches) c.in-Ok.ensures.app c.in-Ok-try_get_matches_from.ensures.matches)) c.request_of.ensures
+    (found_is_named words _ (subst (λ (a : App). HasMatchesOf a words c.in-Ok-try_get_matches_from.matches) c.in-Ok.ensures.app c.in-Ok-try_get_matches_from.ensures.matches)) c.request_of.ensures.subcommand
+
+pub returns-in-Ok-try_get_matches_from-clause-values :
+    goal.returns-in-Ok-try_get_matches_from-clause-values
+returns-in-Ok-try_get_matches_from-clause-values c =
+    let words = texts c.args.words.now in
+    let has : HasMatchesOf gridfs words c.in-Ok-try_get_matches_from.matches = subst (λ (a : App). HasMatchesOf a words c.in-Ok-try_get_matches_from.matches) c.in-Ok.ensures.app c.in-Ok-try_get_matches_from.ensures.matches in
+    let named = found_is_named words _ has in
+    let asked = asked_by words _ c.request_of.result (asks words (right c)) named c.request_of.ensures.subcommand in
+    given_is words c.in-Ok-try_get_matches_from.matches c.request_of.result has (c.request_of.ensures.values (name_is words _ c.request_of.result named c.request_of.ensures.subcommand asked))
 
 pub returns-in-Ok-try_get_matches_from-clause-help :
     goal.returns-in-Ok-try_get_matches_from-clause-help
