@@ -1,27 +1,28 @@
-"""The history of a file, read off a script and its answers by what docs/FORMATS.md says of them, as lines of EDN, the form of Jepsen's
-histories. `:time` is the place among the lines that the tenant sees."""
+"""The history of a file, read off a script and its answers by what docs/FORMATS.md says of them. This is another reading than that of
+`gridfs history`, which has to write the same lines."""
 
 import re
 
 BEGAN = re.compile(r"op (\d+) sent .*")
 DONE = re.compile(r"done (write|read|list) (\d+) (\d+) ?(.*)")
-ROOM = 64  # A process's number is that of its session, and this times the number of the operation that was given up.
+ROOM = 16  # A process's number is that of its session, and this times the number of the operation that the session gave up last.
 
 
 def quoted(content):
     return '"' + ("" if content == "-" else content.lower()) + '"'
 
 
-def history_of(name, volume, file, lines, answers):
-    """The lines of the history: lines and answers are those of the script after `go`."""
-    events, going, given_up, place = [], {}, {}, 0
-    for line, answer in zip(lines, answers):
+def history_of(name, volume, file, lines, answers, number):
+    """The lines of the history: lines and answers are those of the script after `go`, and the first of them is the line of this
+    number."""
+    events, going, given_up = [], {}, {}
+    for time, (line, answer) in enumerate(zip(lines, answers), number):
         first, _, rest = line.partition(" ")
-        if first not in (name, "server"):
+        if first != name:
             continue
         words, told = rest.split(" "), answer.partition(" ")[2]
         began, done = BEGAN.fullmatch(told), DONE.fullmatch(told)
-        if first == name and began and words[0] in ("write", "read", "list"):
+        if began and words[0] in ("write", "read", "list"):
             session = int(words[1])
             if session in going:
                 # (it has been given up; its end comes behind all lines)
@@ -32,10 +33,10 @@ def history_of(name, volume, file, lines, answers):
                 process = session + ROOM * given_up.get(session, 0)
                 value = quoted(words[4]) if function == "write" else "nil"
                 going[session] = (function, process, value, int(began[1]), len(events))
-                events.append((place, "invoke", process, function, value))
+                events.append((time, "invoke", process, function, value))
             else:
                 going[session] = None
-        elif first == name and done:
+        elif done:
             operation = going.pop(int(done[2]))
             if operation:
                 function, process, value, _, _ = operation
@@ -43,16 +44,15 @@ def history_of(name, volume, file, lines, answers):
                     value = quoted(done[4].split(" ")[3])
                 if function == "length":
                     value = done[4].split(" ")[file].partition(":")[0]
-                events.append((place, "ok", process, function, value))
-        elif first == name and told == "abandoned":
+                events.append((time, "ok", process, function, value))
+        elif told == "abandoned":
             session = int(words[1])
             operation = going.pop(session)
             if operation:
                 given_up[session] = operation[3]
                 going["given up", operation[4]] = operation
-        place += 1
     left = sorted((operation for operation in going.values() if operation), key=lambda operation: operation[4])
-    events += [(place, "info", process, function, value) for function, process, value, _, _ in left]
+    events += [(number + len(lines), "info", process, function, value) for function, process, value, _, _ in left]
     return [
         f"{{:index {index}, :time {time}, :type :{kind}, :process {process}, :f :{function}, :value {value}}}"
         for index, (time, kind, process, function, value) in enumerate(events)

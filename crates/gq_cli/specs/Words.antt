@@ -9,7 +9,7 @@ use Rattle.clap.specs.declared.builder.action.ArgAction.TheVariants.{Set}
 use Rattle.clap.specs.declared.builder.value_parser.ValueParser.TheVariants.{Signed}
 use Rattle.clap.specs.declared.error.kind.ErrorKind.{ErrorKind}
 use Rattle.gq_cli.specs.declared.words.Request.{Request}
-use Rattle.gq_cli.specs.declared.words.Request.TheVariants.{Run, Order, Finish, Live}
+use Rattle.gq_cli.specs.declared.words.Request.TheVariants.{Run, Step, Order, History, Finish, Live}
 use Rattle.gq_cli.specs.declared.words.Usage.{Usage}
 use Rattle.gq_cli.specs.declared.words.Usage.TheVariants.{Shown, Memory}
 
@@ -20,15 +20,21 @@ jobs_rule = record (new_rule (codes "JOBS")) { short = Some 106; long = Some (co
 abbrev pub run_shape : Shape
 run_shape = record (new_shape (codes "run")) { rules = jobs_rule ∷ [] }
 
--- the subcommand `order`, which takes a name and two numbers below 2^32, each of which has to be given
+-- the subcommands `order` and `history`, which take a name and two numbers below 2^32, each of which has to be given
 abbrev pub name_rule : Rule
 name_rule = record (new_rule (codes "NAME")) { required = true; action = Some Set }
 
 abbrev pub number_rule : Text → Rule
 number_rule id = record (new_rule id) { required = true; action = Some Set; parser = Some (Signed (pos 0) (pos 4294967295)) }
 
+abbrev pub file_shape : Text → Shape
+file_shape name = record (new_shape name) { rules = name_rule ∷ number_rule (codes "VOLUME") ∷ number_rule (codes "FILE") ∷ [] }
+
 abbrev pub order_shape : Shape
-order_shape = record (new_shape (codes "order")) { rules = name_rule ∷ number_rule (codes "VOLUME") ∷ number_rule (codes "FILE") ∷ [] }
+order_shape = file_shape (codes "order")
+
+abbrev pub history_shape : Shape
+history_shape = file_shape (codes "history")
 
 -- the subcommand `finish`, which takes a name and a number below 2^32, both of which have to be given
 abbrev pub finish_shape : Shape
@@ -38,11 +44,15 @@ finish_shape = record (new_shape (codes "finish")) { rules = name_rule ∷ numbe
 abbrev pub live_shape : Shape
 live_shape = new_shape (codes "live")
 
+-- the subcommand `step`, which takes no word
+abbrev pub step_shape : Shape
+step_shape = new_shape (codes "step")
+
 -- the command line: `gridfs`, which has a version and wants one of its subcommands
 abbrev pub gridfs : App
-gridfs = with_subcommand (with_subcommand (with_subcommand (with_subcommand
+gridfs = with_subcommand (with_subcommand (with_subcommand (with_subcommand (with_subcommand (with_subcommand
     (on_top (λ top. record top { has_version = true; subcommand_required = true }) (new_app (codes "gridfs")))
-    run_shape) order_shape) finish_shape) live_shape
+    run_shape) order_shape) finish_shape) live_shape) step_shape) history_shape
 
 -- what is wrong with the words, the program's name first; a call for help or for the version counts
 abbrev pub faults_in : List Text → Kinds
@@ -60,9 +70,17 @@ AsksToRun words = (own : List Text) × (drop 1 words ≡ codes "run" ∷ own)
 abbrev pub AsksForLive : List Text → Type 0
 AsksForLive words = IsAlone (codes "live") words
 
+-- they ask for each line to be answered as it comes: `step`, which has no words of its own
+abbrev pub AsksToStep : List Text → Type 0
+AsksToStep words = (own : List Text) × (drop 1 words ≡ codes "step" ∷ own)
+
 -- they ask for the order of a file's operations: `order`, behind which come its own words
 abbrev pub AsksToOrder : List Text → Type 0
 AsksToOrder words = (own : List Text) × (drop 1 words ≡ codes "order" ∷ own)
+
+-- they ask for the history of a file's operations: `history`, behind which come its own words
+abbrev pub AsksForHistory : List Text → Type 0
+AsksForHistory words = (own : List Text) × (drop 1 words ≡ codes "history" ∷ own)
 
 -- they ask for the lines that complete an operation: `finish`, behind which come its own words
 abbrev pub AsksToFinish : List Text → Type 0
@@ -71,14 +89,18 @@ AsksToFinish words = (own : List Text) × (drop 1 words ≡ codes "finish" ∷ o
 -- the words name the subcommand by which it was asked for
 abbrev pub IsAskedBy : List Text → Request → Type 0
 IsAskedBy words (Run jobs) = AsksToRun words
+IsAskedBy words Step = AsksToStep words
 IsAskedBy words (Order name volume file) = AsksToOrder words
+IsAskedBy words (History name volume file) = AsksForHistory words
 IsAskedBy words (Finish name session) = AsksToFinish words
 IsAskedBy words Live = AsksForLive words
 
 -- what is asked for is that of the subcommand of this name
 abbrev pub IsOf : Option Text → Request → Type 0
-IsOf name (Run jobs) = (name ≢ Some (codes "order")) × (name ≢ Some (codes "finish")) × (name ≢ Some (codes "live"))
+IsOf name (Run jobs) = (name ≢ Some (codes "order")) × (name ≢ Some (codes "finish")) × (name ≢ Some (codes "live")) × (name ≢ Some (codes "step")) × (name ≢ Some (codes "history"))
+IsOf name Step = name ≡ Some (codes "step")
 IsOf name (Order tenant volume file) = name ≡ Some (codes "order")
+IsOf name (History tenant volume file) = name ≡ Some (codes "history")
 IsOf name (Finish tenant session) = name ≡ Some (codes "finish")
 IsOf name Live = name ≡ Some (codes "live")
 

@@ -7,7 +7,7 @@ ghost use Rattle.clap.specs.Walk.{rows_of, rule_of};
 ghost use Rattle.clap.specs.declared.builder.command.Command.TheViews.{out-Command as fields_of};
 ghost use Rattle.clap.specs.Walk.{Text, texts};
 ghost use Rattle.clap.specs.declared.error.kind.ErrorKind.TheVariants.{DisplayHelp, DisplayVersion};
-ghost use Rattle.gq_cli.specs.Words.{AsksForLive, IsAlone, IsAskedBy, IsMemory, IsOf, ShownFor, Shows, finish_shape, gridfs, name_rule, number_rule, jobs_rule, order_shape, run_shape};
+ghost use Rattle.gq_cli.specs.Words.{AsksForLive, IsAlone, IsAskedBy, IsMemory, IsOf, ShownFor, Shows, finish_shape, file_shape, gridfs, name_rule, number_rule, jobs_rule, run_shape, step_shape};
 ghost use Rattle.gq_cli.specs.Given.{HasValues, IsNumberGiven, given_by, name_of, rows_behind, text_given};
 
 use clap::error::ErrorKind;
@@ -21,8 +21,16 @@ pub enum Request<'a> {
     Run {
         jobs: u32,
     },
-    /// The same, and tell the order of the operations on a file of the tenant of this name.
+    /// Answer each line of a script as soon as it has ended.
+    Step,
+    /// The answers, and the order of the operations on a file of the tenant of this name.
     Order {
+        name: &'a str,
+        volume: u32,
+        file: u32,
+    },
+    /// Write the history of the operations on a file of the tenant of this name.
+    History {
         name: &'a str,
         volume: u32,
         file: u32,
@@ -99,6 +107,12 @@ Each line after `go` is answered by one line on standard output. A fault of the 
 with the number of the line, and nothing is written. docs/FORMATS.md has all forms of input and output, the refusals and the
 limits.";
 
+const STEP: &str = "\
+The input, and what is written for it, are those of `gridfs run`. But each line after `go` is answered as soon as it has ended,
+before more is read, so that the next line can be chosen by the answer. A fault of the plan is told as soon as its line has ended.
+
+After a fault the answers that were written before it stand: they are the beginning of what `gridfs run` writes.";
+
 const ORDER: &str = "\
 Behind the answers of `gridfs run` come a line for each operation on the file, in an order that keeps precedence and in which
 a single register gives the same answers, and the word `legal`: this execution was linearizable.
@@ -112,6 +126,16 @@ line. On the script of `gridfs run --help`, `gridfs order ann 0 0` writes behind
 
     write 1 1 6869
     legal";
+
+const HISTORY: &str = "\
+The answers are not written. In their place comes a line for the beginning and one for the end of each operation on the file, in
+the order of the lines of the script, each a map in EDN, as checkers of histories read it. On the script of `gridfs run --help`,
+`gridfs history ann 0 0` writes:
+
+    {:index 0, :time 6, :type :invoke, :process 1, :f :write, :value \"6869\"}
+    {:index 1, :time 10, :type :ok, :process 1, :f :write, :value \"6869\"}
+
+An operation that did not end has `:info` in place of `:ok`, behind all lines. docs/FORMATS.md has the whole form.";
 
 const LIVE: &str = "\
 The input is a plan whose tenants all have 1000000 steps, and after its line `go` lines of these kinds:
@@ -207,21 +231,21 @@ fn run<'a>(alloc: Global) -> Result<Command<'a>, AllocError>
     Ok(run)
 }
 
-// The subcommand `order`.
-fn order<'a>(alloc: Global) -> Result<Command<'a>, AllocError>
-    ensures shape { IfOk result (λ c. (app_of c).top ≡ order_shape) }
+// A subcommand about a file of a tenant.
+fn of_file<'a>(
+    alloc: Global,
+    subcommand_name: &'a str,
+    about: &'a str,
+    help: &'a str,
+) -> Result<Command<'a>, AllocError>
+    ensures shape { IfOk result (λ c. (app_of c).top ≡ file_shape subcommand_name.entry.now) }
     ensures local { IfOk result (λ c. (fields_of c).has_globals ≡ false) }
 {
-    let order = subcommand(
-        alloc,
-        "order",
-        "The same, and behind it the order of the operations on a file of the tenant",
-        ORDER,
-    )
-    .arg(name(alloc))?
-    .arg(number(alloc, "VOLUME", "The number of the tenant's volume, from 0"))?
-    .arg(number(alloc, "FILE", "The number of the volume's file, from 0"))?;
-    Ok(order)
+    let whole = subcommand(alloc, subcommand_name, about, help)
+        .arg(name(alloc))?
+        .arg(number(alloc, "VOLUME", "The number of the tenant's volume, from 0"))?
+        .arg(number(alloc, "FILE", "The number of the volume's file, from 0"))?;
+    Ok(whole)
 }
 
 // The subcommand `finish`.
@@ -254,6 +278,12 @@ fn command<'a>(alloc: Global) -> Result<Command<'a>, AllocError>
         "Run the programs of an input in threads, and write the run as a script",
         LIVE,
     );
+    let step = subcommand(
+        alloc,
+        "step",
+        "Answer each line of a script as soon as it has ended",
+        STEP,
+    );
     let gridfs = Command::new(alloc, "gridfs")
         .about(
             "A replicated file service for many tenants: each is told what its run alone would tell",
@@ -262,9 +292,21 @@ fn command<'a>(alloc: Global) -> Result<Command<'a>, AllocError>
         .after_help(INPUT)
         .subcommand_required(true)
         .subcommand(run(alloc)?)?
-        .subcommand(order(alloc)?)?
+        .subcommand(of_file(
+            alloc,
+            "order",
+            "The same, and behind it the order of the operations on a file of the tenant",
+            ORDER,
+        )?)?
         .subcommand(finish(alloc)?)?
-        .subcommand(live)?;
+        .subcommand(live)?
+        .subcommand(step)?
+        .subcommand(of_file(
+            alloc,
+            "history",
+            "Write the history of the operations on a file of the tenant, as Jepsen has it",
+            HISTORY,
+        )?)?;
     Ok(gridfs)
 }
 
@@ -291,6 +333,9 @@ fn request_of<'a>(matches: &ArgMatches<'a>) -> Request<'a>
     if matches.subcommand_matches("live").is_some() {
         return Request::Live;
     }
+    if matches.subcommand_matches("step").is_some() {
+        return Request::Step;
+    }
     if let Some(finish) = matches.subcommand_matches("finish") {
         return Request::Finish {
             name: text_of(finish, "NAME"),
@@ -302,6 +347,13 @@ fn request_of<'a>(matches: &ArgMatches<'a>) -> Request<'a>
             name: text_of(order, "NAME"),
             volume: number_of(order, "VOLUME", 0),
             file: number_of(order, "FILE", 0),
+        };
+    }
+    if let Some(history) = matches.subcommand_matches("history") {
+        return Request::History {
+            name: text_of(history, "NAME"),
+            volume: number_of(history, "VOLUME", 0),
+            file: number_of(history, "FILE", 0),
         };
     }
     let jobs = match matches.subcommand_matches("run") {

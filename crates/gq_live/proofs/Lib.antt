@@ -1,1 +1,3 @@
 pub mod NoVolumes
+pub mod Telling
+pub mod Noting

@@ -4,7 +4,7 @@ use Rattle.std.specs.Option.{option_or}
 use Rattle.gq_desk.specs.CheckedPlan.{CheckedPlan}
 use Rattle.gq_desk.specs.Volumes.{Account, OpenFault, account_at, open_fault, with_volume}
 use Rattle.gq_session.specs.declared.records.LiveFault.{LiveFault}
-use Rattle.gq_session.specs.declared.records.LiveFault.TheVariants.{Volume}
+use Rattle.gq_session.specs.declared.records.LiveFault.TheVariants.{Memory, Volume}
 use Rattle.gq_session.specs.declared.records.Opening.{Opening}
 
 -- why the desk refuses the volume, if it does
@@ -29,10 +29,11 @@ first_refused desk place (o ∷ os) = option_or (place_if place (opening_fault d
 abbrev pub refused_volume : CheckedPlan → List Opening → Option ℕ
 refused_volume plan volumes = first_refused (map (λ row. record { share = row.share; volumes = [] }) plan.rows) 0 volumes
 
--- a fault that tells of a volume tells of the first that is refused
+-- the first volume that is refused is told exactly where one is; but want of memory may come before it is found
 abbrev pub TellsOfVolume : CheckedPlan → List Opening → LiveFault → Type 0
 TellsOfVolume plan volumes (Volume place) = refused_volume plan volumes ≡ Some place
-TellsOfVolume plan volumes _ = Unit {0}
+TellsOfVolume plan volumes (Memory _) = Unit {0}
+TellsOfVolume plan volumes _ = refused_volume plan volumes ≡ None
 
 -- a fault that tells of no volume
 abbrev pub TellsOfNoVolume : LiveFault → Type 0

@@ -1,5 +1,8 @@
 //! A session's thread.
+ghost use Rattle.std.specs.Prelude.{◌≡◌, ◌↔◌, true, false, None, IfOk, OnOk, MatchOption};
+ghost use Rattle.gq_session.specs.Attending.{Asks, GivesUp, GivesUpWhereStuck, GoesOn, Hears, SendsAgain, TakesNotice, TakesReply, is_prop-gives_up};
 ghost use Rattle.gq_session.specs.Faults.{NoGate};
+ghost use Rattle.gq_live.specs.Notes.{TakesNote};
 
 use crate::starts::{Mailboxes, Note, Seat, post};
 use crossbeam_channel::{Receiver, Sender};
@@ -10,11 +13,13 @@ use gq_tag::Message;
 use std::alloc::Global;
 use std::sync::{Mutex, Wait};
 
-/// What a session's thread gives back: its place among all sessions, with the session.
+/// What a session's thread gives back: its place among all sessions, with the session, which gave an operation up exactly
+/// where it waited for nothing.
 #[derive(Drop)]
 pub(crate) struct Attendance {
     pub place: usize,
     pub session: Session,
+    ghost gave_up: { GivesUpWhereStuck session.entries } by { is_prop-gives_up session.entries },
 }
 
 /// How a session's thread ended. Its fault is not the gate's.
@@ -69,7 +74,8 @@ fn hear<R: Wait>(
     session: &mut Session,
     letter: Letter,
 ) -> Result<Outbox, LiveFault>
-    ensures { NoGate result }
+    ensures hears { IfOk result (λ outbox. Hears letter session.old session.new outbox.stamp outbox.messages outbox.stuck) }
+    ensures gate { NoGate result }
 {
     let mut board = agenda.lock(rt);
     let heard = session.hear(&mut *board, letter);
@@ -83,7 +89,8 @@ fn retry<R: Wait>(
     agenda: &Mutex<Agenda>,
     session: &mut Session,
 ) -> Result<Outbox, LiveFault>
-    ensures { NoGate result }
+    ensures retries { IfOk result (λ outbox. SendsAgain session.old session.new outbox.stamp outbox.messages outbox.stuck) }
+    ensures gate { NoGate result }
 {
     let mut board = agenda.lock(rt);
     let sent = session.retry(&mut *board);
@@ -97,7 +104,8 @@ fn give_up<R: Wait>(
     agenda: &Mutex<Agenda>,
     session: &mut Session,
 ) -> Result<Outbox, LiveFault>
-    ensures { NoGate result }
+    ensures ends { IfOk result (λ outbox. GivesUp outbox.stamp session.old session.new) }
+    ensures gate { NoGate result }
 {
     let mut board = agenda.lock(rt);
     let ended = session.give_up(&mut *board);
@@ -111,7 +119,9 @@ fn ask_next<R: Wait>(
     agenda: &Mutex<Agenda>,
     session: &mut Session,
 ) -> Result<Option<Outbox>, LiveFault>
-    ensures { NoGate result }
+    ensures asks { IfOk result (λ asked. MatchOption asked (session.new ≡ session.old)
+        (λ outbox. Asks session.old session.new outbox.stamp outbox.messages)) }
+    ensures gate { NoGate result }
 {
     let mut board = agenda.lock(rt);
     let asked = session.ask_next(&mut *board);
@@ -128,13 +138,49 @@ fn go_on<R: Wait>(
     session: &mut Session,
     outbox: Outbox,
 ) -> Result<(), LiveFault>
-    ensures { NoGate result }
+    ensures goes_on { OnOk result (GoesOn outbox.stuck session.old session.new) }
+    ensures gate { NoGate result }
 {
     if outbox.stuck {
         let ended = give_up(rt, agenda, session)?;
         send_all(rt, alloc, servers, ended)?;
     }
     send_all(rt, alloc, servers, outbox)
+}
+
+// Hears a reply, also one that comes too late, and goes on.
+fn take_reply<R: Wait>(
+    rt: &R,
+    alloc: Global,
+    agenda: &Mutex<Agenda>,
+    servers: &[Sender<Letter>],
+    session: &mut Session,
+    letter: Letter,
+) -> Result<(), LiveFault>
+    ensures takes { OnOk result (TakesReply letter session.old session.new) }
+    ensures gate { NoGate result }
+{
+    let heard = hear(rt, agenda, session, letter)?;
+    go_on(rt, alloc, agenda, servers, session, heard)
+}
+
+// Tries the round once more on a notice of it, and passes by another.
+fn take_notice<R: Wait>(
+    rt: &R,
+    alloc: Global,
+    agenda: &Mutex<Agenda>,
+    servers: &[Sender<Letter>],
+    session: &mut Session,
+    returned: &Letter,
+) -> Result<(), LiveFault>
+    ensures takes { OnOk result (TakesNotice returned.now session.old session.new) }
+    ensures gate { NoGate result }
+{
+    if !session.is_current(&returned.message) {
+        return Ok(());
+    }
+    let sent = retry(rt, agenda, session)?;
+    go_on(rt, alloc, agenda, servers, session, sent)
 }
 
 // Does what a note is for. False where the session has to quit.
@@ -146,20 +192,14 @@ fn take_note<R: Wait>(
     session: &mut Session,
     note: Note,
 ) -> Result<bool, LiveFault>
-    ensures { NoGate result }
+    ensures takes { OnOk result (TakesNote note session.old session.new) }
+    ensures quits { IfOk result (λ goes_on. goes_on ≡ false ↔ note ≡ Note.Quit) }
+    ensures gate { NoGate result }
 {
     match note {
         Note::Quit => return Ok(false),
-        Note::Returned(letter) => {
-            if session.is_current(&letter.message) {
-                let sent = retry(rt, agenda, session)?;
-                go_on(rt, alloc, agenda, servers, session, sent)?;
-            }
-        }
-        Note::Letter(letter) => {
-            let heard = hear(rt, agenda, session, letter)?;
-            go_on(rt, alloc, agenda, servers, session, heard)?;
-        }
+        Note::Returned(letter) => take_notice(rt, alloc, agenda, servers, session, &letter)?,
+        Note::Letter(letter) => take_reply(rt, alloc, agenda, servers, session, letter)?,
     }
     Ok(true)
 }
@@ -173,7 +213,9 @@ fn end_operation<R: Wait>(
     servers: &[Sender<Letter>],
     session: &mut Session,
 ) -> Result<bool, LiveFault>
-    ensures { NoGate result }
+    ensures ended { IfOk result (λ ended. ended ≡ true → session.new.work.operation ≡ None) }
+    ensures gave_up { OnOk result (GivesUpWhereStuck session.old.entries → GivesUpWhereStuck session.new.entries) }
+    ensures gate { NoGate result }
 {
     for _ in rt.forever() {
         if !session.is_busy() {
@@ -198,7 +240,8 @@ fn ask_all<R: Wait>(
     servers: &[Sender<Letter>],
     session: &mut Session,
 ) -> Result<(), LiveFault>
-    ensures { NoGate result }
+    ensures gave_up { OnOk result (GivesUpWhereStuck session.old.entries → GivesUpWhereStuck session.new.entries) }
+    ensures gate { NoGate result }
 {
     for _ in rt.forever() {
         let Some(outbox) = ask_next(rt, agenda, session)? else {

@@ -3,6 +3,7 @@
 #![tactic(auto)]
 
 mod attending;
+mod held;
 mod run;
 mod serving;
 mod starts;

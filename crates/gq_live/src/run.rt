@@ -1,6 +1,7 @@
 //! The live run.
-ghost use Rattle.std.specs.Prelude.{◌≡◌, ◌≢◌, ◌*◌, true, length, IfErr, IfOk, None, OnOk, vec_len};
+ghost use Rattle.std.specs.Prelude.{◌≡◌, ◌≢◌, ◌*◌, true, All, length, IfErr, IfOk, None, OnOk, vec_len};
 ghost use Rattle.std.specs.Option.{ForSome};
+ghost use Rattle.gq_session.specs.Attending.{GivesUpWhereStuck};
 ghost use Rattle.gq_session.specs.Changed.{changes_of, IsSubsequence};
 ghost use Rattle.gq_session.specs.Faults.{NoGate};
 ghost use Rattle.gq_session.specs.Fitting.{FitsPlan};
@@ -17,7 +18,7 @@ use crate::thread_ends::{CellRecord, GatedEnd, all_or_least, entries, journals, 
 use crossbeam_channel::Sender;
 use gq_desk::{Desk, Plan};
 use gq_grid::Grid;
-use gq_memory::{GrowVec, OutOfMemory, channel_of_one, send, slice_copied};
+use gq_memory::{GrowVec, OutOfMemory, RoomInVec, channel_of_one, send, slice_copied};
 use gq_session::{Agenda, Gate, LiveFault, Programs, Records};
 use std::alloc::Global;
 use std::sync::{Mutex, Wait};
@@ -88,7 +89,8 @@ struct AllEnds<G: Gate> {
     ghost no_gate: { ForSome fault (λ fault. fault ≢ FaultIs.Gate) },
 }
 
-// Starts all threads and joins them. A thread that couldn't be started is no end in the lists.
+// Starts all threads and joins them. A thread that couldn't be started is no end in the lists. A thread is started only where
+// there is room for its handle: what it gives back is given back by no other.
 fn run_threads<'x, G: Gate + Send + Sync, R: Threads + Wait + Sync>(
     rt: &'x R,
     alloc: Global,
@@ -106,33 +108,33 @@ fn run_threads<'x, G: Gate + Send + Sync, R: Threads + Wait + Sync>(
         let mut attending = Vec::new(alloc);
         let mut fault = None;
         for (site, inbox) in sites.iter().zip(inboxes) {
+            if let Err(refused) = serving.make_room(1) {
+                fault = Some(LiveFault::Memory(refused));
+                break;
+            }
             match scope.spawn(move || serve(rt, alloc, site, inbox)).ok() {
-                Some(thread) => {
-                    if let Err(refused) = serving.grow(thread) {
-                        fault = Some(LiveFault::Memory(refused));
-                    }
-                }
-                None => fault = Some(LiveFault::Thread),
+                Some(thread) => serving.push_reserved(thread),
+                None => fault = Some(least(fault, LiveFault::Thread)),
             }
         }
         for seat in seats {
+            if let Err(refused) = attending.make_room(1) {
+                fault = Some(LiveFault::Memory(refused));
+                break;
+            }
             match scope
                 .spawn(move || attend(rt, alloc, grid, agenda, mailboxes, seat))
                 .ok()
             {
-                Some(thread) => {
-                    if let Err(refused) = attending.grow(thread) {
-                        fault = Some(LiveFault::Memory(refused));
-                    }
-                }
-                None => fault = Some(LiveFault::Thread),
+                Some(thread) => attending.push_reserved(thread),
+                None => fault = Some(least(fault, LiveFault::Thread)),
             }
         }
         let steward = scope
             .spawn(move || steward(rt, alloc, agenda, mailboxes, orders, count))
             .ok();
         if steward.is_none() {
-            fault = Some(LiveFault::Thread);
+            fault = Some(least(fault, LiveFault::Thread));
         }
         if fault.is_some() {
             mailboxes.quit(rt);
@@ -261,6 +263,7 @@ fn run_opened<G: Gate + Send + Sync, R: Threads + Wait + Sync>(
     ensures lawful { IfOk result (λ r. AllLawful r.cells.items) }
     ensures sessions { IfOk result (λ r. vec_len r.sessions ≡ vec_len programs.now.sessions) }
     ensures asked { IfOk result (λ r. AllAsked programs.now.sessions.items r.sessions.items) }
+    ensures gave_up { IfOk result (λ r. All GivesUpWhereStuck r.sessions.items) }
     ensures changes { IfOk result (λ r. IsSubsequence (changes_of r.board.items) programs.now.changes.items) }
     ensures gate { G.never ≡ true → NoGate result }
 {
@@ -326,6 +329,7 @@ pub fn live<G: Gate + Send + Sync, R: Threads + Wait + Sync>(
     ensures lawful { IfOk result (λ r. AllLawful r.cells.items) }
     ensures sessions { IfOk result (λ r. vec_len r.sessions ≡ vec_len programs.now.sessions) }
     ensures asked { IfOk result (λ r. AllAsked programs.now.sessions.items r.sessions.items) }
+    ensures gave_up { IfOk result (λ r. All GivesUpWhereStuck r.sessions.items) }
     ensures changes { IfOk result (λ r. IsSubsequence (changes_of r.board.items) programs.now.changes.items) }
     ensures opens { OnOk result (refused_volume plan.now programs.now.volumes.items ≡ None) }
     ensures volume { IfErr result (TellsOfVolume plan.now programs.now.volumes.items) }

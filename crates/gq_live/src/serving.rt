@@ -1,51 +1,24 @@
 //! A server's thread and its workers.
-ghost use Rattle.std.specs.Prelude.{◌≡◌, ◌<◌, true, OnOk, IsTrue, length};
-ghost use Rattle.gq_tag.specs.Tag.{to_server};
+ghost use Rattle.std.specs.Prelude.{◌≡◌, ◌<◌, true, IfOk, OnOk, Err, None, length};
+ghost use Rattle.std.specs.Option.{ForSome};
 ghost use Rattle.gq_store.specs.Copies.{empty_store, store_accounts};
 ghost use Rattle.gq_session.specs.Faults.{NoGate};
+ghost use Rattle.gq_live.specs.Faults.{fault_in};
+ghost use Rattle.gq_live.specs.Notes.{note_for};
 
+use crate::held::HeldCell;
 use crate::starts::{Note, Order, ServerInbox, Site, post};
-use crate::thread_ends::{CellRecord, GatedEnd};
+use crate::thread_ends::{CellRecord, GatedEnd, both_or_least};
 use crossbeam_channel::Receiver;
-use gq_cell::{Cell, CellRefused, Letter, Served, Share};
+use gq_cell::{Cell, Letter, Served, Share};
 use gq_desk::{Desk, OpenRefused, Plan};
-use gq_session::{Agenda, Gate, LiveFault, Opening, change_cell};
-use gq_tag::Message;
+use gq_session::{Agenda, Gate, LiveFault, Opening};
 use std::alloc::Global;
 use std::marker::Brand;
 use std::sync::ledger::{Blank, Ledger};
 use std::sync::{Mutex, Wait};
 use std::thread;
 use std::thread::{JoinHandle, Threads};
-
-fn is_for(message: &Message, server: u8) -> bool
-    ensures { result ≡ true → (message.now.server ≡ server) × IsTrue (to_server message.now.body) }
-{
-    message.server == server && message.to_server()
-}
-
-// What a worker does while it holds the cell's lock.
-fn serve_held<L: Ledger, G: Gate>(
-    site: &Site<'_, G>,
-    cell: &mut Cell<L>,
-    share: &mut Share<L>,
-    letter: &Letter,
-) -> Result<Served, LiveFault>
-    ensures { G.never ≡ true → NoGate result }
-{
-    if site.gate.inside(u32::from(site.server)).is_err() {
-        return Err(LiveFault::Gate);
-    }
-    if !is_for(&letter.message, cell.server()) {
-        return Err(LiveFault::Letter);
-    }
-    match cell.serve(share, letter) {
-        Ok(served) => Ok(served),
-        Err(CellRefused::Memory(refused)) => Err(LiveFault::Memory(refused)),
-        Err(CellRefused::Stamps) => Err(LiveFault::Stamps),
-        Err(CellRefused::File | CellRefused::Long) => Err(LiveFault::Letter),
-    }
-}
 
 // Sends the note to the session. One to a closed mailbox is dropped.
 fn send<G: Gate, R: Wait>(
@@ -63,11 +36,21 @@ fn send<G: Gate, R: Wait>(
     }
 }
 
+// What the letter's session is told: the reply, or that the server is down.
+fn note_of(served: Served, letter: Letter) -> Note
+    ensures { result ≡ note_for letter served }
+{
+    match served {
+        Served::Reply(reply) => Note::Letter(reply),
+        Served::Down => Note::Returned(letter),
+    }
+}
+
 // One hold of the cell's lock, and the note to the letter's session.
 fn serve_one<L: Ledger, G: Gate, R: Wait>(
     rt: &R,
     site: &Site<'_, G>,
-    cell: &Mutex<Cell<L>>,
+    cell: &Mutex<HeldCell<L>>,
     share: &mut Share<L>,
     letter: Letter,
 ) -> Result<(), LiveFault>
@@ -77,15 +60,11 @@ fn serve_one<L: Ledger, G: Gate, R: Wait>(
         return Err(LiveFault::Gate);
     }
     let mut held = cell.lock(rt);
-    let served = serve_held(site, &mut held, share, &letter);
+    let served = (*held).serve(site.gate, share, &letter);
     drop(held);
     let tenant = letter.message.tenant;
     let session = letter.message.session;
-    let note = match served? {
-        Served::Reply(reply) => Note::Letter(reply),
-        Served::Down => Note::Returned(letter),
-    };
-    send(rt, site, tenant, session, note)
+    send(rt, site, tenant, session, note_of(served?, letter))
 }
 
 // What a worker did: its share, and its fault, if it met one.
@@ -99,7 +78,7 @@ struct WorkerEnd<L: Ledger, G: Gate> {
 fn work<L: Ledger, G: Gate, R: Wait>(
     rt: &R,
     site: &Site<'_, G>,
-    cell: &Mutex<Cell<L>>,
+    cell: &Mutex<HeldCell<L>>,
     letters: &Receiver<Letter>,
     share: Share<L>,
 ) -> WorkerEnd<L, G> {
@@ -123,20 +102,11 @@ fn work<L: Ledger, G: Gate, R: Wait>(
     }
 }
 
-// The journal of a cell whose workers have ended.
-fn record<L: Ledger>(cell: Cell<L>, one: Share<L>, two: Share<L>) -> CellRecord
-    requires { L.parts ≡ 2 }
-{
-    let server = cell.server();
-    let journal = cell.close(one, two);
-    CellRecord { server, journal }
-}
-
 // Does the changes that the steward hands out. The board's lock is taken before the cell's.
 fn do_orders<L: Ledger, R: Wait>(
     rt: &R,
     agenda: &Mutex<Agenda>,
-    cell: &Mutex<Cell<L>>,
+    cell: &Mutex<HeldCell<L>>,
     orders: &Receiver<Order>,
 ) -> Result<(), LiveFault>
     ensures { NoGate result }
@@ -147,7 +117,7 @@ fn do_orders<L: Ledger, R: Wait>(
         };
         let mut agenda = agenda.lock(rt);
         let mut cell = cell.lock(rt);
-        let changed = change_cell(&mut *agenda, &mut *cell);
+        let changed = (*cell).change(&mut *agenda);
         drop(cell);
         drop(agenda);
         changed?;
@@ -156,54 +126,71 @@ fn do_orders<L: Ledger, R: Wait>(
     Ok(())
 }
 
+// How the workers of a cell ended, if they could be started, and its orders. The fault of the orders is not the gate's.
+#[derive(Drop)]
+struct CellEnds<L: Ledger, G: Gate> {
+    first: Option<WorkerEnd<L, G>>,
+    second: Option<WorkerEnd<L, G>>,
+    ordered: Result<(), LiveFault>,
+    ghost no_gate: { NoGate ordered },
+}
+
 // Two workers of one cell, until they have ended.
 fn work_both<'x, L: Ledger + Send + Sync, G: Gate + Send + Sync, R: Threads + Wait + Sync>(
     rt: &'x R,
     site: &'x Site<'x, G>,
-    cell: &'x Mutex<Cell<L>>,
+    cell: &'x Mutex<HeldCell<L>>,
     inbox: &'x ServerInbox,
     one: Share<L>,
     two: Share<L>,
-) -> Result<(WorkerEnd<L, G>, WorkerEnd<L, G>), LiveFault>
-    ensures { NoGate result }
-{
-    thread::scope(
-        thread::scope_env(),
-        rt,
-        move |scope| -> Result<(WorkerEnd<L, G>, WorkerEnd<L, G>), LiveFault>
-            ensures { NoGate result }
-        {
-            let letters = &inbox.letters;
-            let first = scope.spawn(move || work(rt, site, cell, letters, one)).ok();
-            let second = scope.spawn(move || work(rt, site, cell, letters, two)).ok();
-            if first.is_none() || second.is_none() {
-                site.mailboxes.quit(rt);
-            }
-            let ordered = do_orders(rt, site.agenda, cell, &inbox.orders);
-            if ordered.is_err() {
-                site.mailboxes.quit(rt);
-            }
-            let joined = join_both(rt, first, second);
-            ordered?;
-            joined
-        },
-    )
+) -> CellEnds<L, G> {
+    thread::scope(thread::scope_env(), rt, move |scope| {
+        let letters = &inbox.letters;
+        let first = scope.spawn(move || work(rt, site, cell, letters, one)).ok();
+        let second = scope.spawn(move || work(rt, site, cell, letters, two)).ok();
+        if first.is_none() || second.is_none() {
+            site.mailboxes.quit(rt);
+        }
+        let ordered = do_orders(rt, site.agenda, cell, &inbox.orders);
+        if ordered.is_err() {
+            site.mailboxes.quit(rt);
+        }
+        CellEnds {
+            first: join(rt, first),
+            second: join(rt, second),
+            ordered,
+        }
+    })
 }
 
-fn join_both<L: Ledger, G: Gate, R: Threads>(
+// Joins a worker, if it could be started.
+fn join<L: Ledger, G: Gate, R: Threads>(
     rt: &R,
-    first: Option<JoinHandle<WorkerEnd<L, G>>>,
-    second: Option<JoinHandle<WorkerEnd<L, G>>>,
-) -> Result<(WorkerEnd<L, G>, WorkerEnd<L, G>), LiveFault>
-    ensures { NoGate result }
+    worker: Option<JoinHandle<WorkerEnd<L, G>>>,
+) -> Option<WorkerEnd<L, G>> {
+    match worker {
+        Some(worker) => Some(worker.join(rt)),
+        None => None,
+    }
+}
+
+// A worker's share, where it met no fault. One that could not be started is `Thread`.
+fn share_of<L: Ledger, G: Gate>(worker: Option<WorkerEnd<L, G>>) -> Result<Share<L>, LiveFault>
+    ensures share { IfOk result (λ share. ForSome worker (λ w. share ≡ w.share)) }
+    ensures thread { worker ≡ None → result ≡ Err LiveFault.Thread }
+    ensures fault { ForSome worker (λ w. fault_in result ≡ fault_in w.end.result) }
+    ensures gate { G.never ≡ true → NoGate result }
 {
-    match (first, second) {
-        (Some(first), Some(second)) => Ok((first.join(rt), second.join(rt))),
-        (Some(only), None) | (None, Some(only)) => {
-            drop(only.join(rt));
-            Err(LiveFault::Thread)
+    match worker {
+        None => Err(LiveFault::Thread),
+        Some(worker) => {
+            let WorkerEnd { share, end } = worker;
+            let GatedEnd { result: given, .. } = end;
+            match given {
+                Ok(()) => Ok(share),
+                Err(met) => Err(met),
+            }
         }
-        (None, None) => Err(LiveFault::Thread),
     }
 }
 
@@ -286,11 +273,16 @@ fn serve_as<'x, L: Ledger + Send + Sync, G: Gate + Send + Sync, R: Threads + Wai
         site.mailboxes.quit(rt);
     }
     let (cell, one, two) = made?;
-    let cell = Mutex::new(cell);
-    let (first, second) = work_both(rt, site, &cell, &inbox, one, two)?;
-    first.end.result?;
-    second.end.result?;
-    Ok(record(cell.into_inner(), first.share, second.share))
+    let cell = Mutex::new(HeldCell::new(cell));
+    let CellEnds {
+        first,
+        second,
+        ordered,
+        ..
+    } = work_both(rt, site, &cell, &inbox, one, two);
+    let shares = both_or_least(share_of(first), share_of(second));
+    let ((one, two), ()) = both_or_least(shares, ordered)?;
+    Ok(cell.into_inner().record(one, two))
 }
 
 /// A server's thread.

@@ -1,8 +1,12 @@
 //! What the threads of a live run gave back, put together.
-ghost use Rattle.std.specs.Prelude.{◌≡◌, ◌≢◌, ℕ, ◌+◌, true, Ok, IfOk, OnOk, vec_len};
+ghost use Rattle.std.specs.Prelude.{◌≡◌, ◌≢◌, ℕ, ◌+◌, ◌≤◌, ◌⊎◌, [], ◌∷◌, ◌++◌, true, All, Ok, IfOk, IfErr, OnOk, MatchOption, option_to_list, vec_len};
+ghost use Rattle.std.specs.List.{filter_map};
 ghost use Rattle.std.specs.Option.{ForSome};
+ghost use Rattle.std.specs.Result.{result_err};
+ghost use Rattle.gq_session.specs.Attending.{GivesUpWhereStuck};
 ghost use Rattle.gq_session.specs.Faults.{NoGate};
 ghost use Rattle.gq_session.specs.declared.records.LiveFault.TheVariants as FaultIs;
+ghost use Rattle.gq_live.specs.Faults.{number_of, IsLeastOf, fault_in, AddsOrTells, IsToldOf};
 ghost use Rattle.gq_live.specs.Runs.{AllLawful, AllAsked};
 
 use crate::attending::{Attendance, SessionEnd};
@@ -51,32 +55,73 @@ impl<T: Drop, G: Gate> GatedEnd<T, G> {
 }
 
 // The number of the fault.
-fn rank(fault: &LiveFault) -> u8 {
+fn number(fault: &LiveFault) -> u8
+    ensures { result ≡ number_of fault.now }
+{
     match fault {
-        LiveFault::Memory(_) => 0,
-        LiveFault::Thread => 1,
-        LiveFault::Gate => 2,
-        LiveFault::Stamps => 3,
-        LiveFault::Volume(_) => 4,
-        LiveFault::Letter => 5,
-    }
-}
-
-// Whether the first fault is of a lesser number, of two volumes whether it tells of the one before.
-fn is_less(one: &LiveFault, two: &LiveFault) -> bool {
-    match (one, two) {
-        (LiveFault::Volume(a), LiveFault::Volume(b)) => *a < *b,
-        _ => rank(one) < rank(two),
+        LiveFault::Memory(_) => 1,
+        LiveFault::Thread => 2,
+        LiveFault::Gate => 3,
+        LiveFault::Stamps => 4,
+        LiveFault::Volume(_) => 5,
+        LiveFault::Letter => 6,
     }
 }
 
 // The fault of the lesser number.
+fn lesser(one: LiveFault, two: LiveFault) -> LiveFault
+    ensures met { (result ≡ one) ⊎ (result ≡ two) }
+    ensures one { number_of result ≤ number_of one }
+    ensures two { number_of result ≤ number_of two }
+{
+    if number(&one) < number(&two) {
+        one
+    } else {
+        two
+    }
+}
+
+// Of the fault that is told so far, if there is one, and one more, that of the lesser number.
 pub(crate) fn least(one: Option<LiveFault>, two: LiveFault) -> LiveFault
-    ensures { ForSome one (λ fault. fault ≢ FaultIs.Gate) → two ≢ FaultIs.Gate → result ≢ FaultIs.Gate }
+    ensures least { IsLeastOf (option_to_list one ++ two ∷ []) result }
+    ensures gate { ForSome one (λ fault. fault ≢ FaultIs.Gate) → two ≢ FaultIs.Gate → result ≢ FaultIs.Gate }
 {
     match one {
-        Some(one) if is_less(&one, &two) => one,
-        _ => two,
+        Some(one) => lesser(one, two),
+        None => two,
+    }
+}
+
+// What is told, where this came after what is told so far.
+fn told_after(fault: Option<LiveFault>, added: Result<(), LiveFault>) -> Option<LiveFault>
+    ensures ok { OnOk added (result ≡ fault) }
+    ensures least { IfErr added (λ met. MatchOption result ⊥ (IsLeastOf (option_to_list fault ++ met ∷ []))) }
+    ensures gate { NoGate added → ForSome fault (λ fault. fault ≢ FaultIs.Gate) → ForSome result (λ fault. fault ≢ FaultIs.Gate) }
+{
+    match added {
+        Ok(()) => fault,
+        Err(met) => Some(least(fault, met)),
+    }
+}
+
+// Both, unless there is a fault; then the one of the lesser number.
+pub(crate) fn both_or_least<A: Drop, B: Drop>(
+    one: Result<A, LiveFault>,
+    two: Result<B, LiveFault>,
+) -> Result<(A, B), LiveFault>
+    ensures both { IfOk result (λ both. (one ≡ Ok both.0) × (two ≡ Ok both.1)) }
+    ensures least { IfErr result (IsLeastOf (fault_in one ++ fault_in two)) }
+    ensures gate { NoGate one → NoGate two → NoGate result }
+{
+    match one {
+        Ok(one) => match two {
+            Ok(two) => Ok((one, two)),
+            Err(met) => Err(met),
+        },
+        Err(met) => match two {
+            Ok(_two) => Err(met),
+            Err(other) => Err(lesser(met, other)),
+        },
     }
 }
 
@@ -85,7 +130,7 @@ fn add_journal(all: &mut Vec<Journal>, record: CellRecord) -> Result<(), LiveFau
     requires { AllLawful all.old.items }
     ensures lawful { AllLawful all.new.items }
     ensures len { OnOk result (vec_len all.new ≡ vec_len all.old + 1) }
-    ensures gate { NoGate result }
+    ensures fault { IfErr result (λ fault. (fault ≡ LiveFault.Memory tt) ⊎ (fault ≡ LiveFault.Letter)) }
 {
     let CellRecord { server, journal } = record;
     if server as usize != all.len() {
@@ -96,25 +141,38 @@ fn add_journal(all: &mut Vec<Journal>, record: CellRecord) -> Result<(), LiveFau
     Ok(())
 }
 
+// Adds what a server's thread gave back, if it met no fault.
+fn add_server<G: Gate>(
+    all: &mut Vec<Journal>,
+    end: GatedEnd<CellRecord, G>,
+) -> Result<(), LiveFault>
+    requires { AllLawful all.old.items }
+    ensures lawful { AllLawful all.new.items }
+    ensures len { OnOk result (vec_len all.new ≡ vec_len all.old + 1) }
+    ensures fault { AddsOrTells (result_err end.result) result }
+    ensures gate { G.never ≡ true → NoGate result }
+{
+    let GatedEnd { result: given, .. } = end;
+    match given {
+        Ok(record) => add_journal(all, record),
+        Err(met) => Err(met),
+    }
+}
+
 // The journals, where each server's thread gave its own.
 pub(crate) fn journals<G: Gate>(
     alloc: Global,
     ends: Vec<GatedEnd<CellRecord, G>>,
 ) -> Result<Vec<Journal>, LiveFault>
     ensures lawful { IfOk result (λ v. AllLawful v.items) }
+    ensures told { IfErr result (IsToldOf (filter_map (λ end. result_err end.result) ends.items)) }
     ensures gate { G.never ≡ true → NoGate result }
 {
     let mut all = Vec::new(alloc);
     let mut fault = None;
     for end in ends {
-        let GatedEnd { result: given, .. } = end;
-        let added = match given {
-            Ok(record) => add_journal(&mut all, record),
-            Err(met) => Err(met),
-        };
-        if let Err(met) = added {
-            fault = Some(least(fault, met));
-        }
+        let added = add_server(&mut all, end);
+        fault = told_after(fault, added);
     }
     match fault {
         Some(fault) => Err(fault),
@@ -128,10 +186,12 @@ fn add_entries(
     programs: &[Lines],
     attendance: Attendance,
 ) -> Result<(), LiveFault>
-    requires { AllAsked programs.now all.old.items }
+    requires asked { AllAsked programs.now all.old.items }
+    requires gave_up { All GivesUpWhereStuck all.old.items }
     ensures asked { AllAsked programs.now all.new.items }
+    ensures gave_up { All GivesUpWhereStuck all.new.items }
     ensures len { OnOk result (vec_len all.new ≡ vec_len all.old + 1) }
-    ensures gate { NoGate result }
+    ensures fault { IfErr result (λ fault. (fault ≡ LiveFault.Memory tt) ⊎ (fault ≡ LiveFault.Letter)) }
 {
     let Attendance { place, session } = attendance;
     if place != all.len() || place >= programs.len() {
@@ -146,6 +206,23 @@ fn add_entries(
     Ok(())
 }
 
+// Adds what a session's thread gave back, if it met no fault.
+fn add_session(all: &mut Vec<Entries>, programs: &[Lines], end: SessionEnd) -> Result<(), LiveFault>
+    requires asked { AllAsked programs.now all.old.items }
+    requires gave_up { All GivesUpWhereStuck all.old.items }
+    ensures asked { AllAsked programs.now all.new.items }
+    ensures gave_up { All GivesUpWhereStuck all.new.items }
+    ensures len { OnOk result (vec_len all.new ≡ vec_len all.old + 1) }
+    ensures fault { AddsOrTells (result_err end.result) result }
+    ensures gate { NoGate result }
+{
+    let SessionEnd { result: given, .. } = end;
+    match given {
+        Ok(attendance) => add_entries(all, programs, attendance),
+        Err(met) => Err(met),
+    }
+}
+
 // The sessions' entries, where each thread gave its own.
 pub(crate) fn entries(
     alloc: Global,
@@ -153,19 +230,15 @@ pub(crate) fn entries(
     ends: Vec<SessionEnd>,
 ) -> Result<Vec<Entries>, LiveFault>
     ensures asked { IfOk result (λ v. AllAsked programs.now v.items) }
+    ensures gave_up { IfOk result (λ v. All GivesUpWhereStuck v.items) }
+    ensures told { IfErr result (IsToldOf (filter_map (λ end. result_err end.result) ends.items)) }
     ensures gate { NoGate result }
 {
     let mut all = Vec::new(alloc);
     let mut fault = None;
     for end in ends {
-        let SessionEnd { result: given, .. } = end;
-        let added = match given {
-            Ok(attendance) => add_entries(&mut all, programs, attendance),
-            Err(met) => Err(met),
-        };
-        if let Err(met) = added {
-            fault = Some(least(fault, met));
-        }
+        let added = add_session(&mut all, programs, end);
+        fault = told_after(fault, added);
     }
     match fault {
         Some(fault) => Err(fault),
@@ -173,7 +246,7 @@ pub(crate) fn entries(
     }
 }
 
-// Both, unless there is a fault; then the one of the least number.
+// All that the threads gave, unless there is a fault; then the one of the least number.
 pub(crate) fn all_or_least(
     cells: Result<Vec<Journal>, LiveFault>,
     sessions: Result<Vec<Entries>, LiveFault>,
@@ -181,22 +254,14 @@ pub(crate) fn all_or_least(
 ) -> Result<(Vec<Journal>, Vec<Entries>), LiveFault>
     ensures cells { IfOk result (λ all. cells ≡ Ok all.0) }
     ensures sessions { IfOk result (λ all. sessions ≡ Ok all.1) }
+    ensures least { IfErr result (IsLeastOf (option_to_list fault ++ (fault_in cells ++ fault_in sessions))) }
     ensures gate { NoGate cells → NoGate sessions → ForSome fault (λ met. met ≢ FaultIs.Gate) → NoGate result }
 {
-    match cells {
-        Err(met) => {
-            let fault = least(fault, met);
-            match sessions {
-                Err(met) => Err(least(Some(fault), met)),
-                Ok(_sessions) => Err(fault),
-            }
-        }
-        Ok(cells) => match sessions {
-            Err(met) => Err(least(fault, met)),
-            Ok(sessions) => match fault {
-                Some(fault) => Err(fault),
-                None => Ok((cells, sessions)),
-            },
+    match both_or_least(cells, sessions) {
+        Err(met) => Err(least(fault, met)),
+        Ok(all) => match fault {
+            Some(fault) => Err(fault),
+            None => Ok(all),
         },
     }
 }

@@ -13,14 +13,15 @@ ghost use Rattle.gq_script.specs.Watched.{inner_of, has_failed, AppendsPrefix};
 ghost use Rattle.gq_order.specs.Runs.{IsRun};
 ghost use Rattle.gq_runs.specs.Orders.{operation_line_at, op_line, op_lines, ordered, operations_of, NamesTenant, order_out, IsPlanFault, IsFaultOfOutput};
 
+use crate::asked_file::asked_file;
 use gq_desk::Plan;
 use gq_laws::{Kind, Op};
 use gq_memory::{GrowCopies, OutOfMemory};
 use gq_model::{Answer, Event};
 use gq_order::{FileOrder, OpRef, file_order};
 use gq_script::{
-    Answered, MOST_INPUT, Piece, PlanText, RunFault, Watched, answer_lines, put_words, read_plan,
-    read_whole, write_whole,
+    Answered, MOST_INPUT, Piece, RunFault, Watched, answer_lines, put_words, read_whole,
+    write_whole,
 };
 use gq_tag::FileId;
 use gq_world::World;
@@ -28,7 +29,7 @@ use std::alloc::Global;
 use std::io::{Read, Write};
 use thiserror::Error;
 
-/// Why `order` ended early. After each fault but that of writing nothing was written.
+/// Why `order` or `history` ended early. After each fault but that of writing nothing was written.
 #[derive(Debug, Drop, Error)]
 pub enum OrderFault {
     /// As a run ends early.
@@ -147,6 +148,7 @@ fn output_of_lines(
         mut text,
         events,
         answers,
+        ..
     } = answer_lines(alloc, &mut world, lines, file.tenant)?;
     put_order(
         alloc,
@@ -172,25 +174,12 @@ fn output(
     ensures text { IfOk result (λ text. text.items ≡ order_out input.now name.now (record { volume = volume; place = file })) }
     ensures fault { IfErr result (IsFaultOfOutput name.now input.now) }
 {
-    match read_plan(alloc, input) {
-        Ok((plan, place)) => {
-            let Some(tenant) = plan.find_word(name.as_bytes()) else {
-                return Err(OrderFault::Name);
-            };
-            let file = FileId {
-                tenant,
-                volume,
-                file,
-            };
-            match output_of_lines(alloc, plan, &input[place..], file) {
-                Ok(text) => Ok(text),
-                Err(refused) => Err(OrderFault::Run(RunFault::Memory(refused))),
-            }
-        }
-        Err(PlanText::Fault { line, fault }) => {
-            Err(OrderFault::Run(RunFault::Plan(line, fault)))
-        }
-        Err(PlanText::Memory(refused)) => Err(OrderFault::Run(RunFault::Memory(refused))),
+    match asked_file(alloc, input, name, volume, file) {
+        Ok((plan, place, file)) => match output_of_lines(alloc, plan, &input[place..], file) {
+            Ok(text) => Ok(text),
+            Err(refused) => Err(OrderFault::Run(RunFault::Memory(refused))),
+        },
+        Err(fault) => Err(fault),
     }
 }
 

@@ -1,16 +1,18 @@
 //! What a command line asks for, done.
 
 ghost use Rattle.std.specs.Prelude.{◌≡◌, false, IfErr, IfSome, OnOk};
-ghost use Rattle.gq_script.specs.Watched.{inner_of, has_failed};
-ghost use Rattle.gq_runs.specs.Requests.{Writes, IsWriting, status_of};
+ghost use Rattle.gq_script.specs.Out.{out};
+ghost use Rattle.gq_script.specs.Watched.{inner_of, has_failed, AppendsPrefix};
+ghost use Rattle.gq_runs.specs.Requests.{Writes, MayHaveWritten, IsOfStep, status_of};
 ghost use Rattle.gq_runs.specs.declared.requests.RequestFault.{RequestFault};
 
 use crate::finish::{FinishFault, finish_run};
+use crate::history::history_run;
 use crate::live::{LiveRunFault, live_run};
 use crate::order::{OrderFault, order_run};
 use gq_cli::Request;
 use gq_live::{LiveFault, OpenGate};
-use gq_script::{RunFault, Watched};
+use gq_script::{Notice, RunFault, Watched, step};
 use gq_shards::{SHORT, run_in_shards};
 use std::alloc::Global;
 use std::io::{Read, Write};
@@ -32,9 +34,15 @@ pub enum RequestFault {
     /// A run did.
     #[error("{0}")]
     Run(RunFault),
+    /// A run that answers each line as it comes did.
+    #[error("{0}")]
+    Step(RunFault),
     /// A run with the order of a file's operations did.
     #[error("{0}")]
     Order(OrderFault),
+    /// The history of a file's operations was not told.
+    #[error("{0}")]
+    History(OrderFault),
     /// The lines that complete an operation were not told.
     #[error("{0}")]
     Finish(FinishFault),
@@ -72,7 +80,9 @@ impl RequestFault {
     {
         match self {
             RequestFault::Run(fault)
+            | RequestFault::Step(fault)
             | RequestFault::Order(OrderFault::Run(fault))
+            | RequestFault::History(OrderFault::Run(fault))
             | RequestFault::Finish(FinishFault::Run(fault)) => run_status(fault),
             RequestFault::Live(fault) => live_status(fault),
             _ => FAULT,
@@ -92,11 +102,13 @@ fn shards_of(rt: &impl Threads, jobs: u32) -> usize {
 }
 
 /// Does what a command line asks for between a reader and a writer. What is written is what the words ask for; the faults, and
-/// what was written at each, are those of [`gq_shards::run_in_shards`], [`crate::order_run`], [`crate::finish_run`] and
-/// [`crate::live_run`]. How many shards a run has depends on the machine where the words say 0, and no answer does.
-pub fn carry_out<T: Threads + Wait + Sync, R: Read, W: Write>(
+/// what was written at each, are those of [`gq_shards::run_in_shards`], [`gq_script::step`], [`crate::order_run`],
+/// [`crate::history_run`], [`crate::finish_run`] and [`crate::live_run`]. The notice is told by a run that answers each line as it comes. How many shards
+/// a run has depends on the machine where the words say 0, and no answer does.
+pub fn carry_out<T: Threads + Wait + Sync, N: Notice, R: Read, W: Write>(
     rt: &T,
     alloc: Global,
+    notice: &N,
     reader: &mut Watched<R>,
     writer: &mut Watched<W>,
     request: Request,
@@ -105,7 +117,9 @@ pub fn carry_out<T: Threads + Wait + Sync, R: Read, W: Write>(
     requires writer { has_failed writer.old ≡ false }
     ensures ok { OnOk result (IfSome (R.remaining (inner_of reader.old)) (λ input.
         Writes request.entry input (W.contents (inner_of writer.old)) (W.contents (inner_of writer.new)))) }
-    ensures nothing { IfErr result (λ fault. (IsWriting fault → ⊥) → writer.new ≡ writer.old) }
+    ensures nothing { IfErr result (λ fault. (MayHaveWritten fault → ⊥) → writer.new ≡ writer.old) }
+    ensures prefix { IfErr result (λ fault. IsOfStep fault → IfSome (R.remaining (inner_of reader.old)) (λ input.
+        AppendsPrefix (W.contents (inner_of writer.old)) (W.contents (inner_of writer.new)) (out input))) }
 {
     match request {
         Request::Run { jobs } => {
@@ -115,10 +129,20 @@ pub fn carry_out<T: Threads + Wait + Sync, R: Read, W: Write>(
                 Err(fault) => Err(RequestFault::Run(fault)),
             }
         }
+        Request::Step => match step(alloc, notice, reader, writer) {
+            Ok(()) => Ok(()),
+            Err(fault) => Err(RequestFault::Step(fault)),
+        },
         Request::Order { name, volume, file } => {
             match order_run(alloc, reader, writer, name, volume, file) {
                 Ok(()) => Ok(()),
                 Err(fault) => Err(RequestFault::Order(fault)),
+            }
+        }
+        Request::History { name, volume, file } => {
+            match history_run(alloc, reader, writer, name, volume, file) {
+                Ok(()) => Ok(()),
+                Err(fault) => Err(RequestFault::History(fault)),
             }
         }
         Request::Finish { name, session } => {

@@ -129,3 +129,39 @@ pub keeps_all : (plan : CheckedPlan) (t : Option ℕ) (world : Tables) (kept : L
 keeps_all plan t world kept answers text [] all k none =
     (sym (append-nil text) ∙ k.told, k.seen ∙ ap (seen_events t) (sym (append-nil k.events) ∙ k.read), (let P : List Event → Type 0 = λ z. IsRun plan z answers in subst P (sym k.seen) k.run))
 keeps_all plan t world kept answers text (c ∷ rest) all k none = absurd (omega arith)
+
+-- ---- lines that go on from events
+
+-- the world stands for the events before and those of the lines so far, and with the lines that are left all are answered
+pub record Continues (plan : CheckedPlan) (before : List Event) (world : Tables) (text : List ℕ) (left all : List (List ℕ)) : Type 0 where
+  pub events : List Event
+  pub stands : Stands world events
+  pub read : events ++ map (event_of plan) left ≡ before ++ map (event_of plan) all
+  pub told : text ++ joined (answer_lines plan events (map (event_of plan) left)) ≡ joined (answer_lines plan before (map (event_of plan) all))
+
+pub continues_first : (plan : CheckedPlan) (before : List Event) (world : Tables) (all : List (List ℕ)) → Stands world before → Continues plan before world [] all all
+continues_first plan before world all stands = record { events = before; stands = stands; read = refl; told = refl }
+
+pub continues_more : (plan : CheckedPlan) (before : List Event) (world world' : Tables) (text text' line : List ℕ) (left rest all : List (List ℕ)) → Continues plan before world text left all → world.plan ≡ plan → left ≡ line ∷ rest
+    → ((so_far : List Event) → Stands world so_far → Stands world' (so_far ++ event_of world.plan line ∷ []))
+    → ((so_far : List Event) → Stands world so_far → text' ≡ text ++ answer_line world.plan (event_of world.plan line) (answer_to world.plan so_far (event_of world.plan line)))
+    → Continues plan before world' text' rest all
+continues_more plan before world world' text text' line left rest all k same is stands written =
+    let e : Event = event_of plan line in
+    let x : List ℕ = answer_line plan e (answer_to plan k.events e) in
+    let ys : List (List ℕ) = answer_lines plan (k.events ++ e ∷ []) (map (event_of plan) rest) in
+    let now : text' ≡ text ++ x = rw same at (written k.events k.stands) in
+    let all_so_far : text ++ (x ++ joined ys) ≡ joined (answer_lines plan before (map (event_of plan) all)) = rw is at k.told in
+    let all_read : k.events ++ (e ∷ map (event_of plan) rest) ≡ before ++ map (event_of plan) all = rw is at k.read in
+    record {
+      events = k.events ++ e ∷ [];
+      stands = rw same at (stands k.events k.stands);
+      read = append_assoc k.events (e ∷ []) (map (event_of plan) rest) ∙ all_read;
+      told = rw now (append_assoc text x (joined ys) ∙ all_so_far);
+    }
+
+pub continues_all : (plan : CheckedPlan) (before : List Event) (world : Tables) (text rest : List ℕ) (all : List (List ℕ)) → Continues plan before world text (lines_of rest) all → length rest ≡ 0
+    → (text ≡ joined (answer_lines plan before (map (event_of plan) all))) × Stands world (before ++ map (event_of plan) all)
+continues_all plan before world text [] all k none =
+    (sym (append-nil text) ∙ k.told, (let P : List Event → Type 0 = λ events. Stands world events in subst P (sym (append-nil k.events) ∙ k.read) k.stands))
+continues_all plan before world text (c ∷ rest) all k none = absurd (omega arith)

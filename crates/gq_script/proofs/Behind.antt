@@ -40,13 +40,13 @@ lines_behind (x ∷ y ∷ text) rest =
 
 -- ---- plans
 
-line_behind : (n : ℕ) (lines more rest : List (List ℕ)) (line : List ℕ) → line_at n lines ≡ Ok (line, rest) → line_at n (lines ++ more) ≡ Ok (line, rest ++ more)
+pub line_behind : (n : ℕ) (lines more rest : List (List ℕ)) (line : List ℕ) → line_at n lines ≡ Ok (line, rest) → line_at n (lines ++ more) ≡ Ok (line, rest ++ more)
 line_behind n [] more rest line is = cc
 line_behind n (first ∷ lines) more rest line is =
     let same = ok_same is in
     ap (λ (x : List ℕ × List (List ℕ)). Ok (x.0, x.1 ++ more)) same
 
-rows_behind : (n : ℕ) (lines more rest : List (List ℕ)) (rows : List TenantRow) → rows_from n lines ≡ Ok (rows, rest) → rows_from n (lines ++ more) ≡ Ok (rows, rest ++ more)
+pub rows_behind : (n : ℕ) (lines more rest : List (List ℕ)) (rows : List TenantRow) → rows_from n lines ≡ Ok (rows, rest) → rows_from n (lines ++ more) ≡ Ok (rows, rest ++ more)
 rows_behind n [] more rest rows is = cc
 rows_behind n (line ∷ lines) more rest rows is = by (bytes_eq line (codes "go")) is (λ later. rows_behind (n + 1) lines more rest later)
   where

@@ -7,6 +7,7 @@ pub mod PlanReading
 pub mod Rests
 pub mod WordsLemmas
 pub mod Answering
+pub mod Places
 pub mod PlanNames
 pub mod Sights
 pub mod Alone
@@ -24,3 +25,6 @@ pub mod FewMessages
 pub mod Refusing
 pub mod Longer
 pub mod Completing
+pub mod Growing
+pub mod Ends
+pub mod Turns

@@ -45,7 +45,7 @@ longer_read input plan lines name more read =
 -- ---- its output
 
 -- the answers to events, and to those behind them
-answers-append : (plan : CheckedPlan) (before xs ys : List Event) → answer_lines plan before (xs ++ ys) ≡ answer_lines plan before xs ++ answer_lines plan (before ++ xs) ys
+pub answers-append : (plan : CheckedPlan) (before xs ys : List Event) → answer_lines plan before (xs ++ ys) ≡ answer_lines plan before xs ++ answer_lines plan (before ++ xs) ys
 answers-append plan before [] ys = rw append-nil refl
 answers-append plan before (event ∷ xs) ys =
     ap (λ later. answer_line plan event (answer_to plan before event) ∷ later)

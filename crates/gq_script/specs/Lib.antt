@@ -13,3 +13,4 @@ pub mod Laws
 pub mod Alone
 pub mod Canonical
 pub mod Completing
+pub mod Stepping

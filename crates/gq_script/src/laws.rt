@@ -26,6 +26,15 @@ pub fn alone()
     ensures same { TellsTheSame }
 {}
 
+ghost use Rattle.gq_script.specs.Stepping.{OutputsGrow};
+
+/// What was answered is never taken back. The output of lines that have ended is a beginning of the output of every input
+/// that goes on from them, whatever comes behind; where they make no plan yet, it is empty.
+#[tactic(auto, using(crate::proofs::Growing::outputs_grow))]
+pub fn outputs_grow()
+    ensures { OutputsGrow }
+{}
+
 ghost use Rattle.gq_script.specs.Completing.{AllInputRequestsComplete, AllInputsComplete};
 
 /// Each operation that an accepted input leaves going can be completed. Where a collect quorum and a store quorum are up

@@ -36,9 +36,9 @@ pub enum Piece<'a> {
     Files(&'a [Row]),
 }
 
-// Appends the digits of a number.
+/// Appends the decimal digits of a number.
 #[tactic(auto, using(std::proofs::lemmas::Fmt::decimal_digit))]
-fn put_number(out: &mut Vec<u8>, n: u64) -> Result<(), OutOfMemory>
+pub fn put_number(out: &mut Vec<u8>, n: u64) -> Result<(), OutOfMemory>
     ensures ok { OnOk result (out.new.items ≡ out.old.items ++ decimal n) }
     ensures err { OnErr result (out.new.items ≡ out.old.items) }
 {
@@ -70,8 +70,8 @@ fn put_spaced_number(out: &mut Vec<u8>, n: u64) -> Result<(), OutOfMemory>
     put_number(out, n)
 }
 
-// Appends the digits of a sum, of whatever size.
-fn put_sum(out: &mut Vec<u8>, n: u64, more: u32) -> Result<(), OutOfMemory>
+/// Appends the decimal digits of a sum, of whatever size.
+pub fn put_sum(out: &mut Vec<u8>, n: u64, more: u32) -> Result<(), OutOfMemory>
     ensures ok { OnOk result (out.new.items ≡ out.old.items ++ decimal (n + more)) }
     ensures err { OnErr result (out.new.items ≡ out.old.items) }
 {
@@ -125,8 +125,8 @@ fn put_block(out: &mut Vec<u8>, block: &[u8]) -> Result<(), OutOfMemory>
     }
 }
 
-// Appends two digits for each byte.
-fn put_digits(out: &mut Vec<u8>, bytes: &[u8]) -> Result<(), OutOfMemory>
+/// Appends two hexadecimal digits for each byte, in small letters. After want of memory a part of them may have been appended.
+pub fn put_digits(out: &mut Vec<u8>, bytes: &[u8]) -> Result<(), OutOfMemory>
     ensures ok { OnOk result (out.new.items ≡ out.old.items ++ encode_lower bytes.now) }
     ensures err { OnErr result (Extends out.old.items out.new.items) }
 {

@@ -111,7 +111,7 @@ fn blocks_told(line: &[u8]) -> Result<u32, TextFault>
 
 // The row of a line `tenant NAME SHARE SESSIONS STEPS`.
 #[tactic(auto, unfolding(crate::specs::PlanText::row_told))]
-fn row_told(line: &[u8]) -> Option<TenantRow>
+pub fn row_told(line: &[u8]) -> Option<TenantRow>
     ensures { result ≡ row_told (words_of line.now) }
 {
     let (verb, rest) = first_word(line);

@@ -1,7 +1,7 @@
 //! A whole script, from a reader to a writer.
 
 ghost use Rattle.std.specs.Prelude.{◌≡◌, ◌≢◌, ◌↔◌, ◌+◌, ◌<◌, ◌≤◌, ◌++◌, [], ◌∷◌, List, true, false, Some, length, vec_len, map, if◌then◌else◌, IfOk, IfErr, IfSome, OnOk, OnErr, IsOk, IsErrOf};
-ghost use Rattle.std.specs.Io.KnownBytes.{Appends, IsAtEnd};
+ghost use Rattle.std.specs.Io.KnownBytes.{Appends, IsAtEnd, Keeps};
 
 use crate::input::read_cut_line;
 use crate::lines::cut_line;
@@ -44,20 +44,21 @@ ghost use Rattle.gq_world.specs.Tables.{Stands};
 ghost use Rattle.gq_order.specs.Runs.{IsRun};
 ghost use Rattle.gq_script.specs.Input.{event_of};
 ghost use Rattle.gq_script.specs.Lines.{lines_of};
-ghost use Rattle.gq_script.specs.Seeing.{is_seen, seen_events};
+ghost use Rattle.gq_script.specs.Seeing.{is_seen, seen_events, seen_places};
 ghost use Rattle.gq_script.specs.PlanText.{plan_of};
-ghost use Rattle.gq_script.specs.Out.{joined, output_lines, out, IsAccepted, IsPlanFaultOf};
+ghost use Rattle.gq_model.specs.declared.events.Event.{Event};
+ghost use Rattle.gq_script.specs.Out.{answer_lines as event_lines, joined, output_lines, out, IsAccepted, IsPlanFaultOf};
 ghost use Rattle.gq_script.specs.Steps.{IsReadingFault, IsFaultOfLines};
 ghost use Rattle.gq_script.specs.Watched.{inner_of, has_failed, AppendsPrefix, Moves};
 
 // The bytes of one read.
-const CHUNK: usize = 65_536;
+pub const CHUNK: usize = 65_536;
 
 // The most turns of the loop that reads: each but the last gives at least one byte.
-const MOST_TURNS: usize = 16_777_218;
+pub const MOST_TURNS: usize = 16_777_218;
 
 // One read, appended to `all`. Answers whether there may be more.
-fn read_step<R: Read>(
+pub fn read_step<R: Read>(
     reader: &mut Watched<R>,
     chunk: &mut [u8],
     all: &mut Vec<u8>,
@@ -73,6 +74,8 @@ fn read_step<R: Read>(
     ensures room { length chunk.new ≡ length chunk.old }
     ensures fine { OnOk result (has_failed reader.new ≡ false) }
     ensures read { IsErrOf result RunFault.Read → has_failed reader.new ≡ true }
+    ensures kept { IsErrOf result RunFault.Read →
+        Keeps (R.remaining (inner_of reader.old)) (R.remaining (inner_of reader.new)) }
     ensures others { IfErr result (λ e. e ≢ RunFault.Read → has_failed reader.new ≡ false) }
     ensures big { IsErrOf result RunFault.TooBig → IfSome (R.remaining (inner_of reader.old))
         (λ xs. MOST_INPUT < vec_len all.old + length xs) }
@@ -91,7 +94,7 @@ fn read_step<R: Read>(
 }
 
 // Zeros to read into. The size is a parameter, so that no proof computes a list of that length.
-fn blank(alloc: Global, size: usize) -> Result<Vec<u8>, RunFault>
+pub fn blank(alloc: Global, size: usize) -> Result<Vec<u8>, RunFault>
     requires { 0 < size }
     ensures some { IfOk result (λ v. 0 < vec_len v) }
     ensures err { IfErr result (λ e. e ≡ RunFault.Memory tt) }
@@ -127,36 +130,44 @@ pub fn read_whole<R: Read>(alloc: Global, reader: &mut Watched<R>) -> Result<Vec
     unreachable!()
 }
 
-/// What was answered to lines: the text of the answers, and the events that one tenant saw with their answers.
+/// What was answered to lines: the text of the answers; the events that one tenant saw with their answers and their places
+/// among all, from 0; and how many lines there were.
 #[derive(Drop)]
 pub struct Answered {
     pub text: Vec<u8>,
     pub events: Vec<Event>,
     pub answers: Vec<Answer>,
+    pub places: Vec<usize>,
+    pub lines: usize,
 }
 
-// Keeps an event and its answer where the tenant sees it.
+// Keeps an event, its answer and its place where the tenant sees it.
 #[inline(always)]
 fn keep(
     tenant: u8,
+    place: usize,
     event: Event,
     answer: Answer,
     events: &mut Vec<Event>,
     answers: &mut Vec<Answer>,
+    places: &mut Vec<usize>,
 ) -> Result<(), OutOfMemory>
     ensures events { OnOk result (events.new.items ≡ events.old.items ++ seen_events (Some tenant) (event ∷ [])) }
     ensures answers { OnOk result (answers.new.items ≡
         (if is_seen (Some tenant) event then answers.old.items ++ answer ∷ [] else answers.old.items)) }
+    ensures places { OnOk result (places.new.items ≡ places.old.items ++ seen_places (Some tenant) place (event ∷ [])) }
 {
     if sees(tenant, &event) {
         events.grow(event)?;
         answers.grow(answer)?;
+        places.grow(place)?;
     }
     Ok(())
 }
 
 /// Answers the lines of a text after the plan, by a new world. Of the events those are kept that the tenant sees: its own
-/// lines and the server lines, which are a run by themselves. What is kept takes memory for each of them.
+/// lines and the server lines, which are a run by themselves; with them are kept the places of their lines among all. What is
+/// kept takes memory for each of them.
 pub fn answer_lines(
     alloc: Global,
     world: &mut World,
@@ -168,12 +179,17 @@ pub fn answer_lines(
     ensures text { IfOk result (λ told. told.text.items ≡ joined (output_lines world.old.tables.plan (lines_of lines.now))) }
     ensures events { IfOk result (λ told. told.events.items ≡
         seen_events (Some tenant) (map (event_of world.old.tables.plan) (lines_of lines.now))) }
+    ensures places { IfOk result (λ told. told.places.items ≡
+        seen_places (Some tenant) 0 (map (event_of world.old.tables.plan) (lines_of lines.now))) }
+    ensures lines { IfOk result (λ told. told.lines ≡ length (lines_of lines.now)) }
     ensures run { IfOk result (λ told. IsRun world.old.tables.plan told.events.items told.answers.items) }
 {
     let mut events = Vec::new(alloc);
     let mut answers = Vec::new(alloc);
+    let mut places = Vec::new(alloc);
     let mut text = Vec::new(alloc);
     let mut quorum = QuorumText::new(alloc, *world.plan().grid());
+    let mut place = 0;
     let mut rest = lines;
     while !rest.is_empty() {
         let (first, words, after) = cut_line(rest);
@@ -183,21 +199,35 @@ pub fn answer_lines(
             Err(Ended(refused)) => return Err(refused),
         };
         write_next_answer(world.plan(), &event, &answer, &mut quorum, &mut text)?;
-        keep(tenant, event, answer, &mut events, &mut answers)?;
+        keep(
+            tenant,
+            place,
+            event,
+            answer,
+            &mut events,
+            &mut answers,
+            &mut places,
+        )?;
+        place += 1;
         rest = after;
     }
     Ok(Answered {
         text,
         events,
         answers,
+        places,
+        lines: place,
     })
 }
 
-// The answers to the lines of a text after the plan. The loop is that of `answer_lines` without what is kept there: so no
-// event or answer has to lie in memory whole (docs/DECISIONS.md, Speed).
-fn answers(alloc: Global, world: &mut World, lines: &[u8]) -> Result<Vec<u8>, OutOfMemory>
-    requires { Stands world.old.tables [] }
-    ensures { IfOk result (λ text. text.items ≡ joined (output_lines world.old.tables.plan (lines_of lines.now))) }
+// The answers to more lines, by a world that stands for those before. The loop is that of `answer_lines` without what is
+// kept there: so no event or answer has to lie in memory whole (docs/DECISIONS.md, Speed).
+pub fn answers(alloc: Global, world: &mut World, lines: &[u8]) -> Result<Vec<u8>, OutOfMemory>
+    ensures plan { world.new.tables.plan ≡ world.old.tables.plan }
+    ensures text { IfOk result (λ text. (before : List Event) → Stands world.old.tables before → text.items ≡
+        joined (event_lines world.old.tables.plan before (map (event_of world.old.tables.plan) (lines_of lines.now)))) }
+    ensures stands { OnOk result ((before : List Event) → Stands world.old.tables before →
+        Stands world.new.tables (before ++ map (event_of world.old.tables.plan) (lines_of lines.now))) }
 {
     let mut text = Vec::new(alloc);
     let mut quorum = QuorumText::new(alloc, *world.plan().grid());

@@ -3,3 +3,4 @@ pub mod Changing
 pub mod Hearings
 pub mod Requests
 pub mod Stepping
+pub mod GivingUp

@@ -8,3 +8,4 @@ pub mod Faults
 pub mod Fitting
 pub mod Sessions
 pub mod Works
+pub mod Attending

@@ -3,9 +3,10 @@
 
 use gq_cli::{Request, Usage, read_words};
 use gq_runs::carry_out;
-use gq_script::Watched;
+use gq_script::{Notice, Watched};
 use std::alloc::Global;
 use std::fmt::Display;
+use std::io::IsTerminal;
 use std::process::ExitCode;
 use std::sync::Wait;
 use std::thread::Threads;
@@ -25,6 +26,23 @@ fn told(rt: &impl Eprint, fault: &(impl Display + Drop), status: u8) -> ExitCode
     ExitCode::from(status)
 }
 
+// Whoever types the lines of a script: told on standard error that they are awaited, where standard input is a terminal.
+#[derive(Drop)]
+struct Typist<'a, R> {
+    rt: &'a R,
+    is_there: bool,
+}
+
+impl<R: Eprint> Notice for Typist<'_, R> {
+    fn lines_awaited(&self) {
+        if self.is_there {
+            let _ = eprintln!(self.rt;
+                "gridfs: the plan is accepted; each line is answered (their forms: gridfs --help)"
+            );
+        }
+    }
+}
+
 // The words, each as a text. None where memory is wanting.
 fn words_of<'a>(alloc: Global, given: &'a Vec<String>) -> Option<Vec<&'a str>> {
     given.iter().map(|word| word.as_str()).collect(alloc).ok()
@@ -34,11 +52,16 @@ fn words_of<'a>(alloc: Global, given: &'a Vec<String>) -> Option<Vec<&'a str>> {
 fn answered<R: Input + Print + Eprint + Threads + Wait + Sync>(
     rt: &R,
     alloc: Global,
+    is_terminal: bool,
     request: Request,
 ) -> ExitCode {
+    let typist = Typist {
+        rt,
+        is_there: is_terminal,
+    };
     let mut reader = Watched::new(rt.reader());
     let mut writer = Watched::new(io::writer(rt));
-    match carry_out(rt, alloc, &mut reader, &mut writer, request) {
+    match carry_out(rt, alloc, &typist, &mut reader, &mut writer, request) {
         Ok(()) => ExitCode::SUCCESS,
         Err(fault) => told(rt, &fault, fault.status()),
     }
@@ -61,7 +84,7 @@ fn main(rt: HostRuntime) -> ExitCode {
         return told(&rt, &NO_MEMORY, MEMORY);
     };
     match read_words(alloc, words.as_slice()) {
-        Ok(request) => answered(&rt, alloc, request),
+        Ok(request) => answered(&rt, alloc, rt.stdin().is_terminal(), request),
         Err(Usage::Shown(error)) => {
             let _ = error.print(&rt);
             ExitCode::from(error.exit_code() as u8)

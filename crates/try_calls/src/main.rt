@@ -19,7 +19,8 @@
 //! a call and fails after so many in all, and a writer that takes at most so many; where END is `fails` it fails after
 //! these, where it is `none` it takes none. It prints what the writer took, and on standard error how often the reader was
 //! called and how often it failed, and the same of the writer. With `order NAME VOLUME FILE` in place of `run`
-//! it asks for the order of the operations on a file too, and with `shards N` it runs the script in so many shards.
+//! it asks for the order of the operations on a file too, with `shards N` it runs the script in so many shards, and with
+//! `step` each line is answered as it comes.
 //!
 //! `shards N` runs a script in so many shards on the standard streams, also a short one.
 //!
@@ -225,6 +226,8 @@ fn input(rt: &HostRuntime) -> Result<Vec<u8>, Fault> {
 #[derive(Clone, Copy)]
 enum Run<'a> {
     Plain,
+    // Each line is answered as it comes.
+    Step,
     Shards(usize),
     // With the order of the operations on a file of the tenant of this name.
     Order(&'a str, u32, u32),
@@ -234,6 +237,7 @@ enum Run<'a> {
 fn run_of<'a>(words: &'a [String]) -> Result<Run<'a>, Fault> {
     match words {
         [run] if run.as_str() == "run" => Ok(Run::Plain),
+        [step] if step.as_str() == "step" => Ok(Run::Step),
         [shards, count] if shards.as_str() == "shards" => Ok(Run::Shards(number(count)?)),
         [order, name, volume, file] if order.as_str() == "order" => {
             Ok(Run::Order(name.as_str(), place(volume)?, place(file)?))
@@ -254,6 +258,10 @@ fn between<R: Threads + Sync>(
     match asked {
         Run::Plain => {
             let (calls, ended) = streams::run_between(alloc, source, sink, out);
+            (calls, ended.map_err(OrderFault::Run))
+        }
+        Run::Step => {
+            let (calls, ended) = streams::step_between(alloc, source, sink, out);
             (calls, ended.map_err(OrderFault::Run))
         }
         Run::Shards(shards) => {

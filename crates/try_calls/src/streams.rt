@@ -1,7 +1,7 @@
 //! A run between a reader and a writer that give and take little at a time, and fail.
 
 use gq_runs::{OrderFault, order_run};
-use gq_script::{RunFault, Watched, run};
+use gq_script::{NoNotice, RunFault, Watched, run, step};
 use gq_shards::run_in_shards;
 use std::alloc::Global;
 use std::io;
@@ -132,6 +132,19 @@ pub fn run_between(
     let mut reader = Watched::new(source);
     let mut writer = Watched::new(sink);
     let ended = run(alloc, &mut reader, &mut writer);
+    (taken(reader, writer, out), ended)
+}
+
+/// The same, each line answered as it comes.
+pub fn step_between(
+    alloc: Global,
+    source: Source,
+    sink: Sink,
+    out: &mut Vec<u8>,
+) -> (Streams, Result<(), RunFault>) {
+    let mut reader = Watched::new(source);
+    let mut writer = Watched::new(sink);
+    let ended = step(alloc, &NoNotice, &mut reader, &mut writer);
     (taken(reader, writer, out), ended)
 }
 

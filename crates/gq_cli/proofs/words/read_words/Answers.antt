@@ -1,4 +1,4 @@
-use Rattle.std.proofs.Common.{rules, inl, inr, ap, sym, subst, ◌∙◌, ◌≡◌, ◌≢◌, []}
+use Rattle.std.proofs.Common.{rules, inl, inr, ap, sym, subst, ◌∙◌, ◌≡◌, ◌≢◌, [], refl}
 use Rattle.clap.specs.Faults.{fault_of, is_simple_and_free}
 use Rattle.clap.specs.Kinds.{HasKind, IsAmong, Kinds}
 use Rattle.clap.specs.Simple.{App, HasMatchesOf}
@@ -76,3 +76,6 @@ returns-clause-version c program are = elim (among c _ (ap faults_in are ∙ ver
   | inl is ↦ is
   | inr none ↦ absurd none
 ]
+
+pub returns-clause-shown : goal.returns-clause-shown
+returns-clause-shown c = among c (faults_in (texts c.args.words.now)) refl

@@ -1,9 +1,18 @@
-use Rattle.std.proofs.Common.{◌≡◌, ◌≢◌, None, length, vec_len}
+use Rattle.std.proofs.Common.{All, ◌≡◌, ◌≢◌, None, length, vec_len}
 use Rattle.std.specs.Option.{ForSome}
 use Rattle.gq_live.specs.Runs.{AllAsked}
+use Rattle.std.specs.List.{filter_map}
+use Rattle.std.specs.Result.{result_err}
+use Rattle.gq_session.specs.Attending.{GivesUpWhereStuck}
+use Rattle.gq_live.specs.Faults.{TellsOf}
 use Rattle.gq_session.specs.declared.records.LiveFault.TheVariants as FaultIs
 use Rattle.gq_live.proofs.thread_ends.entries.Given as goal
 
 abbrev pub invariant-loop-end : goal.invariant-loop-end
-invariant-loop-end l =
-    AllAsked l.programs l.all.items × (l.fault ≡ None → vec_len l.all ≡ length l.yielded) × ForSome l.fault (λ fault. fault ≢ FaultIs.Gate)
+invariant-loop-end l = record {
+  asked : AllAsked l.programs l.all.items;
+  gave_up : All GivesUpWhereStuck l.all.items;
+  count : l.fault ≡ None → vec_len l.all ≡ length l.yielded;
+  gate : ForSome l.fault (λ fault. fault ≢ FaultIs.Gate);
+  told : TellsOf (filter_map (λ end. result_err end.result) l.yielded) l.fault;
+}

@@ -17,7 +17,7 @@ returns-in-Ok-write_script-clause-script g c =
       events = events;
       run = record {
         records = c.in-Ok.records;
-        recorded = record { volumes = live.volumes; cells = live.cells; lawful = live.lawful; sessions = live.sessions; asked = live.asked; changes = live.changes };
+        recorded = record { volumes = live.volumes; cells = live.cells; lawful = live.lawful; sessions = live.sessions; asked = live.asked; gave_up = live.gave_up; changes = live.changes; opens = live.opens };
         run = subst (IsRunOf plan c.in-Ok.records) (sym c.as_slice.ensures.value) c.in-Ok-inspect.ensures.run;
       };
       is = is;

@@ -1,12 +1,15 @@
-use Rattle.std.proofs.Common.{◌≡◌, Some, length}
+use Rattle.std.proofs.Common.{◌≡◌, ◌+◌, ◌≤◌, Some, length}
 use Rattle.gq_script.specs.Lines.{lines_of}
 use Rattle.gq_script.proofs.Answering.{Keeps}
+use Rattle.gq_script.proofs.Places.{Counts}
 use Rattle.gq_script.proofs.script.answer_lines.Given as goal
 
 abbrev pub invariant-loop-rest : goal.invariant-loop-rest
 invariant-loop-rest l = record {
   grid : l.quorum.grid ≡ l.world.tables.plan.grid;
   kept : Keeps l.fn.world.tables.plan (Some l.fn.tenant) l.world.tables l.events.items l.answers.items l.text.items (lines_of l.rest) (lines_of l.fn.lines);
+  places : Counts l.fn.world.tables.plan (Some l.fn.tenant) l.place l.places.items (lines_of l.rest) (lines_of l.fn.lines);
+  few : l.place + length l.rest ≤ length l.fn.lines;
 }
 
 abbrev pub decreases-loop-rest : goal.decreases-loop-rest

@@ -1,5 +1,4 @@
-use Rattle.std.proofs.Common.{rules, ◌≡◌, ℕ, Option, Some, None, refl, ap}
-use Rattle.gq_phase.specs.declared.operation.Operation.{Operation}
+use Rattle.std.proofs.Common.{rules, ◌≡◌, ℕ, Some, None, refl, ap}
 use Rattle.gq_phase.specs.declared.Heard.TheVariants.{Stale, Noted, Next, Done}
 use Rattle.gq_model.specs.declared.said.Said.TheVariants.{Round}
 use Rattle.gq_session.specs.Works.{Work}

@@ -1,0 +1,3 @@
+pub mod Processes
+pub mod Tables
+pub mod Walking

@@ -1,0 +1,62 @@
+-- Lines that are answered as they come.
+use Rattle.std.specs.Prelude.{◌≡◌, ◌≢◌, ℕ, ◌≤◌, List, [], ◌++◌, map, All, Option, Ok, Err, IfErr}
+use Rattle.std.specs.Io.KnownBytes.{Appends}
+use Rattle.gq_world.specs.Tables.{Stands}
+use Rattle.gq_script.specs.declared.plan_text.TextFault.TheVariants.{End}
+use Rattle.gq_script.specs.declared.script.RunFault.{RunFault}
+use Rattle.gq_script.specs.declared.script.RunFault.TheVariants.{Plan as PlanFault}
+use Rattle.gq_script.specs.declared.stepping.Stage.{Stage}
+use Rattle.gq_script.specs.declared.stepping.Stage.TheVariants.{Plan, Lines}
+use Rattle.gq_script.specs.Lines.{lines_of}
+use Rattle.gq_script.specs.Input.{event_of}
+use Rattle.gq_script.specs.PlanText.{rows_from, plan_of}
+use Rattle.gq_script.specs.Pieces.{Extends}
+use Rattle.gq_script.specs.Out.{out}
+use Rattle.gq_script.specs.Completing.{missing_newline}
+
+-- each line of the text has ended
+abbrev pub AllEnded : List ℕ → Type 0
+AllEnded text = missing_newline text ≡ []
+
+-- no line of the text has ended
+abbrev pub NoneEnded : List ℕ → Type 0
+NoneEnded text = All (λ byte. byte ≢ 10) text
+
+-- what is written for lines that have ended is never taken back: whatever comes behind them, the output goes on from theirs
+abbrev pub OutputsGrow : Type 0
+OutputsGrow = (lines rest : List ℕ) → AllEnded lines → Extends (out lines) (out (lines ++ rest))
+
+-- of what was read the lines that have ended were answered, and nothing else: the output of these lines was appended
+pub record AnswersEnded (read : List ℕ) (old new : Option (List ℕ)) : Type 0 where
+  pub ended : List ℕ
+  pub begun : List ℕ
+  pub parts : read ≡ ended ++ begun
+  pub ends : AllEnded ended
+  pub none : NoneEnded begun
+  pub answered : Appends old new (out ended)
+  -- no fault of the plan was known by these lines: if they tell one, it is that they end before `go`
+  pub known : IfErr (plan_of (lines_of ended)) (λ fault. fault.1 ≡ End)
+
+-- a fault of the plan is the one that the lines tell
+abbrev pub IsPlanFaultIn : List (List ℕ) → RunFault → Type 0
+IsPlanFaultIn lines (PlanFault line fault) = plan_of lines ≡ Err (line, fault)
+IsPlanFaultIn lines fault = Unit {0}
+
+-- it is one of the plan
+abbrev pub IsOfPlan : RunFault → Type 0
+IsOfPlan (PlanFault line fault) = Unit {0}
+IsOfPlan fault = ⊥
+
+-- it is a fault whatever comes behind these lines, and not only that they end
+abbrev pub IsFinal : RunFault → Type 0
+IsFinal (PlanFault line End) = ⊥
+IsFinal fault = Unit {0}
+
+-- from whichever number on, the lines tell rows, and `go` is missing behind them
+abbrev pub MissesGo : List (List ℕ) → Type 0
+MissesGo lines = (first : ℕ) → (n : ℕ) × (first ≤ n) × (rows_from first lines ≡ Err (n, End))
+
+-- these lines were answered: either they are the beginning of a plan, or the world stands for those after the plan
+abbrev pub HasAnswered : Stage → List (List ℕ) → Type 0
+HasAnswered (Plan missing) lines = (n : ℕ) × (missing ≤ n) × (plan_of lines ≡ Err (n, End))
+HasAnswered (Lines world) lines = (left : List (List ℕ)) × (plan_of lines ≡ Ok (world.tables.plan, left)) × Stands world.tables (map (event_of world.tables.plan) left)
