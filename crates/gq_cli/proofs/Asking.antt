@@ -1,4 +1,4 @@
--- Only words that ask to run, to step, for an order, a history, a completion or a live run have nothing wrong with them.
+-- Only words that ask to run, to step, for an order, a history, a picture, a completion or a live run have nothing wrong with them.
 use Rattle.std.proofs.Common.{refl, codes, true, false, Bool, ℕ, suc, List, Option, Some, None, ◌≡◌, ◌≢◌, [], ◌∷◌, sym, ap, ap₂, ◌∙◌, inl, inr, ◌⊎◌, ◌++◌}
 use Rattle.std.proofs.lemmas.List.{append-nil, append_assoc}
 use Rattle.std.proofs.lemmas.Slice.Eq.{bytes_eq-Decides}
@@ -198,6 +198,11 @@ pub history_is_met : walked top.rules names start (codes "history") ≡ record s
 unfolding walked
 history_is_met = refl
 
+-- or `picture`
+pub picture_is_met : walked top.rules names start (codes "picture") ≡ record start { stopped = Some (codes "picture", []) }
+unfolding walked
+picture_is_met = refl
+
 -- the words behind a subcommand are its own
 pub rest_is_kept : (words : List Text) (name : Text) (own : List Text) (w : Walk) → (fold (walked top.rules names) (record w { stopped = Some (name, own) }) words).stopped ≡ Some (name, own ++ words)
 unfolding walked
@@ -212,9 +217,9 @@ at_level s subs h words is_entered under none = let parts = both _ _ none in (pa
 stopped_at : (stop : Option (Text × List Text)) (words : List Text) → stop ≡ Some (codes "live", words) → entered_fault (built gridfs) stop ≡ level_fault live_built [] nothing_held words false []
 stopped_at stop words is = rw is refl
 
-dashes_alone : (word : Text) → bytes_eq (codes "run") word ≡ false → bytes_eq (codes "order") word ≡ false → bytes_eq (codes "finish") word ≡ false → bytes_eq (codes "live") word ≡ false → bytes_eq (codes "step") word ≡ false → bytes_eq (codes "history") word ≡ false → bytes_eq (codes "help") word ≡ false → bytes_eq word (codes "--") ≡ true → built_fault (built gridfs) nothing_held (word ∷ []) ≡ MissingSubcommand ∷ []
+dashes_alone : (word : Text) → bytes_eq (codes "run") word ≡ false → bytes_eq (codes "order") word ≡ false → bytes_eq (codes "finish") word ≡ false → bytes_eq (codes "live") word ≡ false → bytes_eq (codes "step") word ≡ false → bytes_eq (codes "history") word ≡ false → bytes_eq (codes "picture") word ≡ false → bytes_eq (codes "help") word ≡ false → bytes_eq word (codes "--") ≡ true → built_fault (built gridfs) nothing_held (word ∷ []) ≡ MissingSubcommand ∷ []
 unfolding clap_on_literals
-dashes_alone word run order finish live step history help dashes = rw (run, order, finish, live, step, history, help, dashes) refl
+dashes_alone word run order finish live step history picture help dashes = rw (run, order, finish, live, step, history, picture, help, dashes) refl
 
 -- the words are that word, behind which `--` may stand
 abbrev pub Alone : Text → List Text → Type 0
@@ -226,7 +231,7 @@ Behind word words = (own : List Text) × (words ≡ word ∷ own)
 
 -- what the words ask for, that come behind the program's name
 abbrev pub Asks : List Text → Type 0
-Asks words = Behind (codes "run") words ⊎ (Alone (codes "live") words ⊎ (Behind (codes "order") words ⊎ (Behind (codes "finish") words ⊎ (Behind (codes "step") words ⊎ Behind (codes "history") words))))
+Asks words = Behind (codes "run") words ⊎ (Alone (codes "live") words ⊎ (Behind (codes "order") words ⊎ (Behind (codes "finish") words ⊎ (Behind (codes "step") words ⊎ (Behind (codes "history") words ⊎ Behind (codes "picture") words)))))
 
 -- behind the word `live`
 alone_by : (word : Text) (words : List Text) → built_fault (built gridfs) nothing_held (word ∷ words) ≡ [] → bytes_eq (codes "live") word ≡ true → walked top.rules names start word ≡ record start { stopped = Some (codes "live", []) } → Alone (codes "live") (word ∷ words)
@@ -240,30 +245,32 @@ alone_by word words none same met =
       | inr dashed ↦ inr (ap₂ (λ w ws. w ∷ ws) named dashed)
     ]
 
-asks_by : (word : Text) (words : List Text) → built_fault (built gridfs) nothing_held (word ∷ words) ≡ [] → (is_run is_order is_finish is_live is_step is_history is_help is_dashes : Bool) → bytes_eq (codes "run") word ≡ is_run → bytes_eq (codes "order") word ≡ is_order
-    → bytes_eq (codes "finish") word ≡ is_finish → bytes_eq (codes "live") word ≡ is_live → bytes_eq (codes "step") word ≡ is_step → bytes_eq (codes "history") word ≡ is_history → bytes_eq (codes "help") word ≡ is_help → bytes_eq word (codes "--") ≡ is_dashes → Asks (word ∷ words)
-asks_by word words none true is_order is_finish is_live is_step is_history is_help is_dashes run order finish live step history help dashes =
+asks_by : (word : Text) (words : List Text) → built_fault (built gridfs) nothing_held (word ∷ words) ≡ [] → (is_run is_order is_finish is_live is_step is_history is_picture is_help is_dashes : Bool) → bytes_eq (codes "run") word ≡ is_run → bytes_eq (codes "order") word ≡ is_order
+    → bytes_eq (codes "finish") word ≡ is_finish → bytes_eq (codes "live") word ≡ is_live → bytes_eq (codes "step") word ≡ is_step → bytes_eq (codes "history") word ≡ is_history → bytes_eq (codes "picture") word ≡ is_picture → bytes_eq (codes "help") word ≡ is_help → bytes_eq word (codes "--") ≡ is_dashes → Asks (word ∷ words)
+asks_by word words none true is_order is_finish is_live is_step is_history is_picture is_help is_dashes run order finish live step history picture help dashes =
     inl (words, ap (λ (w : Text). w ∷ words) (sym (same_bytes (codes "run") word run)))
-asks_by word words none false true is_finish is_live is_step is_history is_help is_dashes run order finish live step history help dashes =
+asks_by word words none false true is_finish is_live is_step is_history is_picture is_help is_dashes run order finish live step history picture help dashes =
     inr (inr (inl (words, ap (λ (w : Text). w ∷ words) (sym (same_bytes (codes "order") word order)))))
-asks_by word words none false false true is_live is_step is_history is_help is_dashes run order finish live step history help dashes =
+asks_by word words none false false true is_live is_step is_history is_picture is_help is_dashes run order finish live step history picture help dashes =
     inr (inr (inr (inl (words, ap (λ (w : Text). w ∷ words) (sym (same_bytes (codes "finish") word finish))))))
-asks_by word words none false false false true is_step is_history is_help is_dashes run order finish live step history help dashes =
+asks_by word words none false false false true is_step is_history is_picture is_help is_dashes run order finish live step history picture help dashes =
     inr (inl (alone_by word words none live (live_is_met word run order finish live)))
-asks_by word words none false false false false true is_history is_help is_dashes run order finish live step history help dashes =
+asks_by word words none false false false false true is_history is_picture is_help is_dashes run order finish live step history picture help dashes =
     inr (inr (inr (inr (inl (words, ap (λ (w : Text). w ∷ words) (sym (same_bytes (codes "step") word step)))))))
-asks_by word words none false false false false false true is_help is_dashes run order finish live step history help dashes =
-    inr (inr (inr (inr (inr (words, ap (λ (w : Text). w ∷ words) (sym (same_bytes (codes "history") word history)))))))
-asks_by word words none false false false false false false true is_dashes run order finish live step history help dashes =
-    let told : turn_fault top names start word ≡ DisplayHelp ∷ InvalidSubcommand ∷ [] = rw (run, order, finish, live, step, history, help) refl in
+asks_by word words none false false false false false true is_picture is_help is_dashes run order finish live step history picture help dashes =
+    inr (inr (inr (inr (inr (inl (words, ap (λ (w : Text). w ∷ words) (sym (same_bytes (codes "history") word history))))))))
+asks_by word words none false false false false false false true is_help is_dashes run order finish live step history picture help dashes =
+    inr (inr (inr (inr (inr (inr (words, ap (λ (w : Text). w ∷ words) (sym (same_bytes (codes "picture") word picture))))))))
+asks_by word words none false false false false false false false true is_dashes run order finish live step history picture help dashes =
+    let told : turn_fault top names start word ≡ DisplayHelp ∷ InvalidSubcommand ∷ [] = rw (run, order, finish, live, step, history, picture, help) refl in
     let nothing = sym told ∙ (turns top names start word words (at_level _ _ _ _ _ _ none).0).0 in
     absurd (cc)
-asks_by word words none false false false false false false false false run order finish live step history help dashes =
-    absurd (other_is_wrong false names word (rw (run, order, finish, live, step, history, help) refl) dashes (turns top names start word words (at_level _ _ _ _ _ _ none).0).0)
-asks_by word [] none false false false false false false false true run order finish live step history help dashes = let nothing = sym (dashes_alone word run order finish live step history help dashes) ∙ none in absurd (cc)
-asks_by word (x ∷ words) none false false false false false false false true run order finish live step history help dashes =
+asks_by word words none false false false false false false false false false run order finish live step history picture help dashes =
+    absurd (other_is_wrong false names word (rw (run, order, finish, live, step, history, picture, help) refl) dashes (turns top names start word words (at_level _ _ _ _ _ _ none).0).0)
+asks_by word [] none false false false false false false false false true run order finish live step history picture help dashes = let nothing = sym (dashes_alone word run order finish live step history picture help dashes) ∙ none in absurd (cc)
+asks_by word (x ∷ words) none false false false false false false false false true run order finish live step history picture help dashes =
     let trail = turns top names start word (x ∷ words) (at_level _ _ _ _ _ _ none).0 in
-    let nothing : x ∷ words ≡ [] = nothing_trails false names (x ∷ words) (ap (λ (w : Walk). walk_fault top names w (x ∷ words)) (sym (dashes_trail false names word (rw (run, order, finish, live, step, history, help) refl) dashes)) ∙ trail.1) in
+    let nothing : x ∷ words ≡ [] = nothing_trails false names (x ∷ words) (ap (λ (w : Walk). walk_fault top names w (x ∷ words)) (sym (dashes_trail false names word (rw (run, order, finish, live, step, history, picture, help) refl) dashes)) ∙ trail.1) in
     absurd (cc)
 
 -- with no words there is no subcommand
@@ -276,4 +283,4 @@ asks words none = by (drop 1 words) none
   where
     by : (args : List Text) → built_fault (built gridfs) nothing_held args ≡ [] → Asks args
     by [] wrong = let nothing = sym nothing_is_wrong ∙ wrong in absurd (cc)
-    by (word ∷ args) right = asks_by word args right (bytes_eq (codes "run") word) (bytes_eq (codes "order") word) (bytes_eq (codes "finish") word) (bytes_eq (codes "live") word) (bytes_eq (codes "step") word) (bytes_eq (codes "history") word) (bytes_eq (codes "help") word) (bytes_eq word (codes "--")) refl refl refl refl refl refl refl refl
+    by (word ∷ args) right = asks_by word args right (bytes_eq (codes "run") word) (bytes_eq (codes "order") word) (bytes_eq (codes "finish") word) (bytes_eq (codes "live") word) (bytes_eq (codes "step") word) (bytes_eq (codes "history") word) (bytes_eq (codes "picture") word) (bytes_eq (codes "help") word) (bytes_eq word (codes "--")) refl refl refl refl refl refl refl refl refl

@@ -9,9 +9,9 @@ use Rattle.clap.specs.declared.parser.matches.ArgMatches.{ArgMatches}
 use Rattle.clap.specs.Walk.{Row, Text, Walk, nothing_held, walk, walked}
 use Rattle.clap.proofs.OnLiterals.{clap_on_literals}
 use Rattle.gq_cli.specs.declared.words.Request.{Request}
-use Rattle.gq_cli.specs.declared.words.Request.TheVariants.{Run, Step, Order, History, Finish, Live}
-use Rattle.gq_cli.specs.Words.{AsksForHistory, AsksForLive, AsksToFinish, AsksToRun, AsksToOrder, AsksToStep, IsAskedBy, IsOf, gridfs}
-use Rattle.gq_cli.proofs.Asking.{Alone, Asks, Behind, names, finish_is_met, history_is_met, order_is_met, rest_is_kept, run_is_met, start, step_is_met, top}
+use Rattle.gq_cli.specs.declared.words.Request.TheVariants.{Run, Step, Order, History, Picture, Finish, Live}
+use Rattle.gq_cli.specs.Words.{AsksForHistory, AsksForLive, AsksForPicture, AsksToFinish, AsksToRun, AsksToOrder, AsksToStep, IsAskedBy, IsOf, gridfs}
+use Rattle.gq_cli.proofs.Asking.{Alone, Asks, Behind, names, finish_is_met, history_is_met, order_is_met, picture_is_met, rest_is_kept, run_is_met, start, step_is_met, top}
 
 -- the name of a subcommand with its matches
 abbrev first_part : Text × List Row → Text
@@ -69,6 +69,12 @@ history_is_named words (own, is) = ap named_by is ∙ ap (λ stop. option_map fi
     stops : (walk top.rules names nothing_held (codes "history" ∷ own)).stopped ≡ Some (codes "history", own)
     stops = ap (λ (w : Walk). (fold (walked top.rules names) w own).stopped) history_is_met ∙ rest_is_kept own (codes "history") [] start
 
+pub picture_is_named : (words : List Text) → AsksForPicture words → named words ≡ Some (codes "picture")
+picture_is_named words (own, is) = ap named_by is ∙ ap (λ stop. option_map first_part (entered (built gridfs) stop)) stops
+  where
+    stops : (walk top.rules names nothing_held (codes "picture" ∷ own)).stopped ≡ Some (codes "picture", own)
+    stops = ap (λ (w : Walk). (fold (walked top.rules names) w own).stopped) picture_is_met ∙ rest_is_kept own (codes "picture") [] start
+
 name_of_rows : {X : Type 0} (name : X → Text) (rows : X → List Row) (o : Option X) → option_map name o ≡ option_map first_part (option_map (λ x. (name x, rows x)) o)
 name_of_rows name rows None = refl
 name_of_rows name rows (Some x) = refl
@@ -101,7 +107,8 @@ begins_so words a (inr (inl live)) is = begins_with words (codes "live") a (live
 begins_so words a (inr (inr (inl order))) is = begins_with words (codes "order") a (order_is_named words order) is order
 begins_so words a (inr (inr (inr (inl finish)))) is = begins_with words (codes "finish") a (finish_is_named words finish) is finish
 begins_so words a (inr (inr (inr (inr (inl step))))) is = begins_with words (codes "step") a (step_is_named words step) is step
-begins_so words a (inr (inr (inr (inr (inr history))))) is = begins_with words (codes "history") a (history_is_named words history) is history
+begins_so words a (inr (inr (inr (inr (inr (inl history)))))) is = begins_with words (codes "history") a (history_is_named words history) is history
+begins_so words a (inr (inr (inr (inr (inr (inr picture)))))) is = begins_with words (codes "picture") a (picture_is_named words picture) is picture
 
 -- and where they name `live`, that is alone
 is_alone : (words : List Text) → Asks (drop 1 words) → named words ≡ Some (codes "live") → Alone (codes "live") (drop 1 words)
@@ -110,7 +117,8 @@ is_alone words (inr (inl live)) is = live
 is_alone words (inr (inr (inl order))) is = absurd (not_live (codes "order") refl (one_name words (codes "order") (codes "live") (order_is_named words order) is))
 is_alone words (inr (inr (inr (inl finish)))) is = absurd (not_live (codes "finish") refl (one_name words (codes "finish") (codes "live") (finish_is_named words finish) is))
 is_alone words (inr (inr (inr (inr (inl step))))) is = absurd (not_live (codes "step") refl (one_name words (codes "step") (codes "live") (step_is_named words step) is))
-is_alone words (inr (inr (inr (inr (inr history))))) is = absurd (not_live (codes "history") refl (one_name words (codes "history") (codes "live") (history_is_named words history) is))
+is_alone words (inr (inr (inr (inr (inr (inl history)))))) is = absurd (not_live (codes "history") refl (one_name words (codes "history") (codes "live") (history_is_named words history) is))
+is_alone words (inr (inr (inr (inr (inr (inr picture)))))) is = absurd (not_live (codes "picture") refl (one_name words (codes "picture") (codes "live") (picture_is_named words picture) is))
 
 -- what is asked for, by what the words name
 pub asked_by : (words : List Text) (name : Option Text) (request : Request) → Asks (drop 1 words) → name ≡ named words → IsOf name request → IsAskedBy words request
@@ -119,9 +127,11 @@ asked_by words name (Run jobs) (inr (inl live)) is other = absurd (other.2 (is �
 asked_by words name (Run jobs) (inr (inr (inl order))) is other = absurd (other.0 (is ∙ order_is_named words order))
 asked_by words name (Run jobs) (inr (inr (inr (inl finish)))) is other = absurd (other.1 (is ∙ finish_is_named words finish))
 asked_by words name (Run jobs) (inr (inr (inr (inr (inl step))))) is other = absurd (other.3 (is ∙ step_is_named words step))
-asked_by words name (Run jobs) (inr (inr (inr (inr (inr history))))) is other = absurd (other.4 (is ∙ history_is_named words history))
+asked_by words name (Run jobs) (inr (inr (inr (inr (inr (inl history)))))) is other = absurd (other.4 (is ∙ history_is_named words history))
+asked_by words name (Run jobs) (inr (inr (inr (inr (inr (inr picture)))))) is other = absurd (other.5 (is ∙ picture_is_named words picture))
 asked_by words name Step asks is same = begins_so words (codes "step") asks (sym is ∙ same)
 asked_by words name (Order tenant volume file) asks is same = begins_so words (codes "order") asks (sym is ∙ same)
 asked_by words name (History tenant volume file) asks is same = begins_so words (codes "history") asks (sym is ∙ same)
+asked_by words name (Picture tenant volume file) asks is same = begins_so words (codes "picture") asks (sym is ∙ same)
 asked_by words name (Finish tenant session) asks is same = begins_so words (codes "finish") asks (sym is ∙ same)
 asked_by words name Live asks is same = is_alone words asks (sym is ∙ same)

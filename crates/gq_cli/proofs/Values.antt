@@ -14,7 +14,7 @@ use Rattle.clap.specs.Simple.{HasMatchesOf, subcommand_rows_of}
 use Rattle.clap.specs.declared.parser.matches.ArgMatches.{ArgMatches}
 use Rattle.clap.specs.declared.parser.matches.Found.{Found}
 use Rattle.gq_cli.specs.declared.words.Request.{Request}
-use Rattle.gq_cli.specs.declared.words.Request.TheVariants.{Run, Step, Order, History, Finish, Live}
+use Rattle.gq_cli.specs.declared.words.Request.TheVariants.{Run, Step, Order, History, Picture, Finish, Live}
 use Rattle.gq_cli.specs.Words.{IsAskedBy, IsOf, gridfs}
 use Rattle.gq_cli.specs.Given.{HasValues, IsNumberGiven, IsNumberIn, given_by, name_of, rows_behind, text_given}
 use Rattle.gq_cli.proofs.Naming.{named, run_is_named}
@@ -87,6 +87,7 @@ name_is words name (Run jobs) is of asked = is ∙ run_is_named words asked
 name_is words name Step is of asked = of
 name_is words name (Order tenant volume file) is of asked = of
 name_is words name (History tenant volume file) is of asked = of
+name_is words name (Picture tenant volume file) is of asked = of
 name_is words name (Finish tenant session) is of asked = of
 name_is words name Live is of asked = of
 

@@ -4,7 +4,7 @@ use Rattle.std.specs.Str.Parse.{IsNumeral, digits_value, without_leading_plus}
 use Rattle.clap.specs.Simple.{subcommand_of}
 use Rattle.clap.specs.Walk.{Row, Text, first_of, one_of}
 use Rattle.gq_cli.specs.declared.words.Request.{Request}
-use Rattle.gq_cli.specs.declared.words.Request.TheVariants.{Run, Step, Order, History, Finish, Live}
+use Rattle.gq_cli.specs.declared.words.Request.TheVariants.{Run, Step, Order, History, Picture, Finish, Live}
 use Rattle.gq_cli.specs.Words.{gridfs}
 
 -- what was found behind a subcommand, with its name
@@ -42,6 +42,7 @@ name_of (Run jobs) = codes "run"
 name_of Step = codes "step"
 name_of (Order name volume file) = codes "order"
 name_of (History name volume file) = codes "history"
+name_of (Picture name volume file) = codes "picture"
 name_of (Finish name session) = codes "finish"
 name_of Live = codes "live"
 
@@ -56,5 +57,6 @@ HasValues rows (Run jobs) = IsNumberGiven rows (codes "JOBS") 1 jobs
 HasValues rows Step = Unit {0}
 HasValues rows (Order name volume file) = HasFile rows name.now volume file
 HasValues rows (History name volume file) = HasFile rows name.now volume file
+HasValues rows (Picture name volume file) = HasFile rows name.now volume file
 HasValues rows (Finish name session) = (name.now ≡ text_given rows (codes "NAME")) × IsNumberGiven rows (codes "SESSION") 0 session
 HasValues rows Live = Unit {0}

@@ -9,7 +9,7 @@ use Rattle.clap.specs.declared.builder.action.ArgAction.TheVariants.{Set}
 use Rattle.clap.specs.declared.builder.value_parser.ValueParser.TheVariants.{Signed}
 use Rattle.clap.specs.declared.error.kind.ErrorKind.{ErrorKind}
 use Rattle.gq_cli.specs.declared.words.Request.{Request}
-use Rattle.gq_cli.specs.declared.words.Request.TheVariants.{Run, Step, Order, History, Finish, Live}
+use Rattle.gq_cli.specs.declared.words.Request.TheVariants.{Run, Step, Order, History, Picture, Finish, Live}
 use Rattle.gq_cli.specs.declared.words.Usage.{Usage}
 use Rattle.gq_cli.specs.declared.words.Usage.TheVariants.{Shown, Memory}
 
@@ -20,7 +20,7 @@ jobs_rule = record (new_rule (codes "JOBS")) { short = Some 106; long = Some (co
 abbrev pub run_shape : Shape
 run_shape = record (new_shape (codes "run")) { rules = jobs_rule ∷ [] }
 
--- the subcommands `order` and `history`, which take a name and two numbers below 2^32, each of which has to be given
+-- the subcommands `order`, `history` and `picture`, which take a name and two numbers below 2^32, each of which has to be given
 abbrev pub name_rule : Rule
 name_rule = record (new_rule (codes "NAME")) { required = true; action = Some Set }
 
@@ -36,6 +36,9 @@ order_shape = file_shape (codes "order")
 abbrev pub history_shape : Shape
 history_shape = file_shape (codes "history")
 
+abbrev pub picture_shape : Shape
+picture_shape = file_shape (codes "picture")
+
 -- the subcommand `finish`, which takes a name and a number below 2^32, both of which have to be given
 abbrev pub finish_shape : Shape
 finish_shape = record (new_shape (codes "finish")) { rules = name_rule ∷ number_rule (codes "SESSION") ∷ [] }
@@ -50,9 +53,9 @@ step_shape = new_shape (codes "step")
 
 -- the command line: `gridfs`, which has a version and wants one of its subcommands
 abbrev pub gridfs : App
-gridfs = with_subcommand (with_subcommand (with_subcommand (with_subcommand (with_subcommand (with_subcommand
+gridfs = with_subcommand (with_subcommand (with_subcommand (with_subcommand (with_subcommand (with_subcommand (with_subcommand
     (on_top (λ top. record top { has_version = true; subcommand_required = true }) (new_app (codes "gridfs")))
-    run_shape) order_shape) finish_shape) live_shape) step_shape) history_shape
+    run_shape) order_shape) finish_shape) live_shape) step_shape) history_shape) picture_shape
 
 -- what is wrong with the words, the program's name first; a call for help or for the version counts
 abbrev pub faults_in : List Text → Kinds
@@ -82,6 +85,10 @@ AsksToOrder words = (own : List Text) × (drop 1 words ≡ codes "order" ∷ own
 abbrev pub AsksForHistory : List Text → Type 0
 AsksForHistory words = (own : List Text) × (drop 1 words ≡ codes "history" ∷ own)
 
+-- they ask for the picture of a file's operations: `picture`, behind which come its own words
+abbrev pub AsksForPicture : List Text → Type 0
+AsksForPicture words = (own : List Text) × (drop 1 words ≡ codes "picture" ∷ own)
+
 -- they ask for the lines that complete an operation: `finish`, behind which come its own words
 abbrev pub AsksToFinish : List Text → Type 0
 AsksToFinish words = (own : List Text) × (drop 1 words ≡ codes "finish" ∷ own)
@@ -92,15 +99,17 @@ IsAskedBy words (Run jobs) = AsksToRun words
 IsAskedBy words Step = AsksToStep words
 IsAskedBy words (Order name volume file) = AsksToOrder words
 IsAskedBy words (History name volume file) = AsksForHistory words
+IsAskedBy words (Picture name volume file) = AsksForPicture words
 IsAskedBy words (Finish name session) = AsksToFinish words
 IsAskedBy words Live = AsksForLive words
 
 -- what is asked for is that of the subcommand of this name
 abbrev pub IsOf : Option Text → Request → Type 0
-IsOf name (Run jobs) = (name ≢ Some (codes "order")) × (name ≢ Some (codes "finish")) × (name ≢ Some (codes "live")) × (name ≢ Some (codes "step")) × (name ≢ Some (codes "history"))
+IsOf name (Run jobs) = (name ≢ Some (codes "order")) × (name ≢ Some (codes "finish")) × (name ≢ Some (codes "live")) × (name ≢ Some (codes "step")) × (name ≢ Some (codes "history")) × (name ≢ Some (codes "picture"))
 IsOf name Step = name ≡ Some (codes "step")
 IsOf name (Order tenant volume file) = name ≡ Some (codes "order")
 IsOf name (History tenant volume file) = name ≡ Some (codes "history")
+IsOf name (Picture tenant volume file) = name ≡ Some (codes "picture")
 IsOf name (Finish tenant session) = name ≡ Some (codes "finish")
 IsOf name Live = name ≡ Some (codes "live")
 

@@ -35,6 +35,12 @@ pub enum Request<'a> {
         volume: u32,
         file: u32,
     },
+    /// Draw the operations on a file of the tenant of this name.
+    Picture {
+        name: &'a str,
+        volume: u32,
+        file: u32,
+    },
     /// Write the lines that complete the operation of a session of the tenant of this name.
     Finish {
         name: &'a str,
@@ -136,6 +142,14 @@ the order of the lines of the script, each a map in EDN, as checkers of historie
     {:index 1, :time 10, :type :ok, :process 1, :f :write, :value \"6869\"}
 
 An operation that did not end has `:info` in place of `:ok`, behind all lines. docs/FORMATS.md has the whole form.";
+
+const PICTURE: &str = "\
+The answers are not written. In their place comes a picture (SVG) of the operations on the file, in the order in which a single
+register gives the same answers: a lane for each session, a bar for each operation from its beginning to its end, a point in it
+where it takes place, and on top what the register holds. Each read's point is below what it gave. Writes that did not end stand
+in it where a read or a listing told of them, with a dashed bar. Below are the servers that were down, and when.
+
+    gridfs picture ann 0 0 < script > file.svg";
 
 const LIVE: &str = "\
 The input is a plan whose tenants all have 1000000 steps, and after its line `go` lines of these kinds:
@@ -306,6 +320,12 @@ fn command<'a>(alloc: Global) -> Result<Command<'a>, AllocError>
             "history",
             "Write the history of the operations on a file of the tenant, as Jepsen has it",
             HISTORY,
+        )?)?
+        .subcommand(of_file(
+            alloc,
+            "picture",
+            "Draw the operations on a file of the tenant",
+            PICTURE,
         )?)?;
     Ok(gridfs)
 }
@@ -354,6 +374,13 @@ fn request_of<'a>(matches: &ArgMatches<'a>) -> Request<'a>
             name: text_of(history, "NAME"),
             volume: number_of(history, "VOLUME", 0),
             file: number_of(history, "FILE", 0),
+        };
+    }
+    if let Some(picture) = matches.subcommand_matches("picture") {
+        return Request::Picture {
+            name: text_of(picture, "NAME"),
+            volume: number_of(picture, "VOLUME", 0),
+            file: number_of(picture, "FILE", 0),
         };
     }
     let jobs = match matches.subcommand_matches("run") {

@@ -38,7 +38,7 @@ use Rattle.gq_inspect.specs.Lists.{AllClimb, AllFlips}
 
 -- ---- what stood before a step
 
--- the events so far, and the messages that their steps sent
+-- the events so far, and which messages each of their steps sent, as it was told then: a letter names its message by them
 pub record Before : Type 0 where
   pub events : List Event
   pub firsts : List First

@@ -23,7 +23,7 @@ use Rattle.gq_runs.specs.declared.finish.FinishFault.{FinishFault}
 use Rattle.gq_runs.specs.declared.finish.FinishFault.TheVariants.{Run, Name, Session, Idle as NoOperation, Steps as TooFewSteps}
 use Rattle.gq_runs.specs.declared.finish.Stop.{Stop}
 use Rattle.gq_runs.specs.declared.finish.Stop.TheVariants.{Idle, Steps}
-use Rattle.gq_runs.specs.Orders.{NamesTenant}
+use Rattle.gq_files.specs.Orders.{NamesTenant}
 
 -- ---- what the lines after `go` leave
 

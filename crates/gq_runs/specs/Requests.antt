@@ -2,28 +2,30 @@
 use Rattle.std.specs.Prelude.{ℕ, List, Option}
 use Rattle.std.specs.Io.KnownBytes.{Appends}
 use Rattle.gq_cli.specs.declared.words.Request.{Request}
-use Rattle.gq_cli.specs.declared.words.Request.TheVariants.{Run, Step, Order, History, Finish, Live}
+use Rattle.gq_cli.specs.declared.words.Request.TheVariants.{Run, Step, Order, History, Picture, Finish, Live}
 use Rattle.gq_script.specs.Out.{out}
 use Rattle.gq_script.specs.declared.script.RunFault.TheVariants.{Plan, Memory, Write}
 use Rattle.gq_session.specs.declared.records.LiveFault.TheVariants.{Memory as LiveMemory, Thread, Gate, Stamps, Letter}
-use Rattle.gq_runs.specs.Orders.{order_out}
-use Rattle.gq_runs.specs.Histories.{AppendsHistory}
+use Rattle.gq_files.specs.Orders.{order_out}
+use Rattle.gq_files.specs.Histories.{AppendsHistory}
+use Rattle.gq_files.specs.Pictures.{AppendsPicture}
 use Rattle.gq_runs.specs.Finishing.{FinishOf}
 use Rattle.gq_runs.specs.LiveRuns.{AppendsLive}
-use Rattle.gq_runs.specs.declared.order.OrderFault.TheVariants.{Run as OrderRun}
+use Rattle.gq_files.specs.declared.order.OrderFault.TheVariants.{Run as OrderRun}
 use Rattle.gq_runs.specs.declared.finish.FinishFault.TheVariants.{Run as FinishRun}
 use Rattle.gq_runs.specs.declared.live.LiveRunFault.TheVariants.{Memory as LiveRunMemory, Write as LiveWrite, Live as LiveThreads, Mismatch}
 use Rattle.gq_runs.specs.declared.requests.RequestFault.{RequestFault}
-use Rattle.gq_runs.specs.declared.requests.RequestFault.TheVariants.{Run as RunEnded, Step as StepEnded, Order as OrderEnded, History as HistoryEnded, Finish as FinishEnded, Live as LiveEnded}
+use Rattle.gq_runs.specs.declared.requests.RequestFault.TheVariants.{Run as RunEnded, Step as StepEnded, Order as OrderEnded, History as HistoryEnded, Picture as PictureEnded, Finish as FinishEnded, Live as LiveEnded}
 use Rattle.gq_runs.specs.declared.requests.TheConstants.{FAULT, MEMORY, REFUSED}
 
 -- what the request asks for was appended: the output of the input; with the order of the operations on that file of that tenant;
--- the history of these operations; the lines that complete the operation of that session; the script of a live run
+-- the history of these operations; their picture; the lines that complete the operation of that session; the script of a live run
 abbrev pub Writes : Request → List ℕ → Option (List ℕ) → Option (List ℕ) → Type 0
 Writes (Run jobs) input old new = Appends old new (out input)
 Writes Step input old new = Appends old new (out input)
 Writes (Order name volume file) input old new = Appends old new (order_out input name.now (record { volume = volume; place = file }))
 Writes (History name volume file) input old new = AppendsHistory input name.now (record { volume = volume; place = file }) old new
+Writes (Picture name volume file) input old new = AppendsPicture input name.now (record { volume = volume; place = file }) old new
 Writes (Finish name session) input old new = (text : List ℕ) × FinishOf name.now session input text × Appends old new text
 Writes Live input old new = AppendsLive input old new
 
@@ -34,6 +36,7 @@ MayHaveWritten (StepEnded (Plan line fault)) = ⊥
 MayHaveWritten (StepEnded fault) = Unit {0}
 MayHaveWritten (OrderEnded (OrderRun Write)) = Unit {0}
 MayHaveWritten (HistoryEnded (OrderRun Write)) = Unit {0}
+MayHaveWritten (PictureEnded (OrderRun Write)) = Unit {0}
 MayHaveWritten (FinishEnded (FinishRun Write)) = Unit {0}
 MayHaveWritten (LiveEnded LiveWrite) = Unit {0}
 MayHaveWritten fault = ⊥
@@ -49,6 +52,7 @@ status_of (RunEnded (Memory _)) = MEMORY
 status_of (StepEnded (Memory _)) = MEMORY
 status_of (OrderEnded (OrderRun (Memory _))) = MEMORY
 status_of (HistoryEnded (OrderRun (Memory _))) = MEMORY
+status_of (PictureEnded (OrderRun (Memory _))) = MEMORY
 status_of (FinishEnded (FinishRun (Memory _))) = MEMORY
 status_of (LiveEnded (LiveRunMemory _)) = MEMORY
 status_of (LiveEnded (LiveThreads (LiveMemory _))) = MEMORY

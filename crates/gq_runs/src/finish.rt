@@ -18,7 +18,7 @@ ghost use Rattle.gq_script.specs.Canonical.{line_words};
 ghost use Rattle.gq_script.specs.Completing.{missing_newline};
 ghost use Rattle.gq_script.specs.Out.{IsAccepted};
 ghost use Rattle.gq_script.specs.Watched.{inner_of, has_failed, AppendsPrefix};
-ghost use Rattle.gq_runs.specs.Orders.{NamesTenant};
+ghost use Rattle.gq_files.specs.Orders.{NamesTenant};
 ghost use Rattle.gq_runs.specs.Finishing.{events_of, goes_on, outcome_session, CauseOf, Finished, FinishOf, HasCause, IsEnd, IsOfOutput, StopsFor};
 
 use gq_desk::{MOST_STEPS, Plan};

@@ -1,18 +1,13 @@
 //! What a command line can ask for, and how it is done: a run; one with the order of a file's operations behind it; the history of
-//! a file's operations; the lines that complete an operation; a live run, from its programs to its script.
+//! a file's operations, and their picture; the lines that complete an operation; a live run, from its programs to its script.
 #![tactic(auto)]
 
-mod asked_file;
 mod finish;
-mod history;
 mod live;
-mod order;
 mod programs;
 mod requests;
 
 pub use finish::{FinishFault, finish_run};
-pub use history::history_run;
 pub use live::{LiveRunFault, NamedMismatch, live_run};
-pub use order::{OrderFault, order_run};
 pub use programs::{ProgramFault, read_programs};
 pub use requests::{RequestFault, carry_out};

@@ -7,10 +7,9 @@ ghost use Rattle.gq_runs.specs.Requests.{Writes, MayHaveWritten, IsOfStep, statu
 ghost use Rattle.gq_runs.specs.declared.requests.RequestFault.{RequestFault};
 
 use crate::finish::{FinishFault, finish_run};
-use crate::history::history_run;
 use crate::live::{LiveRunFault, live_run};
-use crate::order::{OrderFault, order_run};
 use gq_cli::Request;
+use gq_files::{OrderFault, history_run, order_run, picture_run};
 use gq_live::{LiveFault, OpenGate};
 use gq_script::{Notice, RunFault, Watched, step};
 use gq_shards::{SHORT, run_in_shards};
@@ -43,6 +42,9 @@ pub enum RequestFault {
     /// The history of a file's operations was not told.
     #[error("{0}")]
     History(OrderFault),
+    /// The picture of a file's operations was not drawn.
+    #[error("{0}")]
+    Picture(OrderFault),
     /// The lines that complete an operation were not told.
     #[error("{0}")]
     Finish(FinishFault),
@@ -83,6 +85,7 @@ impl RequestFault {
             | RequestFault::Step(fault)
             | RequestFault::Order(OrderFault::Run(fault))
             | RequestFault::History(OrderFault::Run(fault))
+            | RequestFault::Picture(OrderFault::Run(fault))
             | RequestFault::Finish(FinishFault::Run(fault)) => run_status(fault),
             RequestFault::Live(fault) => live_status(fault),
             _ => FAULT,
@@ -102,9 +105,9 @@ fn shards_of(rt: &impl Threads, jobs: u32) -> usize {
 }
 
 /// Does what a command line asks for between a reader and a writer. What is written is what the words ask for; the faults, and
-/// what was written at each, are those of [`gq_shards::run_in_shards`], [`gq_script::step`], [`crate::order_run`],
-/// [`crate::history_run`], [`crate::finish_run`] and [`crate::live_run`]. The notice is told by a run that answers each line as it comes. How many shards
-/// a run has depends on the machine where the words say 0, and no answer does.
+/// what was written at each, are those of [`gq_shards::run_in_shards`], [`gq_script::step`], [`gq_files::order_run`],
+/// [`gq_files::history_run`], [`gq_files::picture_run`], [`crate::finish_run`] and [`crate::live_run`]. The notice is told by a run that
+/// answers each line as it comes. How many shards a run has depends on the machine where the words say 0, and no answer does.
 pub fn carry_out<T: Threads + Wait + Sync, N: Notice, R: Read, W: Write>(
     rt: &T,
     alloc: Global,
@@ -143,6 +146,12 @@ pub fn carry_out<T: Threads + Wait + Sync, N: Notice, R: Read, W: Write>(
             match history_run(alloc, reader, writer, name, volume, file) {
                 Ok(()) => Ok(()),
                 Err(fault) => Err(RequestFault::History(fault)),
+            }
+        }
+        Request::Picture { name, volume, file } => {
+            match picture_run(alloc, reader, writer, name, volume, file) {
+                Ok(()) => Ok(()),
+                Err(fault) => Err(RequestFault::Picture(fault)),
             }
         }
         Request::Finish { name, session } => {

@@ -1,6 +1,6 @@
 //! A run between a reader and a writer that give and take little at a time, and fail.
 
-use gq_runs::{OrderFault, order_run};
+use gq_files::{OrderFault, order_run};
 use gq_script::{NoNotice, RunFault, Watched, run, step};
 use gq_shards::run_in_shards;
 use std::alloc::Global;

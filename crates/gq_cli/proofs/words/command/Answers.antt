@@ -18,4 +18,5 @@ returns c =
     let with_finish = c.in_ok-subcommand-3.ensures.shape c.in_ok-finish.ensures.local ∙ ap₂ with_subcommand with_order c.in_ok-finish.ensures.shape in
     let with_live = c.in_ok-subcommand-4.ensures.shape c.subcommand-live.ensures.local ∙ ap₂ with_subcommand with_finish (ap top_of c.subcommand-live.ensures.app) in
     let with_step = c.in_ok-subcommand-5.ensures.shape c.subcommand-step.ensures.local ∙ ap₂ with_subcommand with_live (ap top_of c.subcommand-step.ensures.app) in
-    record { app = c.in_ok-gridfs.ensures.shape c.in_ok-of_file-2.ensures.local ∙ ap₂ with_subcommand with_step c.in_ok-of_file-2.ensures.shape }
+    let with_history = c.in_ok-subcommand-6.ensures.shape c.in_ok-of_file-2.ensures.local ∙ ap₂ with_subcommand with_step c.in_ok-of_file-2.ensures.shape in
+    record { app = c.in_ok-gridfs.ensures.shape c.in_ok-of_file-3.ensures.local ∙ ap₂ with_subcommand with_history c.in_ok-of_file-3.ensures.shape }

@@ -1,0 +1,4 @@
+pub mod Histories
+pub mod Ordering
+pub mod Picturing
+pub mod Placing

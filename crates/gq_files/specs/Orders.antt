@@ -1,0 +1,85 @@
+-- What `order` writes: the output of the run, and behind it the order of a file's operations.
+use Rattle.std.specs.Prelude.{ℕ, List, [], ◌∷◌, ◌++◌, Option, Some, None, Ok, Err, IsSome, IsOk, codes, decimal, map, slice_get}
+use Rattle.gq_tag.specs.Tag.{File}
+use Rattle.gq_desk.specs.CheckedPlan.{CheckedPlan}
+use Rattle.gq_laws.specs.declared.ops.Kind.{Kind}
+use Rattle.gq_laws.specs.declared.ops.Kind.TheVariants.{Write as Writes, Read as Reads, Row as Rows}
+use Rattle.gq_laws.specs.declared.ops.Op.{Op}
+use Rattle.gq_laws.specs.Operations.{ops_at}
+use Rattle.gq_laws.specs.Orders.{order}
+use Rattle.gq_laws.specs.Tenants.{tenant_operations}
+use Rattle.gq_script.specs.Words.{Word}
+use Rattle.gq_script.specs.Lines.{lines_of}
+use Rattle.gq_script.specs.Input.{event_of, place_named}
+use Rattle.gq_script.specs.PlanText.{Reading, plan_of}
+use Rattle.gq_script.specs.AnswerText.{content_word, line_text}
+use Rattle.gq_script.specs.Out.{joined, out, IsPlanFaultOf}
+use Rattle.gq_script.specs.Steps.{IsFaultOfLines}
+use Rattle.gq_files.specs.declared.order.OrderFault.{OrderFault}
+use Rattle.gq_files.specs.declared.order.OrderFault.TheVariants.{Run, Name}
+
+-- the word of what an operation gave, if it gave something
+abbrev pub given_words : {A : Type 0} → (A → Word) → Option A → List Word
+given_words word None = []
+given_words word (Some given) = word given ∷ []
+
+-- the line of an operation: its kind, its session and its number, and what it wrote or gave
+abbrev pub op_line : Op → List ℕ
+op_line a = by a.kind
+  where
+    by : Kind → List ℕ
+    by (Writes bytes) = line_text (codes "write") (decimal a.session ∷ decimal a.op ∷ content_word bytes ∷ [])
+    by (Reads given) = line_text (codes "read") (decimal a.session ∷ decimal a.op ∷ given_words content_word given)
+    by (Rows length) = line_text (codes "row") (decimal a.session ∷ decimal a.op ∷ given_words decimal length)
+
+-- the lines of the operations at these places
+abbrev pub op_lines : List Op → List ℕ → List ℕ
+op_lines ops places = joined (map op_line (ops_at ops places))
+
+-- the line of the operation at the place, nothing where there is none
+abbrev pub operation_line_at : List Op → ℕ → List ℕ
+operation_line_at ops place = by (slice_get ops place)
+  where
+    by : Option Op → List ℕ
+    by None = []
+    by (Some a) = op_line a
+
+-- the lines of the operations in their order, and that it is legal
+abbrev pub ordered : List Op → List ℕ
+ordered ops = op_lines ops (order ops) ++ codes "legal" ++ 10 ∷ []
+
+-- the operations on a file of the tenant at place t, where these lines come after the plan
+abbrev pub operations_of : CheckedPlan → List (List ℕ) → ℕ → File → List Op
+operations_of plan lines t file = tenant_operations plan (map (event_of plan) lines) t file
+
+-- the place of the tenant of this name in the plan that was read
+abbrev pub place_of : Reading (CheckedPlan × List (List ℕ)) → List ℕ → Option ℕ
+place_of (Ok read) name = place_named read.0 name
+place_of (Err fault) name = None
+
+-- the name is that of a tenant of the input's plan
+abbrev pub NamesTenant : List ℕ → List ℕ → Type 0
+NamesTenant name input = IsSome (place_of (plan_of (lines_of input)) name)
+
+-- what is written behind the output of the run
+abbrev pub order_of : Reading (CheckedPlan × List (List ℕ)) → List ℕ → File → List ℕ
+order_of (Ok read) name file = by (place_named read.0 name)
+  where
+    by : Option ℕ → List ℕ
+    by None = []
+    by (Some t) = ordered (operations_of read.0 read.1 t file)
+order_of (Err fault) name file = []
+
+-- the whole output
+abbrev pub order_out : List ℕ → List ℕ → File → List ℕ
+order_out input name file = out input ++ order_of (plan_of (lines_of input)) name file
+
+-- a fault of the plan is the one that the lines of the input tell
+abbrev pub IsPlanFault : List ℕ → OrderFault → Type 0
+IsPlanFault input (Run fault) = IsPlanFaultOf input fault
+IsPlanFault input Name = Unit {0}
+
+-- the fault that the lines of the input tell, want of memory, or that the plan has no tenant of this name
+abbrev pub IsFaultOfOutput : List ℕ → List ℕ → OrderFault → Type 0
+IsFaultOfOutput name input (Run fault) = IsFaultOfLines (lines_of input) fault
+IsFaultOfOutput name input Name = IsOk (plan_of (lines_of input)) × (NamesTenant name input → ⊥)

@@ -1,0 +1,11 @@
+pub mod Bars
+pub mod Counts
+pub mod Drawings
+pub mod Latest
+pub mod Rising
+pub mod Sides
+pub mod Steps
+pub mod Truth
+pub mod Absent
+pub mod Turning
+pub mod Values

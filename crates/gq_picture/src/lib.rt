@@ -1,0 +1,13 @@
+//! A picture of the operations on a file, in the order in which a single register gives the same answers: which things are drawn,
+//! and where.
+#![tactic(auto)]
+
+mod absences;
+mod columns;
+mod counting;
+mod drawing;
+pub mod laws;
+mod places;
+
+pub use absences::{Absence, read_absences};
+pub use drawing::{Bar, Drawing, Outage, Value, draw};

@@ -1,0 +1,9 @@
+pub mod Bars
+pub mod Contents
+pub mod Escaping
+pub mod Lanes
+pub mod Laws
+pub mod Layout
+pub mod Parts
+pub mod Register
+pub mod Svg
