@@ -39,10 +39,10 @@ mod store;
 mod streams;
 mod texts;
 
+use gq_files::OrderFault;
 use gq_inspect::Mismatch;
 use gq_live::LiveFault;
 use gq_memory::OutOfMemory;
-use gq_files::OrderFault;
 use gq_runs::ProgramFault;
 use gq_script::{PlanText, RunFault, Watched};
 use gq_shards::run_in_shards;
