@@ -228,7 +228,7 @@ fn history_of_lines(
     ensures { IfOk result (λ text. IsHistoryOf plan (lines_of lines.now) file.tenant (file_place file) text.items) }
 {
     let mut world = World::new(alloc, plan)?;
-    let answered = answer_lines(alloc, &mut world, lines, file.tenant)?;
+    let answered = answer_lines(alloc, &mut world, lines, file.tenant, false)?;
     history_text(alloc, world.plan(), &answered, file)
 }
 

@@ -149,7 +149,7 @@ fn output_of_lines(
         events,
         answers,
         ..
-    } = answer_lines(alloc, &mut world, lines, file.tenant)?;
+    } = answer_lines(alloc, &mut world, lines, file.tenant, true)?;
     put_order(
         alloc,
         &mut text,

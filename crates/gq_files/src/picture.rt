@@ -91,7 +91,7 @@ fn picture_of_lines(
     ensures { IfOk result (λ text. IsPictureOf plan (lines_of lines.now) name.now file.tenant (file_place file) text.items) }
 {
     let mut world = World::new(alloc, plan)?;
-    let answered = answer_lines(alloc, &mut world, lines, file.tenant)?;
+    let answered = answer_lines(alloc, &mut world, lines, file.tenant, false)?;
     picture_text(alloc, world.plan(), &answered, name, file)
 }
 

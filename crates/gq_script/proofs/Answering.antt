@@ -1,6 +1,6 @@
 -- Lines are answered one after another, and what one tenant sees of them is a run by itself.
 use Rattle.std.proofs.Common.{◌≡◌, ◌≢◌, ◌⊎◌, ◌∙◌, ℕ, Bool, true, false, List, [], ◌∷◌, ◌++◌, Option, Some, None, map, length, append_assoc, append-nil, refl, sym, ap, subst, inl, inr, arith}
-use Rattle.std.specs.Prelude.{◌==◌, if◌then◌else◌}
+use Rattle.std.specs.Prelude.{◌==◌}
 use Rattle.std.specs.List.{cons_option}
 use Rattle.std.proofs.lemmas.Bool.{cases_eq, ne_eqb}
 use Rattle.std.proofs.lemmas.List.Elements.{filter-append}
@@ -66,69 +66,73 @@ seen_same plan t before given e is run = rw (filter-append (is_seen t) before (e
 
 -- ---- a run that is kept
 
--- the world stands for the events so far, what the tenant sees of them is a run, and with the lines that are left they are all
-pub record Keeps (plan : CheckedPlan) (t : Option ℕ) (world : Tables) (kept : List Event) (answers : List Answer) (text : List ℕ) (left all : List (List ℕ)) : Type 0 where
+-- the world stands for the events so far, what the tenant sees of them is a run, and with the lines that are left they are all; the
+-- text is that of the answers, where it is made
+pub record Keeps (plan : CheckedPlan) (t : Option ℕ) (world : Tables) (kept : List Event) (answers : List Answer) (tells : Bool) (text : List ℕ) (left all : List (List ℕ)) : Type 0 where
   pub events : List Event
   pub plan_is : world.plan ≡ plan
   pub stands : Stands world events
   pub seen : kept ≡ seen_events t events
   pub run : IsRun plan (seen_events t events) answers
   pub read : events ++ map (event_of plan) left ≡ map (event_of plan) all
-  pub told : text ++ joined (answer_lines plan events (map (event_of plan) left)) ≡ joined (output_lines plan all)
+  pub told : tells ≡ true → text ++ joined (answer_lines plan events (map (event_of plan) left)) ≡ joined (output_lines plan all)
 
 -- before the first line
-pub keeps_first : (plan : CheckedPlan) (t : Option ℕ) (world : Tables) (all : List (List ℕ)) → world.plan ≡ plan → Stands world [] → Keeps plan t world [] [] [] all all
-keeps_first plan t world all is stands = record {
+pub keeps_first : (plan : CheckedPlan) (t : Option ℕ) (world : Tables) (tells : Bool) (all : List (List ℕ)) → world.plan ≡ plan → Stands world [] → Keeps plan t world [] [] tells [] all all
+keeps_first plan t world tells all is stands = record {
   events = [];
   plan_is = is;
   stands = stands;
   seen = refl;
   run = runs-grow.none plan;
   read = refl;
-  told = refl;
+  told = λ yes. refl;
 }
 
 -- what the tenant sees of a run that goes on by one event
-seen_next : (plan : CheckedPlan) (t : Option ℕ) (before : List Event) (given given' : List Answer) (e : Event) (answer : Answer) → given' ≡ (if is_seen t e then given ++ answer ∷ [] else given) → shown answer ≡ answer_to plan before e
+seen_next : (plan : CheckedPlan) (t : Option ℕ) (before : List Event) (given given' : List Answer) (e : Event)
+    → (is_seen t e ≡ true → (answer : Answer) × (given' ≡ given ++ answer ∷ []) × (shown answer ≡ answer_to plan before e)) → (is_seen t e ≡ false → given' ≡ given)
     → IsRun plan (seen_events t before) given → IsRun plan (seen_events t (before ++ e ∷ [])) given'
-seen_next plan t before given given' e answer is told run = by (is_seen t e) refl
+seen_next plan t before given given' e seen unseen run = by (is_seen t e) refl
   where
     by : (b : Bool) → is_seen t e ≡ b → IsRun plan (seen_events t (before ++ e ∷ [])) given'
-    by true sees = rw (is, sees) (seen_more plan t before given e answer sees told run)
-    by false not = rw (is, not) (seen_same plan t before given e not run)
+    by true is = rw (seen is).1 (seen_more plan t before given e (seen is).0 is (seen is).2 run)
+    by false is = rw (unseen is) (seen_same plan t before given e is run)
 
 -- one line more
-pub keeps_more : (plan : CheckedPlan) (t : Option ℕ) (world world' : Tables) (kept kept' : List Event) (answers answers' : List Answer) (text text' line : List ℕ) (left rest all : List (List ℕ)) (e : Event) (answer : Answer) → Keeps plan t world kept answers text left all
+pub keeps_more : (plan : CheckedPlan) (t : Option ℕ) (world world' : Tables) (kept kept' : List Event) (answers answers' : List Answer) (tells : Bool) (text text' line : List ℕ) (left rest all : List (List ℕ)) (e : Event) → Keeps plan t world kept answers tells text left all
     → left ≡ line ∷ rest → world'.plan ≡ world.plan → e ≡ event_of world.plan line
-    → ((before : List Event) → Stands world before → shown answer ≡ answer_to world.plan before (event_of world.plan line))
-    → ((before : List Event) → Stands world before → Stands world' (before ++ event_of world.plan line ∷ []))
-    → ((before : List Event) → Stands world before → text' ≡ text ++ answer_line world.plan (event_of world.plan line) (answer_to world.plan before (event_of world.plan line)))
-    → kept' ≡ kept ++ seen_events t (e ∷ []) → answers' ≡ (if is_seen t e then answers ++ answer ∷ [] else answers)
-    → Keeps plan t world' kept' answers' text' rest all
-keeps_more plan t world world' kept kept' answers answers' text text' line left rest all e answer k is same reads told stands written seen given =
+    → ((before : List Event) → Stands world before → Stands world' (before ++ e ∷ []))
+    → (tells ≡ true → (before : List Event) → Stands world before → text' ≡ text ++ answer_line world.plan e (answer_to world.plan before e))
+    → kept' ≡ kept ++ seen_events t (e ∷ [])
+    → (is_seen t e ≡ true → (answer : Answer) × (answers' ≡ answers ++ answer ∷ []) × ((before : List Event) → Stands world before → shown answer ≡ answer_to world.plan before e))
+    → (is_seen t e ≡ false → answers' ≡ answers)
+    → Keeps plan t world' kept' answers' tells text' rest all
+keeps_more plan t world world' kept kept' answers answers' tells text text' line left rest all e k is same reads stands written grown seen unseen =
     let event : e ≡ event_of plan line = rw k.plan_is at reads in
     let x : List ℕ = answer_line plan e (answer_to plan k.events e) in
     let ys : List (List ℕ) = answer_lines plan (k.events ++ e ∷ []) (map (event_of plan) rest) in
-    let now : text' ≡ text ++ x = rw event (rw k.plan_is at (written k.events k.stands)) in
-    let says : shown answer ≡ answer_to plan k.events e = rw event (rw k.plan_is at (told k.events k.stands)) in
-    let all_so_far : text ++ (x ++ joined ys) ≡ joined (output_lines plan all) = rw event (rw is at k.told) in
+    let now : tells ≡ true → text' ≡ text ++ x = λ yes. rw k.plan_is at (written yes k.events k.stands) in
+    let says : is_seen t e ≡ true → (answer : Answer) × (answers' ≡ answers ++ answer ∷ []) × (shown answer ≡ answer_to plan k.events e) =
+    λ yes. ((seen yes).0, (seen yes).1, rw k.plan_is at ((seen yes).2 k.events k.stands)) in
+    let all_so_far : tells ≡ true → text ++ (x ++ joined ys) ≡ joined (output_lines plan all) = λ yes. rw event (rw is at (k.told yes)) in
     let all_read : k.events ++ (e ∷ map (event_of plan) rest) ≡ map (event_of plan) all = rw event (rw is at k.read) in
     record {
       events = k.events ++ e ∷ [];
       plan_is = same ∙ k.plan_is;
-      stands = rw event (rw k.plan_is at (stands k.events k.stands));
-      seen = seen ∙ ap (λ z. z ++ seen_events t (e ∷ [])) k.seen ∙ sym (filter-append (is_seen t) k.events (e ∷ []));
-      run = seen_next plan t k.events answers answers' e answer given says k.run;
+      stands = stands k.events k.stands;
+      seen = grown ∙ ap (λ z. z ++ seen_events t (e ∷ [])) k.seen ∙ sym (filter-append (is_seen t) k.events (e ∷ []));
+      run = seen_next plan t k.events answers answers' e says unseen k.run;
       read = append_assoc k.events (e ∷ []) (map (event_of plan) rest) ∙ all_read;
-      told = rw now (append_assoc text x (joined ys) ∙ all_so_far);
+      told = λ yes. rw (now yes) (append_assoc text x (joined ys) ∙ all_so_far yes);
     }
 
 -- no line is left
-pub keeps_all : (plan : CheckedPlan) (t : Option ℕ) (world : Tables) (kept : List Event) (answers : List Answer) (text rest : List ℕ) (all : List (List ℕ)) → Keeps plan t world kept answers text (lines_of rest) all → length rest ≡ 0
-    → (text ≡ joined (output_lines plan all)) × (kept ≡ seen_events t (map (event_of plan) all)) × IsRun plan kept answers
-keeps_all plan t world kept answers text [] all k none =
-    (sym (append-nil text) ∙ k.told, k.seen ∙ ap (seen_events t) (sym (append-nil k.events) ∙ k.read), (let P : List Event → Type 0 = λ z. IsRun plan z answers in subst P (sym k.seen) k.run))
-keeps_all plan t world kept answers text (c ∷ rest) all k none = absurd (omega arith)
+pub keeps_all : (plan : CheckedPlan) (t : Option ℕ) (world : Tables) (kept : List Event) (answers : List Answer) (tells : Bool) (text rest : List ℕ) (all : List (List ℕ)) → Keeps plan t world kept answers tells text (lines_of rest) all → length rest ≡ 0
+    → (tells ≡ true → text ≡ joined (output_lines plan all)) × (kept ≡ seen_events t (map (event_of plan) all)) × IsRun plan kept answers
+keeps_all plan t world kept answers tells text [] all k none =
+    (λ yes. sym (append-nil text) ∙ k.told yes, k.seen ∙ ap (seen_events t) (sym (append-nil k.events) ∙ k.read), (let P : List Event → Type 0 = λ z. IsRun plan z answers in subst P (sym k.seen) k.run))
+keeps_all plan t world kept answers tells text (c ∷ rest) all k none = absurd (omega arith)
 
 -- ---- lines that go on from events
 

@@ -10,7 +10,7 @@ use Rattle.gq_model.specs.declared.events.Line.{Line}
 use Rattle.gq_model.specs.declared.events.Line.TheVariants.{Bad, Quorum, NewVolume, Volumes, Write, Read, List as ListFiles, Deliver, Lose, Retry, Abandon}
 use Rattle.gq_model.specs.declared.events.ServerLine.{ServerLine}
 use Rattle.gq_model.specs.declared.events.ServerLine.TheVariants.{Bad as ServerBad, Down, Up}
-use Rattle.gq_script.specs.Words.{Word, words_of, number_of, content_of}
+use Rattle.gq_script.specs.Words.{Word, words_of, words_after, number_of, content_of}
 
 -- the second value, where the first is there
 infixl 10 ◌>>=◌
@@ -106,3 +106,7 @@ event_of_words plan (first ∷ words) =
 -- the event of a line
 abbrev pub event_of : CheckedPlan → List ℕ → Event
 event_of plan line = event_of_words plan (words_of line)
+
+-- the event of a line that is cut behind its first word
+abbrev pub event_cut : CheckedPlan → List ℕ → List ℕ → Event
+event_cut plan first rest = event_of_words plan (first ∷ words_after rest)

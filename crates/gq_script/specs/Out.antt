@@ -8,7 +8,7 @@ use Rattle.gq_script.specs.declared.script.TheConstants.{MOST_INPUT}
 use Rattle.gq_script.specs.declared.script.RunFault.{RunFault}
 use Rattle.gq_script.specs.declared.script.RunFault.TheVariants.{Plan}
 use Rattle.gq_script.specs.Lines.{lines_of}
-use Rattle.gq_script.specs.Input.{event_of}
+use Rattle.gq_script.specs.Input.{event_of, event_cut}
 use Rattle.gq_script.specs.PlanText.{Reading, plan_of}
 use Rattle.gq_script.specs.AnswerText.{answer_line}
 
@@ -16,6 +16,10 @@ use Rattle.gq_script.specs.AnswerText.{answer_line}
 abbrev pub answer_lines : CheckedPlan → List Event → List Event → List (List ℕ)
 answer_lines plan before [] = []
 answer_lines plan before (event ∷ events) = answer_line plan event (answer_to plan before event) ∷ answer_lines plan (before ++ event ∷ []) events
+
+-- the answer line to a line that is cut behind its first word, after these events
+abbrev pub line_cut : CheckedPlan → List Event → List ℕ → List ℕ → List ℕ
+line_cut plan before first rest = answer_line plan (event_cut plan first rest) (answer_to plan before (event_cut plan first rest))
 
 -- one line for each line after `go`
 abbrev pub output_lines : CheckedPlan → List (List ℕ) → List (List ℕ)

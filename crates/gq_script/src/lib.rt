@@ -12,6 +12,7 @@ mod pieces;
 mod plan_text;
 mod quorum_text;
 mod script;
+mod seeing;
 mod stepping;
 mod watched;
 mod words;
@@ -24,8 +25,7 @@ pub use output::{write_answer, write_next_answer};
 pub use pieces::{Piece, put_digits, put_number, put_sum, put_words};
 pub use plan_text::{PlanText, TextFault, read_plan};
 pub use quorum_text::QuorumText;
-pub use script::{
-    Answered, MOST_INPUT, RunFault, answer_lines, answers_of, read_whole, run, write_whole,
-};
+pub use script::{MOST_INPUT, RunFault, answers_of, read_whole, run, write_whole};
+pub use seeing::{Answered, answer_lines};
 pub use stepping::step;
 pub use watched::Watched;

@@ -11,8 +11,7 @@ use crate::quorum_text::QuorumText;
 use crate::watched::Watched;
 use gq_desk::Plan;
 use gq_memory::{GrowCopies, GrowVec, OutOfMemory, filled};
-use gq_order::sees;
-use gq_world::{Answer, Ended, Event, World};
+use gq_world::{Ended, World};
 use std::alloc::Global;
 use std::io::{Read, Write};
 use thiserror::Error;
@@ -41,10 +40,8 @@ pub enum RunFault {
 pub const MOST_INPUT: usize = 16_777_216;
 
 ghost use Rattle.gq_world.specs.Tables.{Stands};
-ghost use Rattle.gq_order.specs.Runs.{IsRun};
 ghost use Rattle.gq_script.specs.Input.{event_of};
 ghost use Rattle.gq_script.specs.Lines.{lines_of};
-ghost use Rattle.gq_script.specs.Seeing.{is_seen, seen_events, seen_places};
 ghost use Rattle.gq_script.specs.PlanText.{plan_of};
 ghost use Rattle.gq_model.specs.declared.events.Event.{Event};
 ghost use Rattle.gq_script.specs.Out.{answer_lines as event_lines, joined, output_lines, out, IsAccepted, IsPlanFaultOf};
@@ -128,96 +125,6 @@ pub fn read_whole<R: Read>(alloc: Global, reader: &mut Watched<R>) -> Result<Vec
         }
     }
     unreachable!()
-}
-
-/// What was answered to lines: the text of the answers; the events that one tenant saw with their answers and their places
-/// among all, from 0; and how many lines there were.
-#[derive(Drop)]
-pub struct Answered {
-    pub text: Vec<u8>,
-    pub events: Vec<Event>,
-    pub answers: Vec<Answer>,
-    pub places: Vec<usize>,
-    pub lines: usize,
-}
-
-// Keeps an event, its answer and its place where the tenant sees it.
-#[inline(always)]
-fn keep(
-    tenant: u8,
-    place: usize,
-    event: Event,
-    answer: Answer,
-    events: &mut Vec<Event>,
-    answers: &mut Vec<Answer>,
-    places: &mut Vec<usize>,
-) -> Result<(), OutOfMemory>
-    ensures events { OnOk result (events.new.items ≡ events.old.items ++ seen_events (Some tenant) (event ∷ [])) }
-    ensures answers { OnOk result (answers.new.items ≡
-        (if is_seen (Some tenant) event then answers.old.items ++ answer ∷ [] else answers.old.items)) }
-    ensures places { OnOk result (places.new.items ≡ places.old.items ++ seen_places (Some tenant) place (event ∷ [])) }
-{
-    if sees(tenant, &event) {
-        events.grow(event)?;
-        answers.grow(answer)?;
-        places.grow(place)?;
-    }
-    Ok(())
-}
-
-/// Answers the lines of a text after the plan, by a new world. Of the events those are kept that the tenant sees: its own
-/// lines and the server lines, which are a run by themselves; with them are kept the places of their lines among all. What is
-/// kept takes memory for each of them.
-pub fn answer_lines(
-    alloc: Global,
-    world: &mut World,
-    lines: &[u8],
-    tenant: u8,
-) -> Result<Answered, OutOfMemory>
-    requires { Stands world.old.tables [] }
-    ensures plan { world.new.tables.plan ≡ world.old.tables.plan }
-    ensures text { IfOk result (λ told. told.text.items ≡ joined (output_lines world.old.tables.plan (lines_of lines.now))) }
-    ensures events { IfOk result (λ told. told.events.items ≡
-        seen_events (Some tenant) (map (event_of world.old.tables.plan) (lines_of lines.now))) }
-    ensures places { IfOk result (λ told. told.places.items ≡
-        seen_places (Some tenant) 0 (map (event_of world.old.tables.plan) (lines_of lines.now))) }
-    ensures lines { IfOk result (λ told. told.lines ≡ length (lines_of lines.now)) }
-    ensures run { IfOk result (λ told. IsRun world.old.tables.plan told.events.items told.answers.items) }
-{
-    let mut events = Vec::new(alloc);
-    let mut answers = Vec::new(alloc);
-    let mut places = Vec::new(alloc);
-    let mut text = Vec::new(alloc);
-    let mut quorum = QuorumText::new(alloc, *world.plan().grid());
-    let mut place = 0;
-    let mut rest = lines;
-    while !rest.is_empty() {
-        let (first, words, after) = cut_line(rest);
-        let event = read_cut_line(alloc, first, words, world.plan())?;
-        let answer = match world.step(&event) {
-            Ok(answer) => answer,
-            Err(Ended(refused)) => return Err(refused),
-        };
-        write_next_answer(world.plan(), &event, &answer, &mut quorum, &mut text)?;
-        keep(
-            tenant,
-            place,
-            event,
-            answer,
-            &mut events,
-            &mut answers,
-            &mut places,
-        )?;
-        place += 1;
-        rest = after;
-    }
-    Ok(Answered {
-        text,
-        events,
-        answers,
-        places,
-        lines: place,
-    })
 }
 
 // The answers to more lines, by a world that stands for those before. The loop is that of `answer_lines` without what is

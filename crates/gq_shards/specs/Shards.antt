@@ -12,10 +12,7 @@ use Rattle.gq_model.specs.declared.events.Event.{Event}
 use Rattle.gq_model.specs.declared.events.Event.TheVariants.{Tenant, Server, Stray}
 use Rattle.gq_script.specs.declared.script.RunFault.{RunFault}
 use Rattle.gq_script.specs.declared.script.RunFault.TheVariants.{Memory, Write}
-use Rattle.gq_script.specs.Words.{words_after}
-use Rattle.gq_script.specs.Input.{event_of_words, event_of}
-use Rattle.gq_model.specs.Events.{answer_to}
-use Rattle.gq_script.specs.AnswerText.{answer_line}
+use Rattle.gq_script.specs.Input.{event_of}
 use Rattle.gq_script.specs.Lines.{lines_of}
 use Rattle.gq_script.specs.PlanText.{Reading, plan_of}
 use Rattle.gq_script.specs.Out.{joined, output_lines}
@@ -29,14 +26,6 @@ abbrev pub mark_of : ℕ → Event → ℕ
 mark_of shards (Tenant t line) = shard_of shards t + 1
 mark_of shards (Server line) = 0
 mark_of shards Stray = 1
-
--- the event of a line that is cut behind its first word
-abbrev pub event_cut : CheckedPlan → List ℕ → List ℕ → Event
-event_cut plan first rest = event_of_words plan (first ∷ words_after rest)
-
--- its answer line, after these events
-abbrev pub line_cut : CheckedPlan → List Event → List ℕ → List ℕ → List ℕ
-line_cut plan before first rest = answer_line plan (event_cut plan first rest) (answer_to plan before (event_cut plan first rest))
 
 -- the marks of lines
 abbrev pub marks_of : CheckedPlan → ℕ → List (List ℕ) → List ℕ

@@ -7,8 +7,9 @@ ghost use Rattle.gq_world.specs.Tables.{Stands};
 ghost use Rattle.gq_model.specs.Shown.{shown};
 ghost use Rattle.gq_script.specs.Lines.{lines_of};
 ghost use Rattle.gq_script.specs.AnswerText.{answer_line};
-ghost use Rattle.gq_script.specs.Out.{output_lines};
-ghost use Rattle.gq_shards.specs.Shards.{event_cut, line_cut, marks_of, of_shard, sees_mark, tells, IsText};
+ghost use Rattle.gq_script.specs.Input.{event_cut};
+ghost use Rattle.gq_script.specs.Out.{line_cut, output_lines};
+ghost use Rattle.gq_shards.specs.Shards.{marks_of, of_shard, sees_mark, tells, IsText};
 
 use crate::parts::part_of;
 use gq_desk::Plan;

@@ -1,4 +1,4 @@
-use Rattle.std.proofs.Common.{◌∙◌, Some, ap, map}
+use Rattle.std.proofs.Common.{◌∙◌, Some, ap, map, refl}
 use Rattle.gq_tag.specs.Tag.{file_place}
 use Rattle.gq_desk.specs.CheckedPlan.{CheckedPlan}
 use Rattle.gq_script.specs.Input.{event_of}
@@ -14,4 +14,4 @@ returns c =
     order_written c.args.plan c.plan.result.now t (file_place c.args.file) lines c.as_slice.result.now c.in_ok-text.field-0.text.items c.put_order.new.out.items
     (c.plan.ensures ∙ (c.in_ok-text.ensures.plan ∙ is))
     (c.as_slice.ensures.value ∙ (c.in_ok-text.ensures.events ∙ ap (λ (p : CheckedPlan). seen_events (Some t) (map (event_of p) lines)) is))
-    (c.in_ok-text.ensures.text ∙ ap (λ (p : CheckedPlan). joined (output_lines p lines)) is) c.in_ok-put_order.ensures
+    (c.in_ok-text.ensures.text refl ∙ ap (λ (p : CheckedPlan). joined (output_lines p lines)) is) c.in_ok-put_order.ensures
