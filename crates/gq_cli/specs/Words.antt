@@ -51,11 +51,21 @@ live_shape = new_shape (codes "live")
 abbrev pub step_shape : Shape
 step_shape = new_shape (codes "step")
 
--- the command line: `gridfs`, which has a version and wants one of its subcommands
+-- the command line without its subcommands: `gridfs`, which has a version and wants one of them
+abbrev pub bare_gridfs : App
+bare_gridfs = on_top (λ top. record top { has_version = true; subcommand_required = true }) (new_app (codes "gridfs"))
+
+-- as far as `order`
+abbrev pub gridfs_to_order : App
+gridfs_to_order = with_subcommand (with_subcommand bare_gridfs run_shape) order_shape
+
+-- as far as `live`
+abbrev pub gridfs_to_live : App
+gridfs_to_live = with_subcommand (with_subcommand gridfs_to_order finish_shape) live_shape
+
+-- the whole command line
 abbrev pub gridfs : App
-gridfs = with_subcommand (with_subcommand (with_subcommand (with_subcommand (with_subcommand (with_subcommand (with_subcommand
-    (on_top (λ top. record top { has_version = true; subcommand_required = true }) (new_app (codes "gridfs")))
-    run_shape) order_shape) finish_shape) live_shape) step_shape) history_shape) picture_shape
+gridfs = with_subcommand (with_subcommand (with_subcommand gridfs_to_live step_shape) history_shape) picture_shape
 
 -- what is wrong with the words, the program's name first; a call for help or for the version counts
 abbrev pub faults_in : List Text → Kinds
