@@ -149,6 +149,40 @@ fn tells_a_forged_reply_of_many(rt: HostRuntime) {
     }
 }
 
+// What is told of the records of a run where what the session at that place was told first is forged.
+fn forged_answer<R: Abort + Threads + Wait + Sync>(
+    rt: &R,
+    alloc: Global,
+    place: usize,
+) -> Option<(u8, u8, usize)> {
+    let (plan, mut records) = run_of(rt, alloc, THREE_TENANTS, &OpenGate);
+    if let Some(entries) = records.sessions.get_mut(place) {
+        if let Some(first) = entries.items.get_mut(0) {
+            first.said = Said::Abandoned;
+        }
+    }
+    match inspect(alloc, &plan, &records) {
+        Err(
+            Mismatch::Answer {
+                tenant,
+                session,
+                at,
+            },
+        ) => Some((tenant, session, at)),
+        _ => None,
+    }
+}
+
+#[test]
+fn tells_whose_answer_is_forged(rt: HostRuntime) {
+    for (place, told) in [(0, (0, 1, 0)), (1, (0, 2, 0)), (3, (2, 1, 0))] {
+        assert!(rt;
+            forged_answer(&rt, rt.alloc(), place) == Some(told),
+            "{place}"
+        );
+    }
+}
+
 // Which volume a run refuses where the one at that place has more blocks than the tenant may have.
 fn refused_at<R: Abort + Threads + Wait + Sync>(
     rt: &R,

@@ -16,7 +16,6 @@ use Rattle.gq_runs.specs.declared.finish.FinishFault.TheVariants.{Run as FinishR
 use Rattle.gq_runs.specs.declared.live.LiveRunFault.TheVariants.{Memory as LiveRunMemory, Write as LiveWrite, Live as LiveThreads, Mismatch}
 use Rattle.gq_runs.specs.declared.requests.RequestFault.{RequestFault}
 use Rattle.gq_runs.specs.declared.requests.RequestFault.TheVariants.{Run as RunEnded, Step as StepEnded, Order as OrderEnded, History as HistoryEnded, Picture as PictureEnded, Finish as FinishEnded, Live as LiveEnded}
-use Rattle.gq_runs.specs.declared.requests.TheConstants.{FAULT, MEMORY, REFUSED}
 
 -- what the request asks for was appended: the output of the input; with the order of the operations on that file of that tenant;
 -- the history of these operations; their picture; the lines that complete the operation of that session; the script of a live run
@@ -46,19 +45,20 @@ abbrev pub IsOfStep : RequestFault → Type 0
 IsOfStep (StepEnded fault) = Unit {0}
 IsOfStep fault = ⊥
 
--- the status that the program ends with
+-- the status that the program ends with: 3 where memory was wanting or a thread could not be started, 4 where a live run is not what it
+-- should be, else 1
 abbrev pub status_of : RequestFault → ℕ
-status_of (RunEnded (Memory _)) = MEMORY
-status_of (StepEnded (Memory _)) = MEMORY
-status_of (OrderEnded (OrderRun (Memory _))) = MEMORY
-status_of (HistoryEnded (OrderRun (Memory _))) = MEMORY
-status_of (PictureEnded (OrderRun (Memory _))) = MEMORY
-status_of (FinishEnded (FinishRun (Memory _))) = MEMORY
-status_of (LiveEnded (LiveRunMemory _)) = MEMORY
-status_of (LiveEnded (LiveThreads (LiveMemory _))) = MEMORY
-status_of (LiveEnded (LiveThreads Thread)) = MEMORY
-status_of (LiveEnded (LiveThreads Gate)) = REFUSED
-status_of (LiveEnded (LiveThreads Stamps)) = REFUSED
-status_of (LiveEnded (LiveThreads Letter)) = REFUSED
-status_of (LiveEnded (Mismatch named)) = REFUSED
-status_of fault = FAULT
+status_of (RunEnded (Memory _)) = 3
+status_of (StepEnded (Memory _)) = 3
+status_of (OrderEnded (OrderRun (Memory _))) = 3
+status_of (HistoryEnded (OrderRun (Memory _))) = 3
+status_of (PictureEnded (OrderRun (Memory _))) = 3
+status_of (FinishEnded (FinishRun (Memory _))) = 3
+status_of (LiveEnded (LiveRunMemory _)) = 3
+status_of (LiveEnded (LiveThreads (LiveMemory _))) = 3
+status_of (LiveEnded (LiveThreads Thread)) = 3
+status_of (LiveEnded (LiveThreads Gate)) = 4
+status_of (LiveEnded (LiveThreads Stamps)) = 4
+status_of (LiveEnded (LiveThreads Letter)) = 4
+status_of (LiveEnded (Mismatch named)) = 4
+status_of fault = 1
