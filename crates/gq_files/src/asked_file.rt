@@ -1,17 +1,23 @@
-//! The file that a command names, in the plan of its input.
+//! The file that a command names, in the plan of its input, and the run of which its operations are told.
 
-ghost use Rattle.std.specs.Prelude.{◌≡◌, ◌≤◌, Ok, Some, length, drop, IfErr, IfOk, OnOk};
+ghost use Rattle.std.specs.Prelude.{◌≡◌, ◌≤◌, Ok, Some, true, length, drop, map, IfErr, IfOk, OnOk};
 ghost use Rattle.std.specs.List.{position_from};
 ghost use Rattle.gq_tag.specs.Tag.{file_place};
 ghost use Rattle.gq_desk.specs.Plans.{is_of};
+ghost use Rattle.gq_order.specs.Runs.{IsRun};
+ghost use Rattle.gq_script.specs.Input.{event_of};
 ghost use Rattle.gq_script.specs.Lines.{lines_of};
+ghost use Rattle.gq_script.specs.Out.{joined, output_lines};
 ghost use Rattle.gq_script.specs.PlanText.{plan_of};
+ghost use Rattle.gq_script.specs.Seeing.{seen_events, seen_places};
 ghost use Rattle.gq_files.specs.Orders.{IsFaultOfOutput};
 
 use crate::order::OrderFault;
 use gq_desk::Plan;
-use gq_script::{PlanText, RunFault, read_plan};
+use gq_memory::OutOfMemory;
+use gq_script::{Answered, PlanText, RunFault, answer_lines, read_plan};
 use gq_tag::FileId;
+use gq_world::World;
 use std::alloc::Global;
 
 /// The plan of an input, where the lines behind it begin, and this file of the tenant of this name. The file need not be
@@ -45,5 +51,30 @@ pub(crate) fn asked_file(
             Err(OrderFault::Run(RunFault::Plan(line, fault)))
         }
         Err(PlanText::Memory(refused)) => Err(OrderFault::Run(RunFault::Memory(refused))),
+    }
+}
+
+/// A new world of the plan, and what it answered to the lines of a text after the plan, as one tenant saw it. The text of the
+/// answers is made where they are to be told.
+pub(crate) fn answer_by_new_world(
+    alloc: Global,
+    plan: Plan,
+    lines: &[u8],
+    tenant: u8,
+    tells: bool,
+) -> Result<(World, Answered), OutOfMemory>
+    ensures plan { IfOk result (λ run. run.0.tables.plan ≡ plan) }
+    ensures text { IfOk result (λ run. tells ≡ true → run.1.text.items ≡ joined (output_lines plan (lines_of lines.now))) }
+    ensures events { IfOk result (λ run. run.1.events.items ≡
+        seen_events (Some tenant) (map (event_of plan) (lines_of lines.now))) }
+    ensures places { IfOk result (λ run. run.1.places.items ≡
+        seen_places (Some tenant) 0 (map (event_of plan) (lines_of lines.now))) }
+    ensures lines { IfOk result (λ run. run.1.lines ≡ length (lines_of lines.now)) }
+    ensures run { IfOk result (λ run. IsRun plan run.1.events.items run.1.answers.items) }
+{
+    let mut world = World::new(alloc, plan)?;
+    match answer_lines(alloc, &mut world, lines, tenant, tells) {
+        Ok(answered) => Ok((world, answered)),
+        Err(refused) => Err(refused),
     }
 }

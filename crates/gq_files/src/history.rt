@@ -11,7 +11,7 @@ ghost use Rattle.gq_script.specs.Watched.{inner_of, has_failed};
 ghost use Rattle.gq_files.specs.Histories.{AppendsHistory, AppendsHistoryPrefix, IsHistoryOf, IsHistoryText, TellsHistory, function_word, line_behind, moment_text, moment_text_in, moments_text, placed, quoted, stage_word, value_word};
 ghost use Rattle.gq_files.specs.Orders.{IsFaultOfOutput, IsPlanFault, NamesTenant};
 
-use crate::asked_file::asked_file;
+use crate::asked_file::{answer_by_new_world, asked_file};
 use crate::order::OrderFault;
 use gq_desk::Plan;
 use gq_history::{Moment, Stage, history};
@@ -19,11 +19,10 @@ use gq_laws::{Kind, Op};
 use gq_memory::{GrowCopies, GrowVec, OutOfMemory};
 use gq_order::operations;
 use gq_script::{
-    Answered, MOST_INPUT, RunFault, Watched, answer_lines, put_digits, put_number, put_sum,
-    read_whole, write_whole,
+    Answered, MOST_INPUT, RunFault, Watched, put_digits, put_number, put_sum, read_whole,
+    write_whole,
 };
 use gq_tag::FileId;
-use gq_world::World;
 use std::alloc::Global;
 use std::io::{Read, Write};
 
@@ -227,8 +226,7 @@ fn history_of_lines(
 ) -> Result<Vec<u8>, OutOfMemory>
     ensures { IfOk result (λ text. IsHistoryOf plan (lines_of lines.now) file.tenant (file_place file) text.items) }
 {
-    let mut world = World::new(alloc, plan)?;
-    let answered = answer_lines(alloc, &mut world, lines, file.tenant, false)?;
+    let (world, answered) = answer_by_new_world(alloc, plan, lines, file.tenant, false)?;
     history_text(alloc, world.plan(), &answered, file)
 }
 

@@ -13,18 +13,14 @@ ghost use Rattle.gq_script.specs.Watched.{inner_of, has_failed, AppendsPrefix};
 ghost use Rattle.gq_order.specs.Runs.{IsRun};
 ghost use Rattle.gq_files.specs.Orders.{operation_line_at, op_line, op_lines, ordered, operations_of, NamesTenant, order_out, IsPlanFault, IsFaultOfOutput};
 
-use crate::asked_file::asked_file;
+use crate::asked_file::{answer_by_new_world, asked_file};
 use gq_desk::Plan;
 use gq_laws::{Kind, Op};
 use gq_memory::{GrowCopies, OutOfMemory};
 use gq_model::{Answer, Event};
 use gq_order::{FileOrder, OpRef, file_order};
-use gq_script::{
-    Answered, MOST_INPUT, Piece, RunFault, Watched, answer_lines, put_words, read_whole,
-    write_whole,
-};
+use gq_script::{MOST_INPUT, Piece, RunFault, Watched, put_words, read_whole, write_whole};
 use gq_tag::FileId;
-use gq_world::World;
 use std::alloc::Global;
 use std::io::{Read, Write};
 use thiserror::Error;
@@ -143,19 +139,14 @@ fn output_of_lines(
     ensures { IfOk result (λ text. text.items ≡ joined (output_lines plan (lines_of lines.now))
         ++ ordered (operations_of plan (lines_of lines.now) file.tenant (file_place file))) }
 {
-    let mut world = World::new(alloc, plan)?;
-    let Answered {
-        mut text,
-        events,
-        answers,
-        ..
-    } = answer_lines(alloc, &mut world, lines, file.tenant, true)?;
+    let (world, answered) = answer_by_new_world(alloc, plan, lines, file.tenant, true)?;
+    let mut text = answered.text;
     put_order(
         alloc,
         &mut text,
         world.plan(),
-        events.as_slice(),
-        answers.as_slice(),
+        answered.events.as_slice(),
+        answered.answers.as_slice(),
         file,
     )?;
     Ok(text)

@@ -15,17 +15,16 @@ ghost use Rattle.gq_files.specs.Histories.{placed};
 ghost use Rattle.gq_files.specs.Orders.{IsFaultOfOutput, IsPlanFault, NamesTenant};
 ghost use Rattle.gq_files.specs.Pictures.{AppendsPicture, AppendsPicturePrefix, IsPictureOf, IsPictureText, TellsPicture, heading_of, servers_of};
 
-use crate::asked_file::asked_file;
+use crate::asked_file::{answer_by_new_world, asked_file};
 use crate::history::{line_behind, operations_answered};
 use crate::order::OrderFault;
 use gq_desk::Plan;
 use gq_memory::OutOfMemory;
 use gq_order::order;
 use gq_picture::{draw, read_absences};
-use gq_script::{Answered, MOST_INPUT, RunFault, Watched, answer_lines, read_whole, write_whole};
+use gq_script::{Answered, MOST_INPUT, RunFault, Watched, read_whole, write_whole};
 use gq_svg::{Heading, put_picture};
 use gq_tag::FileId;
-use gq_world::World;
 use std::alloc::Global;
 use std::io::{Read, Write};
 
@@ -90,8 +89,7 @@ fn picture_of_lines(
 ) -> Result<Vec<u8>, OutOfMemory>
     ensures { IfOk result (λ text. IsPictureOf plan (lines_of lines.now) name.now file.tenant (file_place file) text.items) }
 {
-    let mut world = World::new(alloc, plan)?;
-    let answered = answer_lines(alloc, &mut world, lines, file.tenant, false)?;
+    let (world, answered) = answer_by_new_world(alloc, plan, lines, file.tenant, false)?;
     picture_text(alloc, world.plan(), &answered, name, file)
 }
 

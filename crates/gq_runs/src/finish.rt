@@ -299,6 +299,30 @@ fn put_missing_newline(out: &mut Vec<u8>, text: &[u8]) -> Result<(), OutOfMemory
     out.grow_by(b"\n")
 }
 
+// Answers the lines of a text after the plan, by a new world, and appends the lines that complete the operation behind them.
+fn play_and_finish(
+    alloc: Global,
+    world: &mut World,
+    lines: &[u8],
+    tenant: u8,
+    session: u32,
+    text: &mut Vec<u8>,
+) -> Result<(), FinishFault>
+    requires first { Stands world.old.tables [] }
+    requires tenant { tenant < length world.old.tables.plan.rows }
+    ensures ok { OnOk result (Finished world.old.tables.plan (events_of world.old.tables.plan (lines_of lines.now)) tenant session text.old.items text.new.items) }
+    ensures fault { IfErr result (λ fault. CauseOf fault world.old.tables.plan (events_of world.old.tables.plan (lines_of lines.now)) tenant session) }
+{
+    let up = match play(alloc, world, lines) {
+        Ok(up) => up,
+        Err(refused) => return Err(FinishFault::Run(RunFault::Memory(refused))),
+    };
+    match complete(world, tenant, session, text) {
+        Ok(()) => Ok(()),
+        Err(stop) => Err(fault_of(stop, world.plan().grid(), up)),
+    }
+}
+
 // Appends the lines that complete the operation behind the lines of a text after the plan.
 fn put_finish(
     alloc: Global,
@@ -316,14 +340,7 @@ fn put_finish(
         Ok(world) => world,
         Err(refused) => return Err(FinishFault::Run(RunFault::Memory(refused))),
     };
-    let up = match play(alloc, &mut world, lines) {
-        Ok(up) => up,
-        Err(refused) => return Err(FinishFault::Run(RunFault::Memory(refused))),
-    };
-    match complete(&mut world, tenant, session, text) {
-        Ok(()) => Ok(()),
-        Err(stop) => Err(fault_of(stop, world.plan().grid(), up)),
-    }
+    play_and_finish(alloc, &mut world, lines, tenant, session, text)
 }
 
 // What completes the operation behind an input.

@@ -9,7 +9,7 @@ ghost use Rattle.gq_script.specs.Lines.{lines_of};
 ghost use Rattle.gq_script.specs.AnswerText.{answer_line};
 ghost use Rattle.gq_script.specs.Input.{event_cut};
 ghost use Rattle.gq_script.specs.Out.{line_cut, output_lines};
-ghost use Rattle.gq_shards.specs.Shards.{marks_of, of_shard, sees_mark, tells, IsText};
+ghost use Rattle.gq_shards.specs.Shards.{marks_of, of_shard, sees_mark, tells, IsPart, IsText};
 
 use crate::parts::part_of;
 use gq_desk::Plan;
@@ -91,8 +91,32 @@ fn next(
     Ok(())
 }
 
-/// Answers the lines that the shard sees, and tells the answers to its own. The lists begin with the room that a shard's part of
-/// the lines may need: a short list that grows is copied from place to place, and leaves holes in memory behind.
+// A world of the shard's plan, and what the shard tells before the first line. The lists begin with the room that a shard's part
+// of the lines may need: a short list that grows is copied from place to place, and leaves holes in memory behind.
+fn start_shard(
+    alloc: Global,
+    plan: &Plan,
+    shards: usize,
+    shard: usize,
+    marks: &[u8],
+    lines: &[u8],
+) -> Result<(World, Told), OutOfMemory>
+    requires { 1 ≤ shards }
+    ensures part { IfOk result (λ start. IsPart shards shard plan.now start.0.tables.plan) }
+    ensures stands { IfOk result (λ start. Stands start.0.tables []) }
+    ensures text { IfOk result (λ start. start.1.text.items ≡ []) }
+    ensures lengths { IfOk result (λ start. start.1.lengths.items ≡ []) }
+{
+    let told = Told {
+        text: room_for(alloc, lines.len() / shards)?,
+        lengths: room_for(alloc, marks.len() / shards)?,
+    };
+    let part = part_of(alloc, plan, shards, shard)?;
+    let world = World::new(alloc, part)?;
+    Ok((world, told))
+}
+
+/// Answers the lines that the shard sees, and tells the answers to its own.
 pub fn told_by(
     alloc: Global,
     plan: &Plan,
@@ -106,11 +130,8 @@ pub fn told_by(
     ensures { IfOk result (λ told. IsText told.text.items told.lengths.items
         (of_shard shard marks.now (output_lines plan.now (lines_of lines.now)))) }
 {
-    let part = part_of(alloc, plan, shards, shard)?;
-    let mut text = room_for(alloc, lines.len() / shards)?;
-    let mut lengths = room_for(alloc, marks.len() / shards)?;
-    let mut world = World::new(alloc, part)?;
-    let mut quorum = QuorumText::new(alloc, *world.plan().grid());
+    let (mut world, mut told) = start_shard(alloc, plan, shards, shard, marks, lines)?;
+    let mut quorum = QuorumText::new(alloc, *plan.grid());
     let mut rest = lines;
     for mark in marks {
         let (first, words, after) = cut_line(rest);
@@ -122,10 +143,10 @@ pub fn told_by(
             first,
             words,
             &mut quorum,
-            &mut text,
-            &mut lengths,
+            &mut told.text,
+            &mut told.lengths,
         )?;
         rest = after;
     }
-    Ok(Told { text, lengths })
+    Ok(told)
 }

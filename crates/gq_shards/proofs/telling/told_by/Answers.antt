@@ -1,4 +1,4 @@
-use Rattle.std.proofs.Common.{◌≡◌, ◌∙◌, ℕ, ◌+◌, ◌<◌, ◌∷◌, ◌++◌, ap, sym, subst, arith, length, get_or, drop}
+use Rattle.std.proofs.Common.{◌≡◌, ◌∙◌, ℕ, ◌+◌, ◌<◌, ◌∷◌, ◌++◌, ap, sym, arith, length, get_or, drop}
 use Rattle.std.proofs.lemmas.List.{drop_more}
 use Rattle.gq_desk.specs.CheckedPlan.{CheckedPlan}
 use Rattle.gq_world.specs.Whole.{Whole}
@@ -6,17 +6,16 @@ use Rattle.gq_script.specs.Words.{words_after}
 use Rattle.gq_script.specs.Lines.{lines_of}
 use Rattle.gq_script.specs.Input.{event_cut, event_of, event_of_words}
 use Rattle.gq_script.specs.QuorumText.{Held}
-use Rattle.gq_shards.specs.Shards.{IsPart}
 use Rattle.gq_shards.proofs.PartPlans.{event_words_part}
 use Rattle.gq_shards.proofs.Seeing.{Tells, tells_first, tells_more}
 use Rattle.gq_shards.proofs.telling.told_by.Goals as goal
 
 pub loop-mark-init : goal.loop-mark-init
 loop-mark-init c =
-    let part : IsPart c.args.shards c.args.shard c.args.plan.now c.in_ok-world.world.tables.plan = subst (IsPart c.args.shards c.args.shard c.args.plan.now) (sym c.in_ok-world.ensures.plan) c.in_ok-part.ensures in
+    let start = c.in_ok-world.ensures in
     record {
-      grid = ap (λ (held : Held). held.grid) c.new-quorum.ensures ∙ (c.grid.ensures ∙ ap (λ (p : CheckedPlan). p.grid) c.plan.ensures);
-      told = rw (c.in_ok-text.ensures.items, c.in_ok-lengths.ensures.items) (tells_first c.args.shards c.args.shard c.args.plan.now c.in_ok-world.world.tables c.args.marks.now (lines_of c.args.lines.now) part c.in_ok-world.ensures.stands c.requires.marks);
+      grid = ap (λ (held : Held). held.grid) c.new-quorum.ensures ∙ (c.grid.ensures ∙ sym start.part.grid);
+      told = rw (start.text, start.lengths) (tells_first c.args.shards c.args.shard c.args.plan.now c.in_ok-world.world.tables c.args.marks.now (lines_of c.args.lines.now) start.part start.stands c.requires.marks);
     }
 
 pub loop-mark-preserved : goal.loop-mark-preserved
@@ -27,13 +26,13 @@ loop-mark-preserved c =
     let i = c.loop-mark.mark-index in
     let below : i < length c.args.marks.now = omega (arith, c.loop-mark-test.true) in
     let mark : ℕ = get_or c.args.marks.now i 0 in
-    let now : Tells n k plan old c.loop-mark.text.items c.loop-mark.lengths.items (mark ∷ drop (i + 1) c.args.marks.now) c.args.marks.now (lines_of c.loop-mark.rest.now) (lines_of c.args.lines.now) =
+    let now : Tells n k plan old c.loop-mark.told.text.items c.loop-mark.told.lengths.items (mark ∷ drop (i + 1) c.args.marks.now) c.args.marks.now (lines_of c.loop-mark.rest.now) (lines_of c.args.lines.now) =
     rw (drop_more c.args.marks.now i 0 below) at c.loop-mark.invariant.told in
     let reads : event_cut old.plan first words ≡ event_of plan (first ++ words) =
     event_words_part n k plan old.plan (first ∷ words_after words) now.part ∙ ap (event_of_words plan) (sym c.cut_line.ensures.words) in
     record {
       grid = c.next.ensures.grid ∙ c.loop-mark.invariant.grid ∙ sym (ap (λ (p : CheckedPlan). p.grid) c.next.ensures.plan);
-      told = tells_more n k plan old c.next.new.world.tables c.loop-mark.text.items c.next.new.text.items c.loop-mark.lengths.items c.next.new.lengths.items c.args.marks.now
+      told = tells_more n k plan old c.next.new.world.tables c.loop-mark.told.text.items c.next.new.text.items c.loop-mark.told.lengths.items c.next.new.lengths.items c.args.marks.now
           mark (drop (i + 1) c.args.marks.now) (first ++ words) (lines_of c.loop-mark.rest.now) (lines_of c.cut_line.result.2.now) (lines_of c.args.lines.now) (event_cut old.plan first words) now
           c.cut_line.ensures.lines c.next.ensures.plan reads
           (λ unseen. let same = c.in_ok-next.ensures.unseen unseen in (ap (λ (w : Whole). w.tables) same.0, same.1, same.2))
