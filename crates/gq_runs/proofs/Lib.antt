@@ -2,3 +2,4 @@ pub mod Finishing
 pub mod Gathering
 pub mod Living
 pub mod Programming
+pub mod Reading
