@@ -55,17 +55,12 @@ step_shape = new_shape (codes "step")
 abbrev pub bare_gridfs : App
 bare_gridfs = on_top (λ top. record top { has_version = true; subcommand_required = true }) (new_app (codes "gridfs"))
 
--- as far as `order`
-abbrev pub gridfs_to_order : App
-gridfs_to_order = with_subcommand (with_subcommand bare_gridfs run_shape) order_shape
-
--- as far as `live`
-abbrev pub gridfs_to_live : App
-gridfs_to_live = with_subcommand (with_subcommand gridfs_to_order finish_shape) live_shape
-
 -- the whole command line
 abbrev pub gridfs : App
-gridfs = with_subcommand (with_subcommand (with_subcommand gridfs_to_live step_shape) history_shape) picture_shape
+gridfs =
+    let to_order = with_subcommand (with_subcommand bare_gridfs run_shape) order_shape in
+    let to_live = with_subcommand (with_subcommand to_order finish_shape) live_shape in
+    with_subcommand (with_subcommand (with_subcommand to_live step_shape) history_shape) picture_shape
 
 -- what is wrong with the words, the program's name first; a call for help or for the version counts
 abbrev pub faults_in : List Text → Kinds

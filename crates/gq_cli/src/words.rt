@@ -2,12 +2,12 @@
 
 ghost use Rattle.std.specs.Prelude.{◌≡◌, ◌∷◌, [], Some, false, codes, IfOk, IfErr, IsErrAnd};
 ghost use Rattle.clap.specs.Matches.{found_of, subcommand_name_of};
-ghost use Rattle.clap.specs.Simple.{app_of, new_app, subcommand_rows_of, with_subcommand};
+ghost use Rattle.clap.specs.Simple.{App, Shape, app_of, new_app, subcommand_rows_of, with_subcommand};
 ghost use Rattle.clap.specs.Walk.{rows_of, rule_of};
 ghost use Rattle.clap.specs.declared.builder.command.Command.TheViews.{out-Command as fields_of};
 ghost use Rattle.clap.specs.Walk.{Text, texts};
 ghost use Rattle.clap.specs.declared.error.kind.ErrorKind.TheVariants.{DisplayHelp, DisplayVersion};
-ghost use Rattle.gq_cli.specs.Words.{AsksForLive, IsAlone, IsAskedBy, IsMemory, IsOf, ShownFor, Shows, bare_gridfs, finish_shape, file_shape, gridfs, gridfs_to_live, gridfs_to_order, name_rule, number_rule, jobs_rule, run_shape, step_shape};
+ghost use Rattle.gq_cli.specs.Words.{AsksForLive, IsAlone, IsAskedBy, IsMemory, IsOf, ShownFor, Shows, bare_gridfs, finish_shape, file_shape, gridfs, name_rule, number_rule, jobs_rule, run_shape, step_shape};
 ghost use Rattle.gq_cli.specs.Given.{HasValues, IsNumberGiven, given_by, name_of, rows_behind, text_given};
 
 use clap::error::ErrorKind;
@@ -282,8 +282,7 @@ fn finish<'a>(alloc: Global) -> Result<Command<'a>, AllocError>
     Ok(finish)
 }
 
-// The command line without its subcommands. (It is made in several functions, since a proof follows what each owns along each
-// way out of it.)
+// The command line without its subcommands.
 fn bare<'a>(alloc: Global) -> Command<'a>
     ensures app { app_of result ≡ bare_gridfs }
 {
@@ -296,69 +295,70 @@ fn bare<'a>(alloc: Global) -> Command<'a>
         .subcommand_required(true)
 }
 
-// The command line with one more subcommand about a file of a tenant.
-fn with_file<'a>(
-    alloc: Global,
-    gridfs: Command<'a>,
-    subcommand_name: &'a str,
-    about: &'a str,
-    help: &'a str,
+// The command line with one more subcommand, where there was memory for both. (Both come as results, so that no other function has
+// to let go of a command line on its way out.)
+fn with<'a>(
+    gridfs: Result<Command<'a>, AllocError>,
+    subcommand: Result<Command<'a>, AllocError>,
 ) -> Result<Command<'a>, AllocError>
-    ensures app { IfOk result (λ c. app_of c ≡ with_subcommand (app_of gridfs.entry) (file_shape subcommand_name.entry.now)) }
+    requires local { IfOk subcommand (λ c. (fields_of c).has_globals ≡ false) }
+    ensures app { (app : App) (shape : Shape) → IfOk gridfs.entry (λ c. app_of c ≡ app) →
+        IfOk subcommand.entry (λ c. (app_of c).top ≡ shape) → IfOk result (λ c. app_of c ≡ with_subcommand app shape) }
 {
-    gridfs.subcommand(of_file(alloc, subcommand_name, about, help)?)
-}
-
-// The command line as far as the subcommand `order`.
-fn to_order<'a>(alloc: Global) -> Result<Command<'a>, AllocError>
-    ensures app { IfOk result (λ c. app_of c ≡ gridfs_to_order) }
-{
-    let to_run = bare(alloc).subcommand(run(alloc)?)?;
-    with_file(
-        alloc,
-        to_run,
-        "order",
-        "The same, and behind it the order of the operations on a file of the tenant",
-        ORDER,
-    )
-}
-
-// As far as `live`.
-fn to_live<'a>(alloc: Global) -> Result<Command<'a>, AllocError>
-    ensures app { IfOk result (λ c. app_of c ≡ gridfs_to_live) }
-{
-    let to_finish = to_order(alloc)?.subcommand(finish(alloc)?)?;
-    to_finish.subcommand(subcommand(
-        alloc,
-        "live",
-        "Run the programs of an input in threads, and write the run as a script",
-        LIVE,
-    ))
+    let subcommand = subcommand?;
+    gridfs?.subcommand(subcommand)
 }
 
 // The whole command line.
 fn command<'a>(alloc: Global) -> Result<Command<'a>, AllocError>
     ensures app { IfOk result (λ c. app_of c ≡ gridfs) }
 {
-    let to_step = to_live(alloc)?.subcommand(subcommand(
-        alloc,
-        "step",
-        "Answer each line of a script as soon as it has ended",
-        STEP,
-    ))?;
-    let to_history = with_file(
-        alloc,
+    let to_run = with(Ok(bare(alloc)), run(alloc));
+    let to_order = with(
+        to_run,
+        of_file(
+            alloc,
+            "order",
+            "The same, and behind it the order of the operations on a file of the tenant",
+            ORDER,
+        ),
+    );
+    let to_finish = with(to_order, finish(alloc));
+    let to_live = with(
+        to_finish,
+        Ok(subcommand(
+            alloc,
+            "live",
+            "Run the programs of an input in threads, and write the run as a script",
+            LIVE,
+        )),
+    );
+    let to_step = with(
+        to_live,
+        Ok(subcommand(
+            alloc,
+            "step",
+            "Answer each line of a script as soon as it has ended",
+            STEP,
+        )),
+    );
+    let to_history = with(
         to_step,
-        "history",
-        "Write the history of the operations on a file of the tenant, as Jepsen has it",
-        HISTORY,
-    )?;
-    with_file(
-        alloc,
+        of_file(
+            alloc,
+            "history",
+            "Write the history of the operations on a file of the tenant, as Jepsen has it",
+            HISTORY,
+        ),
+    );
+    with(
         to_history,
-        "picture",
-        "Draw the operations on a file of the tenant",
-        PICTURE,
+        of_file(
+            alloc,
+            "picture",
+            "Draw the operations on a file of the tenant",
+            PICTURE,
+        ),
     )
 }
 

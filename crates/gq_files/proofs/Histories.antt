@@ -6,7 +6,7 @@ use Rattle.gq_desk.specs.CheckedPlan.{CheckedPlan}
 use Rattle.gq_model.specs.declared.events.Event.{Event}
 use Rattle.gq_laws.specs.declared.ops.Op.{Op}
 use Rattle.gq_laws.specs.Tenants.{tenant_operations}
-use Rattle.gq_script.specs.Input.{event_of}
+use Rattle.gq_text.specs.Input.{event_of}
 use Rattle.gq_script.specs.Seeing.{seen_events, seen_places}
 use Rattle.gq_files.specs.Histories.{IsHistoryOf, TellsHistory, line_behind, placed}
 use Rattle.gq_files.specs.Orders.{operations_of}

@@ -16,7 +16,7 @@ use Rattle.gq_picture.specs.Absences.{absence_at, absences, counted_from, is_ret
 use Rattle.gq_picture.specs.Drawing.{IsDrawing}
 use Rattle.gq_picture.specs.Laws.{TellsNoLie}
 use Rattle.gq_picture.specs.declared.drawing.Drawing.{Drawing}
-use Rattle.gq_script.specs.Input.{event_of}
+use Rattle.gq_text.specs.Input.{event_of}
 use Rattle.gq_script.specs.Seeing.{is_seen, seen_events, seen_places}
 use Rattle.gq_svg.specs.Svg.{picture_text}
 use Rattle.gq_svg.specs.declared.picture.Heading.{Heading}

@@ -11,11 +11,11 @@ use Rattle.gq_history.specs.Moments.{IsHistory}
 use Rattle.gq_laws.specs.declared.ops.Kind.{Kind}
 use Rattle.gq_laws.specs.declared.ops.Kind.TheVariants.{Write as Writes, Read as Reads, Row as Rows}
 use Rattle.gq_laws.specs.declared.ops.Op.{Op}
-use Rattle.gq_script.specs.Input.{place_named}
-use Rattle.gq_script.specs.Lines.{lines_of}
-use Rattle.gq_script.specs.PlanText.{Reading, plan_of}
+use Rattle.gq_text.specs.Input.{place_named}
+use Rattle.gq_text.specs.Lines.{lines_of}
+use Rattle.gq_text.specs.PlanText.{Reading, plan_of}
 use Rattle.gq_script.specs.Watched.{AppendsPrefix}
-use Rattle.gq_script.specs.Words.{Word}
+use Rattle.gq_text.specs.Words.{Word}
 use Rattle.gq_files.specs.Orders.{operations_of}
 
 -- ---- the words of a moment

@@ -1,5 +1,5 @@
 -- What `order` writes: the output of the run, and behind it the order of a file's operations.
-use Rattle.std.specs.Prelude.{ℕ, List, [], ◌∷◌, ◌++◌, Option, Some, None, Ok, Err, IsSome, IsOk, codes, decimal, map, slice_get}
+use Rattle.std.specs.Prelude.{ℕ, List, [], ◌∷◌, ◌++◌, Option, Some, None, Ok, Err, IsOk, codes, decimal, map, slice_get}
 use Rattle.gq_tag.specs.Tag.{File}
 use Rattle.gq_desk.specs.CheckedPlan.{CheckedPlan}
 use Rattle.gq_laws.specs.declared.ops.Kind.{Kind}
@@ -8,12 +8,12 @@ use Rattle.gq_laws.specs.declared.ops.Op.{Op}
 use Rattle.gq_laws.specs.Operations.{ops_at}
 use Rattle.gq_laws.specs.Orders.{order}
 use Rattle.gq_laws.specs.Tenants.{tenant_operations}
-use Rattle.gq_script.specs.Words.{Word}
-use Rattle.gq_script.specs.Lines.{lines_of}
-use Rattle.gq_script.specs.Input.{event_of, place_named}
-use Rattle.gq_script.specs.PlanText.{Reading, plan_of}
-use Rattle.gq_script.specs.AnswerText.{content_word, line_text}
-use Rattle.gq_script.specs.Out.{joined, out, IsPlanFaultOf}
+use Rattle.gq_text.specs.Words.{Word}
+use Rattle.gq_text.specs.Lines.{lines_of, joined}
+use Rattle.gq_text.specs.Input.{event_of, place_named}
+use Rattle.gq_text.specs.PlanText.{Reading, plan_of, NamesTenant}
+use Rattle.gq_text.specs.AnswerText.{content_word, line_text}
+use Rattle.gq_script.specs.Out.{out, IsPlanFaultOf}
 use Rattle.gq_script.specs.Steps.{IsFaultOfLines}
 use Rattle.gq_files.specs.declared.order.OrderFault.{OrderFault}
 use Rattle.gq_files.specs.declared.order.OrderFault.TheVariants.{Run, Name}
@@ -51,15 +51,6 @@ ordered ops = op_lines ops (order ops) ++ codes "legal" ++ 10 ∷ []
 -- the operations on a file of the tenant at place t, where these lines come after the plan
 abbrev pub operations_of : CheckedPlan → List (List ℕ) → ℕ → File → List Op
 operations_of plan lines t file = tenant_operations plan (map (event_of plan) lines) t file
-
--- the place of the tenant of this name in the plan that was read
-abbrev pub place_of : Reading (CheckedPlan × List (List ℕ)) → List ℕ → Option ℕ
-place_of (Ok read) name = place_named read.0 name
-place_of (Err fault) name = None
-
--- the name is that of a tenant of the input's plan
-abbrev pub NamesTenant : List ℕ → List ℕ → Type 0
-NamesTenant name input = IsSome (place_of (plan_of (lines_of input)) name)
 
 -- what is written behind the output of the run
 abbrev pub order_of : Reading (CheckedPlan × List (List ℕ)) → List ℕ → File → List ℕ

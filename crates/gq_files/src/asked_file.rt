@@ -5,18 +5,19 @@ ghost use Rattle.std.specs.List.{position_from};
 ghost use Rattle.gq_tag.specs.Tag.{file_place};
 ghost use Rattle.gq_desk.specs.Plans.{is_of};
 ghost use Rattle.gq_order.specs.Runs.{IsRun};
-ghost use Rattle.gq_script.specs.Input.{event_of};
-ghost use Rattle.gq_script.specs.Lines.{lines_of};
-ghost use Rattle.gq_script.specs.Out.{joined, output_lines};
-ghost use Rattle.gq_script.specs.PlanText.{plan_of};
+ghost use Rattle.gq_text.specs.Input.{event_of};
+ghost use Rattle.gq_text.specs.Lines.{lines_of, joined};
+ghost use Rattle.gq_script.specs.Out.{output_lines};
+ghost use Rattle.gq_text.specs.PlanText.{plan_of};
 ghost use Rattle.gq_script.specs.Seeing.{seen_events, seen_places};
 ghost use Rattle.gq_files.specs.Orders.{IsFaultOfOutput};
 
 use crate::order::OrderFault;
 use gq_desk::Plan;
 use gq_memory::OutOfMemory;
-use gq_script::{Answered, PlanText, RunFault, answer_lines, read_plan};
+use gq_script::{Answered, RunFault, answer_lines};
 use gq_tag::FileId;
+use gq_text::{PlanText, read_plan};
 use gq_world::World;
 use std::alloc::Global;
 

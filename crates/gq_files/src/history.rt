@@ -4,12 +4,12 @@ ghost use Rattle.std.specs.Prelude.{◌≡◌, ◌≢◌, ◌↔◌, ◌+◌, �
 ghost use Rattle.gq_tag.specs.Tag.{file_place};
 ghost use Rattle.gq_laws.specs.Tenants.{tenant_operations};
 ghost use Rattle.gq_order.specs.Runs.{IsRun};
-ghost use Rattle.gq_script.specs.Lines.{lines_of};
+ghost use Rattle.gq_text.specs.Lines.{lines_of};
 ghost use Rattle.gq_script.specs.Out.{IsAccepted};
-ghost use Rattle.gq_script.specs.PlanText.{plan_of};
+ghost use Rattle.gq_text.specs.PlanText.{plan_of, NamesTenant};
 ghost use Rattle.gq_script.specs.Watched.{inner_of, has_failed};
 ghost use Rattle.gq_files.specs.Histories.{AppendsHistory, AppendsHistoryPrefix, IsHistoryOf, IsHistoryText, TellsHistory, function_word, line_behind, moment_text, moment_text_in, moments_text, placed, quoted, stage_word, value_word};
-ghost use Rattle.gq_files.specs.Orders.{IsFaultOfOutput, IsPlanFault, NamesTenant};
+ghost use Rattle.gq_files.specs.Orders.{IsFaultOfOutput, IsPlanFault};
 
 use crate::asked_file::{answer_by_new_world, asked_file};
 use crate::order::OrderFault;
@@ -18,11 +18,9 @@ use gq_history::{Moment, Stage, history};
 use gq_laws::{Kind, Op};
 use gq_memory::{GrowCopies, GrowVec, OutOfMemory};
 use gq_order::operations;
-use gq_script::{
-    Answered, MOST_INPUT, RunFault, Watched, put_digits, put_number, put_sum, read_whole,
-    write_whole,
-};
+use gq_script::{Answered, MOST_INPUT, RunFault, Watched, read_whole, write_whole};
 use gq_tag::FileId;
+use gq_text::{put_digits, put_number, put_sum};
 use std::alloc::Global;
 use std::io::{Read, Write};
 

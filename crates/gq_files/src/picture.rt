@@ -7,12 +7,12 @@ ghost use Rattle.gq_laws.specs.Operations.{Tagged};
 ghost use Rattle.gq_laws.specs.Tenants.{tenant_operations};
 ghost use Rattle.gq_order.specs.Runs.{IsRun};
 ghost use Rattle.gq_picture.specs.Absences.{absences};
-ghost use Rattle.gq_script.specs.Lines.{lines_of};
+ghost use Rattle.gq_text.specs.Lines.{lines_of};
 ghost use Rattle.gq_script.specs.Out.{IsAccepted};
-ghost use Rattle.gq_script.specs.PlanText.{plan_of};
+ghost use Rattle.gq_text.specs.PlanText.{plan_of, NamesTenant};
 ghost use Rattle.gq_script.specs.Watched.{inner_of, has_failed};
 ghost use Rattle.gq_files.specs.Histories.{placed};
-ghost use Rattle.gq_files.specs.Orders.{IsFaultOfOutput, IsPlanFault, NamesTenant};
+ghost use Rattle.gq_files.specs.Orders.{IsFaultOfOutput, IsPlanFault};
 ghost use Rattle.gq_files.specs.Pictures.{AppendsPicture, AppendsPicturePrefix, IsPictureOf, IsPictureText, TellsPicture, heading_of, servers_of};
 
 use crate::asked_file::{answer_by_new_world, asked_file};

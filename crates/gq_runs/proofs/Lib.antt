@@ -1,4 +1,3 @@
-pub mod Finishing
 pub mod Gathering
 pub mod Living
 pub mod Programming

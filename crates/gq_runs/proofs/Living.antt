@@ -17,7 +17,7 @@ use Rattle.gq_session.specs.declared.fitting.SessionId.{SessionId}
 use Rattle.gq_session.specs.declared.records.Programs.{Programs}
 use Rattle.gq_session.specs.declared.records.Records.{Records}
 use Rattle.gq_session.specs.declared.records.SessionEntry.{SessionEntry}
-use Rattle.gq_script.specs.Input.{event_of}
+use Rattle.gq_text.specs.Input.{event_of}
 use Rattle.gq_runs.specs.Live.{IsRecordOf, KeepsInput}
 use Rattle.gq_runs.specs.LiveRuns.{IsLiveScript, IsScriptOfRun}
 use Rattle.gq_runs.specs.Programs.{AreOf, IsProgramsOf, server_line_in, names_session, opening_of, request_for, requests_for}

@@ -9,10 +9,10 @@ use Rattle.gq_session.specs.declared.records.LiveFault.TheVariants.{Memory as Li
 use Rattle.gq_inspect.specs.Replay.{IsRunOf}
 use Rattle.gq_inspect.specs.declared.mismatch.Mismatch.{Mismatch as MismatchIs}
 use Rattle.gq_inspect.specs.declared.mismatch.Mismatch.TheVariants.{Answer, Memory as MismatchMemory}
-use Rattle.gq_script.specs.Canonical.{IsScriptOf, script_text}
-use Rattle.gq_script.specs.Input.{event_of}
-use Rattle.gq_script.specs.Lines.{lines_of}
-use Rattle.gq_script.specs.PlanText.{plan_of}
+use Rattle.gq_text.specs.Canonical.{IsScriptOf, script_text}
+use Rattle.gq_text.specs.Input.{event_of}
+use Rattle.gq_text.specs.Lines.{lines_of}
+use Rattle.gq_text.specs.PlanText.{plan_of}
 use Rattle.gq_script.specs.Watched.{AppendsPrefix}
 use Rattle.gq_script.specs.declared.script.TheConstants.{MOST_INPUT}
 use Rattle.gq_runs.specs.Programs.{IsProgramsOf, fault_of}

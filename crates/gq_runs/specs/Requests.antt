@@ -9,10 +9,10 @@ use Rattle.gq_session.specs.declared.records.LiveFault.TheVariants.{Memory as Li
 use Rattle.gq_files.specs.Orders.{order_out}
 use Rattle.gq_files.specs.Histories.{AppendsHistory}
 use Rattle.gq_files.specs.Pictures.{AppendsPicture}
-use Rattle.gq_runs.specs.Finishing.{FinishOf}
+use Rattle.gq_finish.specs.Finishing.{FinishOf}
 use Rattle.gq_runs.specs.LiveRuns.{AppendsLive}
 use Rattle.gq_files.specs.declared.order.OrderFault.TheVariants.{Run as OrderRun}
-use Rattle.gq_runs.specs.declared.finish.FinishFault.TheVariants.{Run as FinishRun}
+use Rattle.gq_finish.specs.declared.finish.FinishFault.TheVariants.{Run as FinishRun}
 use Rattle.gq_runs.specs.declared.live.LiveRunFault.TheVariants.{Memory as LiveRunMemory, Write as LiveWrite, Live as LiveThreads, Mismatch}
 use Rattle.gq_runs.specs.declared.requests.RequestFault.{RequestFault}
 use Rattle.gq_runs.specs.declared.requests.RequestFault.TheVariants.{Run as RunEnded, Step as StepEnded, Order as OrderEnded, History as HistoryEnded, Picture as PictureEnded, Finish as FinishEnded, Live as LiveEnded}

@@ -2,12 +2,10 @@
 //! a file's operations, and their picture; the lines that complete an operation; a live run, from its programs to its script.
 #![tactic(auto)]
 
-mod finish;
 mod live;
 mod programs;
 mod requests;
 
-pub use finish::{FinishFault, finish_run};
 pub use live::{LiveRunFault, NamedMismatch, live_run};
 pub use programs::{ProgramFault, read_programs};
 pub use requests::{RequestFault, carry_out};

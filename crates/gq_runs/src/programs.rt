@@ -7,9 +7,9 @@ ghost use Rattle.gq_desk.specs.Plans.{is_in};
 ghost use Rattle.gq_desk.specs.Volumes.{account_at, open_fault, with_volume};
 ghost use Rattle.gq_desk.specs.declared.limits.TheConstants.{MOST_TENANTS};
 ghost use Rattle.gq_model.specs.Events.{IsIn};
-ghost use Rattle.gq_script.specs.Input.{event_of};
-ghost use Rattle.gq_script.specs.Lines.{lines_of};
-ghost use Rattle.gq_script.specs.PlanText.{plan_of};
+ghost use Rattle.gq_text.specs.Input.{event_of};
+ghost use Rattle.gq_text.specs.Lines.{lines_of};
+ghost use Rattle.gq_text.specs.PlanText.{plan_of};
 ghost use Rattle.gq_session.specs.Fitting.{FitsPlan, is_change};
 ghost use Rattle.gq_session.specs.declared.fitting.SessionId.{SessionId};
 ghost use Rattle.gq_runs.specs.Gathering.{AreByTenant, line_for, list_at, request_in, requests_at};
@@ -18,8 +18,9 @@ ghost use Rattle.gq_runs.specs.Programs.{AreOf, IsProgramsOf, server_line_in, de
 use gq_desk::{Desk, MOST_STEPS, OpenRefused, Plan, TenantRow};
 use gq_memory::{GrowVec, OutOfMemory};
 use gq_model::{Event, Line, ServerLine};
-use gq_script::{MOST_INPUT, PlanText, TextFault, first_line, read_line, read_plan};
+use gq_script::MOST_INPUT;
 use gq_session::{Lines, Opening, Programs, SessionId, sessions_of};
+use gq_text::{PlanText, TextFault, first_line, read_line, read_plan};
 use std::alloc::Global;
 use thiserror::Error;
 

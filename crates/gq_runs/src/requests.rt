@@ -6,10 +6,10 @@ ghost use Rattle.gq_script.specs.Watched.{inner_of, has_failed, AppendsPrefix};
 ghost use Rattle.gq_runs.specs.Requests.{Writes, MayHaveWritten, IsOfStep, status_of};
 ghost use Rattle.gq_runs.specs.declared.requests.RequestFault.{RequestFault};
 
-use crate::finish::{FinishFault, finish_run};
 use crate::live::{LiveRunFault, live_run};
 use gq_cli::Request;
 use gq_files::{OrderFault, history_run, order_run, picture_run};
+use gq_finish::{FinishFault, finish_run};
 use gq_live::{LiveFault, OpenGate};
 use gq_script::{Notice, RunFault, Watched, step};
 use gq_shards::{SHORT, run_in_shards};
@@ -106,7 +106,7 @@ fn shards_of(rt: &impl Threads, jobs: u32) -> usize {
 
 /// Does what a command line asks for between a reader and a writer. What is written is what the words ask for; the faults, and
 /// what was written at each, are those of [`gq_shards::run_in_shards`], [`gq_script::step`], [`gq_files::order_run`],
-/// [`gq_files::history_run`], [`gq_files::picture_run`], [`crate::finish_run`] and [`crate::live_run`]. The notice is told by a run that
+/// [`gq_files::history_run`], [`gq_files::picture_run`], [`gq_finish::finish_run`] and [`crate::live_run`]. The notice is told by a run that
 /// answers each line as it comes. How many shards a run has depends on the machine where the words say 0, and no answer does.
 pub fn carry_out<T: Threads + Wait + Sync, N: Notice, R: Read, W: Write>(
     rt: &T,

@@ -14,13 +14,13 @@ use Rattle.gq_model.specs.declared.events.Event.TheVariants.{Tenant, Server}
 use Rattle.gq_model.specs.Trace.{Turn, Own, Serving, Past, start}
 use Rattle.gq_model.specs.Lone.{after, past_of, told_from}
 use Rattle.gq_model.specs.Events.{turn_of, own, past_at, answer_to}
-use Rattle.gq_script.specs.Words.{words_of}
-use Rattle.gq_script.specs.Lines.{lines_of}
-use Rattle.gq_script.specs.Input.{event_of}
-use Rattle.gq_script.specs.AnswerText.{answer_line}
+use Rattle.gq_text.specs.Words.{words_of}
+use Rattle.gq_text.specs.Lines.{lines_of}
+use Rattle.gq_text.specs.Input.{event_of}
+use Rattle.gq_text.specs.AnswerText.{answer_line}
 use Rattle.gq_script.specs.Out.{answer_lines, output_lines, output_of}
 use Rattle.gq_script.specs.Alone.{is_own, seen_lines, lines_to, turn_from, turns_of, own_text, lone_text, AnswersEachLine, TellsAsAlone, TellsTheSame}
-use Rattle.gq_script.proofs.PlanNames.{HasPlace, has_place}
+use Rattle.gq_text.proofs.PlanNames.{HasPlace, has_place}
 use Rattle.gq_script.proofs.Sights.{Sight, sight, turns_of-seen_lines}
 
 -- the past after one event more

@@ -15,10 +15,10 @@ use Rattle.gq_model.specs.Events.{turn_of, own, server_lines, answer_to}
 use Rattle.gq_world.specs.Tables.{Tables, Stands}
 use Rattle.gq_order.specs.Runs.{IsRun}
 use Rattle.gq_order.proofs.Growing.{runs-grow}
-use Rattle.gq_script.specs.Lines.{lines_of}
-use Rattle.gq_script.specs.Input.{event_of}
-use Rattle.gq_script.specs.AnswerText.{answer_line}
-use Rattle.gq_script.specs.Out.{answer_lines, output_lines, joined}
+use Rattle.gq_text.specs.Lines.{lines_of, joined}
+use Rattle.gq_text.specs.Input.{event_of}
+use Rattle.gq_text.specs.AnswerText.{answer_line}
+use Rattle.gq_script.specs.Out.{answer_lines, output_lines}
 use Rattle.gq_script.specs.Seeing.{is_seen, seen_events}
 
 -- ---- what one tenant sees

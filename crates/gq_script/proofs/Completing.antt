@@ -23,16 +23,16 @@ use Rattle.gq_laws.specs.Progress.{deliveries_left, IsOutcomeOf, QuorumsUp, stat
 use Rattle.gq_laws.proofs.AllTenants.{past_more}
 use Rattle.gq_laws.proofs.Asking.{all_requests_complete}
 use Rattle.gq_laws.proofs.CompletingAmong.{all_tenants_complete}
-use Rattle.gq_script.specs.Words.{words_of}
-use Rattle.gq_script.specs.Lines.{lines_of}
-use Rattle.gq_script.specs.Input.{event_of}
-use Rattle.gq_script.specs.Canonical.{IsPlan, FitsLine}
-use Rattle.gq_script.specs.Out.{joined, out}
+use Rattle.gq_text.specs.Words.{words_of}
+use Rattle.gq_text.specs.Lines.{lines_of, joined}
+use Rattle.gq_text.specs.Input.{event_of}
+use Rattle.gq_text.specs.Canonical.{IsPlan, FitsLine}
+use Rattle.gq_script.specs.Out.{out}
 use Rattle.gq_script.specs.Alone.{is_own, turn_from, turns_of, Accepts}
 use Rattle.gq_script.specs.Completing.{told_line, CompletesBy, CompletesBehind, AllInputsComplete, AllInputRequestsComplete}
-use Rattle.gq_script.proofs.PlanNames.{HasPlace, has_place}
+use Rattle.gq_text.proofs.PlanNames.{HasPlace, has_place}
 use Rattle.gq_script.proofs.Sights.{Sight, sight}
-use Rattle.gq_script.proofs.PlanIs.{plan_is, RowFits, row_of_plan, small_grid}
+use Rattle.gq_text.proofs.PlanIs.{plan_is, RowFits, row_of_plan, small_grid}
 use Rattle.gq_script.proofs.FewMessages.{is_stray, IsSmall, IsFew, few_from, few_at_start, all_own, HasNumber, all_numbers}
 use Rattle.gq_script.proofs.Refusing.{none_refused}
 use Rattle.gq_script.proofs.Longer.{longer_read, longer_out}

@@ -10,17 +10,17 @@ use Rattle.gq_model.specs.declared.events.Event.TheVariants.{Tenant}
 use Rattle.gq_model.specs.declared.events.Line.{Line}
 use Rattle.gq_model.specs.Events.{answer_to}
 use Rattle.gq_laws.specs.Tenants.{answers_from}
-use Rattle.gq_script.specs.Words.{Word}
-use Rattle.gq_script.specs.Lines.{lines_of}
-use Rattle.gq_script.specs.Input.{event_of}
-use Rattle.gq_script.specs.PlanText.{plan_of}
-use Rattle.gq_script.specs.AnswerText.{line_text, answer_line}
-use Rattle.gq_script.specs.Canonical.{line_words, event_line, IsPlan, FitsLine, Fits}
-use Rattle.gq_script.specs.Out.{answer_lines, joined, output_of, out}
+use Rattle.gq_text.specs.Words.{Word}
+use Rattle.gq_text.specs.Lines.{lines_of, joined}
+use Rattle.gq_text.specs.Input.{event_of}
+use Rattle.gq_text.specs.PlanText.{plan_of}
+use Rattle.gq_text.specs.AnswerText.{line_text, answer_line}
+use Rattle.gq_text.specs.Canonical.{line_words, event_line, IsPlan, FitsLine, Fits}
+use Rattle.gq_script.specs.Out.{answer_lines, output_of, out}
 use Rattle.gq_script.specs.Completing.{missing_newline, own_lines, longer, told_line}
-use Rattle.gq_script.proofs.EventsBack.{events_back}
+use Rattle.gq_text.proofs.EventsBack.{events_back}
 use Rattle.gq_script.proofs.Behind.{lines_behind, plan_behind}
-use Rattle.gq_script.proofs.PlanIs.{plan_is}
+use Rattle.gq_text.proofs.PlanIs.{plan_is}
 
 -- ---- what is read of it
 

@@ -2,8 +2,8 @@
 use Rattle.std.proofs.Common.{◌≡◌, ◌∙◌, ℕ, ◌+◌, Bool, true, false, List, [], ◌∷◌, ◌++◌, Option, map, length, append_assoc, append-nil, refl, sym, ap, arith}
 use Rattle.gq_desk.specs.CheckedPlan.{CheckedPlan}
 use Rattle.gq_model.specs.declared.events.Event.{Event}
-use Rattle.gq_script.specs.Input.{event_of}
-use Rattle.gq_script.specs.Lines.{lines_of}
+use Rattle.gq_text.specs.Input.{event_of}
+use Rattle.gq_text.specs.Lines.{lines_of}
 use Rattle.gq_script.specs.Seeing.{is_seen, seen_places}
 
 -- the places so far, with those of the lines that are left, are all; and so many lines were looked at

@@ -13,10 +13,10 @@ use Rattle.gq_model.specs.declared.events.Line.{Line}
 use Rattle.gq_model.specs.declared.events.ServerLine.{ServerLine}
 use Rattle.gq_model.specs.Trace.{Turn, Own, Serving}
 use Rattle.gq_model.specs.Events.{turn_of}
-use Rattle.gq_script.specs.Words.{Word, words_of}
-use Rattle.gq_script.specs.Input.{line_of, server_line_of, place_named, tenant_event, event_of_words, event_of}
+use Rattle.gq_text.specs.Words.{Word, words_of}
+use Rattle.gq_text.specs.Input.{line_of, server_line_of, place_named, tenant_event, event_of_words, event_of}
 use Rattle.gq_script.specs.Alone.{first_word_of, is_own, is_serving, seen_lines, turn_from, turns_of}
-use Rattle.gq_script.proofs.PlanNames.{HasPlace}
+use Rattle.gq_text.proofs.PlanNames.{HasPlace}
 
 -- the first of a line's words stands before its first space
 pub first_of_words : (line : List ℕ) → (words : List Word) × (words_of line ≡ first_word_of line ∷ words)

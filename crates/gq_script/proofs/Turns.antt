@@ -10,16 +10,16 @@ use lib.Seq.{take-append_seam}
 use Rattle.gq_desk.specs.CheckedPlan.{CheckedPlan}
 use Rattle.gq_model.specs.declared.events.Event.{Event}
 use Rattle.gq_world.specs.Tables.{Stands, Tables}
-use Rattle.gq_script.specs.declared.plan_text.TextFault.TheVariants.{Form, End, Grid, Blocks, Check}
+use Rattle.gq_text.specs.declared.plan_text.TextFault.TheVariants.{Form, End, Grid, Blocks, Check}
 use Rattle.gq_script.specs.declared.script.RunFault.{RunFault}
 use Rattle.gq_script.specs.declared.script.RunFault.TheVariants.{Read, TooBig, Plan, Memory, Write}
 use Rattle.gq_script.specs.declared.stepping.Stage.{Stage}
 use Rattle.gq_script.specs.declared.stepping.Stage.TheVariants.{Plan as StagePlan, Lines as StageLines}
-use Rattle.gq_script.specs.Lines.{lines_of}
-use Rattle.gq_script.specs.PlanText.{Reading, plan_of}
-use Rattle.gq_script.specs.Input.{event_of}
-use Rattle.gq_script.specs.Out.{answer_lines, joined, out}
-use Rattle.gq_script.specs.Pieces.{Extends}
+use Rattle.gq_text.specs.Lines.{lines_of, joined}
+use Rattle.gq_text.specs.PlanText.{Reading, plan_of}
+use Rattle.gq_text.specs.Input.{event_of}
+use Rattle.gq_script.specs.Out.{answer_lines, out}
+use Rattle.gq_text.specs.Pieces.{Extends}
 use Rattle.gq_script.specs.Watched.{AppendsPrefix, Moves}
 use Rattle.gq_script.specs.Steps.{IsReadingFault}
 use Rattle.gq_script.specs.Stepping.{AnswersEnded, HasAnswered, AllEnded, IsPlanFaultIn, IsFinal, IsOfPlan, MissesGo}

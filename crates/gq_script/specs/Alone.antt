@@ -9,12 +9,12 @@ use Rattle.gq_model.specs.Told.{Told}
 use Rattle.gq_model.specs.Trace.{Turn, Own, Serving}
 use Rattle.gq_model.specs.Lone.{lone}
 use Rattle.gq_script.specs.declared.script.TheConstants.{MOST_INPUT}
-use Rattle.gq_script.specs.Words.{Word, words_of}
-use Rattle.gq_script.specs.Lines.{lines_of}
-use Rattle.gq_script.specs.Input.{line_of, server_line_of}
-use Rattle.gq_script.specs.PlanText.{plan_of}
-use Rattle.gq_script.specs.AnswerText.{line_text, told_words}
-use Rattle.gq_script.specs.Out.{output_lines, joined, out}
+use Rattle.gq_text.specs.Words.{Word, words_of}
+use Rattle.gq_text.specs.Lines.{lines_of, joined}
+use Rattle.gq_text.specs.Input.{line_of, server_line_of}
+use Rattle.gq_text.specs.PlanText.{plan_of}
+use Rattle.gq_text.specs.AnswerText.{line_text, told_words}
+use Rattle.gq_script.specs.Out.{output_lines, out}
 
 -- the bytes of a line before its first space
 abbrev pub first_word_of : List ℕ → Word

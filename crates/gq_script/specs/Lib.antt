@@ -1,16 +1,7 @@
-pub mod Words
-pub mod Lines
-pub mod Input
-pub mod PlanText
-pub mod AnswerText
-pub mod Pieces
-pub mod QuorumText
 pub mod Watched
 pub mod Out
 pub mod Seeing
 pub mod Steps
-pub mod Laws
 pub mod Alone
-pub mod Canonical
 pub mod Completing
 pub mod Stepping

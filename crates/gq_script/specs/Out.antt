@@ -1,16 +1,15 @@
 -- What is written for an input.
 use Rattle.std.specs.Prelude.{◌≡◌, ◌≤◌, ℕ, List, [], ◌∷◌, ◌++◌, map, length, Ok, Err, IsOk}
-use Rattle.std.specs.List.{flat_map}
 use Rattle.gq_desk.specs.CheckedPlan.{CheckedPlan}
 use Rattle.gq_model.specs.declared.events.Event.{Event}
 use Rattle.gq_model.specs.Events.{answer_to}
 use Rattle.gq_script.specs.declared.script.TheConstants.{MOST_INPUT}
 use Rattle.gq_script.specs.declared.script.RunFault.{RunFault}
 use Rattle.gq_script.specs.declared.script.RunFault.TheVariants.{Plan}
-use Rattle.gq_script.specs.Lines.{lines_of}
-use Rattle.gq_script.specs.Input.{event_of, event_cut}
-use Rattle.gq_script.specs.PlanText.{Reading, plan_of}
-use Rattle.gq_script.specs.AnswerText.{answer_line}
+use Rattle.gq_text.specs.Lines.{lines_of, joined}
+use Rattle.gq_text.specs.Input.{event_of, event_cut}
+use Rattle.gq_text.specs.PlanText.{Reading, plan_of}
+use Rattle.gq_text.specs.AnswerText.{answer_line}
 
 -- the lines that answer the events, those before them being so
 abbrev pub answer_lines : CheckedPlan → List Event → List Event → List (List ℕ)
@@ -24,10 +23,6 @@ line_cut plan before first rest = answer_line plan (event_cut plan first rest) (
 -- one line for each line after `go`
 abbrev pub output_lines : CheckedPlan → List (List ℕ) → List (List ℕ)
 output_lines plan lines = answer_lines plan [] (map (event_of plan) lines)
-
--- lines one after another
-abbrev pub joined : List (List ℕ) → List ℕ
-joined lines = flat_map (λ line. line) lines
 
 -- the output of what was read of an input
 abbrev pub output_of : Reading (CheckedPlan × List (List ℕ)) → List ℕ

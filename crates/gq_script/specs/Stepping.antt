@@ -2,15 +2,15 @@
 use Rattle.std.specs.Prelude.{◌≡◌, ◌≢◌, ℕ, ◌≤◌, List, [], ◌++◌, map, All, Option, Ok, Err, IfErr}
 use Rattle.std.specs.Io.KnownBytes.{Appends}
 use Rattle.gq_world.specs.Tables.{Stands}
-use Rattle.gq_script.specs.declared.plan_text.TextFault.TheVariants.{End}
+use Rattle.gq_text.specs.declared.plan_text.TextFault.TheVariants.{End}
 use Rattle.gq_script.specs.declared.script.RunFault.{RunFault}
 use Rattle.gq_script.specs.declared.script.RunFault.TheVariants.{Plan as PlanFault}
 use Rattle.gq_script.specs.declared.stepping.Stage.{Stage}
 use Rattle.gq_script.specs.declared.stepping.Stage.TheVariants.{Plan, Lines}
-use Rattle.gq_script.specs.Lines.{lines_of}
-use Rattle.gq_script.specs.Input.{event_of}
-use Rattle.gq_script.specs.PlanText.{rows_from, plan_of}
-use Rattle.gq_script.specs.Pieces.{Extends}
+use Rattle.gq_text.specs.Lines.{lines_of}
+use Rattle.gq_text.specs.Input.{event_of}
+use Rattle.gq_text.specs.PlanText.{rows_from, plan_of}
+use Rattle.gq_text.specs.Pieces.{Extends}
 use Rattle.gq_script.specs.Out.{out}
 use Rattle.gq_script.specs.Completing.{missing_newline}
 

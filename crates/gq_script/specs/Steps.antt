@@ -2,7 +2,7 @@
 use Rattle.std.specs.Prelude.{◌≡◌, ℕ, List, Err}
 use Rattle.gq_script.specs.declared.script.RunFault.{RunFault}
 use Rattle.gq_script.specs.declared.script.RunFault.TheVariants.{Read, TooBig, Plan, Memory, Write}
-use Rattle.gq_script.specs.PlanText.{plan_of}
+use Rattle.gq_text.specs.PlanText.{plan_of}
 
 -- a fault of reading the whole input
 abbrev pub IsReadingFault : RunFault → Type 0

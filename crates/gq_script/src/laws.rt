@@ -1,18 +1,4 @@
-//! What the forms of the texts mean, apart from how they are read.
-
-ghost use Rattle.gq_script.specs.Laws.{NumbersHaveOneForm, NumbersReadBack};
-
-/// A number's decimal text is read as that number.
-#[tactic(auto, using(crate::proofs::Numbers::numbers_read_back))]
-pub fn numbers_read_back()
-    ensures { NumbersReadBack }
-{}
-
-/// No other text is read as a number, and none as one above 4,294,967,295.
-#[tactic(auto, using(crate::proofs::Numbers::numbers_have_one_form))]
-pub fn numbers_have_one_form()
-    ensures { NumbersHaveOneForm }
-{}
+//! What the output of a script is, and that it can be gone on with, apart from how it is made.
 
 ghost use Rattle.gq_script.specs.Alone.{AnswersEachLine, TellsAsAlone, TellsTheSame};
 

@@ -3,14 +3,12 @@
 ghost use Rattle.std.specs.Prelude.{◌≡◌, ◌≢◌, ◌↔◌, ◌+◌, ◌<◌, ◌≤◌, ◌++◌, [], ◌∷◌, List, true, false, Some, length, vec_len, map, if◌then◌else◌, IfOk, IfErr, IfSome, OnOk, OnErr, IsOk, IsErrOf};
 ghost use Rattle.std.specs.Io.KnownBytes.{Appends, IsAtEnd, Keeps};
 
-use crate::input::read_cut_line;
-use crate::lines::cut_line;
-use crate::output::write_next_answer;
-use crate::plan_text::{PlanText, TextFault, read_plan};
-use crate::quorum_text::QuorumText;
 use crate::watched::Watched;
 use gq_desk::Plan;
 use gq_memory::{GrowCopies, GrowVec, OutOfMemory, filled};
+use gq_text::{
+    PlanText, QuorumText, TextFault, cut_line, read_cut_line, read_plan, write_next_answer,
+};
 use gq_world::{Ended, World};
 use std::alloc::Global;
 use std::io::{Read, Write};
@@ -40,11 +38,11 @@ pub enum RunFault {
 pub const MOST_INPUT: usize = 16_777_216;
 
 ghost use Rattle.gq_world.specs.Tables.{Stands};
-ghost use Rattle.gq_script.specs.Input.{event_of};
-ghost use Rattle.gq_script.specs.Lines.{lines_of};
-ghost use Rattle.gq_script.specs.PlanText.{plan_of};
+ghost use Rattle.gq_text.specs.Input.{event_of};
+ghost use Rattle.gq_text.specs.Lines.{lines_of, joined};
+ghost use Rattle.gq_text.specs.PlanText.{plan_of};
 ghost use Rattle.gq_model.specs.declared.events.Event.{Event};
-ghost use Rattle.gq_script.specs.Out.{answer_lines as event_lines, joined, output_lines, out, IsAccepted, IsPlanFaultOf};
+ghost use Rattle.gq_script.specs.Out.{answer_lines as event_lines, output_lines, out, IsAccepted, IsPlanFaultOf};
 ghost use Rattle.gq_script.specs.Steps.{IsReadingFault, IsFaultOfLines};
 ghost use Rattle.gq_script.specs.Watched.{inner_of, has_failed, AppendsPrefix, Moves};
 

@@ -7,19 +7,16 @@ ghost use Rattle.gq_model.specs.Events.{IsIn, answer_to};
 ghost use Rattle.gq_model.specs.Shown.{shown};
 ghost use Rattle.gq_order.specs.Runs.{IsRun};
 ghost use Rattle.gq_world.specs.Tables.{Stands};
-ghost use Rattle.gq_script.specs.AnswerText.{answer_line};
-ghost use Rattle.gq_script.specs.Input.{event_cut, event_of, event_of_words};
-ghost use Rattle.gq_script.specs.Lines.{lines_of};
-ghost use Rattle.gq_script.specs.Out.{joined, line_cut, output_lines};
+ghost use Rattle.gq_text.specs.AnswerText.{answer_line};
+ghost use Rattle.gq_text.specs.Input.{event_cut, event_of, event_of_words};
+ghost use Rattle.gq_text.specs.Lines.{lines_of, joined};
+ghost use Rattle.gq_script.specs.Out.{line_cut, output_lines};
 ghost use Rattle.gq_script.specs.Seeing.{is_seen, seen_events, seen_places};
-ghost use Rattle.gq_script.specs.Words.{Word};
+ghost use Rattle.gq_text.specs.Words.{Word};
 
-use crate::input::read_cut_line;
-use crate::lines::cut_line;
-use crate::output::write_next_answer;
-use crate::quorum_text::QuorumText;
 use gq_desk::Plan;
 use gq_memory::{GrowVec, OutOfMemory};
+use gq_text::{QuorumText, cut_line, read_cut_line, write_next_answer};
 use gq_world::{Answer, Ended, Event, World};
 use std::alloc::Global;
 
@@ -36,7 +33,7 @@ pub struct Answered {
 
 // Whether the tenant sees a line that begins with the word: it is its own, or a server line.
 #[inline(always)]
-#[tactic(auto, unfolding(crate::specs::Input::event_of_words))]
+#[tactic(auto, unfolding(gq_text::specs::Input::event_of_words))]
 fn sees_line(plan: &Plan, tenant: u8, first: &[u8]) -> bool
     ensures { (words : List Word) → result ≡ is_seen (Some tenant) (event_of_words plan.now (first.now ∷ words)) }
 {

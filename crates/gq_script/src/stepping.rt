@@ -3,15 +3,14 @@
 ghost use Rattle.std.specs.Prelude.{◌≡◌, ◌≢◌, ◌↔◌, ◌++◌, ◌<◌, ◌≤◌, [], List, ℕ, false, true, length, vec_len, map, take, IfOk, IfErr, IfSome, OnOk, OnErr, IsOk, IsErr, IsErrOf};
 ghost use Rattle.std.specs.Io.KnownBytes.{Appends, Consumes};
 
-use crate::lines::first_line;
 use crate::notice::Notice;
-use crate::plan_text::{PlanText, TextFault, read_plan, row_told};
 use crate::script::{
     CHUNK, MOST_INPUT, MOST_TURNS, RunFault, answers, blank, read_step, write_whole,
 };
 use crate::watched::Watched;
 use gq_desk::Plan;
 use gq_memory::OutOfMemory;
+use gq_text::{PlanText, TextFault, first_line, read_plan, row_told};
 use gq_world::World;
 use memchr::memrchr;
 use std::alloc::Global;
@@ -28,10 +27,10 @@ enum Stage {
 
 ghost use Rattle.memchr.specs.Find.{Nowhere, Passes, is_byte};
 ghost use Rattle.gq_world.specs.Tables.{Stands};
-ghost use Rattle.gq_script.specs.Input.{event_of};
-ghost use Rattle.gq_script.specs.Lines.{lines_of};
-ghost use Rattle.gq_script.specs.PlanText.{plan_of};
-ghost use Rattle.gq_script.specs.Out.{joined, output_lines, out, IsAccepted};
+ghost use Rattle.gq_text.specs.Input.{event_of};
+ghost use Rattle.gq_text.specs.Lines.{lines_of, joined};
+ghost use Rattle.gq_text.specs.PlanText.{plan_of};
+ghost use Rattle.gq_script.specs.Out.{output_lines, out, IsAccepted};
 ghost use Rattle.gq_script.specs.Steps.{IsFaultOfLines};
 ghost use Rattle.gq_script.specs.Stepping.{AllEnded, AnswersEnded, IsPlanFaultIn, IsOfPlan, IsFinal, MissesGo, HasAnswered};
 ghost use Rattle.gq_script.specs.Watched.{inner_of, has_failed, AppendsPrefix};
@@ -201,6 +200,63 @@ fn end_of_lines(text: &[u8], done: usize, begun: usize) -> usize
     }
 }
 
+// The turns of `step`, with a chunk to read into, where nothing is held and no line was answered. (It is lent what `step` owns,
+// since a proof follows what a function owns along each way out of it.)
+fn step_with<R: Read, W: Write, N: Notice>(
+    alloc: Global,
+    notice: &N,
+    reader: &mut Watched<R>,
+    writer: &mut Watched<W>,
+    chunk: &mut [u8],
+    held: &mut Vec<u8>,
+    stage: &mut Stage,
+) -> Result<(), RunFault>
+    requires reader { has_failed reader.old ≡ false }
+    requires writer { has_failed writer.old ≡ false }
+    requires room { 0 < length chunk.old }
+    requires held { held.old.items ≡ [] }
+    requires stage { HasAnswered stage.old [] }
+
+    // Ok: the input is accepted, and its output was appended.
+    ensures accepted { OnOk result (IfSome (R.remaining (inner_of reader.old)) IsAccepted) }
+    ensures ok { OnOk result (IfSome (R.remaining (inner_of reader.old)) (λ input.
+        Appends (W.contents (inner_of writer.old)) (W.contents (inner_of writer.new)) (out input))) }
+
+    // When each fault comes.
+    ensures read { IsErrOf result RunFault.Read ↔ (has_failed reader.new ≡ true) }
+    ensures big { IsErrOf result RunFault.TooBig → IfSome (R.remaining (inner_of reader.old))
+        (λ input. MOST_INPUT < length input) }
+    ensures plan { IfErr result (λ e. IfSome (R.remaining (inner_of reader.old))
+        (λ input. IsPlanFaultIn (lines_of input) e)) }
+    ensures write { IsErrOf result RunFault.Write ↔ (has_failed writer.new ≡ true) }
+
+    // What was written at a fault.
+    ensures prefix { OnErr result (IfSome (R.remaining (inner_of reader.old)) (λ input.
+        AppendsPrefix (W.contents (inner_of writer.old)) (W.contents (inner_of writer.new)) (out input))) }
+    ensures nothing { OnErr result (IfSome (R.remaining (inner_of reader.old)) (λ input.
+        IsErr (plan_of (lines_of input)) → writer.new ≡ writer.old)) }
+    ensures untouched { IfErr result (λ e. IsOfPlan e → writer.new ≡ writer.old) }
+    ensures answered { IsErrOf result RunFault.Read → (input : List ℕ) ×
+        Consumes (R.remaining (inner_of reader.old)) (R.remaining (inner_of reader.new)) input ×
+        AnswersEnded input (W.contents (inner_of writer.old)) (W.contents (inner_of writer.new)) }
+{
+    let mut done = 0;
+    for _turn in 0..MOST_TURNS {
+        let begun = held.len();
+        match read_step(reader, chunk, held) {
+            Ok(true) => {}
+            Ok(false) => return tell(alloc, notice, writer, stage, held.as_slice(), done, true),
+            Err(fault) => return Err(fault),
+        }
+        let end = end_of_lines(held.as_slice(), done, begun);
+        match tell(alloc, notice, writer, stage, &held[..end], done, false) {
+            Ok(()) => done = end,
+            Err(fault) => return Err(fault),
+        }
+    }
+    unreachable!()
+}
+
 /// Reads an input of at most [`MOST_INPUT`] bytes, and answers each line after `go` once it has ended, before it reads on:
 /// what one read brought is answered by one write. A fault of the plan is told once its line has ended. At the end of the
 /// input what was written is the output of [`crate::run`]. At each fault it is a prefix of that: after `Read` the answers to
@@ -242,27 +298,13 @@ pub fn step<R: Read, W: Write, N: Notice>(
     let mut chunk = blank(alloc, CHUNK)?;
     let mut held = Vec::new(alloc);
     let mut stage = Stage::Plan(1);
-    let mut done = 0;
-    for _turn in 0..MOST_TURNS {
-        let begun = held.len();
-        match read_step(reader, chunk.as_mut_slice(), &mut held) {
-            Ok(true) => {}
-            Ok(false) => return tell(
-                alloc,
-                notice,
-                writer,
-                &mut stage,
-                held.as_slice(),
-                done,
-                true,
-            ),
-            Err(fault) => return Err(fault),
-        }
-        let end = end_of_lines(held.as_slice(), done, begun);
-        match tell(alloc, notice, writer, &mut stage, &held[..end], done, false) {
-            Ok(()) => done = end,
-            Err(fault) => return Err(fault),
-        }
-    }
-    unreachable!()
+    step_with(
+        alloc,
+        notice,
+        reader,
+        writer,
+        chunk.as_mut_slice(),
+        &mut held,
+        &mut stage,
+    )
 }

@@ -13,13 +13,13 @@ use Rattle.gq_model.specs.Trace.{Own, Serving}
 use Rattle.gq_model.specs.Lone.{said, past_of}
 use Rattle.gq_model.specs.Told.{Told as Said}
 use Rattle.gq_model.specs.Events.{turn_of, own, server_turn, server_lines, answer_to}
-use Rattle.gq_script.specs.Input.{event_of}
+use Rattle.gq_text.specs.Input.{event_of}
 use Rattle.gq_grid.specs.Grid.{Grid}
 use Rattle.gq_desk.specs.declared.plans.TenantRow.{TenantRow}
-use Rattle.gq_script.specs.AnswerText.{answer_line, line_text, told_words}
-use Rattle.gq_script.specs.Lines.{lines_of}
-use Rattle.gq_script.specs.PlanText.{Reading, plan_of}
-use Rattle.gq_script.specs.Out.{answer_lines, output_lines, output_of, out, joined}
+use Rattle.gq_text.specs.AnswerText.{answer_line, line_text, told_words}
+use Rattle.gq_text.specs.Lines.{lines_of, joined}
+use Rattle.gq_text.specs.PlanText.{Reading, plan_of}
+use Rattle.gq_script.specs.Out.{answer_lines, output_lines, output_of, out}
 use Rattle.gq_world.specs.Tables.{Tables, Stands}
 use Rattle.gq_shards.specs.Shards.{shard_of, mark_of, marks_of, tells, sees_mark, of_shard, lines_from, out_lines, IsPart, IsText, EachTold, AreTold}
 use Rattle.gq_shards.specs.declared.telling.Told.{Told}

@@ -12,10 +12,10 @@ use Rattle.gq_model.specs.declared.events.Event.{Event}
 use Rattle.gq_model.specs.declared.events.Event.TheVariants.{Tenant, Server, Stray}
 use Rattle.gq_script.specs.declared.script.RunFault.{RunFault}
 use Rattle.gq_script.specs.declared.script.RunFault.TheVariants.{Memory, Write}
-use Rattle.gq_script.specs.Input.{event_of}
-use Rattle.gq_script.specs.Lines.{lines_of}
-use Rattle.gq_script.specs.PlanText.{Reading, plan_of}
-use Rattle.gq_script.specs.Out.{joined, output_lines}
+use Rattle.gq_text.specs.Input.{event_of}
+use Rattle.gq_text.specs.Lines.{lines_of, joined}
+use Rattle.gq_text.specs.PlanText.{Reading, plan_of}
+use Rattle.gq_script.specs.Out.{output_lines}
 
 -- which of so many shards answers the tenant at place t
 abbrev pub shard_of : ℕ → ℕ → ℕ

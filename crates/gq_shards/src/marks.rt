@@ -3,21 +3,21 @@
 ghost use Rattle.std.specs.Prelude.{◌≡◌, ◌≤◌, ◌∷◌, ◌++◌, List, IfOk};
 ghost use Rattle.std.specs.Thread.{IsSync};
 ghost use Rattle.gq_desk.specs.declared.limits.TheConstants.{MOST_TENANTS};
-ghost use Rattle.gq_script.specs.Words.{Word};
-ghost use Rattle.gq_script.specs.Lines.{lines_of};
-ghost use Rattle.gq_script.specs.Input.{event_of_words};
+ghost use Rattle.gq_text.specs.Words.{Word};
+ghost use Rattle.gq_text.specs.Lines.{lines_of};
+ghost use Rattle.gq_text.specs.Input.{event_of_words};
 ghost use Rattle.gq_shards.specs.Shards.{mark_of, marks_of};
 
 use gq_desk::Plan;
 use gq_memory::{GrowCopies, GrowVec, OutOfMemory, room_for};
-use gq_script::cut_line;
+use gq_text::cut_line;
 use memchr::memchr;
 use std::alloc::Global;
 use std::thread::{Threads, join};
 
 // The mark of a line that begins with the word.
 #[inline(always)]
-#[tactic(auto, unfolding(gq_script::specs::Input::event_of_words))]
+#[tactic(auto, unfolding(gq_text::specs::Input::event_of_words))]
 fn mark(plan: &Plan, shards: usize, first: &[u8]) -> u8
     requires least { 1 ≤ shards }
     requires most { shards ≤ MOST_TENANTS }

@@ -3,7 +3,7 @@
 ghost use Rattle.std.specs.Prelude.{◌≡◌, [], ◌∷◌, ◌+◌, ◌<◌, ◌≤◌, ℕ, List, length, vec_len, replicate, slice_index, true, false, IfOk, IfErr, OnOk, OnErr, IsErrOf};
 ghost use Rattle.std.specs.Io.KnownBytes.{Appends};
 ghost use Rattle.gq_script.specs.declared.script.RunFault.{RunFault};
-ghost use Rattle.gq_script.specs.Out.{joined};
+ghost use Rattle.gq_text.specs.Lines.{joined};
 ghost use Rattle.gq_script.specs.Watched.{inner_of, has_failed, AppendsPrefix};
 ghost use Rattle.gq_shards.specs.Shards.{waiting, IsLeft, AreTold, IsWritingFault};
 

@@ -5,9 +5,9 @@ ghost use Rattle.gq_model.specs.declared.events.Event.{Event};
 ghost use Rattle.gq_model.specs.Events.{IsIn};
 ghost use Rattle.gq_world.specs.Tables.{Stands};
 ghost use Rattle.gq_model.specs.Shown.{shown};
-ghost use Rattle.gq_script.specs.Lines.{lines_of};
-ghost use Rattle.gq_script.specs.AnswerText.{answer_line};
-ghost use Rattle.gq_script.specs.Input.{event_cut};
+ghost use Rattle.gq_text.specs.Lines.{lines_of};
+ghost use Rattle.gq_text.specs.AnswerText.{answer_line};
+ghost use Rattle.gq_text.specs.Input.{event_cut};
 ghost use Rattle.gq_script.specs.Out.{line_cut, output_lines};
 ghost use Rattle.gq_shards.specs.Shards.{marks_of, of_shard, sees_mark, tells, IsPart, IsText};
 
@@ -15,7 +15,7 @@ use crate::parts::part_of;
 use gq_desk::Plan;
 use gq_memory::{GrowLengths, OutOfMemory, room_for};
 use gq_model::{Answer, Event};
-use gq_script::{QuorumText, cut_line, read_cut_line, write_next_answer};
+use gq_text::{QuorumText, cut_line, read_cut_line, write_next_answer};
 use gq_world::{Ended, World};
 use std::alloc::Global;
 

@@ -6,7 +6,7 @@ ghost use Rattle.gq_svg.specs.Contents.{content_label, content_text, digits_labe
 
 use crate::escaping::put_escaped;
 use gq_memory::{GrowCopies, OutOfMemory};
-use gq_script::{put_digits, put_number};
+use gq_text::{put_digits, put_number};
 use itoa::Buffer;
 
 // The quotation marks “ and ”, and …, in UTF-8.

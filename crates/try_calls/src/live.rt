@@ -10,7 +10,8 @@ use gq_live::{Gate, GaveUp, OpenGate, Records, Said, SessionEntry, live, session
 use gq_memory::{GrowCopies, OutOfMemory};
 use gq_model::{Answer, Event, Line};
 use gq_runs::read_programs;
-use gq_script::{MOST_INPUT, write_answer, write_script};
+use gq_script::MOST_INPUT;
+use gq_text::{write_answer, write_script};
 use std::alloc::Global;
 use std::io::Write;
 use std::sync::Wait;

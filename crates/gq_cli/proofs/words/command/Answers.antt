@@ -1,11 +1,13 @@
-use Rattle.std.proofs.Common.{◌∙◌, ap, ap₂}
-use Rattle.clap.specs.Simple.{with_subcommand}
-use Rattle.gq_cli.specs.Words.{history_shape}
-use Rattle.gq_cli.proofs.Subcommands.{app_after, top_of}
+use Rattle.std.proofs.Common.{ap}
+use Rattle.gq_cli.proofs.Subcommands.{top_of}
 use Rattle.gq_cli.proofs.words.command.Goals as goal
 
 pub returns : goal.returns
 returns c =
-    let to_step = c.in_ok-to_step.ensures.shape c.subcommand.ensures.local ∙ ap₂ with_subcommand c.in_ok-to_live.ensures.app (ap top_of c.subcommand.ensures.app) in
-    let to_history = c.in_ok-to_history.ensures.app ∙ ap (λ a. with_subcommand a history_shape) to_step in
-    record { app = app_after _ _ _ _ to_history c.with_file-2.ensures.app }
+    let to_run = c.with-to_run.ensures.app _ _ c.bare.ensures.app c.run.ensures.shape in
+    let to_order = c.with-to_order.ensures.app _ _ to_run c.of_file.ensures.shape in
+    let to_finish = c.with-to_finish.ensures.app _ _ to_order c.finish.ensures.shape in
+    let to_live = c.with-to_live.ensures.app _ _ to_finish (ap top_of c.subcommand.ensures.app) in
+    let to_step = c.with-to_step.ensures.app _ _ to_live (ap top_of c.subcommand-2.ensures.app) in
+    let to_history = c.with-to_history.ensures.app _ _ to_step c.of_file-2.ensures.shape in
+    record { app = c.with.ensures.app _ _ to_history c.of_file-3.ensures.shape }

@@ -2,7 +2,7 @@ use Rattle.std.proofs.Common.{◌≡◌, ◌++◌, ◌∙◌, subst, sym, ap}
 use Rattle.std.specs.List.{All}
 use Rattle.gq_model.specs.Events.{IsIn}
 use Rattle.gq_inspect.specs.Replay.{IsRunOf}
-use Rattle.gq_script.specs.Canonical.{IsScriptOf, script_text}
+use Rattle.gq_text.specs.Canonical.{IsScriptOf, script_text}
 use Rattle.gq_runs.proofs.live.recorded_script.Goals as goal
 
 pub write_script-requires : goal.write_script-requires

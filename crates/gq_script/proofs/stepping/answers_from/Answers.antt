@@ -1,7 +1,7 @@
 use Rattle.std.proofs.Common.{subst, take}
 use Rattle.gq_script.specs.declared.stepping.Stage.{Stage}
-use Rattle.gq_script.specs.Lines.{lines_of}
-use Rattle.gq_script.specs.PlanText.{plan_of}
+use Rattle.gq_text.specs.Lines.{lines_of}
+use Rattle.gq_text.specs.PlanText.{plan_of}
 use Rattle.gq_script.specs.Stepping.{HasAnswered}
 use Rattle.gq_script.proofs.Turns.{goes_on, is_plan, nothing_yet, rows_later, told_more}
 use Rattle.gq_script.proofs.stepping.answers_from.Goals as goal

@@ -1,6 +1,6 @@
 use Rattle.std.proofs.Common.{arith}
 use Rattle.std.proofs.lemmas.Result.{IfOk-weaker}
-use Rattle.gq_script.specs.Lines.{lines_of}
+use Rattle.gq_text.specs.Lines.{lines_of}
 use Rattle.gq_shards.proofs.Seeing.{are_told}
 use Rattle.gq_shards.proofs.answering.told_in_threads.Goals as goal
 

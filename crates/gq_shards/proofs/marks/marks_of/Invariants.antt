@@ -1,5 +1,5 @@
 use Rattle.std.proofs.Common.{◌≡◌, ◌++◌, length}
-use Rattle.gq_script.specs.Lines.{lines_of}
+use Rattle.gq_text.specs.Lines.{lines_of}
 use Rattle.gq_shards.specs.Shards.{marks_of}
 use Rattle.gq_shards.proofs.marks.marks_of.Given as goal
 

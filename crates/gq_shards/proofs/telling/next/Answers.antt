@@ -3,8 +3,8 @@ use Rattle.std.proofs.lemmas.Grind.{common_steps}
 use Rattle.gq_desk.specs.CheckedPlan.{CheckedPlan}
 use Rattle.gq_model.specs.declared.events.Event.{Event}
 use Rattle.gq_world.specs.Tables.{Stands}
-use Rattle.gq_script.specs.Words.{words_after}
-use Rattle.gq_script.specs.Input.{event_of_words}
+use Rattle.gq_text.specs.Words.{words_after}
+use Rattle.gq_text.specs.Input.{event_of_words}
 use Rattle.gq_shards.proofs.telling.next.Goals as goal
 use Rattle.gq_shards.proofs.telling.next.Goals.{then-mark-eq0+in_ok-event+in-Ok, else-mark-eq0+else-mine}
 

@@ -2,10 +2,10 @@ use Rattle.std.proofs.Common.{◌≡◌, ◌∙◌, ℕ, ◌+◌, ◌<◌, ◌�
 use Rattle.std.proofs.lemmas.List.{drop_more}
 use Rattle.gq_desk.specs.CheckedPlan.{CheckedPlan}
 use Rattle.gq_world.specs.Whole.{Whole}
-use Rattle.gq_script.specs.Words.{words_after}
-use Rattle.gq_script.specs.Lines.{lines_of}
-use Rattle.gq_script.specs.Input.{event_cut, event_of, event_of_words}
-use Rattle.gq_script.specs.QuorumText.{Held}
+use Rattle.gq_text.specs.Words.{words_after}
+use Rattle.gq_text.specs.Lines.{lines_of}
+use Rattle.gq_text.specs.Input.{event_cut, event_of, event_of_words}
+use Rattle.gq_text.specs.QuorumText.{Held}
 use Rattle.gq_shards.proofs.PartPlans.{event_words_part}
 use Rattle.gq_shards.proofs.Seeing.{Tells, tells_first, tells_more}
 use Rattle.gq_shards.proofs.telling.told_by.Goals as goal

@@ -1,5 +1,5 @@
 use Rattle.std.proofs.Common.{◌≡◌, drop}
-use Rattle.gq_script.specs.Lines.{lines_of}
+use Rattle.gq_text.specs.Lines.{lines_of}
 use Rattle.gq_shards.proofs.Seeing.{Tells}
 use Rattle.gq_shards.proofs.telling.told_by.Given as goal
 

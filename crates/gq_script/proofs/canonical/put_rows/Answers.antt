@@ -1,5 +1,0 @@
-use Rattle.gq_script.proofs.Extending.{extends_more, on_err}
-use Rattle.gq_script.proofs.canonical.put_rows.Goals as goal
-
-pub returns-in_err-put_row-clause-err : goal.returns-in_err-put_row-clause-err
-returns-in_err-put_row-clause-err c = on_err _ (extends_more _ _ _ _ c.loop-row.invariant c.in_err-put_row.ensures.err)

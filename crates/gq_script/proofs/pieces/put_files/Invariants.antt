@@ -1,6 +1,0 @@
-use Rattle.std.proofs.Common.{◌≡◌, ◌++◌, take, map}
-use Rattle.gq_script.specs.AnswerText.{spaced, file_word}
-use Rattle.gq_script.proofs.pieces.put_files.Given as goal
-
-abbrev pub invariant-loop-file : goal.invariant-loop-file
-invariant-loop-file l = l.out.items ≡ l.fn.out.items ++ spaced (map file_word (take l.file-index l.files))

@@ -1,6 +1,0 @@
-use Rattle.std.proofs.Common.{◌≡◌, ◌++◌, take, map}
-use Rattle.gq_script.specs.AnswerText.{spaced, volume_word}
-use Rattle.gq_script.proofs.pieces.put_volumes.Given as goal
-
-abbrev pub invariant-loop-volume : goal.invariant-loop-volume
-invariant-loop-volume l = l.out.items ≡ l.fn.out.items ++ spaced (map volume_word (take l.volume-index l.volumes))

@@ -1,0 +1,17 @@
+pub mod Extending
+pub mod LinesLemmas
+pub mod Numbers
+pub mod PlanFaults
+pub mod PlanReading
+pub mod Rests
+pub mod WordsLemmas
+pub mod PlanNames
+pub mod Cutting
+pub mod Marking
+pub mod OneNumber
+pub mod Contents
+pub mod Plain
+pub mod LinesBack
+pub mod EventsBack
+pub mod ScriptBack
+pub mod PlanIs

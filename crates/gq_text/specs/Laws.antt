@@ -1,0 +1,11 @@
+-- What the forms of a number mean, apart from how they are read.
+use Rattle.std.specs.Prelude.{◌≡◌, ℕ, ◌<◌, ◌^◌, List, Some, decimal}
+use Rattle.gq_text.specs.Words.{number_of}
+
+-- a number's decimal text reads as that number
+abbrev pub NumbersReadBack : Type 0
+NumbersReadBack = (n : ℕ) → n < 2 ^ 32 → number_of (decimal n) ≡ Some n
+
+-- no other text reads as a number, and none as a number past the largest
+abbrev pub NumbersHaveOneForm : Type 0
+NumbersHaveOneForm = (word : List ℕ) (n : ℕ) → number_of word ≡ Some n → (word ≡ decimal n) × (n < 2 ^ 32)

@@ -1,0 +1,9 @@
+pub mod Words
+pub mod Lines
+pub mod Input
+pub mod PlanText
+pub mod AnswerText
+pub mod Pieces
+pub mod QuorumText
+pub mod Laws
+pub mod Canonical

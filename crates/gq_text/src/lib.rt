@@ -1,0 +1,22 @@
+//! The forms of the program's texts: a script's plan and lines as they are read and written, and the answers as they are
+//! written.
+#![tactic(auto)]
+
+mod canonical;
+mod first_bytes;
+mod input;
+pub mod laws;
+mod lines;
+mod output;
+mod pieces;
+mod plan_text;
+mod quorum_text;
+mod words;
+
+pub use canonical::{put_tenant_line, write_script};
+pub use input::{read_cut_line, read_line};
+pub use lines::{cut_line, first_line};
+pub use output::{write_answer, write_next_answer};
+pub use pieces::{Piece, put_digits, put_number, put_sum, put_words};
+pub use plan_text::{PlanText, TextFault, read_plan, row_told};
+pub use quorum_text::QuorumText;

@@ -1,0 +1,89 @@
+//! Words, numbers and contents.
+
+ghost use Rattle.std.specs.Prelude.{◌≡◌, ℕ, List, [], ◌∷◌, ◌++◌, IfOk, MatchOption, MatchBool};
+ghost use Rattle.gq_text.specs.Words.{words_of, words_after, number_after, number_of, content_of};
+
+use bytes::Bytes;
+use gq_memory::{OutOfMemory, bytes_of, content_of_digits};
+use std::alloc::Global;
+
+// The greatest number that a text may have.
+pub const MOST_NUMBER: u64 = 4_294_967_295;
+
+// The first word of a text, and the text after it, which begins with a space or is empty.
+pub fn first_word(text: &[u8]) -> (&[u8], &[u8])
+    ensures words { words_of text.now ≡ result.0.now ∷ words_after result.1.now }
+    ensures whole { text.now ≡ result.0.now ++ result.1.now }
+{
+    for (i, c) in text.iter().enumerate() {
+        if *c == b' ' {
+            return (&text[..i], &text[i..]);
+        }
+    }
+    (text, &[])
+}
+
+// The next word, and the text after it.
+pub fn next_word(text: &[u8]) -> Option<(&[u8], &[u8])>
+    ensures { MatchOption result (words_after text.now ≡ [])
+        (λ x. words_after text.now ≡ x.0.now ∷ words_after x.1.now) }
+{
+    match text {
+        [] => None,
+        [_, text @ ..] => Some(first_word(text)),
+    }
+}
+
+// Whether no word follows.
+pub fn is_end(text: &[u8]) -> bool
+    ensures { MatchBool result (words_after text.now ≡ [])
+        ((w : List ℕ) × (ws : List (List ℕ)) × (words_after text.now ≡ w ∷ ws)) }
+{
+    text.is_empty()
+}
+
+// The number that a word writes.
+#[tactic(auto, unfolding(crate::specs::Words::number_of))]
+pub fn number(word: &[u8]) -> Option<u32>
+    ensures { result ≡ number_of word.now }
+{
+    match word {
+        [] => None,
+        [first, _, ..] if *first == b'0' => None,
+        _ => number_from_digits(word),
+    }
+}
+
+// The number that digits write, up to the largest.
+fn number_from_digits(word: &[u8]) -> Option<u32>
+    ensures { result ≡ number_after 0 word.now }
+{
+    let mut n: u64 = 0;
+    for c in word {
+        if *c < b'0' || *c > b'9' {
+            return None;
+        }
+        n = n * 10 + u64::from(*c - b'0');
+        if n > MOST_NUMBER {
+            return None;
+        }
+    }
+    Some(n as u32)
+}
+
+// The content that a word writes.
+#[tactic(auto, unfolding(crate::specs::Words::content_of))]
+pub fn content(alloc: Global, word: &[u8]) -> Result<Option<Bytes>, OutOfMemory>
+    ensures { IfOk result (λ read. read ≡ content_of word.now) }
+{
+    if word == b"-".as_slice() {
+        return Ok(Some(Bytes::new()));
+    }
+    if word.is_empty() {
+        return Ok(None);
+    }
+    match content_of_digits(alloc, word)? {
+        Some(bytes) => Ok(Some(bytes_of(bytes)?)),
+        None => Ok(None),
+    }
+}
