@@ -11,9 +11,9 @@ use gq_memory::{GrowVec, copied_bytes, slice_copied};
 use gq_phase::Outcome;
 use gq_runs::{ProgramFault, read_programs};
 use gq_script::MOST_INPUT;
-use gq_text::{first_line, read_line, read_plan, write_answer, write_script};
 use gq_session::{Programs, SessionId, fits, sessions_of};
 use gq_tag::{StoredCopy, Tag};
+use gq_text::{first_line, read_line, read_plan, write_answer, write_script};
 use gq_world::{Answer, Event};
 use std::alloc::Global;
 
