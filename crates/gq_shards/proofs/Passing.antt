@@ -1,6 +1,7 @@
 -- Texts that pass through a chunk.
-use Rattle.std.proofs.Common.{◌≡◌, ◌∙◌, ℕ, List, [], ◌++◌, length, take, drop, sym, ap, subst, append_assoc, append-nil, take-append-drop, Option, Result, Ok, Err, OnErr, refl}
-use Rattle.std.proofs.Math.Seq.{take-append_seam}
+use Rattle.std.proofs.Common.{◌≡◌, ◌∙◌, ℕ, ◌+◌, ◌≤◌, List, [], ◌++◌, length, take, drop, sym, ap, subst, arith, append_assoc, append-nil, take-append-drop, Option, Result, Ok, Err, OnErr, refl}
+use Rattle.std.proofs.Math.Seq.{take-append_seam, take-append-add}
+use Rattle.std.proofs.lemmas.List.{length-take-le, take-take, take-append-le}
 use Rattle.std.specs.Io.KnownBytes.{Appends}
 use Rattle.std.proofs.KnownBytes.{Appends-nil, Appends-trans}
 use Rattle.gq_script.specs.Watched.{AppendsPrefix}
@@ -52,3 +53,15 @@ pub passes_part : (a b c : Option (List ℕ)) (text held next : List ℕ) → Pa
 passes_part a b c text held next (sent, appends, is) part =
     let whole : text ++ next ≡ sent ++ (held ++ next) = ap (λ t. t ++ next) is ∙ append_assoc sent held next in
     subst (AppendsPrefix a c) (sym whole) (prefix_after a b c sent (held ++ next) appends part)
+
+-- behind the bytes that wait come those of a text, and what is copied with them
+pub waits_near : (n size k : ℕ) (held text rest : List ℕ) → n ≤ length held → size ≤ k → k ≤ length text → take (n + size) (take n held ++ (take k text ++ rest)) ≡ take n held ++ take size text
+waits_near n size k held text rest here short within =
+    let front : length (take n held) ≡ n = length-take-le n held here in
+    let copied : length (take k text) ≡ k = length-take-le k text within in
+    ap (λ m. take (m + size) (take n held ++ (take k text ++ rest))) (sym front)
+    ∙ take-append-add (take n held) (take k text ++ rest) size
+    ∙ ap (λ t. take n held ++ t) (take-append-le size (take k text) rest (omega (arith, copied, short)) ∙ near size k text short)
+  where
+    near : (m k : ℕ) (t : List ℕ) → m ≤ k → take m (take k t) ≡ take m t
+    near m k t less = take-take m k t less

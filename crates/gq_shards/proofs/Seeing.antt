@@ -1,10 +1,10 @@
 -- What a shard sees is answered as in the run of all.
-use Rattle.std.proofs.Common.{◌≡◌, ◌≢◌, ◌⊎◌, ◌∙◌, ℕ, suc, zero, ◌+◌, ◌-◌, ◌<◌, ◌≤◌, Bool, true, false, List, [], ◌∷◌, ◌++◌, None, map, length, append_assoc, append-nil, refl, sym, ap, subst, inl, inr, arith}
+use Rattle.std.proofs.Common.{◌≡◌, ◌≢◌, ◌⊎◌, ◌∙◌, ℕ, suc, zero, ◌+◌, ◌-◌, ◌<◌, ◌≤◌, Bool, true, false, List, [], ◌∷◌, ◌++◌, None, map, length, length-append, append_assoc, append-nil, refl, sym, ap, subst, inl, inr, arith}
 use Rattle.std.specs.Prelude.{◌==◌, ◌||◌, filter, codes, slice_index_or, Result, Ok, Err, IfOk}
-use Rattle.std.specs.List.{cons_option}
+use Rattle.std.specs.List.{All, cons_option}
 use Rattle.std.proofs.lemmas.Bool.{cases_eq, ne_eqb, eq-eqb, eqb-true, or_parts}
 use Rattle.std.proofs.lemmas.List.{map-append, length-map}
-use Rattle.std.proofs.lemmas.List.Elements.{filter-append}
+use Rattle.std.proofs.lemmas.List.Elements.{filter-append, All-nil, All-cons, All-head, All-tail, All-append}
 use Rattle.std.proofs.lemmas.Grind.{flat_map-append}
 use Rattle.gq_desk.specs.CheckedPlan.{CheckedPlan, nobody, row_at}
 use Rattle.gq_model.specs.declared.events.Event.{Event}
@@ -21,7 +21,7 @@ use Rattle.gq_text.specs.Lines.{lines_of, joined}
 use Rattle.gq_text.specs.PlanText.{Reading, plan_of}
 use Rattle.gq_script.specs.Out.{answer_lines, output_lines, output_of, out}
 use Rattle.gq_world.specs.Tables.{Tables, Stands}
-use Rattle.gq_shards.specs.Shards.{shard_of, mark_of, marks_of, tells, sees_mark, of_shard, lines_from, out_lines, IsPart, IsText, EachTold, AreTold}
+use Rattle.gq_shards.specs.Shards.{shard_of, mark_of, marks_of, tells, sees_mark, of_shard, lines_from, out_lines, ArePassed, IsPart, IsText, EachTold, AreTold}
 use Rattle.gq_shards.specs.declared.telling.Told.{Told}
 
 -- the shard sees the event; the events that it sees
@@ -218,6 +218,45 @@ tells_more n k plan world world' text text' lengths lengths' every mark marks li
           marked = marked;
           rest = append_assoc s.told (x ∷ []) (of_shard k marks ys) ∙ (ap (λ z. s.told ++ z) (sym step) ∙ whole);
         }
+
+-- a line more that the shard does not see
+tells_unseen : (n k : ℕ) (plan : CheckedPlan) (world : Tables) (text lengths every : List ℕ) (mark : ℕ) (marks line : List ℕ) (rest all : List (List ℕ)) → Tells n k plan world text lengths (mark ∷ marks) every (line ∷ rest) all
+    → sees_mark k mark ≡ false → Tells n k plan world text lengths marks every rest all
+tells_unseen n k plan world text lengths every mark marks line rest all s away =
+    tells_more n k plan world world text text lengths lengths every mark marks line (line ∷ rest) rest all (event_of plan line) s refl refl refl
+    (λ unseen. (refl, refl, refl))
+    (λ seen. absurd (let never : false ≡ true = sym away ∙ seen in cc))
+    (λ seen. absurd (let never : false ≡ true = sym away ∙ seen in cc))
+    (λ told. absurd (let never : false ≡ true = sym (or_parts (mark == 0) (tells k mark) away).1 ∙ told in cc))
+
+-- and more such lines
+pub tells_passed : (n k : ℕ) (plan : CheckedPlan) (world : Tables) (text lengths marks marks_left every : List ℕ) (lines lines_left all : List (List ℕ)) → Tells n k plan world text lengths marks every lines all
+    → ArePassed k marks lines marks_left lines_left → Tells n k plan world text lengths marks_left every lines_left all
+tells_passed n k plan world text lengths marks marks_left every lines lines_left all s passed =
+    by passed.marks_passed passed.lines_passed passed.size passed.unseen (rw (passed.marks_are, passed.lines_are) at s)
+  where
+    by : (ms : List ℕ) (ls : List (List ℕ)) → length ls ≡ length ms → All (λ m. sees_mark k m ≡ false) ms → Tells n k plan world text lengths (ms ++ marks_left) every (ls ++ lines_left) all → Tells n k plan world text lengths marks_left every lines_left all
+    by [] [] size unseen now = now
+    by [] (l ∷ ls) size unseen now = absurd (omega (arith, size))
+    by (m ∷ ms) [] size unseen now = absurd (omega (arith, size))
+    by (m ∷ ms) (l ∷ ls) size unseen now =
+        by ms ls (omega (arith, size)) (All-tail (λ i. sees_mark k i ≡ false) m ms unseen) (tells_unseen n k plan world text lengths every m (ms ++ marks_left) l (ls ++ lines_left) all now (All-head (λ i. sees_mark k i ≡ false) m ms unseen))
+
+-- no line was passed yet
+pub passed_none : (k : ℕ) (marks : List ℕ) (lines : List (List ℕ)) → ArePassed k marks lines marks lines
+passed_none k marks lines = record { marks_passed = []; lines_passed = []; marks_are = refl; lines_are = refl; size = refl; unseen = All-nil (λ m. sees_mark k m ≡ false) }
+
+-- one more is
+pub passed_more : (k : ℕ) (marks : List ℕ) (lines : List (List ℕ)) (mark : ℕ) (marks_left line : List ℕ) (lines_left : List (List ℕ)) → ArePassed k marks lines (mark ∷ marks_left) (line ∷ lines_left) → sees_mark k mark ≡ false
+    → ArePassed k marks lines marks_left lines_left
+passed_more k marks lines mark marks_left line lines_left passed away = record {
+  marks_passed = passed.marks_passed ++ mark ∷ [];
+  lines_passed = passed.lines_passed ++ line ∷ [];
+  marks_are = passed.marks_are ∙ sym (append_assoc passed.marks_passed (mark ∷ []) marks_left);
+  lines_are = passed.lines_are ∙ sym (append_assoc passed.lines_passed (line ∷ []) lines_left);
+  size = length-append passed.lines_passed (line ∷ []) ∙ (ap (λ m. m + 1) passed.size ∙ sym (length-append passed.marks_passed (mark ∷ [])));
+  unseen = All-append (λ m. sees_mark k m ≡ false) passed.marks_passed (mark ∷ []) passed.unseen (All-cons (λ m. sees_mark k m ≡ false) mark [] away (All-nil (λ m. sees_mark k m ≡ false)));
+}
 
 -- no line is left
 pub tells_all : (n k : ℕ) (plan : CheckedPlan) (world : Tables) (text lengths every : List ℕ) (left all : List (List ℕ)) → Tells n k plan world text lengths [] every left all → IsText text lengths (of_shard k every (answer_lines plan [] (map (event_of plan) all)))

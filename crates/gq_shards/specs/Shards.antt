@@ -1,5 +1,6 @@
 -- Lines dealt out to shards, of which each answers some tenants.
-use Rattle.std.specs.Prelude.{◌≡◌, ℕ, ◌+◌, ◌-◌, ◌%◌, ◌<◌, ◌≤◌, List, [], ◌∷◌, ◌++◌, Bool, ◌==◌, ◌||◌, map, length, slice_index_or, if◌then◌else◌, Option, Result, Ok, Err, IfOk, take, drop}
+use Rattle.std.specs.Prelude.{◌≡◌, ℕ, ◌+◌, ◌-◌, ◌%◌, ◌<◌, ◌≤◌, List, [], ◌∷◌, ◌++◌, Bool, ◌==◌, ◌||◌, false, map, length, slice_index_or, if◌then◌else◌, Option, Result, Ok, Err, IfOk, take, drop}
+use Rattle.std.specs.List.{All}
 use Rattle.std.specs.Io.KnownBytes.{Appends}
 use Rattle.gq_shards.specs.declared.answering.Answers.{Answers}
 use Rattle.gq_shards.specs.declared.answering.Answers.TheVariants.{One, Shards}
@@ -37,6 +38,15 @@ tells shard mark = mark - 1 == shard
 
 abbrev pub sees_mark : ℕ → ℕ → Bool
 sees_mark shard mark = mark == 0 || tells shard mark
+
+-- of lines with these marks some were passed, of which the shard sees none
+pub record ArePassed (shard : ℕ) (marks : List ℕ) (lines : List (List ℕ)) (marks_left : List ℕ) (lines_left : List (List ℕ)) : Type 0 where
+  pub marks_passed : List ℕ
+  pub lines_passed : List (List ℕ)
+  pub marks_are : marks ≡ marks_passed ++ marks_left
+  pub lines_are : lines ≡ lines_passed ++ lines_left
+  pub size : length lines_passed ≡ length marks_passed
+  pub unseen : All (λ mark. sees_mark shard mark ≡ false) marks_passed
 
 -- of lines with these marks, those that the shard tells
 abbrev pub of_shard : ℕ → List ℕ → List (List ℕ) → List (List ℕ)

@@ -1,6 +1,6 @@
 //! Bytes that wait to be written together.
 
-ghost use Rattle.std.specs.Prelude.{◌≡◌, ◌+◌, ◌≤◌, ◌++◌, [], false, true, length, vec_len, IfOk, IfErr, OnOk, OnErr};
+ghost use Rattle.std.specs.Prelude.{◌≡◌, ◌+◌, ◌≤◌, ◌++◌, [], false, true, length, take, vec_len, IfOk, IfErr, OnOk, OnErr};
 ghost use Rattle.std.specs.Io.KnownBytes.{Appends};
 ghost use Rattle.gq_script.specs.declared.script.RunFault.{RunFault};
 ghost use Rattle.gq_script.specs.Watched.{inner_of, has_failed, AppendsPrefix};
@@ -9,6 +9,9 @@ use gq_memory::{OutOfMemory, filled};
 use gq_script::{RunFault, Watched, write_whole};
 use std::alloc::Global;
 use std::io::Write;
+
+// A short part of a text is copied as so many bytes.
+const NEAR: usize = 64;
 
 /// Bytes that wait to be written together. It takes its memory when it is made, so that none is wanted between two writes.
 #[derive(Drop)]
@@ -64,6 +67,45 @@ impl Chunk {
         }
         self.take(bytes);
         Ok(())
+    }
+
+    /// Takes the first bytes of a text, so many, as [`Chunk::put`] takes all. A short part is copied with what lies behind it, which
+    /// the next one covers: a copy of a size that is known in advance takes a few instructions.
+    #[inline(always)]
+    pub fn put_part<W: Write>(
+        &mut self,
+        writer: &mut Watched<W>,
+        text: &[u8],
+        size: usize,
+    ) -> Result<(), RunFault>
+        requires fine { has_failed writer.old ≡ false }
+        requires within { size ≤ length text.now }
+        ensures ok { OnOk result (Passes (W.contents (inner_of writer.old))
+            (W.contents (inner_of writer.new)) (waiting self.old ++ take size text.now) (waiting self.new)) }
+        ensures fine { OnOk result (has_failed writer.new ≡ false) }
+        ensures fault { IfErr result (λ e. e ≡ RunFault.Write) }
+        ensures failed { OnErr result (has_failed writer.new ≡ true) }
+        ensures prefix { OnErr result (AppendsPrefix (W.contents (inner_of writer.old))
+            (W.contents (inner_of writer.new)) (waiting self.old ++ take size text.now)) }
+    {
+        if size <= NEAR && NEAR <= text.len() && NEAR <= self.bytes.len() - self.filled {
+            self.take_near(text, size);
+            return Ok(());
+        }
+        self.put(writer, &text[..size])
+    }
+
+    // Takes the first bytes of a text, at most as many as are copied at once.
+    #[inline(always)]
+    fn take_near(&mut self, text: &[u8], size: usize)
+        requires short { size ≤ NEAR }
+        requires text { NEAR ≤ length text.now }
+        requires room { self.old.filled + NEAR ≤ vec_len self.old.bytes }
+        ensures { waiting self.new ≡ waiting self.old ++ take size text.now }
+    {
+        let end = self.filled + NEAR;
+        self.bytes[self.filled..end].copy_from_slice(&text[..NEAR]);
+        self.filled += size;
     }
 
     // Takes bytes for which there is room.

@@ -1,6 +1,6 @@
 //! The lines of all shards, put together and written.
 
-ghost use Rattle.std.specs.Prelude.{◌≡◌, [], ◌∷◌, ◌+◌, ◌<◌, ◌≤◌, ℕ, List, length, vec_len, replicate, slice_index, true, false, IfOk, IfErr, OnOk, OnErr, IsErrOf};
+ghost use Rattle.std.specs.Prelude.{◌≡◌, [], ◌∷◌, ◌+◌, ◌<◌, ◌≤◌, ℕ, List, length, vec_len, replicate, slice_index, take, true, false, IfOk, IfErr, OnOk, OnErr, IsErrOf};
 ghost use Rattle.std.specs.Io.KnownBytes.{Appends};
 ghost use Rattle.gq_script.specs.declared.script.RunFault.{RunFault};
 ghost use Rattle.gq_text.specs.Lines.{joined};
@@ -24,20 +24,21 @@ pub struct Place {
     pub byte: usize,
 }
 
-// The next line of what is told, and the place behind it.
+// The next line of what is told, as the first bytes of a text, so many, and the place behind it.
 #[inline(always)]
-fn next_line<'a>(told: &'a Told, place: Place) -> (&'a [u8], Place)
+fn next_line<'a>(told: &'a Told, place: Place) -> (&'a [u8], usize, Place)
     requires line { place.line < vec_len told.now.lengths }
     requires bytes { place.byte + slice_index told.now.lengths.items place.line ≤ vec_len told.now.text }
-    ensures { (line : List ℕ) (lines : List (List ℕ)) → IsLeft told.now place (line ∷ lines) →
-        (result.0.now ≡ line) × IsLeft told.now result.1 lines }
+    ensures within { result.1 ≤ length result.0.now }
+    ensures line { (line : List ℕ) (lines : List (List ℕ)) → IsLeft told.now place (line ∷ lines) →
+        (take result.1 result.0.now ≡ line) × IsLeft told.now result.2 lines }
 {
-    let end = place.byte + told.lengths[place.line] as usize;
+    let size = told.lengths[place.line] as usize;
     let after = Place {
         line: place.line + 1,
-        byte: end,
+        byte: place.byte + size,
     };
-    (&told.text[place.byte..end], after)
+    (&told.text[place.byte..], size, after)
 }
 
 // The places of the first lines.
@@ -69,9 +70,9 @@ fn write_lines<W: Write>(
 {
     for mark in marks {
         let shard = mark.saturating_sub(1) as usize;
-        let (line, after) = next_line(&all[shard], places[shard]);
+        let (text, size, after) = next_line(&all[shard], places[shard]);
         places[shard] = after;
-        chunk.put(writer, line)?;
+        chunk.put_part(writer, text, size)?;
     }
     chunk.flush(writer)
 }

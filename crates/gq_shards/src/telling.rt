@@ -1,6 +1,6 @@
 //! What one shard tells.
 
-ghost use Rattle.std.specs.Prelude.{◌≡◌, ◌≤◌, ◌∷◌, ◌++◌, [], true, false, List, length, IfOk, OnOk};
+ghost use Rattle.std.specs.Prelude.{◌≡◌, ◌≤◌, ◌∷◌, ◌++◌, [], true, false, List, drop, length, IfOk, OnOk};
 ghost use Rattle.gq_model.specs.declared.events.Event.{Event};
 ghost use Rattle.gq_model.specs.Events.{IsIn};
 ghost use Rattle.gq_world.specs.Tables.{Stands};
@@ -9,7 +9,7 @@ ghost use Rattle.gq_text.specs.Lines.{lines_of};
 ghost use Rattle.gq_text.specs.AnswerText.{answer_line};
 ghost use Rattle.gq_text.specs.Input.{event_cut};
 ghost use Rattle.gq_script.specs.Out.{line_cut, output_lines};
-ghost use Rattle.gq_shards.specs.Shards.{marks_of, of_shard, sees_mark, tells, IsPart, IsText};
+ghost use Rattle.gq_shards.specs.Shards.{marks_of, of_shard, sees_mark, tells, ArePassed, IsPart, IsText};
 
 use crate::parts::part_of;
 use gq_desk::Plan;
@@ -91,6 +91,33 @@ fn next(
     Ok(())
 }
 
+// Whether the shard sees a line of this mark.
+#[inline(always)]
+fn sees(shard: usize, mark: u8) -> bool
+    ensures { result ≡ sees_mark shard mark }
+{
+    mark == 0 || mark.saturating_sub(1) as usize == shard
+}
+
+// Passes lines that the shard does not see, the first of which has the mark of this place. The result is the place of the next mark
+// that it sees, or the end, and the lines from there on. It is a call, so that all that the loop needs is in registers.
+#[inline(never)]
+fn pass_lines<'a>(shard: usize, marks: &[u8], place: usize, lines: &'a [u8]) -> (usize, &'a [u8])
+    requires { length (drop place marks.now) ≡ length (lines_of lines.now) }
+    ensures passed { ArePassed shard (drop place marks.now) (lines_of lines.now)
+        (drop result.0 marks.now) (lines_of result.1.now) }
+    ensures further { place ≤ result.0 }
+{
+    let mut next = place;
+    let mut rest = lines;
+    while next < marks.len() && !sees(shard, marks[next]) {
+        let (_, _, after) = cut_line(rest);
+        rest = after;
+        next += 1;
+    }
+    (next, rest)
+}
+
 // A world of the shard's plan, and what the shard tells before the first line. The lists begin with the room that a shard's part
 // of the lines may need: a short list that grows is copied from place to place, and leaves holes in memory behind.
 fn start_shard(
@@ -132,21 +159,21 @@ pub fn told_by(
 {
     let (mut world, mut told) = start_shard(alloc, plan, shards, shard, marks, lines)?;
     let mut quorum = QuorumText::new(alloc, *plan.grid());
-    let mut rest = lines;
-    for mark in marks {
+    let (mut place, mut rest) = pass_lines(shard, marks, 0, lines);
+    while place < marks.len() {
         let (first, words, after) = cut_line(rest);
         next(
             alloc,
             &mut world,
             shard,
-            *mark,
+            marks[place],
             first,
             words,
             &mut quorum,
             &mut told.text,
             &mut told.lengths,
         )?;
-        rest = after;
+        (place, rest) = pass_lines(shard, marks, place + 1, after);
     }
     Ok(told)
 }

@@ -1,4 +1,4 @@
-use Rattle.std.proofs.Common.{refl, ℕ, ◌<◌, ◌≤◌, ◌+◌, List, arith, length, get_or, drop}
+use Rattle.std.proofs.Common.{refl, ℕ, ◌<◌, ◌≤◌, ◌+◌, List, arith, length, get_or, drop, take}
 use Rattle.std.proofs.lemmas.List.{drop_all}
 use Rattle.std.proofs.lemmas.Result.{on_err_weaker}
 use Rattle.gq_shards.specs.declared.merging.Place.{Place}
@@ -25,23 +25,23 @@ within g c =
     let told = c.requires.told.1 in
     step_within _ _ _ _ _ _ lines _ _ _ _ (c.loop-mark.invariant.going lines told) (next_here g c lines told)
 
-pub next_line-requires-clause-line : goal.next_line-requires-clause-line
-next_line-requires-clause-line g c = let here = within g c in omega (arith, here.0)
+pub next_line-size-requires-clause-line : goal.next_line-size-requires-clause-line
+next_line-size-requires-clause-line g c = let here = within g c in omega (arith, here.0)
 
-pub next_line-requires-clause-bytes : goal.next_line-requires-clause-bytes
-next_line-requires-clause-bytes g c = let here = within g c in omega (arith, here.1)
+pub next_line-size-requires-clause-bytes : goal.next_line-size-requires-clause-bytes
+next_line-size-requires-clause-bytes g c = let here = within g c in omega (arith, here.1)
 
-pub returns-in_err-put-clause-prefix : goal.returns-in_err-put-clause-prefix
-returns-in_err-put-clause-prefix g c = on_err c.from_residual.result (λ lines told.
-    step_part _ _ _ (waiting c.loop-mark.chunk) c.next_line.result.0.now _ _ _ lines _ _ c.index-all-shard.result _ c.next_line.result.1 (c.loop-mark.invariant.going lines told)
-    (record { told_all = told; below = c.loop-mark-test.true; shard = c.saturating_sub-shard.ensures; is = c.index-all-shard.is; at = refl }) c.next_line.ensures c.in_err-put.ensures.prefix)
+pub returns-in_err-put_part-clause-prefix : goal.returns-in_err-put_part-clause-prefix
+returns-in_err-put_part-clause-prefix g c = on_err c.from_residual.result (λ lines told.
+    step_part _ _ _ (waiting c.loop-mark.chunk) (take c.next_line-size.result.1 c.next_line-size.result.0.now) _ _ _ lines _ _ c.index-all-shard.result _ c.next_line-size.result.2 (c.loop-mark.invariant.going lines told)
+    (record { told_all = told; below = c.loop-mark-test.true; shard = c.saturating_sub-shard.ensures; is = c.index-all-shard.is; at = refl }) c.next_line-size.ensures.line c.in_err-put_part.ensures.prefix)
 
 pub loop-mark-preserved : goal.loop-mark-preserved
 loop-mark-preserved g c = record {
-  fine = c.in_ok-put.ensures.fine;
+  fine = c.in_ok-put_part.ensures.fine;
   going = λ lines told.
-      step_more _ _ _ (waiting c.loop-mark.chunk) (waiting c.put.new.self) c.next_line.result.0.now _ _ _ lines _ _ c.index-all-shard.result _ c.next_line.result.1 (c.loop-mark.invariant.going lines told)
-      (record { told_all = told; below = c.loop-mark-test.true; shard = c.saturating_sub-shard.ensures; is = c.index-all-shard.is; at = refl }) c.next_line.ensures c.in_ok-put.ensures.ok;
+      step_more _ _ _ (waiting c.loop-mark.chunk) (waiting c.put_part.new.self) (take c.next_line-size.result.1 c.next_line-size.result.0.now) _ _ _ lines _ _ c.index-all-shard.result _ c.next_line-size.result.2 (c.loop-mark.invariant.going lines told)
+      (record { told_all = told; below = c.loop-mark-test.true; shard = c.saturating_sub-shard.ensures; is = c.index-all-shard.is; at = refl }) c.next_line-size.ensures.line c.in_ok-put_part.ensures.ok;
 }
 
 pub returns-clause-prefix : goal.returns-clause-prefix
