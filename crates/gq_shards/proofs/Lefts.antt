@@ -1,55 +1,35 @@
 -- What is left of the shards' texts while their lines are put together.
-use Rattle.std.proofs.Common.{◌≡◌, ◌≢◌, ◌⊎◌, ◌∙◌, ℕ, suc, ◌+◌, ◌-◌, ◌<◌, ◌≤◌, true, false, List, [], ◌∷◌, ◌++◌, map, length, get_or, set, replicate, take, drop, Option, refl, sym, ap, subst, inl, inr, arith, append_assoc, append-nil, length-append, length-drop}
+use Rattle.std.proofs.Common.{◌≡◌, ◌≢◌, ◌⊎◌, ◌∙◌, ℕ, ◌+◌, ◌-◌, ◌<◌, ◌≤◌, true, false, List, [], ◌∷◌, ◌++◌, map, length, get_or, set, replicate, take, drop, Option, refl, sym, ap, subst, inl, inr, arith, append_assoc, append-nil, length-append, length-drop}
 use Rattle.std.specs.Prelude.{◌==◌}
 use Rattle.std.specs.Io.KnownBytes.{Appends}
 use Rattle.std.proofs.Math.Seq.{take-append_seam, drop-append_seam}
 use Rattle.std.proofs.lemmas.Bool.{cases_eq, ne_eqb, eq-eqb}
-use Rattle.std.proofs.lemmas.List.{drop_more, drop-drop, get_or_default, get_or-replicate, get_or-set_same, get_or-set_other, length-map, length-set, length-replicate}
+use Rattle.std.proofs.lemmas.List.{drop_more, drop-drop, get_or_default, get_or-replicate, get_or-set_same, get_or-set_other, length-set, length-replicate}
 use Rattle.gq_text.specs.Lines.{joined}
 use Rattle.gq_script.specs.Watched.{AppendsPrefix}
 use Rattle.gq_shards.specs.declared.telling.Told.{Told}
 use Rattle.gq_shards.specs.declared.merging.Place.{Place}
-use Rattle.gq_shards.specs.Shards.{of_shard, IsLeft, AreTold, Passes}
+use Rattle.gq_shards.specs.declared.lengths.LengthPlace.{LengthPlace}
+use Rattle.gq_shards.specs.Shards.{first_place, of_shard, AreLeft, IsLeft, AreTold, Passes}
 use Rattle.gq_shards.proofs.Passing.{prefix_longer, passes_none, passes_more, passes_all, passes_part}
 
-head_is : (x y : ℕ) (xs ys : List ℕ) → x ∷ xs ≡ y ∷ ys → x ≡ y
-head_is x y xs ys is = cc
-
-tail_is : (x y : ℕ) (xs ys : List ℕ) → x ∷ xs ≡ y ∷ ys → xs ≡ ys
-tail_is x y xs ys is = cc
-
--- the next line, and what is left behind it
-pub next_is : (told : Told) (place after : Place) (n : ℕ) (line : List ℕ) (lines : List (List ℕ)) → place.line < length told.lengths.items → n ≡ get_or told.lengths.items place.line n
-    → place.byte + n ≤ length told.text.items → after ≡ record { line = place.line + 1; byte = place.byte + n } → IsLeft told place (line ∷ lines)
-    → (take n (drop place.byte told.text.items) ≡ line) × IsLeft told after lines
-next_is told place after n line lines below is fits behind left =
-    let text = told.text.items in
-    let lengths = told.lengths.items in
-    let counts : get_or lengths place.line n ∷ drop (place.line + 1) lengths ≡ length line ∷ map length lines = sym (drop_more lengths place.line n below) ∙ left.text.counts in
-    let size : n ≡ length line = is ∙ head_is _ _ _ _ counts in
-    let bytes : drop place.byte text ≡ line ++ joined lines = left.text.bytes in (
-      rw (size, bytes) (take-append_seam line (joined lines)),
-      subst (λ (p : Place). IsLeft told p lines) (sym behind) (record {
-        within = fits;
-        text = record {
-          bytes = sym (drop-drop n place.byte text) ∙ rw (size, bytes) (drop-append_seam line (joined lines));
-          counts = tail_is _ _ _ _ counts;
-        };
-      }),
-    )
-
--- where it lies
-pub next_within : (told : Told) (place : Place) (line : List ℕ) (lines : List (List ℕ)) → IsLeft told place (line ∷ lines)
-    → (place.line < length told.lengths.items) × (place.byte + get_or told.lengths.items place.line 0 ≤ length told.text.items)
+-- where the next line lies
+pub next_within : (told : Told) (place : Place) (line : List ℕ) (lines : List (List ℕ)) → IsLeft told place (line ∷ lines) → place.byte + length line ≤ length told.text.items
 next_within told place line lines left =
-    let text = told.text.items in
-    let lengths = told.lengths.items in
-    let some : length (drop place.line lengths) ≡ suc (length lines) = ap length left.text.counts ∙ ap suc (length-map lines length) in
-    let below : place.line < length lengths = omega (arith, some, length-drop place.line lengths) in
-    let counts : get_or lengths place.line 0 ∷ drop (place.line + 1) lengths ≡ length line ∷ map length lines = sym (drop_more lengths place.line 0 below) ∙ left.text.counts in
-    let size : get_or lengths place.line 0 ≡ length line = head_is _ _ _ _ counts in
-    let bytes : length (drop place.byte text) ≡ length line + length (joined lines) = ap length left.text.bytes ∙ length-append line (joined lines) in
-    (below, omega (arith, size, bytes, length-drop place.byte text, left.within))
+    let bytes : length (drop place.byte told.text.items) ≡ length line + length (joined lines) = ap length left.bytes ∙ length-append line (joined lines) in
+    omega (arith, bytes, length-drop place.byte told.text.items, left.within)
+
+-- it, and what is left behind it
+pub next_is : (told : Told) (place : Place) (after : LengthPlace) (n : ℕ) (line : List ℕ) (lines : List (List ℕ)) → IsLeft told place (line ∷ lines) → (n ≡ length line) × AreLeft told.lengths after (map length lines)
+    → (take n (drop place.byte told.text.items) ≡ line) × IsLeft told (record { length = after; byte = place.byte + n }) lines
+next_is told place after n line lines left (size, counts) = (
+  rw (size, left.bytes) (take-append_seam line (joined lines)),
+  record {
+    within = omega (arith, size, next_within told place line lines left);
+    bytes = sym (drop-drop n place.byte told.text.items) ∙ rw (size, left.bytes) (drop-append_seam line (joined lines));
+    counts = counts;
+  },
+)
 
 -- what is left of each shard, and what was put together so far
 pub record Merging (all : List Told) (places : List Place) (marks : List ℕ) (lines : List (List ℕ)) (out : List ℕ) (every : List (List ℕ)) : Type 0 where
@@ -90,15 +70,13 @@ merging_more all places mark marks line lines every out after d m below next = r
         let placed : get_or (set places (mark - 1) after) k q ≡ get_or places k q = get_or-set_other places (mark - 1) k after q other in
         rw (placed, sym (others k other)) (m.left k e q inside)
 
-abbrev pub first_place : Place
-first_place = record { line = 0; byte = 0 }
-
 -- before the first line
 pub merging_first : (all : List Told) (places : List Place) (marks : List ℕ) (every : List (List ℕ)) → places ≡ replicate (length all) first_place → AreTold marks every all → Merging all places marks every [] every
 merging_first all places marks every is told = record {
   left = λ k d q inside.
       let placed : get_or places k q ≡ first_place = ap (λ ps. get_or ps k q) is ∙ get_or-replicate (length all) k first_place q inside in
-      rw placed (record { within = omega arith; text = told.texts k d inside });
+      let text = told.texts k d inside in
+      rw placed (record { within = omega arith; bytes = text.bytes; counts = text.counts });
   size = ap length is ∙ length-replicate (length all) first_place;
   whole = refl;
 }
@@ -166,16 +144,12 @@ step_going : (old new : Option (List ℕ)) (held : List ℕ) (all : List Told) (
 step_going old new held all places marks lines i g told below =
     rw (drop_more marks i 0 below, drop_more lines i [] (omega (arith, below, told.size))) at g
 
-step_left : (old new : Option (List ℕ)) (held : List ℕ) (all : List Told) (places : List Place) (marks : List ℕ) (lines : List (List ℕ)) (i k : ℕ) (told : Told) (place : Place) → Going old new held all places (drop i marks) (drop i lines) lines
+pub step_left : (old new : Option (List ℕ)) (held : List ℕ) (all : List Told) (places : List Place) (marks : List ℕ) (lines : List (List ℕ)) (i k : ℕ) (told : Told) (place : Place) → Going old new held all places (drop i marks) (drop i lines) lines
     → IsNext all places marks lines i k told place → IsLeft told place (get_or lines i [] ∷ of_shard k (drop (i + 1) marks) (drop (i + 1) lines))
 step_left old new held all places marks lines i k told place g n =
     let now = step_going old new held all places marks lines i g n.told_all n.below in
     let left = left_next all places (get_or marks i 0) (drop (i + 1) marks) (get_or lines i []) (drop (i + 1) lines) lines now.out told first_place now.merging (n.told_all.shards i n.below) in
     rw (← n.shard, ← n.is, ← n.at) at left
-
-pub step_within : (old new : Option (List ℕ)) (held : List ℕ) (all : List Told) (places : List Place) (marks : List ℕ) (lines : List (List ℕ)) (i k : ℕ) (told : Told) (place : Place) → Going old new held all places (drop i marks) (drop i lines) lines
-    → IsNext all places marks lines i k told place → (place.line < length told.lengths.items) × (place.byte + get_or told.lengths.items place.line 0 ≤ length told.text.items)
-step_within old new held all places marks lines i k told place g n = next_within told place _ _ (step_left old new held all places marks lines i k told place g n)
 
 pub step_more : (old new new' : Option (List ℕ)) (held held' found : List ℕ) (all : List Told) (places : List Place) (marks : List ℕ) (lines : List (List ℕ)) (i k : ℕ) (told : Told) (place after : Place)
     → Going old new held all places (drop i marks) (drop i lines) lines → IsNext all places marks lines i k told place

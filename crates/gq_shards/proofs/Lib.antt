@@ -3,3 +3,5 @@ pub mod Seeing
 pub mod Passing
 pub mod Lefts
 pub mod Cuts
+pub mod Listing
+pub mod Going

@@ -1,10 +1,10 @@
 -- What a shard sees is answered as in the run of all.
-use Rattle.std.proofs.Common.{◌≡◌, ◌≢◌, ◌⊎◌, ◌∙◌, ℕ, suc, zero, ◌+◌, ◌-◌, ◌<◌, ◌≤◌, Bool, true, false, List, [], ◌∷◌, ◌++◌, None, map, length, length-append, append_assoc, append-nil, refl, sym, ap, subst, inl, inr, arith}
+use Rattle.std.proofs.Common.{◌≡◌, ◌≢◌, ◌⊎◌, ◌∙◌, ℕ, suc, zero, ◌+◌, ◌-◌, ◌<◌, ◌≤◌, Bool, true, false, List, [], ◌∷◌, ◌++◌, None, map, length, append_assoc, append-nil, refl, sym, ap, subst, inl, inr, arith}
 use Rattle.std.specs.Prelude.{◌==◌, ◌||◌, filter, codes, slice_index_or, Result, Ok, Err, IfOk}
-use Rattle.std.specs.List.{All, cons_option}
+use Rattle.std.specs.List.{cons_option}
 use Rattle.std.proofs.lemmas.Bool.{cases_eq, ne_eqb, eq-eqb, eqb-true, or_parts}
 use Rattle.std.proofs.lemmas.List.{map-append, length-map}
-use Rattle.std.proofs.lemmas.List.Elements.{filter-append, All-nil, All-cons, All-head, All-tail, All-append}
+use Rattle.std.proofs.lemmas.List.Elements.{filter-append}
 use Rattle.std.proofs.lemmas.Grind.{flat_map-append}
 use Rattle.gq_desk.specs.CheckedPlan.{CheckedPlan, nobody, row_at}
 use Rattle.gq_model.specs.declared.events.Event.{Event}
@@ -21,7 +21,8 @@ use Rattle.gq_text.specs.Lines.{lines_of, joined}
 use Rattle.gq_text.specs.PlanText.{Reading, plan_of}
 use Rattle.gq_script.specs.Out.{answer_lines, output_lines, output_of, out}
 use Rattle.gq_world.specs.Tables.{Tables, Stands}
-use Rattle.gq_shards.specs.Shards.{shard_of, mark_of, marks_of, tells, sees_mark, of_shard, lines_from, out_lines, ArePassed, IsPart, IsText, EachTold, AreTold}
+use Rattle.gq_shards.specs.Shards.{shard_of, mark_of, marks_of, tells, sees_mark, of_shard, lines_from, out_lines, AreListed, IsPart, IsText, IsTold, IsUntold, EachTold, AreTold}
+use Rattle.gq_shards.specs.declared.lengths.Lengths.{Lengths}
 use Rattle.gq_shards.specs.declared.telling.Told.{Told}
 
 -- the shard sees the event; the events that it sees
@@ -104,52 +105,104 @@ line_part n k plan part Stray told is seen = ap (λ (g : Grid). line_text (codes
 -- ---- a shard that goes on, line by line
 
 -- the world of the shard stands for what it saw of the events so far, and its text has the lines that it tells of them
-pub record Tells (n k : ℕ) (plan : CheckedPlan) (world : Tables) (text lengths marks every : List ℕ) (left all : List (List ℕ)) : Type 0 where
+pub record Tells (n k : ℕ) (plan : CheckedPlan) (world : Tables) (text : List ℕ) (lengths : Lengths) (left all : List (List ℕ)) : Type 0 where
   pub events : List Event
   pub told : List (List ℕ)
   pub part : IsPart n k plan world.plan
   pub stands : Stands world (part_events n k events)
   pub is : IsText text lengths told
-  pub marked : marks ≡ marks_of plan n left
-  pub rest : told ++ of_shard k marks (answer_lines plan events (map (event_of plan) left)) ≡ of_shard k every (answer_lines plan [] (map (event_of plan) all))
+  pub rest : told ++ of_shard k (marks_of plan n left) (answer_lines plan events (map (event_of plan) left)) ≡ of_shard k (marks_of plan n all) (output_lines plan all)
 
 -- before the first line
-pub tells_first : (n k : ℕ) (plan : CheckedPlan) (world : Tables) (marks : List ℕ) (all : List (List ℕ)) → IsPart n k plan world.plan → Stands world [] → marks ≡ marks_of plan n all → Tells n k plan world [] [] marks marks all all
-tells_first n k plan world marks all part stands marked = record {
+pub tells_first : (n k : ℕ) (plan : CheckedPlan) (world : Tables) (text : List ℕ) (lengths : Lengths) (all : List (List ℕ)) → IsPart n k plan world.plan → Stands world [] → text ≡ [] → AreListed lengths [] → Tells n k plan world text lengths all all
+tells_first n k plan world text lengths all part stands none no_length = record {
   events = [];
   told = [];
   part = part;
   stands = stands;
-  is = record { bytes = refl; counts = refl };
-  marked = marked;
+  is = record { bytes = none; counts = no_length };
   rest = refl;
 }
 
-one_more : (text lengths x : List ℕ) (told : List (List ℕ)) → IsText text lengths told → IsText (text ++ x) (lengths ++ length x ∷ []) (told ++ x ∷ [])
-one_more text lengths x told is = record {
+one_more : (text : List ℕ) (lengths lengths' : Lengths) (x : List ℕ) (told : List (List ℕ)) → IsText text lengths told
+    → ((old : List ℕ) → AreListed lengths old → AreListed lengths' (old ++ length x ∷ [])) → IsText (text ++ x) lengths' (told ++ x ∷ [])
+one_more text lengths lengths' x told is grows = record {
   bytes = ap (λ z. z ++ x) is.bytes ∙ sym (flat_map-append (λ (line : List ℕ). line) told (x ∷ []) ∙ ap (λ z. joined told ++ z) (append-nil x));
-  counts = ap (λ z. z ++ length x ∷ []) is.counts ∙ sym (map-append length told (x ∷ []));
+  counts = subst (AreListed lengths') (sym (map-append length told (x ∷ []))) (grows (map length told) is.counts);
 }
 
--- one line more
-pub tells_more : (n k : ℕ) (plan : CheckedPlan) (world world' : Tables) (text text' lengths lengths' every : List ℕ) (mark : ℕ) (marks line : List ℕ) (left rest all : List (List ℕ)) (e : Event) → Tells n k plan world text lengths (mark ∷ marks) every left all
-    → left ≡ line ∷ rest → world'.plan ≡ world.plan → e ≡ event_of plan line
-    → (sees_mark k mark ≡ false → (world' ≡ world) × (text' ≡ text) × (lengths' ≡ lengths))
-    → (sees_mark k mark ≡ true → (before : List Event) → Stands world before → Stands world' (before ++ e ∷ []))
-    → (sees_mark k mark ≡ true → tells k mark ≡ false → (text' ≡ text) × (lengths' ≡ lengths))
-    → (tells k mark ≡ true → (before : List Event) → Stands world before → (text' ≡ text ++ answer_line world.plan e (answer_to world.plan before e)) × (lengths' ≡ lengths ++ length (answer_line world.plan e (answer_to world.plan before e)) ∷ []))
-    → Tells n k plan world' text' lengths' marks every rest all
-tells_more n k plan world world' text text' lengths lengths' every mark marks line left rest all e s is same reads unseen stands silent told =
-    by (sees_mark k mark) refl (tells k mark) refl
+-- a line more that the shard sees
+pub tells_seen : (n k : ℕ) (plan : CheckedPlan) (world world' : Tables) (text text' : List ℕ) (lengths lengths' : Lengths) (line : List ℕ) (rest all : List (List ℕ)) (e : Event) → Tells n k plan world text lengths (line ∷ rest) all
+    → world'.plan ≡ world.plan → e ≡ event_of plan line → sees_event n k e ≡ true
+    → ((before : List Event) → Stands world before → Stands world' (before ++ e ∷ []))
+    → (IsUntold n k e → (text' ≡ text) × (lengths' ≡ lengths))
+    → (IsTold n k e → (before : List Event) → Stands world before → text' ≡ text ++ answer_line world.plan e (answer_to world.plan before e))
+    → (IsTold n k e → (before : List Event) (old : List ℕ) → Stands world before → AreListed lengths old → AreListed lengths' (old ++ length (answer_line world.plan e (answer_to world.plan before e)) ∷ []))
+    → Tells n k plan world' text' lengths' rest all
+tells_seen n k plan world world' text text' lengths lengths' line rest all e s same reads seen stands silent told counted = by (tells k (mark_of n e)) refl
   where
-    marks_now : mark ∷ marks ≡ mark_of n (event_of plan line) ∷ marks_of plan n rest
-    marks_now = s.marked ∙ ap (marks_of plan n) is
+    x : List ℕ
+    x = answer_line plan e (answer_to plan s.events e)
 
-    mark_is : mark ≡ mark_of n e
-    mark_is = let here : mark ≡ mark_of n (event_of plan line) = cc marks_now in here ∙ ap (mark_of n) (sym reads)
+    ys : List (List ℕ)
+    ys = answer_lines plan (s.events ++ e ∷ []) (map (event_of plan) rest)
 
-    marked : marks ≡ marks_of plan n rest
-    marked = cc marks_now
+    every : List (List ℕ)
+    every = of_shard k (marks_of plan n all) (output_lines plan all)
+
+    whole : s.told ++ of_shard k (mark_of n e ∷ marks_of plan n rest) (x ∷ ys) ≡ every
+    whole = rw reads s.rest
+
+    part : IsPart n k plan world'.plan
+    part = subst (IsPart n k plan) (sym same) s.part
+
+    more : part_events n k (s.events ++ e ∷ []) ≡ part_events n k s.events ++ e ∷ []
+    more = filter-append (sees_event n k) s.events (e ∷ []) ∙ ap (λ z. part_events n k s.events ++ z) (rw seen refl)
+
+    stands_now : Stands world' (part_events n k (s.events ++ e ∷ []))
+    stands_now = rw more (stands (part_events n k s.events) s.stands)
+
+    by : (b : Bool) → tells k (mark_of n e) ≡ b → Tells n k plan world' text' lengths' rest all
+    by false quiet =
+        let kept = silent (record { seen = seen; untold = quiet }) in
+        let step : of_shard k (mark_of n e ∷ marks_of plan n rest) (x ∷ ys) ≡ of_shard k (marks_of plan n rest) ys = rw quiet refl in
+        record {
+          events = s.events ++ e ∷ [];
+          told = s.told;
+          part = part;
+          stands = stands_now;
+          is = rw (kept.0, kept.1) s.is;
+          rest = ap (λ z. s.told ++ z) (sym step) ∙ whole;
+        }
+    by true tells_it =
+        let now : IsTold n k e = record { seen = seen; told = tells_it } in
+        let says : answer_line world.plan e (answer_to world.plan (part_events n k s.events) e) ≡ x =
+        ap (answer_line world.plan e) (answer_part n k plan world.plan s.events e s.part seen) ∙ line_part n k plan world.plan e (answer_to plan s.events e) s.part seen in
+        let text_is : text' ≡ text ++ x = told now (part_events n k s.events) s.stands ∙ ap (λ z. text ++ z) says in
+        let step : of_shard k (mark_of n e ∷ marks_of plan n rest) (x ∷ ys) ≡ x ∷ of_shard k (marks_of plan n rest) ys = rw tells_it refl in
+        record {
+          events = s.events ++ e ∷ [];
+          told = s.told ++ x ∷ [];
+          part = part;
+          stands = stands_now;
+          is = rw text_is (one_more text lengths lengths' x s.told s.is (λ old are. rw says at (counted now (part_events n k s.events) old s.stands are)));
+          rest = append_assoc s.told (x ∷ []) (of_shard k (marks_of plan n rest) ys) ∙ (ap (λ z. s.told ++ z) (sym step) ∙ whole);
+        }
+
+-- one that it does not see
+pub tells_unseen : (n k : ℕ) (plan : CheckedPlan) (world : Tables) (text : List ℕ) (lengths : Lengths) (line : List ℕ) (rest all : List (List ℕ)) → Tells n k plan world text lengths (line ∷ rest) all
+    → sees_event n k (event_of plan line) ≡ false → Tells n k plan world text lengths rest all
+tells_unseen n k plan world text lengths line rest all s away = record {
+  events = s.events ++ e ∷ [];
+  told = s.told;
+  part = s.part;
+  stands = rw same s.stands;
+  is = s.is;
+  rest = ap (λ z. s.told ++ z) (sym step) ∙ s.rest;
+}
+  where
+    e : Event
+    e = event_of plan line
 
     x : List ℕ
     x = answer_line plan e (answer_to plan s.events e)
@@ -157,111 +210,18 @@ tells_more n k plan world world' text text' lengths lengths' every mark marks li
     ys : List (List ℕ)
     ys = answer_lines plan (s.events ++ e ∷ []) (map (event_of plan) rest)
 
-    whole : s.told ++ of_shard k (mark ∷ marks) (x ∷ ys) ≡ of_shard k every (answer_lines plan [] (map (event_of plan) all))
-    whole = rw reads (rw is at s.rest)
-
-    part : IsPart n k plan world'.plan
-    part = subst (IsPart n k plan) (sym same) s.part
-
-    more_seen : sees_mark k mark ≡ true → part_events n k (s.events ++ e ∷ []) ≡ part_events n k s.events ++ e ∷ []
-    more_seen seen =
-        let here : sees_event n k e ≡ true = ap (sees_mark k) (sym mark_is) ∙ seen in
-        filter-append (sees_event n k) s.events (e ∷ []) ∙ ap (λ z. part_events n k s.events ++ z) (rw here refl)
-
-    same_seen : sees_mark k mark ≡ false → part_events n k (s.events ++ e ∷ []) ≡ part_events n k s.events
-    same_seen unseen =
-        let here : sees_event n k e ≡ false = ap (sees_mark k) (sym mark_is) ∙ unseen in
-        let none : part_events n k (e ∷ []) ≡ [] = rw here refl in
+    same : part_events n k (s.events ++ e ∷ []) ≡ part_events n k s.events
+    same =
+        let none : part_events n k (e ∷ []) ≡ [] = rw away refl in
         filter-append (sees_event n k) s.events (e ∷ []) ∙ (ap (λ z. part_events n k s.events ++ z) none ∙ append-nil (part_events n k s.events))
 
-    skipped : tells k mark ≡ false → s.told ++ of_shard k marks ys ≡ of_shard k every (answer_lines plan [] (map (event_of plan) all))
-    skipped not = let step : of_shard k (mark ∷ marks) (x ∷ ys) ≡ of_shard k marks ys = rw not refl in ap (λ z. s.told ++ z) (sym step) ∙ whole
-
-    by : (a : Bool) → sees_mark k mark ≡ a → (b : Bool) → tells k mark ≡ b → Tells n k plan world' text' lengths' marks every rest all
-    by false away b tells_is =
-        let kept = unseen away in
-        let silent_too : tells k mark ≡ false = (or_parts (mark == 0) (tells k mark) away).1 in
-        record {
-          events = s.events ++ e ∷ [];
-          told = s.told;
-          part = part;
-          stands = rw (kept.0, same_seen away) s.stands;
-          is = rw (kept.1, kept.2) s.is;
-          marked = marked;
-          rest = skipped silent_too;
-        }
-    by true seen_it false quiet =
-        let kept = silent seen_it quiet in
-        record {
-          events = s.events ++ e ∷ [];
-          told = s.told;
-          part = part;
-          stands = rw (more_seen seen_it) (stands seen_it (part_events n k s.events) s.stands);
-          is = rw (kept.0, kept.1) s.is;
-          marked = marked;
-          rest = skipped quiet;
-        }
-    by true seen_it true tells_it =
-        let here : sees_event n k e ≡ true = ap (sees_mark k) (sym mark_is) ∙ seen_it in
-        let says : answer_line world.plan e (answer_to world.plan (part_events n k s.events) e) ≡ x =
-        ap (answer_line world.plan e) (answer_part n k plan world.plan s.events e s.part here) ∙ line_part n k plan world.plan e (answer_to plan s.events e) s.part here in
-        let now = told tells_it (part_events n k s.events) s.stands in
-        let text_is : text' ≡ text ++ x = now.0 ∙ ap (λ z. text ++ z) says in
-        let lengths_is : lengths' ≡ lengths ++ length x ∷ [] = now.1 ∙ ap (λ z. lengths ++ length z ∷ []) says in
-        let step : of_shard k (mark ∷ marks) (x ∷ ys) ≡ x ∷ of_shard k marks ys = rw tells_it refl in
-        record {
-          events = s.events ++ e ∷ [];
-          told = s.told ++ x ∷ [];
-          part = part;
-          stands = rw (more_seen seen_it) (stands seen_it (part_events n k s.events) s.stands);
-          is = rw (text_is, lengths_is) (one_more text lengths x s.told s.is);
-          marked = marked;
-          rest = append_assoc s.told (x ∷ []) (of_shard k marks ys) ∙ (ap (λ z. s.told ++ z) (sym step) ∙ whole);
-        }
-
--- a line more that the shard does not see
-tells_unseen : (n k : ℕ) (plan : CheckedPlan) (world : Tables) (text lengths every : List ℕ) (mark : ℕ) (marks line : List ℕ) (rest all : List (List ℕ)) → Tells n k plan world text lengths (mark ∷ marks) every (line ∷ rest) all
-    → sees_mark k mark ≡ false → Tells n k plan world text lengths marks every rest all
-tells_unseen n k plan world text lengths every mark marks line rest all s away =
-    tells_more n k plan world world text text lengths lengths every mark marks line (line ∷ rest) rest all (event_of plan line) s refl refl refl
-    (λ unseen. (refl, refl, refl))
-    (λ seen. absurd (let never : false ≡ true = sym away ∙ seen in cc))
-    (λ seen. absurd (let never : false ≡ true = sym away ∙ seen in cc))
-    (λ told. absurd (let never : false ≡ true = sym (or_parts (mark == 0) (tells k mark) away).1 ∙ told in cc))
-
--- and more such lines
-pub tells_passed : (n k : ℕ) (plan : CheckedPlan) (world : Tables) (text lengths marks marks_left every : List ℕ) (lines lines_left all : List (List ℕ)) → Tells n k plan world text lengths marks every lines all
-    → ArePassed k marks lines marks_left lines_left → Tells n k plan world text lengths marks_left every lines_left all
-tells_passed n k plan world text lengths marks marks_left every lines lines_left all s passed =
-    by passed.marks_passed passed.lines_passed passed.size passed.unseen (rw (passed.marks_are, passed.lines_are) at s)
-  where
-    by : (ms : List ℕ) (ls : List (List ℕ)) → length ls ≡ length ms → All (λ m. sees_mark k m ≡ false) ms → Tells n k plan world text lengths (ms ++ marks_left) every (ls ++ lines_left) all → Tells n k plan world text lengths marks_left every lines_left all
-    by [] [] size unseen now = now
-    by [] (l ∷ ls) size unseen now = absurd (omega (arith, size))
-    by (m ∷ ms) [] size unseen now = absurd (omega (arith, size))
-    by (m ∷ ms) (l ∷ ls) size unseen now =
-        by ms ls (omega (arith, size)) (All-tail (λ i. sees_mark k i ≡ false) m ms unseen) (tells_unseen n k plan world text lengths every m (ms ++ marks_left) l (ls ++ lines_left) all now (All-head (λ i. sees_mark k i ≡ false) m ms unseen))
-
--- no line was passed yet
-pub passed_none : (k : ℕ) (marks : List ℕ) (lines : List (List ℕ)) → ArePassed k marks lines marks lines
-passed_none k marks lines = record { marks_passed = []; lines_passed = []; marks_are = refl; lines_are = refl; size = refl; unseen = All-nil (λ m. sees_mark k m ≡ false) }
-
--- one more is
-pub passed_more : (k : ℕ) (marks : List ℕ) (lines : List (List ℕ)) (mark : ℕ) (marks_left line : List ℕ) (lines_left : List (List ℕ)) → ArePassed k marks lines (mark ∷ marks_left) (line ∷ lines_left) → sees_mark k mark ≡ false
-    → ArePassed k marks lines marks_left lines_left
-passed_more k marks lines mark marks_left line lines_left passed away = record {
-  marks_passed = passed.marks_passed ++ mark ∷ [];
-  lines_passed = passed.lines_passed ++ line ∷ [];
-  marks_are = passed.marks_are ∙ sym (append_assoc passed.marks_passed (mark ∷ []) marks_left);
-  lines_are = passed.lines_are ∙ sym (append_assoc passed.lines_passed (line ∷ []) lines_left);
-  size = length-append passed.lines_passed (line ∷ []) ∙ (ap (λ m. m + 1) passed.size ∙ sym (length-append passed.marks_passed (mark ∷ [])));
-  unseen = All-append (λ m. sees_mark k m ≡ false) passed.marks_passed (mark ∷ []) passed.unseen (All-cons (λ m. sees_mark k m ≡ false) mark [] away (All-nil (λ m. sees_mark k m ≡ false)));
-}
+    step : of_shard k (mark_of n e ∷ marks_of plan n rest) (x ∷ ys) ≡ of_shard k (marks_of plan n rest) ys
+    step = let quiet : tells k (mark_of n e) ≡ false = (or_parts (mark_of n e == 0) (tells k (mark_of n e)) away).1 in rw quiet refl
 
 -- no line is left
-pub tells_all : (n k : ℕ) (plan : CheckedPlan) (world : Tables) (text lengths every : List ℕ) (left all : List (List ℕ)) → Tells n k plan world text lengths [] every left all → IsText text lengths (of_shard k every (answer_lines plan [] (map (event_of plan) all)))
-tells_all n k plan world text lengths every left all s =
-    let whole : s.told ≡ of_shard k every (answer_lines plan [] (map (event_of plan) all)) = sym (append-nil s.told) ∙ s.rest in
+pub tells_all : (n k : ℕ) (plan : CheckedPlan) (world : Tables) (text : List ℕ) (lengths : Lengths) (all : List (List ℕ)) → Tells n k plan world text lengths [] all → IsText text lengths (of_shard k (marks_of plan n all) (output_lines plan all))
+tells_all n k plan world text lengths all s =
+    let whole : s.told ≡ of_shard k (marks_of plan n all) (output_lines plan all) = sym (append-nil s.told) ∙ s.rest in
     subst (IsText text lengths) whole s.is
 
 -- ---- the marks
@@ -305,7 +265,7 @@ are_told {E} n plan lines marks all tried some is size every told = record {
       omega (arith, here, count);
   texts = λ k d below.
       let at : slice_index_or tried k (Ok d) ≡ Ok (slice_index_or all k d) = ap (λ ts. slice_index_or ts k (Ok d)) (sym every) ∙ told_at {E = E} all k d below in
-      subst (λ (r : Result Told E). IfOk r (λ t. IsText t.text.items t.lengths.items (of_shard k marks (output_lines plan lines)))) at (told k (Ok d) (omega (arith, below, count, size)));
+      subst (λ (r : Result Told E). IfOk r (λ t. IsText t.text.items t.lengths (of_shard k marks (output_lines plan lines)))) at (told k (Ok d) (omega (arith, below, count, size)));
 }
   where
     count : length all ≡ n

@@ -1,12 +1,17 @@
 -- Lines dealt out to shards, of which each answers some tenants.
-use Rattle.std.specs.Prelude.{◌≡◌, ℕ, ◌+◌, ◌-◌, ◌%◌, ◌<◌, ◌≤◌, List, [], ◌∷◌, ◌++◌, Bool, ◌==◌, ◌||◌, false, map, length, slice_index_or, if◌then◌else◌, Option, Result, Ok, Err, IfOk, take, drop}
+use Rattle.std.specs.Prelude.{◌≡◌, ℕ, ◌+◌, ◌-◌, ◌%◌, ◌<◌, ◌≤◌, List, [], ◌∷◌, ◌++◌, Bool, ◌==◌, ◌||◌, true, false, min, leb, map, filter, flat_map, length, slice_index_or, if◌then◌else◌, Option, Result, Ok, Err, IfOk, take, drop}
 use Rattle.std.specs.List.{All}
 use Rattle.std.specs.Io.KnownBytes.{Appends}
 use Rattle.gq_shards.specs.declared.answering.Answers.{Answers}
 use Rattle.gq_shards.specs.declared.answering.Answers.TheVariants.{One, Shards}
 use Rattle.gq_shards.specs.declared.chunk.Chunk.{Chunk}
+use Rattle.gq_shards.specs.declared.dealing.Dealt.{Dealt}
+use Rattle.gq_shards.specs.declared.dealing.Piece.{Piece}
+use Rattle.gq_shards.specs.declared.lengths.LengthPlace.{LengthPlace}
+use Rattle.gq_shards.specs.declared.lengths.Lengths.{Lengths}
 use Rattle.gq_shards.specs.declared.merging.Place.{Place}
 use Rattle.gq_shards.specs.declared.telling.Told.{Told}
+use Rattle.gq_shards.specs.declared.ways.Way.{Way}
 use Rattle.gq_desk.specs.CheckedPlan.{CheckedPlan, row_at}
 use Rattle.gq_desk.specs.declared.plans.TenantRow.{TenantRow}
 use Rattle.gq_model.specs.declared.events.Event.{Event}
@@ -39,14 +44,61 @@ tells shard mark = mark - 1 == shard
 abbrev pub sees_mark : ℕ → ℕ → Bool
 sees_mark shard mark = mark == 0 || tells shard mark
 
--- of lines with these marks some were passed, of which the shard sees none
-pub record ArePassed (shard : ℕ) (marks : List ℕ) (lines : List (List ℕ)) (marks_left : List ℕ) (lines_left : List (List ℕ)) : Type 0 where
-  pub marks_passed : List ℕ
-  pub lines_passed : List (List ℕ)
-  pub marks_are : marks ≡ marks_passed ++ marks_left
-  pub lines_are : lines ≡ lines_passed ++ lines_left
-  pub size : length lines_passed ≡ length marks_passed
-  pub unseen : All (λ mark. sees_mark shard mark ≡ false) marks_passed
+-- of lines with these marks, the bytes before each that the shard sees, from the end of the one before it; so many are before the first of all
+abbrev pub gaps_of : ℕ → ℕ → List ℕ → List (List ℕ) → List ℕ
+gaps_of shard passed (mark ∷ marks) (line ∷ lines) = if sees_mark shard mark then passed ∷ gaps_of shard 0 marks lines else gaps_of shard (passed + length line + 1) marks lines
+gaps_of shard passed _ _ = []
+
+-- a shard that sees the line of an event tells the answer, or does not
+pub record IsTold (shards shard : ℕ) (event : Event) : Type 0 where
+  pub seen : sees_mark shard (mark_of shards event) ≡ true
+  pub told : tells shard (mark_of shards event) ≡ true
+
+pub record IsUntold (shards shard : ℕ) (event : Event) : Type 0 where
+  pub seen : sees_mark shard (mark_of shards event) ≡ true
+  pub untold : tells shard (mark_of shards event) ≡ false
+
+-- ---- lists of lengths
+
+-- a byte for each length is the lesser of it and 255, and those that are no less than 255 are by themselves too
+pub record AreLengths (near far lengths : List ℕ) : Type 0 where
+  pub bytes : near ≡ map (min 255) lengths
+  pub long : far ≡ filter (leb 255) lengths
+
+-- a list has these lengths; from a place on it has these
+abbrev pub AreListed : Lengths → List ℕ → Type 0
+AreListed list lengths = AreLengths list.near.items list.far.items lengths
+
+abbrev pub AreLeft : Lengths → LengthPlace → List ℕ → Type 0
+AreLeft list place lengths = AreLengths (drop place.near list.near.items) (drop place.far list.far.items) lengths
+
+abbrev pub first_length : LengthPlace
+first_length = record { near = 0; far = 0 }
+
+-- ---- a script that is dealt out
+
+-- a way before the first line; one that goes on, where its shard sees a line that begins at a place, to that line and behind it
+pub record IsFirstWay (way : Way) : Type 0 where
+  pub gaps : AreListed way.gaps []
+  pub end : way.end ≡ 0
+
+abbrev pub Stops : Bool → ℕ → ℕ → Way → Way → Type 0
+Stops true place after old new = (new.end ≡ after) × ((gaps : List ℕ) → AreListed old.gaps gaps → AreListed new.gaps (gaps ++ (place - old.end) ∷ []))
+Stops false place after old new = new ≡ old
+
+-- the way of each shard through a piece
+pub record HasWays (plan : CheckedPlan) (shards : ℕ) (piece : Piece) : Type 0 where
+  pub size : length piece.ways.items ≡ shards
+  pub gaps : (k : ℕ) (d : Way) → k < shards → AreListed (slice_index_or piece.ways.items k d).gaps (gaps_of k 0 (marks_of plan shards (lines_of piece.lines.now)) (lines_of piece.lines.now))
+
+-- the lines of pieces that follow each other; their marks, and the ways through them
+abbrev pub lines_of_pieces : List Piece → List (List ℕ)
+lines_of_pieces pieces = flat_map (λ (piece : Piece). lines_of piece.lines.now) pieces
+
+pub record AreDealt (plan : CheckedPlan) (shards : ℕ) (lines : List (List ℕ)) (dealt : Dealt) : Type 0 where
+  pub whole : lines_of_pieces dealt.pieces.items ≡ lines
+  pub marks : dealt.marks.items ≡ marks_of plan shards lines
+  pub ways : All (HasWays plan shards) dealt.pieces.items
 
 -- of lines with these marks, those that the shard tells
 abbrev pub of_shard : ℕ → List ℕ → List (List ℕ) → List (List ℕ)
@@ -69,24 +121,28 @@ pub record IsPart (shards shard : ℕ) (plan part : CheckedPlan) : Type 0 where
   pub rows : (t : ℕ) → shard_of shards t ≡ shard → row_at part t ≡ row_at plan t
 
 -- a text and the lengths of its lines
-pub record IsText (text lengths : List ℕ) (lines : List (List ℕ)) : Type 0 where
+pub record IsText (text : List ℕ) (lengths : Lengths) (lines : List (List ℕ)) : Type 0 where
   pub bytes : text ≡ joined lines
-  pub counts : lengths ≡ map length lines
+  pub counts : AreListed lengths (map length lines)
 
 -- what is left of a shard's text behind a place, where these lines are
 pub record IsLeft (told : Told) (place : Place) (lines : List (List ℕ)) : Type 0 where
   pub within : place.byte ≤ length told.text.items
-  pub text : IsText (drop place.byte told.text.items) (drop place.line told.lengths.items) lines
+  pub bytes : drop place.byte told.text.items ≡ joined lines
+  pub counts : AreLeft told.lengths place.length (map length lines)
+
+abbrev pub first_place : Place
+first_place = record { length = first_length; byte = 0 }
 
 -- each shard that had memory told its own of the lines with these marks
 abbrev pub EachTold : {E : Type 0} → List ℕ → List (List ℕ) → List (Result Told E) → Type 0
-EachTold {E} marks lines tried = (k : ℕ) (d : Result Told E) → k < length tried → IfOk (slice_index_or tried k d) (λ told. IsText told.text.items told.lengths.items (of_shard k marks lines))
+EachTold {E} marks lines tried = (k : ℕ) (d : Result Told E) → k < length tried → IfOk (slice_index_or tried k d) (λ told. IsText told.text.items told.lengths (of_shard k marks lines))
 
 -- each line has a mark, each mark a shard, and each shard told its own of the lines
 pub record AreTold (marks : List ℕ) (lines : List (List ℕ)) (all : List Told) : Type 0 where
   pub size : length lines ≡ length marks
   pub shards : (i : ℕ) → i < length marks → slice_index_or marks i 0 - 1 < length all
-  pub texts : (k : ℕ) (d : Told) → k < length all → IsText (slice_index_or all k d).text.items (slice_index_or all k d).lengths.items (of_shard k marks lines)
+  pub texts : (k : ℕ) (d : Told) → k < length all → IsText (slice_index_or all k d).text.items (slice_index_or all k d).lengths (of_shard k marks lines)
 
 -- these lines, as one world wrote them or as the shards told them
 abbrev pub AreAnswers : Answers → List (List ℕ) → Type 0

@@ -1,14 +1,15 @@
 //! The answers to the lines of a script, by one world or by shards.
 
-ghost use Rattle.std.specs.Prelude.{◌≡◌, ◌≤◌, ℕ, List, Ok, map, vec_len, false, true, IfOk, IfErr, OnOk, IsErrOf};
+ghost use Rattle.std.specs.Prelude.{◌≡◌, ◌≤◌, ◌<◌, ℕ, List, Ok, map, vec_len, false, true, IfOk, IfErr, OnOk, IsErrOf};
 ghost use Rattle.std.specs.Io.KnownBytes.{Appends};
 ghost use Rattle.gq_script.specs.declared.script.RunFault.{RunFault};
 ghost use Rattle.gq_text.specs.Lines.{lines_of, joined};
 ghost use Rattle.gq_script.specs.Out.{output_lines};
 ghost use Rattle.gq_script.specs.Watched.{inner_of, has_failed, AppendsPrefix};
-ghost use Rattle.gq_shards.specs.Shards.{marks_of, of_shard, AreTold, EachTold, IsText, AreAnswers, IsWritingFault};
+ghost use Rattle.gq_shards.specs.Shards.{of_shard, AreDealt, AreTold, EachTold, IsText, AreAnswers, IsWritingFault};
 
-use crate::marks::marks_in_threads;
+use crate::dealing::{Dealt, deal_in_threads};
+use crate::lengths::Lengths;
 use crate::merging::write_told;
 use crate::telling::{Told, told_by};
 use gq_desk::Plan;
@@ -47,7 +48,7 @@ fn untold(alloc: Global, shards: usize) -> Result<Vec<Result<Told, OutOfMemory>>
     for _shard in 0..shards {
         tried.grow(Ok(Told {
             text: Vec::new(alloc),
-            lengths: Vec::new(alloc),
+            lengths: Lengths::new(alloc, 0)?,
         }))?;
     }
     Ok(tried)
@@ -59,13 +60,14 @@ fn tried_in_threads<T: Threads + Sync>(
     alloc: Global,
     plan: &Plan,
     shards: usize,
-    marks: &[u8],
-    lines: &[u8],
+    bytes: usize,
+    dealt: &Dealt<'_>,
 ) -> Result<Vec<Result<Told, OutOfMemory>>, OutOfMemory>
     requires some { 1 ≤ shards }
-    requires marks { marks.now ≡ marks_of plan.now shards (lines_of lines.now) }
+    requires dealt { (lines : List (List ℕ)) × AreDealt plan.now shards lines dealt.now }
     ensures size { IfOk result (λ tried. vec_len tried ≡ shards) }
-    ensures told { IfOk result (λ tried. EachTold marks.now (output_lines plan.now (lines_of lines.now)) tried.items) }
+    ensures told { IfOk result (λ tried. (lines : List (List ℕ)) → AreDealt plan.now shards lines dealt.now →
+        EachTold dealt.now.marks.items (output_lines plan.now lines) tried.items) }
 {
     let mut tried = untold(alloc, shards)?;
     thread::for_each_mut(
@@ -73,10 +75,11 @@ fn tried_in_threads<T: Threads + Sync>(
         tried.as_mut_slice(),
         shards,
         &|shard: usize, told: &mut Result<Told, OutOfMemory>|
-            requires { (1 ≤ shards) × (marks.now ≡ marks_of plan.now shards (lines_of lines.now)) }
-            ensures { IfOk told.exit.now (λ told. IsText told.text.items told.lengths.items
-                (of_shard shard marks.entry.now (output_lines plan.entry.now (lines_of lines.entry.now)))) }
-        { *told = told_by(alloc, plan, shards, shard, marks, lines) },
+            requires { (shard < shards) × ((lines : List (List ℕ)) × AreDealt plan.now shards lines dealt.now) }
+            ensures { IfOk told.exit.now (λ told. (lines : List (List ℕ)) → AreDealt plan.entry.now shards lines dealt.entry.now →
+                IsText told.text.items told.lengths
+                (of_shard shard dealt.entry.now.marks.items (output_lines plan.entry.now lines))) }
+        { *told = told_by(alloc, plan, shards, shard, bytes, dealt) },
     );
     Ok(tried)
 }
@@ -87,14 +90,15 @@ fn told_in_threads<T: Threads + Sync>(
     alloc: Global,
     plan: &Plan,
     shards: usize,
-    marks: &[u8],
-    lines: &[u8],
+    bytes: usize,
+    dealt: &Dealt<'_>,
 ) -> Result<Vec<Told>, OutOfMemory>
     requires some { 1 ≤ shards }
-    requires marks { marks.now ≡ marks_of plan.now shards (lines_of lines.now) }
-    ensures { IfOk result (λ all. AreTold marks.now (output_lines plan.now (lines_of lines.now)) all.items) }
+    requires dealt { (lines : List (List ℕ)) × AreDealt plan.now shards lines dealt.now }
+    ensures { IfOk result (λ all. (lines : List (List ℕ)) → AreDealt plan.now shards lines dealt.now →
+        AreTold dealt.now.marks.items (output_lines plan.now lines) all.items) }
 {
-    let tried = tried_in_threads(rt, alloc, plan, shards, marks, lines)?;
+    let tried = tried_in_threads(rt, alloc, plan, shards, bytes, dealt)?;
     all_of(alloc, tried)
 }
 
@@ -113,9 +117,9 @@ pub fn answers_in_shards<T: Threads + Sync>(
     if shards < 2 {
         return Ok(Answers::One(answers_of(alloc, plan, lines)?));
     }
-    let marks = marks_in_threads(rt, alloc, &plan, shards, lines)?;
-    let told = told_in_threads(rt, alloc, &plan, shards, marks.as_slice(), lines)?;
-    Ok(Answers::Shards(marks, told))
+    let dealt = deal_in_threads(rt, alloc, &plan, shards, lines)?;
+    let told = told_in_threads(rt, alloc, &plan, shards, lines.len(), &dealt)?;
+    Ok(Answers::Shards(dealt.marks, told))
 }
 
 /// Writes the lines of answers. The faults are `Memory`, before the first write, and `Write`, after a prefix was written.

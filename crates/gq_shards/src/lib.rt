@@ -4,10 +4,12 @@
 
 mod answering;
 mod chunk;
-mod marks;
+mod dealing;
+mod lengths;
 mod merging;
 mod parts;
 mod run;
 mod telling;
+mod ways;
 
 pub use run::{SHORT, run_in_shards};

@@ -1,13 +1,14 @@
 //! The lines of all shards, put together and written.
 
-ghost use Rattle.std.specs.Prelude.{◌≡◌, [], ◌∷◌, ◌+◌, ◌<◌, ◌≤◌, ℕ, List, length, vec_len, replicate, slice_index, take, true, false, IfOk, IfErr, OnOk, OnErr, IsErrOf};
+ghost use Rattle.std.specs.Prelude.{◌≡◌, [], ◌∷◌, ◌≤◌, ℕ, List, length, replicate, take, true, false, IfErr, OnOk, OnErr, IsErrOf};
 ghost use Rattle.std.specs.Io.KnownBytes.{Appends};
 ghost use Rattle.gq_script.specs.declared.script.RunFault.{RunFault};
 ghost use Rattle.gq_text.specs.Lines.{joined};
 ghost use Rattle.gq_script.specs.Watched.{inner_of, has_failed, AppendsPrefix};
-ghost use Rattle.gq_shards.specs.Shards.{waiting, IsLeft, AreTold, IsWritingFault};
+ghost use Rattle.gq_shards.specs.Shards.{first_place, waiting, IsLeft, AreTold, IsWritingFault};
 
 use crate::chunk::Chunk;
+use crate::lengths::{FIRST_LENGTH, LengthPlace};
 use crate::telling::Told;
 use gq_memory::{OutOfMemory, filled};
 use gq_script::{RunFault, Watched};
@@ -20,32 +21,30 @@ const CHUNK: usize = 65_536;
 // Where the next line of a shard is.
 #[derive(Clone, Copy, Drop)]
 pub struct Place {
-    pub line: usize,
+    pub length: LengthPlace,
     pub byte: usize,
 }
+
+// The place of a shard's first line.
+pub const FIRST_PLACE: Place = Place {
+    length: FIRST_LENGTH,
+    byte: 0,
+};
 
 // The next line of what is told, as the first bytes of a text, so many, and the place behind it.
 #[inline(always)]
 fn next_line<'a>(told: &'a Told, place: Place) -> (&'a [u8], usize, Place)
-    requires line { place.line < vec_len told.now.lengths }
-    requires bytes { place.byte + slice_index told.now.lengths.items place.line ≤ vec_len told.now.text }
+    requires { (line : List ℕ) × (lines : List (List ℕ)) × IsLeft told.now place (line ∷ lines) }
     ensures within { result.1 ≤ length result.0.now }
     ensures line { (line : List ℕ) (lines : List (List ℕ)) → IsLeft told.now place (line ∷ lines) →
         (take result.1 result.0.now ≡ line) × IsLeft told.now result.2 lines }
 {
-    let size = told.lengths[place.line] as usize;
+    let (size, length) = told.lengths.next_length(place.length);
     let after = Place {
-        line: place.line + 1,
+        length,
         byte: place.byte + size,
     };
     (&told.text[place.byte..], size, after)
-}
-
-// The places of the first lines.
-fn first_places(alloc: Global, shards: usize) -> Result<Vec<Place>, OutOfMemory>
-    ensures { IfOk result (λ places. places.items ≡ replicate shards (record { line = 0; byte = 0 })) }
-{
-    filled(alloc, Place { line: 0, byte: 0 }, shards)
 }
 
 // Writes the lines of all shards in the order of their marks. The chunk is empty, and each shard is at its first line.
@@ -58,7 +57,7 @@ fn write_lines<W: Write>(
 ) -> Result<(), RunFault>
     requires fine { has_failed writer.old ≡ false }
     requires empty { waiting chunk.old ≡ [] }
-    requires first { places.old ≡ replicate (length all.now) (record { line = 0; byte = 0 }) }
+    requires first { places.old ≡ replicate (length all.now) first_place }
     requires told { (lines : List (List ℕ)) × AreTold marks.now lines all.now }
     ensures ok { OnOk result ((lines : List (List ℕ)) → AreTold marks.now lines all.now →
         Appends (W.contents (inner_of writer.old)) (W.contents (inner_of writer.new)) (joined lines)) }
@@ -96,7 +95,7 @@ pub fn write_told<W: Write>(
     ensures prefix { IsErrOf result RunFault.Write → (lines : List (List ℕ)) → AreTold marks.now lines all.now →
         AppendsPrefix (W.contents (inner_of writer.old)) (W.contents (inner_of writer.new)) (joined lines) }
 {
-    let mut places = match first_places(alloc, all.len()) {
+    let mut places = match filled(alloc, FIRST_PLACE, all.len()) {
         Ok(places) => places,
         Err(refused) => return Err(RunFault::Memory(refused)),
     };

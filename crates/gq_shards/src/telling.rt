@@ -1,19 +1,20 @@
 //! What one shard tells.
 
-ghost use Rattle.std.specs.Prelude.{◌≡◌, ◌≤◌, ◌∷◌, ◌++◌, [], true, false, List, drop, length, IfOk, OnOk};
+ghost use Rattle.std.specs.Prelude.{◌≡◌, ◌≤◌, ◌<◌, ◌∷◌, ◌++◌, [], true, ℕ, List, length, IfOk, OnOk};
 ghost use Rattle.gq_model.specs.declared.events.Event.{Event};
 ghost use Rattle.gq_model.specs.Events.{IsIn};
 ghost use Rattle.gq_world.specs.Tables.{Stands};
 ghost use Rattle.gq_model.specs.Shown.{shown};
-ghost use Rattle.gq_text.specs.Lines.{lines_of};
 ghost use Rattle.gq_text.specs.AnswerText.{answer_line};
 ghost use Rattle.gq_text.specs.Input.{event_cut};
 ghost use Rattle.gq_script.specs.Out.{line_cut, output_lines};
-ghost use Rattle.gq_shards.specs.Shards.{marks_of, of_shard, sees_mark, tells, ArePassed, IsPart, IsText};
+ghost use Rattle.gq_shards.specs.Shards.{mark_of, of_shard, sees_mark, tells, AreDealt, AreListed, IsPart, IsText, IsTold, IsUntold};
 
+use crate::dealing::Dealt;
+use crate::lengths::{FIRST_LENGTH, Lengths};
 use crate::parts::part_of;
 use gq_desk::Plan;
-use gq_memory::{GrowLengths, OutOfMemory, room_for};
+use gq_memory::{OutOfMemory, room_for};
 use gq_model::{Answer, Event};
 use gq_text::{QuorumText, cut_line, read_cut_line, write_next_answer};
 use gq_world::{Ended, World};
@@ -23,7 +24,7 @@ use std::alloc::Global;
 #[derive(Drop)]
 pub struct Told {
     pub text: Vec<u8>,
-    pub lengths: Vec<u32>,
+    pub lengths: Lengths,
 }
 
 // Appends the line of the answer to an event.
@@ -34,88 +35,68 @@ fn tell(
     answer: &Answer,
     quorum: &mut QuorumText,
     text: &mut Vec<u8>,
-    lengths: &mut Vec<u32>,
+    lengths: &mut Lengths,
 ) -> Result<(), OutOfMemory>
     requires event { IsIn plan.now event.now }
     requires grid { quorum.old.grid ≡ plan.now.grid }
     ensures grid { quorum.new.grid ≡ quorum.old.grid }
     ensures text { OnOk result (text.new.items ≡ text.old.items ++ answer_line plan.now event.now (shown answer.now)) }
-    ensures lengths { OnOk result (lengths.new.items ≡
-        lengths.old.items ++ length (answer_line plan.now event.now (shown answer.now)) ∷ []) }
+    ensures lengths { OnOk result ((old : List ℕ) → AreListed lengths.old old →
+        AreListed lengths.new (old ++ length (answer_line plan.now event.now (shown answer.now)) ∷ [])) }
 {
     let start = text.len();
     write_next_answer(plan, event, answer, quorum, text)?;
-    lengths.grow_length(&text[start..])
+    lengths.grow(&text[start..])
 }
 
-// Answers a line of this mark where the shard sees it, and tells the answer where the line is its own.
+// Whether the shard tells the answer to the event of a line that it sees.
+#[inline(always)]
+fn is_told(shard: usize, event: &Event) -> bool
+    ensures { (shards : ℕ) → sees_mark shard (mark_of shards event.now) ≡ true → result ≡ tells shard (mark_of shards event.now) }
+{
+    match event {
+        Event::Server { .. } => shard == 0,
+        _ => true,
+    }
+}
+
+// Answers a line that the shard sees, and tells the answer where the line is its own.
 #[inline(always)]
 fn next(
     alloc: Global,
     world: &mut World,
     shard: usize,
-    mark: u8,
     first: &[u8],
     words: &[u8],
     quorum: &mut QuorumText,
     text: &mut Vec<u8>,
-    lengths: &mut Vec<u32>,
+    lengths: &mut Lengths,
 ) -> Result<(), OutOfMemory>
     requires grid { quorum.old.grid ≡ world.old.tables.plan.grid }
     ensures grid { quorum.new.grid ≡ quorum.old.grid }
     ensures plan { world.new.tables.plan ≡ world.old.tables.plan }
-    ensures unseen { OnOk result (sees_mark shard mark ≡ false →
-        (world.new ≡ world.old) × (text.new.items ≡ text.old.items) × (lengths.new.items ≡ lengths.old.items)) }
-    ensures silent { OnOk result (tells shard mark ≡ false →
-        (text.new.items ≡ text.old.items) × (lengths.new.items ≡ lengths.old.items)) }
-    ensures stands { OnOk result (sees_mark shard mark ≡ true → (before : List Event) → Stands world.old.tables before →
+    ensures stands { OnOk result ((before : List Event) → Stands world.old.tables before →
         Stands world.new.tables (before ++ event_cut world.old.tables.plan first.now words.now ∷ [])) }
-    ensures text { OnOk result (tells shard mark ≡ true → (before : List Event) → Stands world.old.tables before →
+    ensures silent { OnOk result ((shards : ℕ) → IsUntold shards shard (event_cut world.old.tables.plan first.now words.now) →
+        (text.new.items ≡ text.old.items) × (lengths.new ≡ lengths.old)) }
+    ensures text { OnOk result ((shards : ℕ) (before : List Event) → IsTold shards shard (event_cut world.old.tables.plan first.now words.now) →
+        Stands world.old.tables before →
         text.new.items ≡ text.old.items ++ line_cut world.old.tables.plan before first.now words.now) }
-    ensures lengths { OnOk result (tells shard mark ≡ true → (before : List Event) → Stands world.old.tables before →
-        lengths.new.items ≡ lengths.old.items ++ length (line_cut world.old.tables.plan before first.now words.now) ∷ []) }
+    ensures lengths { OnOk result ((shards : ℕ) (before : List Event) (old : List ℕ) → IsTold shards shard (event_cut world.old.tables.plan first.now words.now) →
+        Stands world.old.tables before → AreListed lengths.old old →
+        AreListed lengths.new (old ++ length (line_cut world.old.tables.plan before first.now words.now) ∷ [])) }
 {
-    let mine = mark.saturating_sub(1) as usize == shard;
-    if mark == 0 || mine {
-        let event = read_cut_line(alloc, first, words, world.plan())?;
-        let answer = match world.step(&event) {
-            Ok(answer) => answer,
-            Err(Ended(refused)) => return Err(refused),
-        };
-        if mine {
-            tell(world.plan(), &event, &answer, quorum, text, lengths)?;
-        }
-        drop(event);
-        drop(answer);
+    let event = read_cut_line(alloc, first, words, world.plan())?;
+    let answer = match world.step(&event) {
+        Ok(answer) => answer,
+        Err(Ended(refused)) => return Err(refused),
+    };
+    if is_told(shard, &event) {
+        tell(world.plan(), &event, &answer, quorum, text, lengths)?;
     }
+    drop(event);
+    drop(answer);
     Ok(())
-}
-
-// Whether the shard sees a line of this mark.
-#[inline(always)]
-fn sees(shard: usize, mark: u8) -> bool
-    ensures { result ≡ sees_mark shard mark }
-{
-    mark == 0 || mark.saturating_sub(1) as usize == shard
-}
-
-// Passes lines that the shard does not see, the first of which has the mark of this place. The result is the place of the next mark
-// that it sees, or the end, and the lines from there on. It is a call, so that all that the loop needs is in registers.
-#[inline(never)]
-fn pass_lines<'a>(shard: usize, marks: &[u8], place: usize, lines: &'a [u8]) -> (usize, &'a [u8])
-    requires { length (drop place marks.now) ≡ length (lines_of lines.now) }
-    ensures passed { ArePassed shard (drop place marks.now) (lines_of lines.now)
-        (drop result.0 marks.now) (lines_of result.1.now) }
-    ensures further { place ≤ result.0 }
-{
-    let mut next = place;
-    let mut rest = lines;
-    while next < marks.len() && !sees(shard, marks[next]) {
-        let (_, _, after) = cut_line(rest);
-        rest = after;
-        next += 1;
-    }
-    (next, rest)
 }
 
 // A world of the shard's plan, and what the shard tells before the first line. The lists begin with the room that a shard's part
@@ -125,55 +106,61 @@ fn start_shard(
     plan: &Plan,
     shards: usize,
     shard: usize,
-    marks: &[u8],
-    lines: &[u8],
+    bytes: usize,
+    lines: usize,
 ) -> Result<(World, Told), OutOfMemory>
     requires { 1 ≤ shards }
     ensures part { IfOk result (λ start. IsPart shards shard plan.now start.0.tables.plan) }
     ensures stands { IfOk result (λ start. Stands start.0.tables []) }
     ensures text { IfOk result (λ start. start.1.text.items ≡ []) }
-    ensures lengths { IfOk result (λ start. start.1.lengths.items ≡ []) }
+    ensures lengths { IfOk result (λ start. AreListed start.1.lengths []) }
 {
     let told = Told {
-        text: room_for(alloc, lines.len() / shards)?,
-        lengths: room_for(alloc, marks.len() / shards)?,
+        text: room_for(alloc, bytes / shards)?,
+        lengths: Lengths::new(alloc, lines / shards)?,
     };
     let part = part_of(alloc, plan, shards, shard)?;
     let world = World::new(alloc, part)?;
     Ok((world, told))
 }
 
-/// Answers the lines that the shard sees, and tells the answers to its own.
+/// Answers the lines of the pieces that the shard sees, and tells the answers to its own. The script has about so many bytes and
+/// lines.
 pub fn told_by(
     alloc: Global,
     plan: &Plan,
     shards: usize,
     shard: usize,
-    marks: &[u8],
-    lines: &[u8],
+    bytes: usize,
+    dealt: &Dealt<'_>,
 ) -> Result<Told, OutOfMemory>
-    requires some { 1 ≤ shards }
-    requires marks { marks.now ≡ marks_of plan.now shards (lines_of lines.now) }
-    ensures { IfOk result (λ told. IsText told.text.items told.lengths.items
-        (of_shard shard marks.now (output_lines plan.now (lines_of lines.now)))) }
+    requires shard { shard < shards }
+    requires dealt { (lines : List (List ℕ)) × AreDealt plan.now shards lines dealt.now }
+    ensures { IfOk result (λ told. (lines : List (List ℕ)) → AreDealt plan.now shards lines dealt.now →
+        IsText told.text.items told.lengths (of_shard shard dealt.now.marks.items (output_lines plan.now lines))) }
 {
-    let (mut world, mut told) = start_shard(alloc, plan, shards, shard, marks, lines)?;
+    let (mut world, mut told) = start_shard(alloc, plan, shards, shard, bytes, dealt.marks.len())?;
     let mut quorum = QuorumText::new(alloc, *plan.grid());
-    let (mut place, mut rest) = pass_lines(shard, marks, 0, lines);
-    while place < marks.len() {
-        let (first, words, after) = cut_line(rest);
-        next(
-            alloc,
-            &mut world,
-            shard,
-            marks[place],
-            first,
-            words,
-            &mut quorum,
-            &mut told.text,
-            &mut told.lengths,
-        )?;
-        (place, rest) = pass_lines(shard, marks, place + 1, after);
+    for piece in dealt.pieces.as_slice() {
+        let gaps = &piece.ways[shard].gaps;
+        let mut place = FIRST_LENGTH;
+        let mut rest = piece.lines;
+        while place.near < gaps.near.len() {
+            let (gap, after) = gaps.next_length(place);
+            let (first, words, behind) = cut_line(&rest[gap..]);
+            next(
+                alloc,
+                &mut world,
+                shard,
+                first,
+                words,
+                &mut quorum,
+                &mut told.text,
+                &mut told.lengths,
+            )?;
+            place = after;
+            rest = behind;
+        }
     }
     Ok(told)
 }

@@ -1,10 +1,9 @@
-use Rattle.std.proofs.Common.{refl, ℕ, ◌<◌, ◌≤◌, ◌+◌, List, arith, length, get_or, drop, take}
+use Rattle.std.proofs.Common.{refl, ℕ, List, arith, get_or, drop, take}
 use Rattle.std.proofs.lemmas.List.{drop_all}
 use Rattle.std.proofs.lemmas.Result.{on_err_weaker}
-use Rattle.gq_shards.specs.declared.merging.Place.{Place}
-use Rattle.gq_shards.specs.Shards.{waiting, AreTold}
+use Rattle.gq_shards.specs.Shards.{first_place, waiting, AreTold}
 use Rattle.gq_shards.proofs.Passing.{on_err}
-use Rattle.gq_shards.proofs.Lefts.{IsNext, first_place, step_within, step_more, step_part, going_last}
+use Rattle.gq_shards.proofs.Lefts.{IsNext, step_left, step_more, step_part, going_last}
 use Rattle.gq_shards.proofs.merging.write_lines.Goals as goal
 
 -- the line of this turn is the next of its shard
@@ -18,18 +17,11 @@ next_here g c lines told = record {
   at = refl;
 }
 
-within : (g : _) (c : goal.After-next_line-arg-1 g) → let place : Place = get_or c.loop-mark.places c.saturating_sub-shard.result first_place in
-    (place.line < length c.index-all-shard.result.lengths.items) × (place.byte + get_or c.index-all-shard.result.lengths.items place.line 0 ≤ length c.index-all-shard.result.text.items)
-within g c =
+pub next_line-size-requires : goal.next_line-size-requires
+next_line-size-requires g c =
     let lines = c.requires.told.0 in
     let told = c.requires.told.1 in
-    step_within _ _ _ _ _ _ lines _ _ _ _ (c.loop-mark.invariant.going lines told) (next_here g c lines told)
-
-pub next_line-size-requires-clause-line : goal.next_line-size-requires-clause-line
-next_line-size-requires-clause-line g c = let here = within g c in omega (arith, here.0)
-
-pub next_line-size-requires-clause-bytes : goal.next_line-size-requires-clause-bytes
-next_line-size-requires-clause-bytes g c = let here = within g c in omega (arith, here.1)
+    (_, _, step_left _ _ _ _ _ _ lines _ _ _ _ (c.loop-mark.invariant.going lines told) (next_here g c lines told))
 
 pub returns-in_err-put_part-clause-prefix : goal.returns-in_err-put_part-clause-prefix
 returns-in_err-put_part-clause-prefix g c = on_err c.from_residual.result (λ lines told.

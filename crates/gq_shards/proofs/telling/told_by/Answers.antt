@@ -1,50 +1,129 @@
-use Rattle.std.proofs.Common.{◌≡◌, ◌∙◌, ℕ, ◌+◌, ◌<◌, ◌∷◌, ◌++◌, ap, sym, arith, length, get_or, drop}
-use Rattle.std.proofs.lemmas.List.{drop_more}
+use Rattle.std.proofs.Common.{◌≡◌, ◌∙◌, ℕ, ◌+◌, ◌<◌, List, [], ◌∷◌, ◌++◌, ap, sym, subst, arith, true, length, length-drop, get_or, drop}
+use Rattle.std.proofs.lemmas.List.{drop_all, drop_more, take_rest}
+use Rattle.std.proofs.lemmas.List.Elements.{All-get_or}
 use Rattle.gq_desk.specs.CheckedPlan.{CheckedPlan}
-use Rattle.gq_world.specs.Whole.{Whole}
 use Rattle.gq_text.specs.Words.{words_after}
 use Rattle.gq_text.specs.Lines.{lines_of}
 use Rattle.gq_text.specs.Input.{event_cut, event_of, event_of_words}
 use Rattle.gq_text.specs.QuorumText.{Held}
+use Rattle.gq_shards.specs.declared.dealing.Piece.{Piece}
+use Rattle.gq_shards.specs.declared.ways.Way.{Way}
+use Rattle.gq_shards.specs.Shards.{marks_of, gaps_of, lines_of_pieces, AreDealt, AreLeft, AreListed, HasWays}
+use Rattle.gq_shards.proofs.Going.{Next, next_found, found_none}
+use Rattle.gq_shards.proofs.Listing.{some_listed, none_listed}
 use Rattle.gq_shards.proofs.PartPlans.{event_words_part}
-use Rattle.gq_shards.proofs.Seeing.{Tells, tells_first, tells_more, tells_passed}
+use Rattle.gq_shards.proofs.Seeing.{sees_event, Tells, tells_first, tells_seen, tells_all}
 use Rattle.gq_shards.proofs.telling.told_by.Goals as goal
+
+pub loop-piece-init : goal.loop-piece-init
+loop-piece-init c =
+    let start = c.in_ok-world.ensures in
+    record {
+      grid = ap (λ (held : Held). held.grid) c.new-quorum.ensures ∙ (c.grid.ensures ∙ sym start.part.grid);
+      told = λ lines dealt.
+          subst (λ left. Tells c.args.shards c.args.shard c.args.plan.now c.in_ok-world.world.tables c.in_ok-world.told.text.items c.in_ok-world.told.lengths left lines) (sym dealt.whole)
+          (tells_first c.args.shards c.args.shard c.args.plan.now c.in_ok-world.world.tables c.in_ok-world.told.text.items c.in_ok-world.told.lengths lines start.part start.stands start.text start.lengths);
+    }
+
+pub next_length-gap-requires : goal.next_length-gap-requires
+next_length-gap-requires c =
+    let some = some_listed c.index.result.now.gaps c.loop-place.place _ c.loop-place.invariant.left (omega (arith, c.loop-place-test.true)) in
+    (some.0, some.1, subst (AreLeft c.index.result.now.gaps c.loop-place.place) some.2 c.loop-place.invariant.left)
 
 pub loop-place-init : goal.loop-place-init
 loop-place-init c =
-    let start = c.in_ok-world.ensures in
-    let marks = c.args.marks.now in let lines = lines_of c.args.lines.now in
-    let first : Tells c.args.shards c.args.shard c.args.plan.now c.in_ok-world.world.tables c.in_ok-world.told.text.items c.in_ok-world.told.lengths.items marks marks lines lines =
-    rw (start.text, start.lengths) (tells_first c.args.shards c.args.shard c.args.plan.now c.in_ok-world.world.tables marks lines start.part start.stands c.requires.marks) in
+    let pieces : List Piece = c.args.dealt.now.pieces.items in
+    let i = c.loop-piece.piece-index in
+    let piece : Piece = c.piece-item.result in
+    let below : i < length pieces = omega (arith, c.loop-piece-test.true) in
+    let is : piece ≡ get_or pieces i piece = cc c.piece-item.is in
+    let ways : HasWays c.args.plan.now c.args.shards piece = subst (HasWays c.args.plan.now c.args.shards) (sym is) (All-get_or (HasWays c.args.plan.now c.args.shards) pieces i piece below c.requires.dealt.1.ways) in
+    let way : Way = c.index.result.now in
+    let own : way ≡ get_or piece.ways.items c.args.shard way = cc c.index.ensures in
+    let gaps : List ℕ = gaps_of c.args.shard 0 (marks_of c.args.plan.now c.args.shards (lines_of piece.lines.now)) (lines_of piece.lines.now) in
     record {
-      grid = ap (λ (held : Held). held.grid) c.new-quorum.ensures ∙ (c.grid.ensures ∙ sym start.part.grid);
-      told = tells_passed c.args.shards c.args.shard c.args.plan.now c.in_ok-world.world.tables c.in_ok-world.told.text.items c.in_ok-world.told.lengths.items marks (drop c.pass_lines-place.result.0 marks) marks
-          lines (lines_of c.pass_lines-place.result.1.now) lines first c.pass_lines-place.ensures.passed;
+      grid = c.loop-piece.invariant.grid;
+      left = subst (λ (w : Way). AreListed w.gaps gaps) (sym own) (ways.gaps c.args.shard way c.requires.shard);
+      told = λ lines dealt. rw (drop_more pieces i piece below, ← is) at (c.loop-piece.invariant.told lines dealt);
     }
+
+pub slice_bounds-cut_line-count : goal.slice_bounds-cut_line-count
+slice_bounds-cut_line-count c =
+    let next = next_found c.args.shards c.args.shard c.args.plan.now c.loop-place.world.tables c.loop-place.told.text.items c.loop-place.told.lengths c.index.result.now.gaps c.loop-place.place c.next_length-gap.result.1 c.next_length-gap.result.0 c.loop-place.rest.now
+    (lines_of_pieces (drop (c.loop-piece.piece-index + 1) c.args.dealt.now.pieces.items)) c.requires.dealt.0 c.loop-place.invariant.left (omega (arith, c.loop-place-test.true)) c.next_length-gap.ensures (c.loop-place.invariant.told c.requires.dealt.0 c.requires.dealt.1) in
+    omega (arith, next.within)
+
+pub slice_bounds-cut_line-start : goal.slice_bounds-cut_line-start
+slice_bounds-cut_line-start c =
+    let next = next_found c.args.shards c.args.shard c.args.plan.now c.loop-place.world.tables c.loop-place.told.text.items c.loop-place.told.lengths c.index.result.now.gaps c.loop-place.place c.next_length-gap.result.1 c.next_length-gap.result.0 c.loop-place.rest.now
+    (lines_of_pieces (drop (c.loop-piece.piece-index + 1) c.args.dealt.now.pieces.items)) c.requires.dealt.0 c.loop-place.invariant.left (omega (arith, c.loop-place-test.true)) c.next_length-gap.ensures (c.loop-place.invariant.told c.requires.dealt.0 c.requires.dealt.1) in
+    omega (arith, next.within)
+
+pub cut_line-requires : goal.cut_line-requires
+cut_line-requires c =
+    let next = next_found c.args.shards c.args.shard c.args.plan.now c.loop-place.world.tables c.loop-place.told.text.items c.loop-place.told.lengths c.index.result.now.gaps c.loop-place.place c.next_length-gap.result.1 c.next_length-gap.result.0 c.loop-place.rest.now
+    (lines_of_pieces (drop (c.loop-piece.piece-index + 1) c.args.dealt.now.pieces.items)) c.requires.dealt.0 c.loop-place.invariant.left (omega (arith, c.loop-place-test.true)) c.next_length-gap.ensures (c.loop-place.invariant.told c.requires.dealt.0 c.requires.dealt.1) in
+    let bytes : List ℕ = c.loop-place.rest.now in
+    rw (take_rest bytes c.next_length-gap.result.0) (omega (arith, next.within, length-drop c.next_length-gap.result.0 bytes))
+
+pub loop-place-smaller : goal.loop-place-smaller
+loop-place-smaller c =
+    let next = next_found c.args.shards c.args.shard c.args.plan.now c.loop-place.world.tables c.loop-place.told.text.items c.loop-place.told.lengths c.index.result.now.gaps c.loop-place.place c.next_length-gap.result.1 c.next_length-gap.result.0 c.loop-place.rest.now
+    (lines_of_pieces (drop (c.loop-piece.piece-index + 1) c.args.dealt.now.pieces.items)) c.requires.dealt.0 c.loop-place.invariant.left (omega (arith, c.loop-place-test.true)) c.next_length-gap.ensures (c.loop-place.invariant.told c.requires.dealt.0 c.requires.dealt.1) in
+    omega (arith, next.smaller)
+
+pub loop-piece-preserved : goal.loop-piece-preserved
+loop-piece-preserved c =
+    let rest = lines_of c.loop-place.rest.now in
+    let none : gaps_of c.args.shard 0 (marks_of c.args.plan.now c.args.shards rest) rest ≡ [] = none_listed c.index.result.now.gaps c.loop-place.place _ c.loop-place.invariant.left (omega (arith, c.loop-place-test.false)) in
+    record {
+      grid = c.loop-place.invariant.grid;
+      told = λ lines dealt.
+          found_none c.args.shards c.args.shard c.args.plan.now c.loop-place.world.tables c.loop-place.told.text.items c.loop-place.told.lengths 0 rest (lines_of_pieces (drop (c.loop-piece.piece-index + 1) c.args.dealt.now.pieces.items)) lines
+          none (c.loop-place.invariant.told lines dealt);
+    }
+
+pub returns : goal.returns
+returns c = λ lines dealt.
+    let pieces : List Piece = c.args.dealt.now.pieces.items in
+    let none : drop c.loop-piece.piece-index pieces ≡ [] = drop_all c.loop-piece.piece-index pieces (omega (arith, c.loop-piece-test.false)) in
+    let end : Tells c.args.shards c.args.shard c.args.plan.now c.loop-piece.world.tables c.loop-piece.told.text.items c.loop-piece.told.lengths [] lines = rw none at (c.loop-piece.invariant.told lines dealt) in
+    rw dealt.marks (tells_all c.args.shards c.args.shard c.args.plan.now c.loop-piece.world.tables c.loop-piece.told.text.items c.loop-piece.told.lengths lines end)
 
 pub loop-place-preserved : goal.loop-place-preserved
 loop-place-preserved c =
     let n = c.args.shards in let k = c.args.shard in let plan = c.args.plan.now in
     let old = c.loop-place.world.tables in
-    let first = c.cut_line.result.0.now in let words = c.cut_line.result.1.now in
-    let i = c.loop-place.place in
-    let marks = c.args.marks.now in
-    let below : i < length marks = omega (arith, c.loop-place-test.true) in
-    let mark : ℕ = get_or marks i 0 in
-    let now : Tells n k plan old c.loop-place.told.text.items c.loop-place.told.lengths.items (mark ∷ drop (i + 1) marks) marks (lines_of c.loop-place.rest.now) (lines_of c.args.lines.now) =
-    rw (drop_more marks i 0 below) at c.loop-place.invariant.told in
-    let reads : event_cut old.plan first words ≡ event_of plan (first ++ words) =
-    event_words_part n k plan old.plan (first ∷ words_after words) now.part ∙ ap (event_of_words plan) (sym c.cut_line.ensures.words) in
-    let more : Tells n k plan c.next.new.world.tables c.next.new.text.items c.next.new.lengths.items (drop (i + 1) marks) marks (lines_of c.cut_line.result.2.now) (lines_of c.args.lines.now) =
-    tells_more n k plan old c.next.new.world.tables c.loop-place.told.text.items c.next.new.text.items c.loop-place.told.lengths.items c.next.new.lengths.items marks
-    mark (drop (i + 1) marks) (first ++ words) (lines_of c.loop-place.rest.now) (lines_of c.cut_line.result.2.now) (lines_of c.args.lines.now) (event_cut old.plan first words) now
-    c.cut_line.ensures.lines c.next.ensures.plan reads
-    (λ unseen. let same = c.in_ok-next.ensures.unseen unseen in (ap (λ (w : Whole). w.tables) same.0, same.1, same.2))
-    (λ seen. c.in_ok-next.ensures.stands seen)
-    (λ seen quiet. c.in_ok-next.ensures.silent quiet)
-    (λ tells before stands. (c.in_ok-next.ensures.text tells before stands, c.in_ok-next.ensures.lengths tells before stands)) in
+    let bytes : List ℕ = c.loop-place.rest.now in
+    let gap = c.next_length-gap.result.0 in
+    let more = lines_of_pieces (drop (c.loop-piece.piece-index + 1) c.args.dealt.now.pieces.items) in
+    let first : List ℕ = c.cut_line.result.0.now in
+    let words : List ℕ = c.cut_line.result.1.now in
+    let rest : List (List ℕ) = lines_of c.cut_line.result.2.now in
+    let e = event_cut old.plan first words in
+    let cut : lines_of (drop gap bytes) ≡ (first ++ words) ∷ rest = rw (take_rest bytes gap) at c.cut_line.ensures.lines in
+    let next_of : (lines : List (List ℕ)) → AreDealt plan n lines c.args.dealt.now → Next n k plan old c.loop-place.told.text.items c.loop-place.told.lengths c.index.result.now.gaps c.loop-place.place c.next_length-gap.result.1 gap bytes more lines =
+    λ lines dealt. next_found n k plan old c.loop-place.told.text.items c.loop-place.told.lengths c.index.result.now.gaps c.loop-place.place c.next_length-gap.result.1 gap bytes
+    more lines c.loop-place.invariant.left (omega (arith, c.loop-place-test.true)) c.next_length-gap.ensures (c.loop-place.invariant.told lines dealt) in
+    let one = next_of c.requires.dealt.0 c.requires.dealt.1 in
+    let both : one.line ∷ one.lines ≡ (first ++ words) ∷ rest = sym one.is ∙ cut in
+    let others : one.lines ≡ rest = cc both in
     record {
       grid = c.next.ensures.grid ∙ c.loop-place.invariant.grid ∙ sym (ap (λ (p : CheckedPlan). p.grid) c.next.ensures.plan);
-      told = tells_passed n k plan c.next.new.world.tables c.next.new.text.items c.next.new.lengths.items (drop (i + 1) marks) (drop c.pass_lines.result.0 marks) marks
-          (lines_of c.cut_line.result.2.now) (lines_of c.pass_lines.result.1.now) (lines_of c.args.lines.now) more c.pass_lines.ensures.passed;
+      left = rw others at one.left;
+      told = λ lines dealt.
+          let next = next_of lines dealt in
+          let same : next.line ∷ next.lines ≡ (first ++ words) ∷ rest = sym next.is ∙ cut in
+          let line_is : next.line ≡ first ++ words = cc same in
+          let lines_are : next.lines ≡ rest = cc same in
+          let now : Tells n k plan old c.loop-place.told.text.items c.loop-place.told.lengths ((first ++ words) ∷ (rest ++ more)) lines = rw (line_is, lines_are) at next.tells in
+          let reads : e ≡ event_of plan (first ++ words) =
+          event_words_part n k plan old.plan (first ∷ words_after words) now.part ∙ ap (event_of_words plan) (sym c.cut_line.ensures.words) in
+          let seen : sees_event n k e ≡ true = ap (sees_event n k) (reads ∙ ap (event_of plan) (sym line_is)) ∙ next.seen in
+          tells_seen n k plan old c.next.new.world.tables c.loop-place.told.text.items c.next.new.text.items c.loop-place.told.lengths c.next.new.lengths (first ++ words) (rest ++ more) lines e now
+          c.next.ensures.plan reads seen
+          c.in_ok-next.ensures.stands
+          (c.in_ok-next.ensures.silent n)
+          (λ told before stands. c.in_ok-next.ensures.text n before told stands)
+          (λ told before held stands are. c.in_ok-next.ensures.lengths n before held told stands are);
     }

@@ -1,0 +1,177 @@
+//! Whose each line is, and the ways of the shards from line to line.
+
+ghost use Rattle.std.specs.Prelude.{◌≡◌, ◌≤◌, ◌∷◌, ◌++◌, List, IfOk};
+ghost use Rattle.std.specs.Thread.{IsSync};
+ghost use Rattle.gq_desk.specs.declared.limits.TheConstants.{MOST_TENANTS};
+ghost use Rattle.gq_text.specs.Words.{Word};
+ghost use Rattle.gq_text.specs.Lines.{lines_of};
+ghost use Rattle.gq_text.specs.Input.{event_of_words};
+ghost use Rattle.gq_shards.specs.Shards.{mark_of, AreDealt};
+
+use crate::ways::{Way, first_ways, stop_at};
+use gq_desk::Plan;
+use gq_memory::{GrowCopies, GrowVec, OutOfMemory, room_for};
+use gq_text::cut_line;
+use memchr::memchr;
+use std::alloc::Global;
+use std::thread::{Threads, join};
+
+/// A piece of a script: lines that follow each other, and each shard's way through them.
+#[derive(Drop)]
+pub struct Piece<'a> {
+    pub lines: &'a [u8],
+    pub ways: Vec<Way>,
+}
+
+/// A script that is dealt out: the mark of each line, and the pieces that the lines are in.
+#[derive(Drop)]
+pub struct Dealt<'a> {
+    pub marks: Vec<u8>,
+    pub pieces: Vec<Piece<'a>>,
+}
+
+// The mark of a line that begins with the word.
+#[inline(always)]
+#[tactic(auto, unfolding(gq_text::specs::Input::event_of_words))]
+fn mark(plan: &Plan, shards: usize, first: &[u8]) -> u8
+    requires least { 1 ≤ shards }
+    requires most { shards ≤ MOST_TENANTS }
+    ensures { (words : List Word) → result ≡ mark_of shards (event_of_words plan.now (first.now ∷ words)) }
+{
+    if first == b"server".as_slice() {
+        return 0;
+    }
+    match plan.find_word(first) {
+        Some(tenant) => (tenant as usize % shards) as u8 + 1,
+        None => 1,
+    }
+}
+
+// Deals out the lines of a text, in one piece.
+fn deal<'a>(
+    alloc: Global,
+    plan: &Plan,
+    shards: usize,
+    lines: &'a [u8],
+) -> Result<Dealt<'a>, OutOfMemory>
+    requires least { 1 ≤ shards }
+    requires most { shards ≤ MOST_TENANTS }
+    ensures { IfOk result (λ dealt. AreDealt plan.now shards (lines_of lines.now) dealt) }
+{
+    let mut marks = room_for(alloc, lines.len() / 8)?;
+    let mut ways = first_ways(alloc, shards, lines.len() / 8 / shards)?;
+    let mut place = 0;
+    while place < lines.len() {
+        let (first, words, _) = cut_line(&lines[place..]);
+        let mark = mark(plan, shards, first);
+        let after = place + first.len() + words.len() + 1;
+        marks.grow(mark)?;
+        stop_at(ways.as_mut_slice(), mark, lines, place, after)?;
+        place = after;
+    }
+    let mut pieces = Vec::new(alloc);
+    pieces.grow(Piece { lines, ways })?;
+    Ok(Dealt { marks, pieces })
+}
+
+// Cuts a text at the end of the line of a place.
+fn cut_text(text: &[u8], place: usize) -> (&[u8], &[u8])
+    ensures { lines_of text.now ≡ lines_of result.0.now ++ lines_of result.1.now }
+{
+    if place >= text.len() {
+        return (text, &[]);
+    }
+    match memchr(b'\n', &text[place..]) {
+        Some(end) => (&text[..place + end + 1], &text[place + end + 1..]),
+        None => (text, &[]),
+    }
+}
+
+// The lines of one text, and behind them those of another.
+fn together<'a>(front: Dealt<'a>, back: Dealt<'a>) -> Result<Dealt<'a>, OutOfMemory>
+    ensures marks { IfOk result (λ dealt. dealt.marks.items ≡ front.entry.marks.items ++ back.entry.marks.items) }
+    ensures pieces { IfOk result (λ dealt. dealt.pieces.items ≡ front.entry.pieces.items ++ back.entry.pieces.items) }
+{
+    let Dealt {
+        mut marks,
+        mut pieces,
+    } = front;
+    marks.grow_by(back.marks.as_slice())?;
+    for piece in back.pieces {
+        pieces.grow(piece)?;
+    }
+    Ok(Dealt { marks, pieces })
+}
+
+// Deals out the lines of a text by two threads.
+fn deal_by_two<'a, T: Threads + Sync>(
+    rt: &T,
+    alloc: Global,
+    plan: &Plan,
+    shards: usize,
+    lines: &'a [u8],
+) -> Result<Dealt<'a>, OutOfMemory>
+    requires least { 1 ≤ shards }
+    requires most { shards ≤ MOST_TENANTS }
+    ensures { IfOk result (λ dealt. AreDealt plan.now shards (lines_of lines.now) dealt) }
+{
+    let (front, back) = cut_text(lines, lines.len() / 2);
+    let (first, second) = join(
+        rt,
+        || -> Result<Dealt, OutOfMemory>
+            requires { (1 ≤ shards) × (shards ≤ MOST_TENANTS) }
+            ensures { IfOk result (λ dealt. AreDealt plan.entry.now shards (lines_of front.entry.now) dealt) }
+        { deal(alloc, plan, shards, front) },
+        || -> Result<Dealt, OutOfMemory>
+            requires { (1 ≤ shards) × (shards ≤ MOST_TENANTS) }
+            ensures { IfOk result (λ dealt. AreDealt plan.entry.now shards (lines_of back.entry.now) dealt) }
+        { deal(alloc, plan, shards, back) },
+    );
+    together(first?, second?)
+}
+
+// Deals out the lines of a text by four threads.
+fn deal_by_four<'a, T: Threads + Sync>(
+    rt: &T,
+    alloc: Global,
+    plan: &Plan,
+    shards: usize,
+    lines: &'a [u8],
+) -> Result<Dealt<'a>, OutOfMemory>
+    requires least { 1 ≤ shards }
+    requires most { shards ≤ MOST_TENANTS }
+    ensures { IfOk result (λ dealt. AreDealt plan.now shards (lines_of lines.now) dealt) }
+{
+    let (front, back) = cut_text(lines, lines.len() / 2);
+    let (first, second) = join(
+        rt,
+        || -> Result<Dealt, OutOfMemory>
+            requires { IsSync T.row × (1 ≤ shards) × (shards ≤ MOST_TENANTS) }
+            ensures { IfOk result (λ dealt. AreDealt plan.entry.now shards (lines_of front.entry.now) dealt) }
+        { deal_by_two(rt, alloc, plan, shards, front) },
+        || -> Result<Dealt, OutOfMemory>
+            requires { IsSync T.row × (1 ≤ shards) × (shards ≤ MOST_TENANTS) }
+            ensures { IfOk result (λ dealt. AreDealt plan.entry.now shards (lines_of back.entry.now) dealt) }
+        { deal_by_two(rt, alloc, plan, shards, back) },
+    );
+    together(first?, second?)
+}
+
+/// Deals out the lines of a text, by at most as many threads as there are shards, and no more than four.
+pub fn deal_in_threads<'a, T: Threads + Sync>(
+    rt: &T,
+    alloc: Global,
+    plan: &Plan,
+    shards: usize,
+    lines: &'a [u8],
+) -> Result<Dealt<'a>, OutOfMemory>
+    requires least { 1 ≤ shards }
+    requires most { shards ≤ MOST_TENANTS }
+    ensures { IfOk result (λ dealt. AreDealt plan.now shards (lines_of lines.now) dealt) }
+{
+    if shards < 4 {
+        deal_by_two(rt, alloc, plan, shards, lines)
+    } else {
+        deal_by_four(rt, alloc, plan, shards, lines)
+    }
+}
