@@ -10,7 +10,7 @@ use Rattle.gq_text.specs.Input.{event_of}
 use Rattle.gq_text.specs.Lines.{lines_of, before_first}
 use Rattle.gq_world.specs.Tables.{Tables}
 use Rattle.gq_shards.specs.declared.dealing.Dealt.{Dealt}
-use Rattle.gq_shards.specs.declared.dealing.Piece.{Piece}
+use Rattle.gq_shards.specs.declared.dealing.Section.{Section}
 use Rattle.gq_shards.specs.declared.lengths.LengthPlace.{LengthPlace}
 use Rattle.gq_shards.specs.declared.lengths.Lengths.{Lengths}
 use Rattle.gq_shards.specs.declared.ways.Way.{Way}
@@ -123,6 +123,18 @@ pub record Found (n k : ℕ) (plan : CheckedPlan) (world : Tables) (text : List 
 drop_further : (bytes : List ℕ) (passed size gap : ℕ) → passed + size + 1 ≤ gap → drop (gap - (passed + size + 1)) (drop (suc size) bytes) ≡ drop (gap - passed) bytes
 drop_further bytes passed size gap less = drop-drop (gap - (passed + size + 1)) (suc size) bytes ∙ ap (λ m. drop m bytes) (omega (arith, less))
 
+-- the same in a text that is behind so many bytes of another
+further : (n k : ℕ) (plan : CheckedPlan) (world : Tables) (text : List ℕ) (lengths : Lengths) (gap rest : ℕ) (bytes behind gaps : List ℕ) (more all : List (List ℕ)) → drop rest behind ≡ drop gap bytes
+    → Found n k plan world text lengths rest behind gaps more all → Found n k plan world text lengths gap bytes gaps more all
+further n k plan world text lengths gap rest bytes behind gaps more all same f = record {
+  line = f.line;
+  lines = f.lines;
+  is = ap lines_of (sym same) ∙ f.is;
+  seen = f.seen;
+  gaps_are = f.gaps_are;
+  tells = f.tells;
+}
+
 pub found : (n k : ℕ) (plan : CheckedPlan) (world : Tables) (text : List ℕ) (lengths : Lengths) (passed gap : ℕ) (bytes gaps : List ℕ) (lines more all : List (List ℕ)) → lines_of bytes ≡ lines
     → gaps_of k passed (marks_of plan n lines) lines ≡ gap ∷ gaps → Tells n k plan world text lengths (lines ++ more) all
     → (passed ≤ gap) × Found n k plan world text lengths (gap - passed) bytes gaps more all
@@ -148,19 +160,9 @@ found n k plan world text lengths passed gap bytes gaps (line ∷ lines) more al
           },
         )
     by false unseen later =
-        let further : gaps_of k (passed + length line + 1) (marks_of plan n lines) lines ≡ gap ∷ gaps = rw unseen at left in
-        let next = later further (tells_unseen n k plan world text lengths line (lines ++ more) all so_far unseen) in
-        let f = next.1 in (
-          omega (arith, next.0),
-          record {
-            line = f.line;
-            lines = f.lines;
-            is = ap lines_of (sym (drop_further bytes passed (length line) gap next.0)) ∙ f.is;
-            seen = f.seen;
-            gaps_are = f.gaps_are;
-            tells = f.tells;
-          },
-        )
+        let behind : gaps_of k (passed + length line + 1) (marks_of plan n lines) lines ≡ gap ∷ gaps = rw unseen at left in
+        let next = later behind (tells_unseen n k plan world text lengths line (lines ++ more) all so_far unseen) in
+        (omega (arith, next.0), further n k plan world text lengths (gap - passed) (gap - (passed + length line + 1)) bytes (drop (suc (length line)) bytes) gaps more all (drop_further bytes passed (length line) gap next.0) next.1)
 
 -- the shard sees no more of them
 pub found_none : (n k : ℕ) (plan : CheckedPlan) (world : Tables) (text : List ℕ) (lengths : Lengths) (passed : ℕ) (lines more all : List (List ℕ)) → gaps_of k passed (marks_of plan n lines) lines ≡ []
@@ -236,13 +238,13 @@ next_found n k plan world text lengths list place after gap bytes more all left 
       tells = f.tells;
     }
 
--- ---- lines that are dealt out in pieces
+-- ---- lines that are dealt out in sections
 
 pub dealt_both : {E : Type 0} (plan : CheckedPlan) (n : ℕ) (lines front back : List (List ℕ)) (first second : Dealt) (dealt : Result Dealt E) → lines ≡ front ++ back → AreDealt plan n front first → AreDealt plan n back second
-    → IfOk dealt (λ d. d.marks.items ≡ first.marks.items ++ second.marks.items) → IfOk dealt (λ d. d.pieces.items ≡ first.pieces.items ++ second.pieces.items) → IfOk dealt (λ d. AreDealt plan n lines d)
-dealt_both plan n lines front back first second (Err e) cut one other marks pieces = tt
-dealt_both plan n lines front back first second (Ok dealt) cut one other marks pieces = record {
-  whole = rw pieces (flat_map-append (λ (piece : Piece). lines_of piece.lines.now) first.pieces.items second.pieces.items ∙ (rw (one.whole, other.whole) (sym cut)));
+    → IfOk dealt (λ d. d.marks.items ≡ first.marks.items ++ second.marks.items) → IfOk dealt (λ d. d.sections.items ≡ first.sections.items ++ second.sections.items) → IfOk dealt (λ d. AreDealt plan n lines d)
+dealt_both plan n lines front back first second (Err e) cut one other marks sections = tt
+dealt_both plan n lines front back first second (Ok dealt) cut one other marks sections = record {
+  whole = rw sections (flat_map-append (λ (section : Section). lines_of section.lines.now) first.sections.items second.sections.items ∙ (rw (one.whole, other.whole) (sym cut)));
   marks = marks ∙ (rw (one.marks, other.marks, cut) (sym (map-append (λ line. mark_of n (event_of plan line)) front back)));
-  ways = rw pieces (All-append (HasWays plan n) first.pieces.items second.pieces.items one.ways other.ways);
+  ways = rw sections (All-append (HasWays plan n) first.sections.items second.sections.items one.ways other.ways);
 }

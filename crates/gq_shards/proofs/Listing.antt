@@ -1,5 +1,5 @@
 -- Lists of lengths.
-use Rattle.std.proofs.Common.{◌≡◌, ◌∙◌, ℕ, suc, ◌+◌, ◌-◌, ◌<◌, ◌≤◌, Bool, true, false, List, [], ◌∷◌, ◌++◌, map, length, get_or, drop, refl, sym, ap, arith, append-nil, length-drop}
+use Rattle.std.proofs.Common.{◌≡◌, ◌∙◌, ℕ, suc, ◌+◌, ◌-◌, ◌<◌, ◌≤◌, Bool, true, false, List, [], ◌∷◌, ◌++◌, map, length, get_or, drop, refl, sym, ap, subst, arith, append-nil, length-drop}
 use Rattle.std.specs.Prelude.{min, leb, filter, is_ok, Result, Ok, Err, OnOk}
 use Rattle.std.proofs.Math.Nat.{min-eq_left, min-eq_right}
 use Rattle.std.proofs.lemmas.Bool.{le-leb, lt-leb, leb-true, leb-false}
@@ -95,6 +95,11 @@ long_next list place b m n lengths left is long at =
 pub some_listed : (list : Lengths) (place : LengthPlace) (lengths : List ℕ) → AreLeft list place lengths → place.near < length list.near.items → (n : ℕ) × (rest : List ℕ) × (lengths ≡ n ∷ rest)
 some_listed list place [] left below = absurd (let none : length (drop place.near list.near.items) ≡ 0 = ap length left.bytes in omega (arith, none, length-drop place.near list.near.items, below))
 some_listed list place (n ∷ rest) left below = (n, rest, refl)
+
+pub next_listed : (list : Lengths) (place : LengthPlace) (lengths : List ℕ) → AreLeft list place lengths → place.near < length list.near.items → (n : ℕ) × (rest : List ℕ) × AreLeft list place (n ∷ rest)
+next_listed list place lengths left below =
+    let some = some_listed list place lengths left below in
+    (some.0, some.1, subst (AreLeft list place) some.2 left)
 
 pub none_listed : (list : Lengths) (place : LengthPlace) (lengths : List ℕ) → AreLeft list place lengths → length list.near.items ≤ place.near → lengths ≡ []
 none_listed list place [] left end = refl

@@ -6,7 +6,7 @@ use Rattle.gq_shards.specs.declared.answering.Answers.{Answers}
 use Rattle.gq_shards.specs.declared.answering.Answers.TheVariants.{One, Shards}
 use Rattle.gq_shards.specs.declared.chunk.Chunk.{Chunk}
 use Rattle.gq_shards.specs.declared.dealing.Dealt.{Dealt}
-use Rattle.gq_shards.specs.declared.dealing.Piece.{Piece}
+use Rattle.gq_shards.specs.declared.dealing.Section.{Section}
 use Rattle.gq_shards.specs.declared.lengths.LengthPlace.{LengthPlace}
 use Rattle.gq_shards.specs.declared.lengths.Lengths.{Lengths}
 use Rattle.gq_shards.specs.declared.merging.Place.{Place}
@@ -86,19 +86,19 @@ abbrev pub Stops : Bool → ℕ → ℕ → Way → Way → Type 0
 Stops true place after old new = (new.end ≡ after) × ((gaps : List ℕ) → AreListed old.gaps gaps → AreListed new.gaps (gaps ++ (place - old.end) ∷ []))
 Stops false place after old new = new ≡ old
 
--- the way of each shard through a piece
-pub record HasWays (plan : CheckedPlan) (shards : ℕ) (piece : Piece) : Type 0 where
-  pub size : length piece.ways.items ≡ shards
-  pub gaps : (k : ℕ) (d : Way) → k < shards → AreListed (slice_index_or piece.ways.items k d).gaps (gaps_of k 0 (marks_of plan shards (lines_of piece.lines.now)) (lines_of piece.lines.now))
+-- the way of each shard through a section
+pub record HasWays (plan : CheckedPlan) (shards : ℕ) (section : Section) : Type 0 where
+  pub size : length section.ways.items ≡ shards
+  pub gaps : (k : ℕ) (d : Way) → k < shards → AreListed (slice_index_or section.ways.items k d).gaps (gaps_of k 0 (marks_of plan shards (lines_of section.lines.now)) (lines_of section.lines.now))
 
--- the lines of pieces that follow each other; their marks, and the ways through them
-abbrev pub lines_of_pieces : List Piece → List (List ℕ)
-lines_of_pieces pieces = flat_map (λ (piece : Piece). lines_of piece.lines.now) pieces
+-- the lines of sections that follow each other; their marks, and the ways through them
+abbrev pub lines_of_sections : List Section → List (List ℕ)
+lines_of_sections sections = flat_map (λ (section : Section). lines_of section.lines.now) sections
 
 pub record AreDealt (plan : CheckedPlan) (shards : ℕ) (lines : List (List ℕ)) (dealt : Dealt) : Type 0 where
-  pub whole : lines_of_pieces dealt.pieces.items ≡ lines
+  pub whole : lines_of_sections dealt.sections.items ≡ lines
   pub marks : dealt.marks.items ≡ marks_of plan shards lines
-  pub ways : All (HasWays plan shards) dealt.pieces.items
+  pub ways : All (HasWays plan shards) dealt.sections.items
 
 -- of lines with these marks, those that the shard tells
 abbrev pub of_shard : ℕ → List ℕ → List (List ℕ) → List (List ℕ)

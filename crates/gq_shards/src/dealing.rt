@@ -16,18 +16,18 @@ use memchr::memchr;
 use std::alloc::Global;
 use std::thread::{Threads, join};
 
-/// A piece of a script: lines that follow each other, and each shard's way through them.
+/// A section of a script: lines that follow each other, and each shard's way through them.
 #[derive(Drop)]
-pub struct Piece<'a> {
+pub struct Section<'a> {
     pub lines: &'a [u8],
     pub ways: Vec<Way>,
 }
 
-/// A script that is dealt out: the mark of each line, and the pieces that the lines are in.
+/// A script that is dealt out: the mark of each line, and the sections that the lines are in.
 #[derive(Drop)]
 pub struct Dealt<'a> {
     pub marks: Vec<u8>,
-    pub pieces: Vec<Piece<'a>>,
+    pub sections: Vec<Section<'a>>,
 }
 
 // The mark of a line that begins with the word.
@@ -47,7 +47,7 @@ fn mark(plan: &Plan, shards: usize, first: &[u8]) -> u8
     }
 }
 
-// Deals out the lines of a text, in one piece.
+// Deals out the lines of a text, in one section.
 fn deal<'a>(
     alloc: Global,
     plan: &Plan,
@@ -69,9 +69,9 @@ fn deal<'a>(
         stop_at(ways.as_mut_slice(), mark, lines, place, after)?;
         place = after;
     }
-    let mut pieces = Vec::new(alloc);
-    pieces.grow(Piece { lines, ways })?;
-    Ok(Dealt { marks, pieces })
+    let mut sections = Vec::new(alloc);
+    sections.grow(Section { lines, ways })?;
+    Ok(Dealt { marks, sections })
 }
 
 // Cuts a text at the end of the line of a place.
@@ -90,17 +90,17 @@ fn cut_text(text: &[u8], place: usize) -> (&[u8], &[u8])
 // The lines of one text, and behind them those of another.
 fn together<'a>(front: Dealt<'a>, back: Dealt<'a>) -> Result<Dealt<'a>, OutOfMemory>
     ensures marks { IfOk result (λ dealt. dealt.marks.items ≡ front.entry.marks.items ++ back.entry.marks.items) }
-    ensures pieces { IfOk result (λ dealt. dealt.pieces.items ≡ front.entry.pieces.items ++ back.entry.pieces.items) }
+    ensures sections { IfOk result (λ dealt. dealt.sections.items ≡ front.entry.sections.items ++ back.entry.sections.items) }
 {
     let Dealt {
         mut marks,
-        mut pieces,
+        mut sections,
     } = front;
     marks.grow_by(back.marks.as_slice())?;
-    for piece in back.pieces {
-        pieces.grow(piece)?;
+    for section in back.sections {
+        sections.grow(section)?;
     }
-    Ok(Dealt { marks, pieces })
+    Ok(Dealt { marks, sections })
 }
 
 // Deals out the lines of a text by two threads.

@@ -124,7 +124,7 @@ fn start_shard(
     Ok((world, told))
 }
 
-/// Answers the lines of the pieces that the shard sees, and tells the answers to its own. The script has about so many bytes and
+/// Answers the lines of the sections that the shard sees, and tells the answers to its own. The script has about so many bytes and
 /// lines.
 pub fn told_by(
     alloc: Global,
@@ -141,10 +141,10 @@ pub fn told_by(
 {
     let (mut world, mut told) = start_shard(alloc, plan, shards, shard, bytes, dealt.marks.len())?;
     let mut quorum = QuorumText::new(alloc, *plan.grid());
-    for piece in dealt.pieces.as_slice() {
-        let gaps = &piece.ways[shard].gaps;
+    for section in dealt.sections.as_slice() {
+        let gaps = &section.ways[shard].gaps;
         let mut place = FIRST_LENGTH;
-        let mut rest = piece.lines;
+        let mut rest = section.lines;
         while place.near < gaps.near.len() {
             let (gap, after) = gaps.next_length(place);
             let (first, words, behind) = cut_line(&rest[gap..]);

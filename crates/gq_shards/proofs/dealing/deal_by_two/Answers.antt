@@ -10,4 +10,4 @@ returns g c =
     let back : List (List ℕ) = lines_of c.cut_text.result.1.now in
     let one : AreDealt c.args.plan.now c.args.shards front c.in_ok-first.field-0 = rw c.in_ok-first.was at c.join-first.ensures.first in
     let other : AreDealt c.args.plan.now c.args.shards back c.in_ok-second.field-0 = rw c.in_ok-second.was at c.join-first.ensures.second in
-    dealt_both c.args.plan.now c.args.shards (lines_of c.args.lines.now) front back c.in_ok-first.field-0 c.in_ok-second.field-0 c.together.result c.cut_text.ensures one other c.together.ensures.marks c.together.ensures.pieces
+    dealt_both c.args.plan.now c.args.shards (lines_of c.args.lines.now) front back c.in_ok-first.field-0 c.in_ok-second.field-0 c.together.result c.cut_text.ensures one other c.together.ensures.marks c.together.ensures.sections

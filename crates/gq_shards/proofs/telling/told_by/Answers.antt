@@ -6,17 +6,17 @@ use Rattle.gq_text.specs.Words.{words_after}
 use Rattle.gq_text.specs.Lines.{lines_of}
 use Rattle.gq_text.specs.Input.{event_cut, event_of, event_of_words}
 use Rattle.gq_text.specs.QuorumText.{Held}
-use Rattle.gq_shards.specs.declared.dealing.Piece.{Piece}
+use Rattle.gq_shards.specs.declared.dealing.Section.{Section}
 use Rattle.gq_shards.specs.declared.ways.Way.{Way}
-use Rattle.gq_shards.specs.Shards.{marks_of, gaps_of, lines_of_pieces, AreDealt, AreLeft, AreListed, HasWays}
+use Rattle.gq_shards.specs.Shards.{marks_of, gaps_of, lines_of_sections, AreDealt, AreLeft, AreListed, HasWays}
 use Rattle.gq_shards.proofs.Going.{Next, next_found, found_none}
-use Rattle.gq_shards.proofs.Listing.{some_listed, none_listed}
+use Rattle.gq_shards.proofs.Listing.{next_listed, none_listed}
 use Rattle.gq_shards.proofs.PartPlans.{event_words_part}
 use Rattle.gq_shards.proofs.Seeing.{sees_event, Tells, tells_first, tells_seen, tells_all}
 use Rattle.gq_shards.proofs.telling.told_by.Goals as goal
 
-pub loop-piece-init : goal.loop-piece-init
-loop-piece-init c =
+pub loop-section-init : goal.loop-section-init
+loop-section-init c =
     let start = c.in_ok-world.ensures in
     record {
       grid = ap (λ (held : Held). held.grid) c.new-quorum.ensures ∙ (c.grid.ensures ∙ sym start.part.grid);
@@ -27,68 +27,67 @@ loop-piece-init c =
 
 pub next_length-gap-requires : goal.next_length-gap-requires
 next_length-gap-requires c =
-    let some = some_listed c.index.result.now.gaps c.loop-place.place _ c.loop-place.invariant.left (omega (arith, c.loop-place-test.true)) in
-    (some.0, some.1, subst (AreLeft c.index.result.now.gaps c.loop-place.place) some.2 c.loop-place.invariant.left)
+    next_listed c.index.result.now.gaps c.loop-place.place _ c.loop-place.invariant.left (omega (arith, c.loop-place-test.true))
 
 pub loop-place-init : goal.loop-place-init
 loop-place-init c =
-    let pieces : List Piece = c.args.dealt.now.pieces.items in
-    let i = c.loop-piece.piece-index in
-    let piece : Piece = c.piece-item.result in
-    let below : i < length pieces = omega (arith, c.loop-piece-test.true) in
-    let is : piece ≡ get_or pieces i piece = cc c.piece-item.is in
-    let ways : HasWays c.args.plan.now c.args.shards piece = subst (HasWays c.args.plan.now c.args.shards) (sym is) (All-get_or (HasWays c.args.plan.now c.args.shards) pieces i piece below c.requires.dealt.1.ways) in
+    let sections : List Section = c.args.dealt.now.sections.items in
+    let i = c.loop-section.section-index in
+    let section : Section = c.section-item.result in
+    let below : i < length sections = omega (arith, c.loop-section-test.true) in
+    let is : section ≡ get_or sections i section = cc c.section-item.is in
+    let ways : HasWays c.args.plan.now c.args.shards section = subst (HasWays c.args.plan.now c.args.shards) (sym is) (All-get_or (HasWays c.args.plan.now c.args.shards) sections i section below c.requires.dealt.1.ways) in
     let way : Way = c.index.result.now in
-    let own : way ≡ get_or piece.ways.items c.args.shard way = cc c.index.ensures in
-    let gaps : List ℕ = gaps_of c.args.shard 0 (marks_of c.args.plan.now c.args.shards (lines_of piece.lines.now)) (lines_of piece.lines.now) in
+    let own : way ≡ get_or section.ways.items c.args.shard way = cc c.index.ensures in
+    let gaps : List ℕ = gaps_of c.args.shard 0 (marks_of c.args.plan.now c.args.shards (lines_of section.lines.now)) (lines_of section.lines.now) in
     record {
-      grid = c.loop-piece.invariant.grid;
+      grid = c.loop-section.invariant.grid;
       left = subst (λ (w : Way). AreListed w.gaps gaps) (sym own) (ways.gaps c.args.shard way c.requires.shard);
-      told = λ lines dealt. rw (drop_more pieces i piece below, ← is) at (c.loop-piece.invariant.told lines dealt);
+      told = λ lines dealt. rw (drop_more sections i section below, ← is) at (c.loop-section.invariant.told lines dealt);
     }
 
 pub slice_bounds-cut_line-count : goal.slice_bounds-cut_line-count
 slice_bounds-cut_line-count c =
     let next = next_found c.args.shards c.args.shard c.args.plan.now c.loop-place.world.tables c.loop-place.told.text.items c.loop-place.told.lengths c.index.result.now.gaps c.loop-place.place c.next_length-gap.result.1 c.next_length-gap.result.0 c.loop-place.rest.now
-    (lines_of_pieces (drop (c.loop-piece.piece-index + 1) c.args.dealt.now.pieces.items)) c.requires.dealt.0 c.loop-place.invariant.left (omega (arith, c.loop-place-test.true)) c.next_length-gap.ensures (c.loop-place.invariant.told c.requires.dealt.0 c.requires.dealt.1) in
+    (lines_of_sections (drop (c.loop-section.section-index + 1) c.args.dealt.now.sections.items)) c.requires.dealt.0 c.loop-place.invariant.left (omega (arith, c.loop-place-test.true)) c.next_length-gap.ensures (c.loop-place.invariant.told c.requires.dealt.0 c.requires.dealt.1) in
     omega (arith, next.within)
 
 pub slice_bounds-cut_line-start : goal.slice_bounds-cut_line-start
 slice_bounds-cut_line-start c =
     let next = next_found c.args.shards c.args.shard c.args.plan.now c.loop-place.world.tables c.loop-place.told.text.items c.loop-place.told.lengths c.index.result.now.gaps c.loop-place.place c.next_length-gap.result.1 c.next_length-gap.result.0 c.loop-place.rest.now
-    (lines_of_pieces (drop (c.loop-piece.piece-index + 1) c.args.dealt.now.pieces.items)) c.requires.dealt.0 c.loop-place.invariant.left (omega (arith, c.loop-place-test.true)) c.next_length-gap.ensures (c.loop-place.invariant.told c.requires.dealt.0 c.requires.dealt.1) in
+    (lines_of_sections (drop (c.loop-section.section-index + 1) c.args.dealt.now.sections.items)) c.requires.dealt.0 c.loop-place.invariant.left (omega (arith, c.loop-place-test.true)) c.next_length-gap.ensures (c.loop-place.invariant.told c.requires.dealt.0 c.requires.dealt.1) in
     omega (arith, next.within)
 
 pub cut_line-requires : goal.cut_line-requires
 cut_line-requires c =
     let next = next_found c.args.shards c.args.shard c.args.plan.now c.loop-place.world.tables c.loop-place.told.text.items c.loop-place.told.lengths c.index.result.now.gaps c.loop-place.place c.next_length-gap.result.1 c.next_length-gap.result.0 c.loop-place.rest.now
-    (lines_of_pieces (drop (c.loop-piece.piece-index + 1) c.args.dealt.now.pieces.items)) c.requires.dealt.0 c.loop-place.invariant.left (omega (arith, c.loop-place-test.true)) c.next_length-gap.ensures (c.loop-place.invariant.told c.requires.dealt.0 c.requires.dealt.1) in
+    (lines_of_sections (drop (c.loop-section.section-index + 1) c.args.dealt.now.sections.items)) c.requires.dealt.0 c.loop-place.invariant.left (omega (arith, c.loop-place-test.true)) c.next_length-gap.ensures (c.loop-place.invariant.told c.requires.dealt.0 c.requires.dealt.1) in
     let bytes : List ℕ = c.loop-place.rest.now in
     rw (take_rest bytes c.next_length-gap.result.0) (omega (arith, next.within, length-drop c.next_length-gap.result.0 bytes))
 
 pub loop-place-smaller : goal.loop-place-smaller
 loop-place-smaller c =
     let next = next_found c.args.shards c.args.shard c.args.plan.now c.loop-place.world.tables c.loop-place.told.text.items c.loop-place.told.lengths c.index.result.now.gaps c.loop-place.place c.next_length-gap.result.1 c.next_length-gap.result.0 c.loop-place.rest.now
-    (lines_of_pieces (drop (c.loop-piece.piece-index + 1) c.args.dealt.now.pieces.items)) c.requires.dealt.0 c.loop-place.invariant.left (omega (arith, c.loop-place-test.true)) c.next_length-gap.ensures (c.loop-place.invariant.told c.requires.dealt.0 c.requires.dealt.1) in
+    (lines_of_sections (drop (c.loop-section.section-index + 1) c.args.dealt.now.sections.items)) c.requires.dealt.0 c.loop-place.invariant.left (omega (arith, c.loop-place-test.true)) c.next_length-gap.ensures (c.loop-place.invariant.told c.requires.dealt.0 c.requires.dealt.1) in
     omega (arith, next.smaller)
 
-pub loop-piece-preserved : goal.loop-piece-preserved
-loop-piece-preserved c =
+pub loop-section-preserved : goal.loop-section-preserved
+loop-section-preserved c =
     let rest = lines_of c.loop-place.rest.now in
     let none : gaps_of c.args.shard 0 (marks_of c.args.plan.now c.args.shards rest) rest ≡ [] = none_listed c.index.result.now.gaps c.loop-place.place _ c.loop-place.invariant.left (omega (arith, c.loop-place-test.false)) in
     record {
       grid = c.loop-place.invariant.grid;
       told = λ lines dealt.
-          found_none c.args.shards c.args.shard c.args.plan.now c.loop-place.world.tables c.loop-place.told.text.items c.loop-place.told.lengths 0 rest (lines_of_pieces (drop (c.loop-piece.piece-index + 1) c.args.dealt.now.pieces.items)) lines
+          found_none c.args.shards c.args.shard c.args.plan.now c.loop-place.world.tables c.loop-place.told.text.items c.loop-place.told.lengths 0 rest (lines_of_sections (drop (c.loop-section.section-index + 1) c.args.dealt.now.sections.items)) lines
           none (c.loop-place.invariant.told lines dealt);
     }
 
 pub returns : goal.returns
 returns c = λ lines dealt.
-    let pieces : List Piece = c.args.dealt.now.pieces.items in
-    let none : drop c.loop-piece.piece-index pieces ≡ [] = drop_all c.loop-piece.piece-index pieces (omega (arith, c.loop-piece-test.false)) in
-    let end : Tells c.args.shards c.args.shard c.args.plan.now c.loop-piece.world.tables c.loop-piece.told.text.items c.loop-piece.told.lengths [] lines = rw none at (c.loop-piece.invariant.told lines dealt) in
-    rw dealt.marks (tells_all c.args.shards c.args.shard c.args.plan.now c.loop-piece.world.tables c.loop-piece.told.text.items c.loop-piece.told.lengths lines end)
+    let sections : List Section = c.args.dealt.now.sections.items in
+    let none : drop c.loop-section.section-index sections ≡ [] = drop_all c.loop-section.section-index sections (omega (arith, c.loop-section-test.false)) in
+    let end : Tells c.args.shards c.args.shard c.args.plan.now c.loop-section.world.tables c.loop-section.told.text.items c.loop-section.told.lengths [] lines = rw none at (c.loop-section.invariant.told lines dealt) in
+    rw dealt.marks (tells_all c.args.shards c.args.shard c.args.plan.now c.loop-section.world.tables c.loop-section.told.text.items c.loop-section.told.lengths lines end)
 
 pub loop-place-preserved : goal.loop-place-preserved
 loop-place-preserved c =
@@ -96,7 +95,7 @@ loop-place-preserved c =
     let old = c.loop-place.world.tables in
     let bytes : List ℕ = c.loop-place.rest.now in
     let gap = c.next_length-gap.result.0 in
-    let more = lines_of_pieces (drop (c.loop-piece.piece-index + 1) c.args.dealt.now.pieces.items) in
+    let more = lines_of_sections (drop (c.loop-section.section-index + 1) c.args.dealt.now.sections.items) in
     let first : List ℕ = c.cut_line.result.0.now in
     let words : List ℕ = c.cut_line.result.1.now in
     let rest : List (List ℕ) = lines_of c.cut_line.result.2.now in
