@@ -8,7 +8,7 @@ use Rattle.gq_text.specs.Input.{event_cut, event_of, event_of_words}
 use Rattle.gq_text.specs.QuorumText.{Held}
 use Rattle.gq_shards.specs.declared.dealing.Section.{Section}
 use Rattle.gq_shards.specs.declared.ways.Way.{Way}
-use Rattle.gq_shards.specs.Shards.{marks_of, gaps_of, lines_of_sections, AreDealt, AreLeft, AreListed, HasWays}
+use Rattle.gq_shards.specs.Shards.{marks_of, gaps_of, lines_of_sections, AreDealt, AreListed, HasWays}
 use Rattle.gq_shards.proofs.Going.{Next, next_found, found_none}
 use Rattle.gq_shards.proofs.Listing.{next_listed, none_listed}
 use Rattle.gq_shards.proofs.PartPlans.{event_words_part}
