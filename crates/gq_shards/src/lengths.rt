@@ -1,6 +1,6 @@
 //! Lists of lengths.
 
-ghost use Rattle.std.specs.Prelude.{◌≡◌, ◌∷◌, ◌++◌, [], ℕ, List, length, IfOk, OnOk};
+ghost use Rattle.std.specs.Prelude.{◌≡◌, ◌≤◌, ◌∷◌, ◌++◌, [], ℕ, List, length, IfOk, OnOk};
 ghost use Rattle.gq_shards.specs.Shards.{AreLeft, AreListed};
 
 use gq_memory::{GrowLengths, GrowVec, OutOfMemory, room_for};
@@ -47,6 +47,17 @@ impl Lengths {
         if text.len() < FAR as usize {
             return self.near.grow(text.len() as u8);
         }
+        self.grow_far(text)
+    }
+
+    // The same of a text that is not short.
+    #[cold]
+    #[inline(never)]
+    fn grow_far(&mut self, text: &[u8]) -> Result<(), OutOfMemory>
+        requires { 255 ≤ length text.now }
+        ensures { OnOk result ((lengths : List ℕ) → AreListed self.old lengths →
+            AreListed self.new (lengths ++ length text.now ∷ [])) }
+    {
         self.near.grow(FAR)?;
         self.far.grow_length(text)
     }

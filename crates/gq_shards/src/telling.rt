@@ -60,7 +60,8 @@ fn is_told(shard: usize, event: &Event) -> bool
     }
 }
 
-// Answers a line that the shard sees, and tells the answer where the line is its own.
+// Answers a line that the shard sees, and tells the answer where the line is its own. (The compiler takes no call into a loop that
+// would make it very large: what is rare, as `Lengths::grow_far`, is a call.)
 #[inline(always)]
 fn next(
     alloc: Global,
@@ -124,8 +125,8 @@ fn start_shard(
     Ok((world, told))
 }
 
-/// Answers the lines of the sections that the shard sees, and tells the answers to its own. The script has about so many bytes and
-/// lines.
+/// Answers the lines of a script that the shard sees, and tells the answers to its own. The script has so many bytes.
+#[inline(never)]
 pub fn told_by(
     alloc: Global,
     plan: &Plan,

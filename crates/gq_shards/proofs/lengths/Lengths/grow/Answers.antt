@@ -1,9 +1,6 @@
 use Rattle.std.proofs.Common.{arith}
-use Rattle.gq_shards.proofs.Listing.{on_ok, short_more, long_more}
+use Rattle.gq_shards.proofs.Listing.{on_ok, short_more}
 use Rattle.gq_shards.proofs.lengths.Lengths.grow.Goals as goal
 
 pub returns-then-text : goal.returns-then-text
 returns-then-text c = on_ok c.grow.result (λ ok lengths are. rw (rw ok at c.grow.ensures.items) (short_more _ _ lengths _ are (omega (arith, c.if-text.true))))
-
-pub returns : goal.returns
-returns c = on_ok c.grow_length.result (λ ok lengths are. rw (c.in_ok-grow.ensures.items, rw ok at c.grow_length.ensures.items) (long_more _ _ lengths _ are (omega (arith, c.if-text.false))))
