@@ -217,10 +217,10 @@ pub record Next (n k : ℕ) (plan : CheckedPlan) (world : Tables) (text : List �
   pub smaller : length list.near.items - after.near < length list.near.items - place.near
   pub tells : Tells n k plan world text lengths (line ∷ (lines ++ more)) all
 
-pub next_found : (n k : ℕ) (plan : CheckedPlan) (world : Tables) (text : List ℕ) (lengths list : Lengths) (place after : LengthPlace) (gap : ℕ) (bytes : List ℕ) (more all : List (List ℕ)) → AreLeft list place (gaps_of k 0 (marks_of plan n (lines_of bytes)) (lines_of bytes))
+pub next_found : {n k : ℕ} {plan : CheckedPlan} {world : Tables} {text : List ℕ} {lengths list : Lengths} {place after : LengthPlace} {gap : ℕ} {bytes : List ℕ} {more all : List (List ℕ)} → AreLeft list place (gaps_of k 0 (marks_of plan n (lines_of bytes)) (lines_of bytes))
     → place.near < length list.near.items → ((g : ℕ) (gs : List ℕ) → AreLeft list place (g ∷ gs) → (gap ≡ g) × AreLeft list after gs)
     → Tells n k plan world text lengths (lines_of bytes ++ more) all → Next n k plan world text lengths list place after gap bytes more all
-next_found n k plan world text lengths list place after gap bytes more all left some reads so_far =
+next_found {n} {k} {plan} {world} {text} {lengths} {list} {place} {after} {gap} {bytes} {more} {all} left some reads so_far =
     let (g, gs, are) = some_listed list place (gaps_of k 0 (marks_of plan n (lines_of bytes)) (lines_of bytes)) left some in
     let now : AreLeft list place (g ∷ gs) = subst (AreLeft list place) are left in
     let read = reads g gs now in

@@ -81,9 +81,6 @@ long_here list place b n lengths left is long = (by (leb 255 n) refl, found.1)
         let same : b ≡ n = is ∙ found.0 ∙ least in
         absurd (omega (arith, same, below, long))
 
-pub far_within : (list : Lengths) (place : LengthPlace) (b n : ℕ) (lengths : List ℕ) → AreLeft list place (n ∷ lengths) → b ≡ get_or list.near.items place.near b → 255 ≤ b → place.far < length list.far.items
-far_within list place b n lengths left is long = some_left list.far.items place.far n (filter (leb 255) lengths) (long_here list place b n lengths left is long).0
-
 pub long_next : (list : Lengths) (place : LengthPlace) (b m n : ℕ) (lengths : List ℕ) → AreLeft list place (n ∷ lengths) → b ≡ get_or list.near.items place.near b → 255 ≤ b → m ≡ get_or list.far.items place.far m
     → (m ≡ n) × AreLeft list (record { near = place.near + 1; far = place.far + 1 }) lengths
 long_next list place b m n lengths left is long at =

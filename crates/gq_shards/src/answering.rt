@@ -20,6 +20,9 @@ use std::io::Write;
 use std::thread;
 use std::thread::Threads;
 
+// The most threads that deal lines out.
+const DEALERS: usize = 4;
+
 /// The answers to the lines of a script.
 #[derive(Drop)]
 pub enum Answers {
@@ -117,7 +120,7 @@ pub fn answers_in_shards<T: Threads + Sync>(
     if shards < 2 {
         return Ok(Answers::One(answers_of(alloc, plan, lines)?));
     }
-    let dealt = deal_in_threads(rt, alloc, &plan, shards, lines)?;
+    let dealt = deal_in_threads(rt, alloc, &plan, shards, shards.min(DEALERS), lines)?;
     let told = told_in_threads(rt, alloc, &plan, shards, lines.len(), &dealt)?;
     Ok(Answers::Shards(dealt.marks, told))
 }

@@ -42,7 +42,7 @@ fn mark(plan: &Plan, shards: usize, first: &[u8]) -> u8
         return 0;
     }
     match plan.find_word(first) {
-        Some(tenant) => (tenant as usize % shards) as u8 + 1,
+        Some(tenant) => (tenant as u32 % shards as u32) as u8 + 1,
         None => 1,
     }
 }
@@ -103,75 +103,33 @@ fn together<'a>(front: Dealt<'a>, back: Dealt<'a>) -> Result<Dealt<'a>, OutOfMem
     Ok(Dealt { marks, sections })
 }
 
-// Deals out the lines of a text by two threads.
-fn deal_by_two<'a, T: Threads + Sync>(
-    rt: &T,
-    alloc: Global,
-    plan: &Plan,
-    shards: usize,
-    lines: &'a [u8],
-) -> Result<Dealt<'a>, OutOfMemory>
-    requires least { 1 ≤ shards }
-    requires most { shards ≤ MOST_TENANTS }
-    ensures { IfOk result (λ dealt. AreDealt plan.now shards (lines_of lines.now) dealt) }
-{
-    let (front, back) = cut_text(lines, lines.len() / 2);
-    let (first, second) = join(
-        rt,
-        || -> Result<Dealt, OutOfMemory>
-            requires { (1 ≤ shards) × (shards ≤ MOST_TENANTS) }
-            ensures { IfOk result (λ dealt. AreDealt plan.entry.now shards (lines_of front.entry.now) dealt) }
-        { deal(alloc, plan, shards, front) },
-        || -> Result<Dealt, OutOfMemory>
-            requires { (1 ≤ shards) × (shards ≤ MOST_TENANTS) }
-            ensures { IfOk result (λ dealt. AreDealt plan.entry.now shards (lines_of back.entry.now) dealt) }
-        { deal(alloc, plan, shards, back) },
-    );
-    together(first?, second?)
-}
-
-// Deals out the lines of a text by four threads.
-fn deal_by_four<'a, T: Threads + Sync>(
-    rt: &T,
-    alloc: Global,
-    plan: &Plan,
-    shards: usize,
-    lines: &'a [u8],
-) -> Result<Dealt<'a>, OutOfMemory>
-    requires least { 1 ≤ shards }
-    requires most { shards ≤ MOST_TENANTS }
-    ensures { IfOk result (λ dealt. AreDealt plan.now shards (lines_of lines.now) dealt) }
-{
-    let (front, back) = cut_text(lines, lines.len() / 2);
-    let (first, second) = join(
-        rt,
-        || -> Result<Dealt, OutOfMemory>
-            requires { IsSync T.row × (1 ≤ shards) × (shards ≤ MOST_TENANTS) }
-            ensures { IfOk result (λ dealt. AreDealt plan.entry.now shards (lines_of front.entry.now) dealt) }
-        { deal_by_two(rt, alloc, plan, shards, front) },
-        || -> Result<Dealt, OutOfMemory>
-            requires { IsSync T.row × (1 ≤ shards) × (shards ≤ MOST_TENANTS) }
-            ensures { IfOk result (λ dealt. AreDealt plan.entry.now shards (lines_of back.entry.now) dealt) }
-        { deal_by_two(rt, alloc, plan, shards, back) },
-    );
-    together(first?, second?)
-}
-
-/// Deals out the lines of a text, by at most as many threads as there are shards, and no more than four.
+/// Deals out the lines of a text by so many threads, or by the greatest power of two that is no more.
 pub fn deal_in_threads<'a, T: Threads + Sync>(
     rt: &T,
     alloc: Global,
     plan: &Plan,
     shards: usize,
+    threads: usize,
     lines: &'a [u8],
 ) -> Result<Dealt<'a>, OutOfMemory>
     requires least { 1 ≤ shards }
     requires most { shards ≤ MOST_TENANTS }
     ensures { IfOk result (λ dealt. AreDealt plan.now shards (lines_of lines.now) dealt) }
 {
-    if shards < 4 {
-        deal_by_two(rt, alloc, plan, shards, lines)
-    } else {
-        deal_by_four(rt, alloc, plan, shards, lines)
+    if threads < 2 {
+        return deal(alloc, plan, shards, lines);
     }
+    let (front, back) = cut_text(lines, lines.len() / 2);
+    let (first, second) = join(
+        rt,
+        || -> Result<Dealt, OutOfMemory>
+            requires { IsSync T.row × (2 ≤ threads) × (1 ≤ shards) × (shards ≤ MOST_TENANTS) }
+            ensures { IfOk result (λ dealt. AreDealt plan.entry.now shards (lines_of front.entry.now) dealt) }
+        { deal_in_threads(rt, alloc, plan, shards, threads / 2, front) },
+        || -> Result<Dealt, OutOfMemory>
+            requires { IsSync T.row × (2 ≤ threads) × (1 ≤ shards) × (shards ≤ MOST_TENANTS) }
+            ensures { IfOk result (λ dealt. AreDealt plan.entry.now shards (lines_of back.entry.now) dealt) }
+        { deal_in_threads(rt, alloc, plan, shards, threads / 2, back) },
+    );
+    together(first?, second?)
 }

@@ -125,7 +125,8 @@ fn start_shard(
     Ok((world, told))
 }
 
-/// Answers the lines of a script that the shard sees, and tells the answers to its own. The script has so many bytes.
+/// Answers the lines of a script that the shard sees, and tells the answers to its own. The bytes of the script say how much room
+/// to begin with, and nothing else.
 #[inline(never)]
 pub fn told_by(
     alloc: Global,

@@ -48,27 +48,23 @@ loop-place-init c =
 
 pub slice_bounds-cut_line-count : goal.slice_bounds-cut_line-count
 slice_bounds-cut_line-count c =
-    let next = next_found c.args.shards c.args.shard c.args.plan.now c.loop-place.world.tables c.loop-place.told.text.items c.loop-place.told.lengths c.index.result.now.gaps c.loop-place.place c.next_length-gap.result.1 c.next_length-gap.result.0 c.loop-place.rest.now
-    (lines_of_sections (drop (c.loop-section.section-index + 1) c.args.dealt.now.sections.items)) c.requires.dealt.0 c.loop-place.invariant.left (omega (arith, c.loop-place-test.true)) c.next_length-gap.ensures (c.loop-place.invariant.told c.requires.dealt.0 c.requires.dealt.1) in
+    let next = next_found {list = c.index.result.now.gaps} {bytes = c.loop-place.rest.now} c.loop-place.invariant.left (omega (arith, c.loop-place-test.true)) c.next_length-gap.ensures (c.loop-place.invariant.told c.requires.dealt.0 c.requires.dealt.1) in
     omega (arith, next.within)
 
 pub slice_bounds-cut_line-start : goal.slice_bounds-cut_line-start
 slice_bounds-cut_line-start c =
-    let next = next_found c.args.shards c.args.shard c.args.plan.now c.loop-place.world.tables c.loop-place.told.text.items c.loop-place.told.lengths c.index.result.now.gaps c.loop-place.place c.next_length-gap.result.1 c.next_length-gap.result.0 c.loop-place.rest.now
-    (lines_of_sections (drop (c.loop-section.section-index + 1) c.args.dealt.now.sections.items)) c.requires.dealt.0 c.loop-place.invariant.left (omega (arith, c.loop-place-test.true)) c.next_length-gap.ensures (c.loop-place.invariant.told c.requires.dealt.0 c.requires.dealt.1) in
+    let next = next_found {list = c.index.result.now.gaps} {bytes = c.loop-place.rest.now} c.loop-place.invariant.left (omega (arith, c.loop-place-test.true)) c.next_length-gap.ensures (c.loop-place.invariant.told c.requires.dealt.0 c.requires.dealt.1) in
     omega (arith, next.within)
 
 pub cut_line-requires : goal.cut_line-requires
 cut_line-requires c =
-    let next = next_found c.args.shards c.args.shard c.args.plan.now c.loop-place.world.tables c.loop-place.told.text.items c.loop-place.told.lengths c.index.result.now.gaps c.loop-place.place c.next_length-gap.result.1 c.next_length-gap.result.0 c.loop-place.rest.now
-    (lines_of_sections (drop (c.loop-section.section-index + 1) c.args.dealt.now.sections.items)) c.requires.dealt.0 c.loop-place.invariant.left (omega (arith, c.loop-place-test.true)) c.next_length-gap.ensures (c.loop-place.invariant.told c.requires.dealt.0 c.requires.dealt.1) in
+    let next = next_found {list = c.index.result.now.gaps} {bytes = c.loop-place.rest.now} c.loop-place.invariant.left (omega (arith, c.loop-place-test.true)) c.next_length-gap.ensures (c.loop-place.invariant.told c.requires.dealt.0 c.requires.dealt.1) in
     let bytes : List ℕ = c.loop-place.rest.now in
     rw (take_rest bytes c.next_length-gap.result.0) (omega (arith, next.within, length-drop c.next_length-gap.result.0 bytes))
 
 pub loop-place-smaller : goal.loop-place-smaller
 loop-place-smaller c =
-    let next = next_found c.args.shards c.args.shard c.args.plan.now c.loop-place.world.tables c.loop-place.told.text.items c.loop-place.told.lengths c.index.result.now.gaps c.loop-place.place c.next_length-gap.result.1 c.next_length-gap.result.0 c.loop-place.rest.now
-    (lines_of_sections (drop (c.loop-section.section-index + 1) c.args.dealt.now.sections.items)) c.requires.dealt.0 c.loop-place.invariant.left (omega (arith, c.loop-place-test.true)) c.next_length-gap.ensures (c.loop-place.invariant.told c.requires.dealt.0 c.requires.dealt.1) in
+    let next = next_found {list = c.index.result.now.gaps} {bytes = c.loop-place.rest.now} c.loop-place.invariant.left (omega (arith, c.loop-place-test.true)) c.next_length-gap.ensures (c.loop-place.invariant.told c.requires.dealt.0 c.requires.dealt.1) in
     omega (arith, next.smaller)
 
 pub loop-section-preserved : goal.loop-section-preserved
@@ -102,8 +98,7 @@ loop-place-preserved c =
     let e = event_cut old.plan first words in
     let cut : lines_of (drop gap bytes) ≡ (first ++ words) ∷ rest = rw (take_rest bytes gap) at c.cut_line.ensures.lines in
     let next_of : (lines : List (List ℕ)) → AreDealt plan n lines c.args.dealt.now → Next n k plan old c.loop-place.told.text.items c.loop-place.told.lengths c.index.result.now.gaps c.loop-place.place c.next_length-gap.result.1 gap bytes more lines =
-    λ lines dealt. next_found n k plan old c.loop-place.told.text.items c.loop-place.told.lengths c.index.result.now.gaps c.loop-place.place c.next_length-gap.result.1 gap bytes
-    more lines c.loop-place.invariant.left (omega (arith, c.loop-place-test.true)) c.next_length-gap.ensures (c.loop-place.invariant.told lines dealt) in
+    λ lines dealt. next_found {list = c.index.result.now.gaps} {bytes = c.loop-place.rest.now} c.loop-place.invariant.left (omega (arith, c.loop-place-test.true)) c.next_length-gap.ensures (c.loop-place.invariant.told lines dealt) in
     let one = next_of c.requires.dealt.0 c.requires.dealt.1 in
     let both : one.line ∷ one.lines ≡ (first ++ words) ∷ rest = sym one.is ∙ cut in
     let others : one.lines ≡ rest = cc both in

@@ -2,10 +2,10 @@ use Rattle.std.proofs.Common.{List, ℕ}
 use Rattle.gq_text.specs.Lines.{lines_of}
 use Rattle.gq_shards.specs.Shards.{AreDealt}
 use Rattle.gq_shards.proofs.Going.{dealt_both}
-use Rattle.gq_shards.proofs.dealing.deal_by_two.Goals as goal
+use Rattle.gq_shards.proofs.dealing.+deal_in_threads+fn-deal_in_threads-join+arg2+fn-deal_in_threads-join+arg3.Goals as goal
 
 pub returns : goal.returns
-returns g c =
+returns g t c =
     let front : List (List ℕ) = lines_of c.cut_text.result.0.now in
     let back : List (List ℕ) = lines_of c.cut_text.result.1.now in
     let one : AreDealt c.args.plan.now c.args.shards front c.in_ok-first.field-0 = rw c.in_ok-first.was at c.join-first.ensures.first in
