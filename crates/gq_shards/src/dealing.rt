@@ -104,6 +104,7 @@ fn together<'a>(front: Dealt<'a>, back: Dealt<'a>) -> Result<Dealt<'a>, OutOfMem
 }
 
 /// Deals out the lines of a text by so many threads, or by the greatest power of two that is no more.
+#[cycle(halves)]
 pub fn deal_in_threads<'a, T: Threads + Sync>(
     rt: &T,
     alloc: Global,

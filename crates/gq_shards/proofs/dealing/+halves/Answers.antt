@@ -2,7 +2,7 @@ use Rattle.std.proofs.Common.{List, ℕ}
 use Rattle.gq_text.specs.Lines.{lines_of}
 use Rattle.gq_shards.specs.Shards.{AreDealt}
 use Rattle.gq_shards.proofs.Going.{dealt_both}
-use Rattle.gq_shards.proofs.dealing.+deal_in_threads+fn-deal_in_threads-join+arg2+fn-deal_in_threads-join+arg3.Goals as goal
+use Rattle.gq_shards.proofs.dealing.+halves.Goals as goal
 
 pub returns : goal.returns
 returns g t c =

@@ -1,5 +1,5 @@
 use Rattle.std.proofs.Common.{◌*◌, ◌-◌}
-use Rattle.gq_shards.proofs.dealing.+deal_in_threads+fn-deal_in_threads-join+arg2+fn-deal_in_threads-join+arg3.Given as goal
+use Rattle.gq_shards.proofs.dealing.+halves.Given as goal
 
 abbrev pub decreases-deal_in_threads : goal.decreases-deal_in_threads
 decreases-deal_in_threads g l = 2 * l.threads
