@@ -5,7 +5,7 @@ use bytes::Bytes;
 use gq_cell::{BoardEntry, CellEntry};
 use gq_inspect::inspect;
 use gq_live::OpenGate;
-use gq_memory::GrowVec;
+use gq_memory::{GrowVec, OutOfMemory};
 use gq_model::Said;
 use gq_phase::Outcome;
 use gq_session::{Did, Entries, Journal, Records, SessionEntry};
@@ -75,6 +75,8 @@ enum Forgery {
     Stamp,
     // A return of the server that did not stop.
     Return,
+    // A letter that the last server served after it stopped.
+    Stopped,
     // All servers.
     Servers,
 }
@@ -120,6 +122,21 @@ fn forge_step(step: &mut SessionEntry, forgery: Forgery) {
     }
 }
 
+// The stamp at which the last server stops, above all of its run.
+const STOPPED: u64 = 50;
+
+// The server stops, and serves its first letter once more.
+fn serve_stopped(journal: &mut Journal) -> Result<(), OutOfMemory> {
+    let Some(CellEntry::Served { letter, reply }) = journal.items.get(0) else {
+        return Ok(());
+    };
+    let letter = letter.share()?;
+    let mut reply = reply.share()?;
+    reply.stamp = STOPPED + 1;
+    journal.items.grow(CellEntry::Stop { stamp: STOPPED })?;
+    journal.items.grow(CellEntry::Served { letter, reply })
+}
+
 fn forge(records: &mut Records, forgery: Forgery) {
     match forgery {
         Forgery::Told | Forgery::Brought => {
@@ -146,6 +163,16 @@ fn forge(records: &mut Records, forgery: Forgery) {
                 up: true,
             });
         }
+        Forgery::Stopped => {
+            if let Some(journal) = records.cells.last_mut() {
+                let _ = serve_stopped(journal);
+            }
+            let _ = records.board.grow(BoardEntry {
+                stamp: STOPPED,
+                server: 1,
+                up: false,
+            });
+        }
         Forgery::Servers => records.cells.clear(),
     }
 }
@@ -153,7 +180,7 @@ fn forge(records: &mut Records, forgery: Forgery) {
 // What is told of the records of the smallest run where this is forged, or of that of two servers.
 fn forged<R: Abort + Threads + Wait + Sync>(rt: &R, alloc: Global, forgery: Forgery) -> String {
     let text = match forgery {
-        Forgery::Server => TWO_SERVERS,
+        Forgery::Server | Forgery::Stopped => TWO_SERVERS,
         _ => SMALLEST,
     };
     let (plan, mut records) = run_of(rt, alloc, text, &OpenGate);
@@ -169,6 +196,7 @@ fn tells_what_is_forged(rt: HostRuntime) {
     let reply = "Reply { server: 0, place: 0 }";
     let receipt = "Receipt { server: 0, place: 1 }";
     let elsewhere = "Receipt { server: 1, place: 0 }";
+    let stopped = "Reply { server: 1, place: 2 }";
     let answer = "Answer { tenant: 0, session: 1, at: 2 }";
     for (forgery, told) in [
         (Forgery::Told, reply),
@@ -178,6 +206,7 @@ fn tells_what_is_forged(rt: HostRuntime) {
         (Forgery::Operation, answer),
         (Forgery::Stamp, "Stamp"),
         (Forgery::Return, "Stamp"),
+        (Forgery::Stopped, stopped),
         (Forgery::Servers, "Shape"),
     ] {
         assert!(rt;

@@ -1,6 +1,6 @@
 //! What a command line asks for, done.
 
-ghost use Rattle.std.specs.Prelude.{◌≡◌, false, IfErr, IfSome, OnOk};
+ghost use Rattle.std.specs.Prelude.{◌≡◌, ◌≤◌, false, IfErr, IfSome, OnOk};
 ghost use Rattle.gq_script.specs.Out.{out};
 ghost use Rattle.gq_script.specs.Watched.{inner_of, has_failed, AppendsPrefix};
 ghost use Rattle.gq_runs.specs.Requests.{Writes, MayHaveWritten, IsOfStep, status_of};
@@ -94,7 +94,9 @@ impl RequestFault {
 }
 
 // How many shards a number of jobs is: 0 is one for each core, where it is known how many there are.
-fn shards_of(rt: &impl Threads, jobs: u32) -> usize {
+fn shards_of(rt: &impl Threads, jobs: u32) -> usize
+    ensures { 1 ≤ jobs → result ≡ jobs }
+{
     if jobs > 0 {
         return jobs as usize;
     }
