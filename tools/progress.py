@@ -1,7 +1,11 @@
-"""How far a command is that proves crates, told on standard error; which crates there are, and how many are proved at once."""
+"""How far a command is that proves crates, told on standard error; which crates there are, how many are proved at once, with which
+kit, and that no two commands build the same at once."""
 
+import contextlib
+import fcntl
 import os
 import shutil
+import subprocess
 import sys
 import time
 
@@ -44,6 +48,24 @@ def kept_seconds(name):
 def keep_seconds(name, seconds):
     with open(f"{TOP}/.{name}.seconds", "w") as out:
         out.writelines(f"{it} {seconds[it]:.1f}\n" for it in seconds)
+
+
+def keep_kit(name):
+    """Keeps the kit's version beside what was built, for `./gridfs --version`."""
+    with open(f"{TOP}/.{name}.kit", "w") as out:
+        subprocess.run(["rt", "version"], stdout=out, check=False)
+
+
+@contextlib.contextmanager
+def alone(path):
+    """One command at a time is here, by a lock on the file; another is told that it waits."""
+    with open(path, "w") as lock:
+        try:
+            fcntl.flock(lock, fcntl.LOCK_EX | fcntl.LOCK_NB)
+        except BlockingIOError:
+            print("gridfs: another command builds it; waiting for that one", file=sys.stderr)
+            fcntl.flock(lock, fcntl.LOCK_EX)
+        yield
 
 
 class Shown:
