@@ -1,21 +1,21 @@
-//! Faults of plans in their order, names, and volumes inside shares.
+//! Tenants of a plan and of its copy, and volumes inside shares. (Names and the faults of plans are pinned by contracts, and cases show them.)
 
 ghost use Rattle.std.specs.Prelude.{◌≡◌, ◌<◌, length, IfOk};
 
 use gq_desk::{Desk, Name, OpenRefused, Plan, PlanFault, TenantRow, VolumeRow};
 use gq_grid::Grid;
-use gq_memory::{GrowVec, OutOfMemory};
+use gq_memory::OutOfMemory;
 use gq_tag::FileId;
 use std::alloc::Global;
 use std::process::Abort;
 use std::test::Fail;
 
-fn row(rt: &impl Abort, name: &[u8], share: u32, sessions: u32, steps: u32) -> TenantRow {
+fn row(rt: &impl Abort, name: &[u8], share: u32) -> TenantRow {
     TenantRow {
         name: Name::new(name).expect(rt, "a name"),
         share,
-        sessions,
-        steps,
+        sessions: 1,
+        steps: 1,
     }
 }
 
@@ -25,108 +25,6 @@ fn plan_of(rt: &impl Abort, alloc: Global, rows: &[TenantRow]) -> Result<Plan, P
 {
     let grid = Grid::new(1, 1).expect(rt, "a grid");
     Plan::check(alloc, grid, 4, rows)
-}
-
-fn is_name(word: &[u8]) -> bool {
-    match Name::new(word) {
-        Some(name) => name.as_bytes() == word,
-        None => false,
-    }
-}
-
-#[test]
-fn accepts_names_of_letters_alone(rt: HostRuntime) {
-    for (word, accepted) in [
-        (b"a".as_slice(), true),
-        (b"abcdefghijklmnop", true),
-        (b"servers", true),
-        (b"", false),
-        (b"abcdefghijklmnopq", false),
-        (b"server", false),
-        (b"Ann", false),
-        (b"ann1", false),
-        (b"a b", false),
-        (b"ann\r", false),
-    ] {
-        assert!(rt; is_name(word) == accepted, "{word:?}");
-    }
-}
-
-// What is wrong with a plan of ann, who has 3 blocks of 4, and a second tenant.
-fn fault_with(
-    rt: &impl Abort,
-    alloc: Global,
-    name: &[u8],
-    share: u32,
-    sessions: u32,
-    steps: u32,
-) -> Option<PlanFault> {
-    let rows = [
-        row(rt, b"ann", 3, 1, 10),
-        row(rt, name, share, sessions, steps),
-    ];
-    plan_of(rt, alloc, &rows).err()
-}
-
-// It is that fault. (A fault that may hold a refused growth has no `==`; of the others the variant and each field are compared.)
-fn is_fault(rt: &impl Abort, told: Option<PlanFault>, fault: &PlanFault) {
-    let same = match (&told, fault) {
-        (Some(PlanFault::NoTenant), PlanFault::NoTenant) => true,
-        (Some(PlanFault::TooMany { row }), PlanFault::TooMany { row: wanted })
-        | (Some(PlanFault::SameName { row }), PlanFault::SameName { row: wanted })
-        | (Some(PlanFault::ZeroShare { row }), PlanFault::ZeroShare { row: wanted })
-        | (Some(PlanFault::Sessions { row }), PlanFault::Sessions { row: wanted })
-        | (Some(PlanFault::Steps { row }), PlanFault::Steps { row: wanted }) => row == wanted,
-        (
-            Some(PlanFault::OverBlocks { sum, blocks }),
-            PlanFault::OverBlocks {
-                sum: wanted,
-                blocks: there,
-            },
-        ) => sum == wanted && blocks == there,
-        _ => false,
-    };
-    assert!(rt; same, "{told:?} in the place of {fault:?}");
-}
-
-#[test]
-fn tells_the_first_fault(rt: HostRuntime) {
-    for (name, share, sessions, steps, fault) in [
-        (b"ann".as_slice(), 0, 0, 0, PlanFault::SameName { row: 1 }),
-        (b"bob", 0, 0, 0, PlanFault::ZeroShare { row: 1 }),
-        (b"bob", 2, 17, 0, PlanFault::Sessions { row: 1 }),
-        (b"bob", 2, 16, 0, PlanFault::Steps { row: 1 }),
-        (b"bob", 2, 1, 1, PlanFault::OverBlocks { sum: 5, blocks: 4 }),
-    ] {
-        let told = fault_with(&rt, rt.alloc(), name, share, sessions, steps);
-        is_fault(&rt, told, &fault);
-    }
-}
-
-// What is wrong with a plan of so many tenants, each with its own name of two letters.
-fn fault_of_many(
-    rt: &impl Abort,
-    alloc: Global,
-    tenants: u8,
-) -> Result<Option<PlanFault>, OutOfMemory> {
-    let mut rows = Vec::new(alloc);
-    for number in 0..tenants {
-        let name = [b'a' + number / 26, b'a' + number % 26];
-        rows.grow(row(rt, &name, 1, 1, 1))?;
-    }
-    Ok(plan_of(rt, alloc, rows.as_slice()).err())
-}
-
-#[test]
-fn counts_the_tenants(rt: HostRuntime) -> Result<(), Fail> {
-    for (tenants, fault) in [
-        (0, PlanFault::NoTenant),
-        (64, PlanFault::OverBlocks { sum: 64, blocks: 4 }),
-        (65, PlanFault::TooMany { row: 64 }),
-    ] {
-        is_fault(&rt, fault_of_many(&rt, rt.alloc(), tenants)?, &fault);
-    }
-    Ok(())
 }
 
 // The place of the tenant of that name.
@@ -152,7 +50,7 @@ fn has_ann_and_bob_also_in_a_copy(rt: &impl Abort, plan: &Plan) {
 
 #[test]
 fn finds_tenants_by_name_also_in_a_copy(rt: HostRuntime) {
-    let rows = [row(&rt, b"ann", 1, 1, 1), row(&rt, b"bob", 3, 1, 1)];
+    let rows = [row(&rt, b"ann", 1), row(&rt, b"bob", 3)];
     match plan_of(&rt, rt.alloc(), &rows) {
         Ok(plan) => has_ann_and_bob_also_in_a_copy(&rt, &plan),
         Err(fault) => panic!(rt; "{fault}"),
@@ -163,7 +61,7 @@ fn finds_tenants_by_name_also_in_a_copy(rt: HostRuntime) {
 fn desk_of_two(rt: &impl Abort, alloc: Global) -> Result<Desk, OutOfMemory>
     ensures { IfOk result (λ desk. length desk ≡ 2) }
 {
-    let rows = [row(rt, b"ann", 3, 1, 1), row(rt, b"bob", 1, 1, 1)];
+    let rows = [row(rt, b"ann", 3), row(rt, b"bob", 1)];
     match plan_of(rt, alloc, &rows) {
         Ok(plan) => Desk::new(alloc, &plan),
         Err(_) => panic!(rt; "no plan"),

@@ -9,8 +9,6 @@ mod cell;
 #[cfg(test)]
 mod desk;
 #[cfg(test)]
-mod grid;
-#[cfg(test)]
 mod memory;
 #[cfg(test)]
 mod order;
@@ -20,5 +18,3 @@ mod pool;
 mod post;
 #[cfg(test)]
 mod store;
-#[cfg(test)]
-mod tag;
