@@ -6,6 +6,7 @@ use Rattle.std.proofs.Math.Nat.{suc-mul}
 use Rattle.std.proofs.lemmas.Bool.{cases_eq, and_parts, eq-eqb, or_left, or_right, true≢false}
 use Rattle.std.proofs.lemmas.List.Elements.{All-nil, All-cons}
 use Rattle.std.proofs.lemmas.List.FromFn.{length-range_with_len}
+use Rattle.std.proofs.lemmas.List.Sums.{length-filter, count_by-le-length}
 use Rattle.std.proofs.lemmas.Option.{slice_get-map}
 use Rattle.gq_grid.specs.Grid.{Grid, Servers, below, rising, with_server}
 use Rattle.gq_tag.specs.Tag.{OwnMessage}
@@ -101,14 +102,6 @@ filter_keeps p a (suc n) s low high e = by (cases_eq a s) (p a) refl (λ (late :
     by (inr ne) true f later = let at = later (omega arith) (omega arith) in (suc at.0, (rw f at.1))
     by (inr ne) false f later = let at = later (omega arith) (omega arith) in (at.0, (rw f at.1))
 
-filter_few : (p : ℕ → Bool) (xs : List ℕ) → length (filter p xs) ≤ length xs
-filter_few p [] = omega arith
-filter_few p (x ∷ xs) = by (p x) refl (filter_few p xs)
-  where
-    by : (b : Bool) → p x ≡ b → length (filter p xs) ≤ length xs → length (filter p (x ∷ xs)) ≤ length (x ∷ xs)
-    by true e low = rw e (omega arith)
-    by false e low = rw e (omega arith)
-
 -- ---- a round
 
 -- the round's messages to these servers, which are up, stand from place n on
@@ -175,7 +168,7 @@ sent_deliverable grid row alive first p o quorum set before standing chosen sent
   quorum = quorum;
   chosen = chosen;
   servers = rising grid set;
-  many = (let few = filter_few set (below (grid.rows * grid.cols)) in let count = length-range_with_len 0 (grid.rows * grid.cols) in omega arith);
+  many = (let passing = length-filter set (below (grid.rows * grid.cols)) in let few = count_by-le-length set (below (grid.rows * grid.cols)) in let count = length-range_with_len 0 (grid.rows * grid.cols) in omega arith);
   place = length before;
   late = low;
   waits = λ i server at. (

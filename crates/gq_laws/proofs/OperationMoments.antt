@@ -279,10 +279,10 @@ one_of : (x a : Op) (i : ℕ) → slice_get (x ∷ []) i ≡ Some a → x ≡ a
 one_of x a zero h = cc
 one_of x a (suc i) h = absurd (let bad : None ≡ Some a = h in cc)
 
-same_file : (v f : ℕ) (file : File) → is_file (record { volume = v; place = f }) file ≡ true → record { volume = v; place = f } ≡ file
-same_file v f file h =
-    let parts = and_parts (eqb v file.volume) (eqb f file.place) h in
-    λ i. record { volume = eqb-true v file.volume parts.0 i; place = eqb-true f file.place parts.1 i }
+pub same_file : (a b : File) → is_file a b ≡ true → a ≡ b
+same_file a b is =
+    let parts = and_parts (eqb a.volume b.volume) (eqb a.place b.place) is in
+    λ i. record { volume = eqb-true a.volume b.volume parts.0 i; place = eqb-true a.place b.place parts.1 i }
 
 pub begun_is : (grid : Grid) (row : TenantRow) (file : File) (p : Past) (n : ℕ) (x : Turn) (rest : List SessionAnswer) (a : Op) (i : ℕ) → slice_get (begun_at file (first_told grid row p n x) rest) i ≡ Some a → Begun grid row file p n x rest a
 begun_is grid row file p n (Own (Write k v f bytes)) rest a i h = go (said grid row p (Own (Write k v f bytes))) refl
@@ -296,7 +296,7 @@ begun_is grid row file p n (Own (Write k v f bytes)) rest a i h = go (said grid 
             let g = began_goes grid row p (Own (Write k v f bytes)) o first count is in
             let same = one_of (record { kind = Writes bytes; session = k; op = o; begin = n; end = end_place (ending k rest); tag = write_tag k rest }) a i (rw (is, e) at h) in
             let P : Op → Type 0 = λ z. Begun grid row file p n (Own (Write k v f bytes)) rest z in
-            subst P same (record { g = g; line = Write k v f bytes; task = Writing (record { volume = v; place = f }) bytes; turn = refl; does = rw (g.turn, eq-eqb k k refl); asks = refl; begin = refl; like = AsWrite bytes (ap (λ z. Writing z bytes) (same_file v f file e)) refl refl refl })
+            subst P same (record { g = g; line = Write k v f bytes; task = Writing (record { volume = v; place = f }) bytes; turn = refl; does = rw (g.turn, eq-eqb k k refl); asks = refl; begin = refl; like = AsWrite bytes (ap (λ z. Writing z bytes) (same_file (record { volume = v; place = f }) file e)) refl refl refl })
     go _ is = absurd (let bad : None ≡ Some a = rw is at h in cc)
 begun_is grid row file p n (Own (Read k v f)) rest a i h = go (said grid row p (Own (Read k v f))) refl
   where
@@ -309,7 +309,7 @@ begun_is grid row file p n (Own (Read k v f)) rest a i h = go (said grid row p (
             let g = began_goes grid row p (Own (Read k v f)) o first count is in
             let same = one_of (record { kind = Reads (option_map (λ c. c.bytes) (copy_told (ending k rest))); session = k; op = o; begin = n; end = end_place (ending k rest); tag = option_map (λ c. c.tag) (copy_told (ending k rest)) }) a i (rw (is, e) at h) in
             let P : Op → Type 0 = λ z. Begun grid row file p n (Own (Read k v f)) rest z in
-            subst P same (record { g = g; line = Read k v f; task = Reading (record { volume = v; place = f }); turn = refl; does = rw (g.turn, eq-eqb k k refl); asks = refl; begin = refl; like = AsRead (ap Reading (same_file v f file e)) refl refl refl })
+            subst P same (record { g = g; line = Read k v f; task = Reading (record { volume = v; place = f }); turn = refl; does = rw (g.turn, eq-eqb k k refl); asks = refl; begin = refl; like = AsRead (ap Reading (same_file (record { volume = v; place = f }) file e)) refl refl refl })
     go _ is = absurd (let bad : None ≡ Some a = rw is at h in cc)
 begun_is grid row file p n (Own (ListFiles k v)) rest a i h = go (said grid row p (Own (ListFiles k v))) refl
   where

@@ -1,4 +1,4 @@
--- The same run at other places has the same operations at those places.
+-- The same run at other places has the same operations at those places; they are tagged there where they are tagged here.
 use Rattle.std.proofs.Common.{◌≡◌, ◌⊎◌, ℕ, zero, suc, ◌+◌, ◌<◌, ◌≤◌, Bool, true, false, ◌++◌, List, [], ◌∷◌, map, refl, sym, ap, ◌∙◌, subst, inl, inr, Option, Some, None, arith, option_map, eqb}
 use Rattle.std.specs.Prelude.{IsSome, nat_lt, if◌then◌else◌}
 use Rattle.std.proofs.lemmas.Bool.{cases_lt}
@@ -124,7 +124,7 @@ begun_at-moved f file x ms = go x.place x.turn x.told x.session
         by false e = rw e refl
     go n turn told s = refl
 
-begun_in-moved : (f : ℕ → ℕ) (file : File) (ms : List SessionAnswer) → begun_in file (map (moved_session_answer f) ms) ≡ map (moved_op f) (begun_in file ms)
+pub begun_in-moved : (f : ℕ → ℕ) (file : File) (ms : List SessionAnswer) → begun_in file (map (moved_session_answer f) ms) ≡ map (moved_op f) (begun_in file ms)
 begun_in-moved f file [] = refl
 begun_in-moved f file (x ∷ ms) =
     ap (λ z. z ++ begun_in file (map (moved_session_answer f) ms)) (begun_at-moved f file x ms)
@@ -149,12 +149,12 @@ operations-moved f xs file = ap of (session_answers-moved f [] xs) ∙ by (nat_l
 -- ---- tagged at places that rise as the old ones do
 
 -- it is one of the old operations
-op_was : (f : ℕ → ℕ) (ops : List Op) (i : ℕ) (b : Op) → At (map (moved_op f) ops) i b → (a : Op) × At ops i a × (moved_op f a ≡ b)
+pub op_was : (f : ℕ → ℕ) (ops : List Op) (i : ℕ) (b : Op) → At (map (moved_op f) ops) i b → (a : Op) × At ops i a × (moved_op f a ≡ b)
 op_was f [] i b h = absurd (let bad : None ≡ Some b = h in cc)
 op_was f (a ∷ ops) zero b h = (a, refl, (let same : moved_op f a ≡ b = cc in same))
 op_was f (a ∷ ops) (suc i) b h = op_was f ops i b h
 
-op_is : (f : ℕ → ℕ) (ops : List Op) (i : ℕ) (a : Op) → At ops i a → At (map (moved_op f) ops) i (moved_op f a)
+pub op_is : (f : ℕ → ℕ) (ops : List Op) (i : ℕ) (a : Op) → At ops i a → At (map (moved_op f) ops) i (moved_op f a)
 op_is f [] i a h = absurd (let bad : None ≡ Some a = h in cc)
 op_is f (x ∷ ops) zero a h = let same : x ≡ a = cc in ap (λ z. Some (moved_op f z)) same
 op_is f (x ∷ ops) (suc i) a h = op_is f ops i a h
@@ -238,3 +238,36 @@ tagged-moved f rises ops tagged = record {
         from d place (inr (j, w, bytes, at_w, wrote, low, gives)) =
             let more = rises w.begin d low in
             inr (j, moved_op f w, bytes, op_is f ops j w at_w, wrote, omega (arith, place), subst (G bytes) a_is gives)
+
+-- ---- and the other way round
+
+some_is : (f : ℕ → ℕ) (end : Option ℕ) → IsSome end → IsSome (option_map f end)
+some_is f None h = h
+some_is f (Some d) h = refl
+
+pub tagged-unmoved : (f : ℕ → ℕ) → IsRising f → (ops : List Op) → Tagged (map (moved_op f) ops) → Tagged ops
+tagged-unmoved f rises ops tagged = record {
+  ends_later = λ i e a at ends. low_was f rises a.begin e (tagged.ends_later i (f e) (moved_op f a) (op_is f ops i a at) (ap (option_map f) ends));
+  completed = λ i a at h. tagged.completed i (moved_op f a) (op_is f ops i a at) (some_is f a.end h);
+  write_tags_differ = λ i j a b tag at_a at_b wa wb ta tb. tagged.write_tags_differ i j (moved_op f a) (moved_op f b) tag (op_is f ops i a at_a) (op_is f ops j b at_b) wa wb ta tb;
+  write_tags_not_first = λ i a at wa ta. tagged.write_tags_not_first i (moved_op f a) (op_is f ops i a at) wa ta;
+  rising = λ i j a b x y at_a at_b before ta tb. tagged.rising i j (moved_op f a) (moved_op f b) x y (op_is f ops i a at_a) (op_is f ops j b at_b) (precedes a b before) ta tb;
+  writes_rise = λ i j a b x y at_a at_b before wb ta tb. tagged.writes_rise i j (moved_op f a) (moved_op f b) x y (op_is f ops i a at_a) (op_is f ops j b at_b) (precedes a b before) wb ta tb;
+  sourced = λ i e a tag at no_write ends ta. source e a tag (tagged.sourced i (f e) (moved_op f a) tag (op_is f ops i a at) no_write (ap (option_map f) ends) ta);
+}
+  where
+    precedes : (a b : Op) → Precedes a b → Precedes (moved_op f a) (moved_op f b)
+    precedes a b (e, ends, low) = (f e, ap (option_map f) ends, rises e b.begin low)
+
+    Sourced : ℕ → Op → Tag → List Op → Type 0
+    Sourced e a tag all = ((tag ≡ first_tag) × Gives a []) ⊎ ((j : ℕ) × (w : Op) × (bytes : List ℕ) × At all j w × WroteWith w tag bytes × (w.begin < e) × Gives a bytes)
+
+    source : (e : ℕ) (a : Op) (tag : Tag) → Sourced (f e) (moved_op f a) tag (map (moved_op f) ops) → Sourced e a tag ops
+    source e a tag (inl (first, gives)) = inl (first, gives)
+    source e a tag (inr (j, w, bytes, at_w, wrote, low, gives)) = from (op_was f ops j w at_w)
+      where
+        from : (z : Op) × At ops j z × (moved_op f z ≡ w) → Sourced e a tag ops
+        from (z, at_z, is) =
+            let P : Op → Type 0 = λ x. WroteWith x tag bytes × (x.begin < f e) in
+            let both : WroteWith (moved_op f z) tag bytes × ((moved_op f z).begin < f e) = subst P (sym is) (wrote, low) in
+            inr (j, z, bytes, at_z, both.0, low_was f rises z.begin e both.1, gives)

@@ -1,5 +1,5 @@
--- Worked cases, computed. No proof rests on them. The four words on quorums are opened here to compute, and nowhere else
--- above gq_phase.
+-- Worked cases, computed. No proof rests on them. The four words on quorums are opened here to compute, as in the worked case of
+-- gq_cluster, and nowhere else above gq_phase.
 use Rattle.std.proofs.Common.{◌≡◌, List, [], ◌∷◌, ◌++◌, refl, Some}
 use Rattle.gq_grid.specs.Grid.{Grid}
 use Rattle.gq_tag.specs.Tag.{File}

@@ -3,3 +3,4 @@ pub mod Hearing
 pub mod Givers
 pub mod Retrying
 pub mod Saying
+pub mod ByQuorums

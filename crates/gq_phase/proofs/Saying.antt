@@ -39,11 +39,19 @@ odd_is n = eq-eqb ((2 * n + 1) % 2) 1 (omega arith)
 pub even_is : (n : ℕ) → is_collect (2 * n) ≡ false
 even_is n = ne_eqb ((2 * n) % 2) 1 (λ e. omega (arith, e))
 
+-- the round of the value collects where that of the operation does
+pub collects_is : (course : Course) (r : ℕ) → round_of course ≡ r → course.collecting ≡ is_collect r
+collects_is course r is = by course.collecting refl
+  where
+    by : (b : Bool) → course.collecting ≡ b → course.collecting ≡ is_collect r
+    by true odd = let f : 2 * course.collected + 1 ≡ r = rw odd at is in odd ∙ sym (odd_is course.collected) ∙ ap is_collect f
+    by false even = let f : 2 * course.collected ≡ r = rw even at is in even ∙ sym (even_is course.collected) ∙ ap is_collect f
+
 round_odd : (course : Course) (r : ℕ) → round_of course ≡ r → course.collecting ≡ true → is_collect r ≡ true
-round_odd course r e h = let f : 2 * course.collected + 1 ≡ r = rw h at e in rw (← f) (odd_is course.collected)
+round_odd course r is odd = sym (collects_is course r is) ∙ odd
 
 round_even : (course : Course) (r : ℕ) → round_of course ≡ r → course.collecting ≡ false → is_collect r ≡ false
-round_even course r e h = let f : 2 * course.collected ≡ r = rw h at e in rw (← f) (even_is course.collected)
+round_even course r is even = sym (collects_is course r is) ∙ even
 
 -- the round of the value ends where that of the operation does
 ends_is : (code : Code) (grid : Grid) (round : ℕ) (heard : List Reply) (set : Servers) → code.grid ≡ grid → round_of code.course ≡ round → set ≡ heard_servers heard →
@@ -89,18 +97,18 @@ round_messages-sent grid up tenant o m (Some set) q t s n r f b = rw q (messages
 current : (o : Operation) (m : OwnMessage) → m.op ≡ o.op → m.round ≡ o.round → is_current o m ≡ true
 current o m e f = and_from (eqb m.op o.op) (eqb m.round o.round) (eq-eqb m.op o.op e) (eq-eqb m.round o.round f)
 
-hear_noted : (grid : Grid) (up : Servers) (o : Operation) (m : OwnMessage) → is_current o m ≡ true → ends_round grid o.round (with_reply o m).heard ≡ false → hear grid up o m ≡ HeardNoted
+pub hear_noted : (grid : Grid) (up : Servers) (o : Operation) (m : OwnMessage) → is_current o m ≡ true → ends_round grid o.round (with_reply o m).heard ≡ false → hear grid up o m ≡ HeardNoted
 hear_noted grid up o m cur goes_on = rw (cur, goes_on) refl
 
-hear_collected : (grid : Grid) (up : Servers) (o : Operation) (m : OwnMessage) → is_current o m ≡ true → ends_round grid o.round (with_reply o m).heard ≡ true → is_collect o.round ≡ true →
+pub hear_collected : (grid : Grid) (up : Servers) (o : Operation) (m : OwnMessage) → is_current o m ≡ true → ends_round grid o.round (with_reply o m).heard ≡ true → is_collect o.round ≡ true →
     skips_store grid (with_decided (with_reply o m)) ≡ false → hear grid up o m ≡ begin_store grid up (with_decided (with_reply o m))
 hear_collected grid up o m cur ended odd stores = rw (cur, ended, odd, stores) refl
 
-hear_skipped : (grid : Grid) (up : Servers) (o : Operation) (m : OwnMessage) → is_current o m ≡ true → ends_round grid o.round (with_reply o m).heard ≡ true → is_collect o.round ≡ true →
+pub hear_skipped : (grid : Grid) (up : Servers) (o : Operation) (m : OwnMessage) → is_current o m ≡ true → ends_round grid o.round (with_reply o m).heard ≡ true → is_collect o.round ≡ true →
     skips_store grid (with_decided (with_reply o m)) ≡ true → hear grid up o m ≡ file_done grid up (with_decided (with_reply o m))
 hear_skipped grid up o m cur ended odd skips = rw (cur, ended, odd, skips) refl
 
-hear_stored : (grid : Grid) (up : Servers) (o : Operation) (m : OwnMessage) → is_current o m ≡ true → ends_round grid o.round (with_reply o m).heard ≡ true → is_collect o.round ≡ false →
+pub hear_stored : (grid : Grid) (up : Servers) (o : Operation) (m : OwnMessage) → is_current o m ≡ true → ends_round grid o.round (with_reply o m).heard ≡ true → is_collect o.round ≡ false →
     hear grid up o m ≡ file_done grid up (with_reply o m)
 hear_stored grid up o m cur ended even = rw (cur, ended, even) refl
 

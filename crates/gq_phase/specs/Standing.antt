@@ -81,6 +81,16 @@ abbrev pub last_number : ℕ → Option Code → ℕ
 last_number floor None = floor
 last_number floor (Some code) = floor_of code
 
+-- of its round: whether it collects, the servers heard in it, and its file
+abbrev pub is_collecting : Code → Bool
+is_collecting code = code.course.collecting
+
+abbrev pub heard_of : Code → Servers
+heard_of code = servers code.heard
+
+abbrev pub its_file : Code → FileId
+its_file code = code.file
+
 abbrev pub IsGoing : Code → Type 0
 IsGoing code = code.done ≡ false
 

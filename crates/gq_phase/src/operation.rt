@@ -86,7 +86,7 @@ fn take_rows(alloc: Global, rows: &mut Rows) -> Rows
 }
 
 impl Operation {
-    ghost use Rattle.gq_phase.specs.Standing.{floor_of, IsGoing, IsDone, Begins, HearsAs, RaisesFloor, EndsAs, ResendsAs, RefusesAs, IsFresh, is_current_as, quorum_as, ends_as, message_as, decided_as, floor_with, outcome_as, is_list, reads, skips_as, next_file, store_message, next_ask, ask_after, BeginsStore, BeginsCollect, SkipsOn};
+    ghost use Rattle.gq_phase.specs.Standing.{floor_of, is_collecting, heard_of, its_file, IsGoing, IsDone, Begins, HearsAs, RaisesFloor, EndsAs, ResendsAs, RefusesAs, IsFresh, is_current_as, quorum_as, ends_as, message_as, decided_as, floor_with, outcome_as, is_list, reads, skips_as, next_file, store_message, next_ask, ask_after, BeginsStore, BeginsCollect, SkipsOn};
 
     /// Begins a write of the content: round 1, which asks the least full row of the servers of `up` for their copies.
     /// `floor` is the session's own last number. Answers the operation and the asks in rising server number.
@@ -289,6 +289,28 @@ impl Operation {
         ensures { result ≡ floor_of self.now }
     {
         self.floor
+    }
+
+    /// Whether the operation's round collects copies. If it does not, it stores one.
+    pub fn collects(&self) -> bool
+        ensures { result ≡ is_collecting self.now }
+    {
+        self.course.collects()
+    }
+
+    /// Whether a reply of this server was heard in the operation's round.
+    pub fn has_heard(&self, server: u8) -> bool
+        requires { server < MOST_SERVERS }
+        ensures { result ≡ heard_of self.now server }
+    {
+        self.heard.has(server as usize)
+    }
+
+    /// The file of the operation's round. A listing goes from one file to the next.
+    pub fn file(&self) -> FileId
+        ensures { result ≡ its_file self.now }
+    {
+        self.file
     }
 
     /// Ends the operation without an answer. Answers the session's own last number, which the session's next operation

@@ -28,6 +28,7 @@ use Rattle.gq_model.specs.Told.{Began, Refused}
 use Rattle.gq_model.specs.Trace.{Own, Elsewhere, Begins as BeginsDeed, State, Session, Known, changed, operation_with, session_by, task_of, files_of, account_of}
 use Rattle.gq_model.specs.Lone.{Step, Cause, first_cause, session_causes, no_session, busy, no_quorum, quiet, unless, begin_step, line_step, entry_of, first_operation}
 use Rattle.gq_phase.specs.Laws.{SameQuorums}
+use Rattle.gq_phase.proofs.ByQuorums.{round_messages_up}
 use Rattle.gq_world.specs.declared.sessions.Seat.{Seat}
 use Rattle.gq_world.specs.Tables.{Tables, Agrees, SeatAgrees, Sits, IsReady, IsShaped, seats_at, seat_in, no_seat}
 use Rattle.gq_world.specs.Asking.{volume_causes, file_causes, write_causes, busy_seat, begun_tables}
@@ -287,9 +288,6 @@ begun_known w t k task line causes known r agrees asked there =
     ∙ ap (λ state. record known { state = state }) (r.begins known agrees (begin_step w.plan.grid known.state k (Some task)))
 
 -- the operation that it begins in the tables is that of the model
-messages_up : (grid : Grid) (up also : Servers) (o : Operation) → SameQuorums grid up also → o.round ≡ 1 → round_messages grid up o ≡ round_messages grid also o
-messages_up grid up also o same first = rw (first, same.0) refl
-
 floor_is : (grid : Grid) (t own last : ℕ) (code : Option Code) (k : ℕ) (s : Session) (current : Option Task) → code ≡ None → Sits grid t own code last (option_map (operation_with k s) current) → own ≡ last
 floor_is grid t own last None k s None is sits = sits
 floor_is grid t own last None k s (Some task) is sits = absurd sits
@@ -308,7 +306,7 @@ sends_as w t k task line causes code messages known r h agrees =
     let up : SameQuorums w.plan.grid (servers w.up) known.state.up = quorums_in w.plan.grid w.up known.state.up agrees.up in
     h.sends
     ∙ ap (λ o. map (message_of t) (round_messages w.plan.grid (servers w.up) o)) (first_is w t k task known agrees (r.session h.asked))
-    ∙ ap (map (message_of t)) (messages_up w.plan.grid (servers w.up) known.state.up (first_operation known.state k task) up refl)
+    ∙ ap (map (message_of t)) (round_messages_up w.plan.grid (servers w.up) known.state.up (first_operation known.state k task) up)
 
 pub begun_tells : (w : Tables) (t k : ℕ) (task : Task) (line : Line) (causes : List Cause) (code : Code) (messages : List Message) → IsRequest w t k task line causes → IsBegun w t k task causes code messages →
     TellsLine w t line (Began ((seat_before w t k).op + 1) (length (lane_at w.lanes t)) (length messages))

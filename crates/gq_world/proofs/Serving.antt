@@ -26,6 +26,7 @@ use Rattle.gq_model.specs.declared.events.Line.TheVariants.{Deliver}
 use Rattle.gq_model.specs.Told.{Replied, IsDown}
 use Rattle.gq_model.specs.Trace.{Own, Entry, State, Session, Known, changed, own_message_at, held, operation_with, brought_by, account_of}
 use Rattle.gq_model.specs.Lone.{Step, quiet, reply_to, line_step}
+use Rattle.gq_laws.proofs.OperationMoments.{same_file}
 use Rattle.gq_world.specs.declared.sessions.Seat.{Seat}
 use Rattle.gq_world.specs.Bounds.{room, BodyFits, IsThere}
 use Rattle.gq_world.specs.Tables.{Tables, Agrees, SeatAgrees, Sits, IsReady, store_at, no_store, seats_at, seat_in, up_in}
@@ -127,11 +128,6 @@ account_stays w u m store s within same before = elim (cases_eq s m.server) [
       subst Q (sym at) (ap (λ (x : StoreCopies). account_at (store_accounts x) u) (get_or-set_same w.stores m.server store no_store within) ∙ ap (λ accounts. account_at accounts u) same ∙ subst P at before))
   | inr other ↦ (ap (λ (x : StoreCopies). account_at (store_accounts x) u) (get_or-set_other w.stores m.server s store no_store other) ∙ before)
 ]
-
-same_file : (a b : File) → is_file a b ≡ true → a ≡ b
-same_file a b is =
-    let parts = and_parts (a.volume == b.volume) (a.place == b.place) is in
-    λ i. record { volume = eqb-true a.volume b.volume parts.0 i; place = eqb-true a.place b.place parts.1 i }
 
 other_file : (t : ℕ) (a b : File) → is_file a b ≡ false → file_of t b ≢ file_of t a
 other_file t a b differs same =

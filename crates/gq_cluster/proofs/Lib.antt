@@ -1,0 +1,12 @@
+pub mod ServerLines
+pub mod Alike
+pub mod Numbers
+pub mod Standing
+pub mod Parts
+pub mod OneAct
+pub mod Clusters
+pub mod Reading
+pub mod Registers
+pub mod Restarting
+pub mod WorkedCase
+pub mod Keeping

@@ -1,0 +1,207 @@
+-- One tenant at many nodes. A *node* is one server of the grid, and the *home* of some of the tenant's sessions. What it has
+-- of the tenant is its *part*. It knows nothing else, so what it tells and sends is what the model says of the part alone.
+--
+-- The words: a *letter* is a message that a node wrote, on its way to another node or to itself. An *act* is one thing that a
+-- node does, by a line of a session or by a letter that comes; its *aim* is whom the node then takes to be up, whoever is. A
+-- *cluster* is the parts of all nodes with the letters that they wrote. A *node step* is an act, or a restart of a node. An
+-- *exchange* is what came to a session or to a server, with what was told and sent.
+use Rattle.std.specs.Prelude.{ℕ, List, [], ◌∷◌, ◌++◌, true, false, ◌==◌, ◌&&◌, Option, Some, None, is_some, Contains, ⊤, map, filter, fold, if◌then◌else◌}
+use Rattle.std.specs.List.{range_with_len}
+use Rattle.gq_grid.specs.Grid.{Grid, Servers}
+use Rattle.gq_tag.specs.declared.StoredCopy.{StoredCopy}
+use Rattle.gq_tag.specs.Tag.{File, OwnMessage, first_copy, greatest, to_server}
+use Rattle.gq_desk.specs.declared.plans.TenantRow.{TenantRow}
+use Rattle.gq_desk.specs.declared.volumes.VolumeRow.{VolumeRow}
+use Rattle.gq_model.specs.declared.events.Line.{Line}
+use Rattle.gq_model.specs.declared.events.Line.TheVariants.{Write, Read, List as ListFiles, Deliver, Retry, Abandon}
+use Rattle.gq_model.specs.declared.said.Said.{Said}
+use Rattle.gq_model.specs.Said.{said_in}
+use Rattle.gq_model.specs.Trace.{Own, Entry, State, Session, new_session, changed}
+use Rattle.gq_model.specs.Lone.{Step, asked_step, deliver_step, is_refusal}
+
+-- ---- one node
+
+-- what a node has of the tenant: of each file the copies that stores brought to its server, in order, and the sessions whose
+-- home it is
+pub record Part : Type 0 where
+  pub brought : File → List StoredCopy
+  pub session : ℕ → Session
+
+abbrev pub new_part : Part
+new_part = record { brought = λ file. []; session = λ k. new_session }
+
+-- the copy of the file that the node's server holds
+abbrev pub copy_in : Part → File → StoredCopy
+copy_in part file = greatest (first_copy ∷ part.brought file)
+
+-- the part as the model's state, in which those of the aim are up; of other servers and of messages sent nothing is known
+abbrev pub state_of : List VolumeRow → Servers → Part → State
+state_of volumes aim part =
+    record { up = aim; volumes = volumes; sent = []; is_lost = λ n. false; brought = λ server. part.brought; session = part.session }
+
+-- node n's part of a state
+abbrev pub part_of : ℕ → State → Part
+part_of n state = record { brought = state.brought n; session = state.session }
+
+-- one thing that a node does
+pub data Act : Type 0 where
+  -- a line of a session comes to its home, or the home lets the session retry
+  Asks : (line : Line) (aim : Servers) → Act
+  -- a letter comes to the node of its server, or to the home of its session
+  Comes : (letter : OwnMessage) (aim : Servers) → Act
+
+-- all servers
+abbrev pub everyone : Servers
+everyone server = true
+
+-- whom the node takes to be up; a server that serves a letter looks at nobody else, and is up itself
+abbrev pub aim_of : Act → Servers
+aim_of (Asks line aim) = aim
+aim_of (Comes letter aim) = if to_server letter.body then everyone else aim
+
+-- what is told and sent by an act, in this state; as none was sent before, the first message that an act sends has the number 0
+abbrev pub act_step : Grid → TenantRow → State → Act → Step
+act_step grid row state (Asks line aim) = asked_step grid row state line
+act_step grid row state (Comes letter aim) = deliver_step grid state (Some letter)
+
+-- the act as an entry of the model's trace; nothing looks at the number of a letter there
+abbrev pub act_entry : Act → Step → Entry
+act_entry (Asks line aim) step = record { turn = Own line; message = None; told = step.told; new = step.new }
+act_entry (Comes letter aim) step = record { turn = Own (Deliver 0); message = Some letter; told = step.told; new = step.new }
+
+-- whose run it is: the grid, the tenant's row, the home of each session, and the volumes
+pub record Setting : Type 0 where
+  pub grid : Grid
+  pub row : TenantRow
+  pub home : ℕ → ℕ
+  pub volumes : List VolumeRow
+
+-- a node's step: what a node that has this part tells and sends by the act
+abbrev pub step_of : Setting → Part → Act → Step
+step_of s part act = act_step s.grid s.row (state_of s.volumes (aim_of act) part) act
+
+-- node n's part after the act; a refusal changes nothing
+abbrev pub part_after : Setting → ℕ → Part → Act → Part
+part_after s n part act =
+    if is_refusal (step_of s part act).told then part
+    else part_of n (changed (act_entry act (step_of s part act)) (state_of s.volumes (aim_of act) part))
+
+-- ---- all nodes
+
+-- the parts of all nodes, and the letters that they wrote, in order
+pub record Cluster : Type 0 where
+  pub part : ℕ → Part
+  pub written : List OwnMessage
+
+-- all nodes as they start first
+abbrev pub new_cluster : Cluster
+new_cluster = record { part = λ n. new_part; written = [] }
+
+-- the session that a line of a session names
+abbrev pub asker : Line → ℕ
+asker (Write k v f bytes) = k
+asker (Read k v f) = k
+asker (ListFiles k v) = k
+asker (Retry k) = k
+asker (Abandon k) = k
+asker _ = 0
+
+-- the node at which the act is done
+abbrev pub node_of : (ℕ → ℕ) → Act → ℕ
+node_of home (Asks line aim) = home (asker line)
+node_of home (Comes letter aim) = if to_server letter.body then letter.server else home letter.session
+
+-- what that node tells, and the letters that it writes
+abbrev pub step_in : Setting → Cluster → Act → Step
+step_in s c act = step_of s (c.part (node_of s.home act)) act
+
+-- the parts after the act: that of its node goes on, all others stay
+abbrev pub parts_after : Setting → Cluster → Act → ℕ → Part
+parts_after s c act n = if n == node_of s.home act then part_after s n (c.part n) act else c.part n
+
+-- the cluster after an act
+abbrev pub after_act : Setting → Cluster → Act → Cluster
+after_act s c act = record { part = parts_after s c act; written = c.written ++ (step_in s c act).new }
+
+abbrev pub after_acts : Setting → Cluster → List Act → Cluster
+after_acts s c acts = fold (after_act s) c acts
+
+-- ---- node steps
+
+pub data NodeStep : Type 0 where
+  Acts : (act : Act) → NodeStep
+  -- the node starts again, and what its sessions did not do is given up
+  Restarts : (node : ℕ) → NodeStep
+
+-- the node's sessions that have an operation
+abbrev pub going_at : Setting → Cluster → ℕ → List ℕ
+going_at s c node = filter (λ k. (s.home k == node) && is_some ((c.part node).session k).current) (range_with_len 1 s.row.sessions)
+
+abbrev pub gives_up : ℕ → Act
+gives_up k = Asks (Abandon k) everyone
+
+-- a restart is an abandonment of each operation that the node's sessions have
+abbrev pub acts_of : Setting → Cluster → NodeStep → List Act
+acts_of s c (Acts act) = act ∷ []
+acts_of s c (Restarts node) = map gives_up (going_at s c node)
+
+abbrev pub after_step : Setting → Cluster → NodeStep → Cluster
+after_step s c step = after_acts s c (acts_of s c step)
+
+abbrev pub cluster_after : Setting → List NodeStep → Cluster
+cluster_after s steps = fold (after_step s) new_cluster steps
+
+-- ---- what may happen
+
+-- a write, a read, a listing, a retry or an abandonment
+abbrev pub IsOfSession : Line → Type 0
+IsOfSession (Write k v f bytes) = ⊤
+IsOfSession (Read k v f) = ⊤
+IsOfSession (ListFiles k v) = ⊤
+IsOfSession (Retry k) = ⊤
+IsOfSession (Abandon k) = ⊤
+IsOfSession _ = ⊥
+
+-- a line of a session may come at any time, and so may each letter that was written before, as often as it likes
+abbrev pub CanAct : Cluster → Act → Type 0
+CanAct c (Asks line aim) = IsOfSession line
+CanAct c (Comes letter aim) = Contains c.written letter
+
+abbrev pub CanHappen : Cluster → NodeStep → Type 0
+CanHappen c (Acts act) = CanAct c act
+CanHappen c (Restarts node) = ⊤
+
+-- each of the steps may happen when it does, the first of them in this cluster
+abbrev pub CanFollow : Setting → Cluster → List NodeStep → Type 0
+CanFollow s c [] = ⊤
+CanFollow s c (step ∷ steps) = CanHappen c step × CanFollow s (after_step s c step) steps
+
+-- ---- what was done
+
+-- what came to a session or to a server
+pub data Arrival : Type 0 where
+  LineCame : (line : Line) → Arrival
+  LetterCame : (letter : OwnMessage) → Arrival
+
+-- what came, what was told, the numbers of messages apart, and what was sent
+pub record Exchange : Type 0 where
+  pub came : Arrival
+  pub said : Option Said
+  pub new : List OwnMessage
+
+abbrev pub arrival_of : Act → Arrival
+arrival_of (Asks line aim) = LineCame line
+arrival_of (Comes letter aim) = LetterCame letter
+
+abbrev pub exchange_of : Act → Step → Exchange
+exchange_of act step = record { came = arrival_of act; said = said_in step.told; new = step.new }
+
+-- the exchanges of acts, in order
+abbrev pub exchanges_of : Setting → Cluster → List Act → List Exchange
+exchanges_of s c [] = []
+exchanges_of s c (act ∷ acts) = exchange_of act (step_in s c act) ∷ exchanges_of s (after_act s c act) acts
+
+-- and of node steps
+abbrev pub exchanges : Setting → Cluster → List NodeStep → List Exchange
+exchanges s c [] = []
+exchanges s c (step ∷ steps) = exchanges_of s c (acts_of s c step) ++ exchanges s (after_step s c step) steps

@@ -1,0 +1,5 @@
+pub mod Cluster
+pub mod Laws
+pub mod Operations
+pub mod Restarts
+pub mod Facts

@@ -1,0 +1,35 @@
+//! The laws, as clauses of functions that do nothing.
+
+ghost use Rattle.gq_cluster.specs.Facts.{AllActsKeep, AllFactsSuffice};
+ghost use Rattle.gq_cluster.specs.Laws.{AllClustersServe};
+ghost use Rattle.gq_cluster.specs.Operations.{AllClustersLegal};
+ghost use Rattle.gq_cluster.specs.Restarts.{AllRestartsGiveUp};
+
+/// Take any steps of nodes, in which each letter that comes was written before. Letters may be lost, repeated, late and out of
+/// order, each act may take anybody to be up, and any node may start again at any time. Then there is a run of the service, in
+/// the model, in which the same comes to the tenant's sessions and servers, in the same order, and the same is told and sent,
+/// numbers of messages apart. At its end each server has the copies of its node, and each session is as its home has it.
+pub fn clusters()
+    ensures { AllClustersServe }
+{}
+
+/// So the operations on each file, read off what was done at the nodes alone, have an order in which a single register gives
+/// the same answers, and in which none that ended before another began stands after it (Herlihy and Wing, Linearizability,
+/// ACM TOPLAS 12(3), 1990).
+pub fn registers()
+    ensures { AllClustersLegal }
+{}
+
+/// A restart is said as an abandonment of each operation that the node's sessions have. It leaves what a start has to give: of
+/// the node's sessions none has an operation, how many each began and its own last number stay, and all else is as it was.
+pub fn restarts()
+    ensures { AllRestartsGiveUp }
+{}
+
+/// Whatever a node has of the tenant, each act changes what the node must not forget by one fact at most (`acts`). The fact is
+/// read off what the node has and what it tells: an operation began, a write has a number, or a store replaced a copy. So from
+/// its facts alone, in order, a node knows all of this again (`suffice`).
+pub fn facts()
+    ensures acts { AllActsKeep }
+    ensures suffice { AllFactsSuffice }
+{}
