@@ -31,11 +31,14 @@ plain_parts c word plain =
     let parts = and_parts (nat_lt 32 c) (is_plain word) plain in
     (ltb-true 32 c parts.0, parts.1)
 
-pub decimal_plain : (n : ℕ) → n < 2 ^ 32 → is_plain (decimal n) ≡ true
-decimal_plain n fits = decimal_by_steps (λ m ds. is_plain ds ≡ true)
+pub long_plain : (n : ℕ) → n < 2 ^ 64 → is_plain (decimal n) ≡ true
+long_plain n fits = decimal_by_steps (λ m ds. is_plain ds ≡ true)
     (λ m small. plain-cons (48 + m) [] (omega arith) refl)
     (λ m ds ten before. rw (list_all-append (nat_lt 32) ds ((48 + m % 10) ∷ []), before) (plain-cons (48 + m % 10) [] (omega arith) refl))
-    n (omega arith)
+    n fits
+
+pub decimal_plain : (n : ℕ) → n < 2 ^ 32 → is_plain (decimal n) ≡ true
+decimal_plain n fits = long_plain n (omega arith)
 
 letters_plain : (word : Word) → list_all is_letter word ≡ true → is_plain word ≡ true
 letters_plain [] letters = refl

@@ -5,6 +5,7 @@ use Rattle.std.specs.Str.{bytes_eq}
 use Rattle.hex.specs.declared.error.FromHexError.{FromHexError}
 use Rattle.hex.specs.Hex.{decode_of}
 use Rattle.gq_text.specs.declared.words.TheConstants.{MOST_NUMBER}
+use Rattle.gq_text.specs.declared.long_numbers.TheConstants.{MOST_LONG}
 
 -- a word is its bytes
 abbrev pub Word : Type 0
@@ -23,15 +24,22 @@ abbrev pub is_digit : ℕ → Bool
 is_digit c = nat_le 48 c && nat_le c 57
 
 -- the number that digits go on with, up to the greatest
-abbrev pub number_after : ℕ → Word → Option ℕ
-number_after n [] = Some n
-number_after n (c ∷ word) = if is_digit c && nat_le (n * 10 + (c - 48)) MOST_NUMBER then number_after (n * 10 + (c - 48)) word else None
+abbrev pub number_after : (most : ℕ) → ℕ → Word → Option ℕ
+number_after most n [] = Some n
+number_after most n (c ∷ word) = if is_digit c && nat_le (n * 10 + (c - 48)) most then number_after most (n * 10 + (c - 48)) word else None
 
--- `0`, or digits without a leading zero
-unfoldable pub number_of : Word → Option ℕ
-number_of [] = None
-number_of (c ∷ []) = number_after 0 (c ∷ [])
-number_of (c ∷ d ∷ word) = if c == 48 then None else number_after 0 (c ∷ d ∷ word)
+-- a number up to the greatest: `0`, or digits without a leading zero
+unfoldable pub number_up_to : (most : ℕ) → Word → Option ℕ
+number_up_to most [] = None
+number_up_to most (c ∷ []) = number_after most 0 (c ∷ [])
+number_up_to most (c ∷ d ∷ word) = if c == 48 then None else number_after most 0 (c ∷ d ∷ word)
+
+-- a number of 32 bits, and one of 64
+abbrev pub number_of : Word → Option ℕ
+number_of word = number_up_to MOST_NUMBER word
+
+abbrev pub long_number_of : Word → Option ℕ
+long_number_of word = number_up_to MOST_LONG word
 
 -- the bytes, where pairs of hexadecimal digits of either case write them
 abbrev pub bytes_from : Result (List ℕ) FromHexError → Option (List ℕ)

@@ -56,9 +56,10 @@ fn put_server_refusal(out: &mut Vec<u8>, refusal: ServerRefusal) -> Result<(), O
     }
 }
 
-// Appends the words of how an operation ended, and the newline.
+/// Appends the words of how an operation ended, each after one space, and a newline. After want of memory a part of them may have
+/// been appended.
 #[inline(always)]
-fn put_done(out: &mut Vec<u8>, outcome: &Outcome) -> Result<(), OutOfMemory>
+pub fn put_done(out: &mut Vec<u8>, outcome: &Outcome) -> Result<(), OutOfMemory>
     ensures ok { OnOk result (out.new.items ≡
         out.old.items ++ ended (codes "done" ∷ outcome_words outcome.now)) }
     ensures err { OnErr result (Extends out.old.items out.new.items) }

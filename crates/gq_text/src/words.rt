@@ -7,10 +7,10 @@ use bytes::Bytes;
 use gq_memory::{OutOfMemory, bytes_of, content_of_digits};
 use std::alloc::Global;
 
-// The greatest number that a text may have.
+// The greatest number of 32 bits.
 pub const MOST_NUMBER: u64 = 4_294_967_295;
 
-// The first word of a text, and the text after it, which begins with a space or is empty.
+/// The first word of a text, and the text after it, which begins with a space or is empty.
 pub fn first_word(text: &[u8]) -> (&[u8], &[u8])
     ensures words { words_of text.now ≡ result.0.now ∷ words_after result.1.now }
     ensures whole { text.now ≡ result.0.now ++ result.1.now }
@@ -23,7 +23,7 @@ pub fn first_word(text: &[u8]) -> (&[u8], &[u8])
     (text, &[])
 }
 
-// The next word, and the text after it.
+/// The next word, and the text after it.
 pub fn next_word(text: &[u8]) -> Option<(&[u8], &[u8])>
     ensures { MatchOption result (words_after text.now ≡ [])
         (λ x. words_after text.now ≡ x.0.now ∷ words_after x.1.now) }
@@ -34,7 +34,7 @@ pub fn next_word(text: &[u8]) -> Option<(&[u8], &[u8])>
     }
 }
 
-// Whether no word follows.
+/// Whether no word follows.
 pub fn is_end(text: &[u8]) -> bool
     ensures { MatchBool result (words_after text.now ≡ [])
         ((w : List ℕ) × (ws : List (List ℕ)) × (words_after text.now ≡ w ∷ ws)) }
@@ -42,8 +42,8 @@ pub fn is_end(text: &[u8]) -> bool
     text.is_empty()
 }
 
-// The number that a word writes.
-#[tactic(auto, unfolding(crate::specs::Words::number_of))]
+/// The number of 32 bits that a word writes.
+#[tactic(auto, unfolding(crate::specs::Words::number_up_to))]
 pub fn number(word: &[u8]) -> Option<u32>
     ensures { result ≡ number_of word.now }
 {
@@ -56,7 +56,7 @@ pub fn number(word: &[u8]) -> Option<u32>
 
 // The number that digits write, up to the largest.
 fn number_from_digits(word: &[u8]) -> Option<u32>
-    ensures { result ≡ number_after 0 word.now }
+    ensures { result ≡ number_after MOST_NUMBER 0 word.now }
 {
     let mut n: u64 = 0;
     for c in word {
@@ -71,7 +71,7 @@ fn number_from_digits(word: &[u8]) -> Option<u32>
     Some(n as u32)
 }
 
-// The content that a word writes.
+/// The content that a word writes.
 #[tactic(auto, unfolding(crate::specs::Words::content_of))]
 pub fn content(alloc: Global, word: &[u8]) -> Result<Option<Bytes>, OutOfMemory>
     ensures { IfOk result (λ read. read ≡ content_of word.now) }

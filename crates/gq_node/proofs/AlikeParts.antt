@@ -1,0 +1,133 @@
+-- Parts that are alike do the same.
+use Rattle.std.proofs.Common.{◌≡◌, ◌∙◌, ℕ, Bool, true, false, List, [], ◌∷◌, ◌++◌, refl, sym, ap, subst, Option, Some, None, inl, inr}
+use Rattle.std.specs.Prelude.{option_map, is_some, ◌&&◌, ◌==◌, if◌then◌else◌}
+use Rattle.std.proofs.lemmas.Bool.{cases_Bool}
+use Rattle.gq_grid.specs.Grid.{Servers}
+use Rattle.gq_tag.specs.declared.StoredCopy.{StoredCopy}
+use Rattle.gq_tag.specs.declared.Body.{Body}
+use Rattle.gq_tag.specs.declared.Body.TheVariants.{Ask, Copy, Store, Stored}
+use Rattle.gq_tag.specs.Tag.{File, OwnMessage, is_file, to_server, first_copy, greatest, newer_of}
+use Rattle.gq_desk.specs.Plans.{is_in}
+use Rattle.gq_desk.specs.declared.volumes.VolumeRow.{VolumeRow}
+use Rattle.gq_phase.specs.Phase.{Task}
+use Rattle.gq_model.specs.declared.events.Line.{Line}
+use Rattle.gq_model.specs.declared.events.Line.TheVariants.{Write, Read, List as ListFiles, Retry, Abandon}
+use Rattle.gq_model.specs.declared.events.Refusal.TheVariants.{NoSession, Idle}
+use Rattle.gq_model.specs.Told.{Refused, Replied}
+use Rattle.gq_model.specs.Trace.{Entry, State, Session, Deed, Elsewhere, Begins, Hears, Moves, Ends, changed, deed, operation_with, session_by, brought_by}
+use Rattle.gq_model.specs.Lone.{Step, is_refusal, asked_step, hear_step, reply_to, quiet}
+use Rattle.gq_cluster.specs.Cluster.{Setting, Part, Act, Asks, Comes, part_of, node_of, step_of, part_after, act_entry, aim_of, asker, IsOfSession, copy_in, state_of}
+use Rattle.gq_laws.proofs.Holding.{greatest-push}
+use Rattle.gq_node.specs.Nodes.{SessionAlike, PartAlike}
+
+-- ---- sessions
+
+pub session_refl : (a : Session) → SessionAlike a a
+session_refl a = record { op = refl; floor = refl; current = refl; going = λ is. refl }
+
+session_same : (a b : Session) → a ≡ b → SessionAlike a b
+session_same a b same = subst (SessionAlike a) same (session_refl a)
+
+pub idle_alike : (a b : Session) → a.op ≡ b.op → a.floor ≡ b.floor → a.current ≡ None → b.current ≡ None → SessionAlike a b
+idle_alike a b ops floors none also = record { op = ops; floor = floors; current = none ∙ sym also; going = λ is. let e = sym (ap is_some also) ∙ is in absurd (cc) }
+
+-- a deed in both
+deed_alike : (volumes : List VolumeRow) (k : ℕ) (d : Deed) (a b : Session) (current : Option Task) → b.current ≡ current → SessionAlike a b → SessionAlike (session_by volumes k d a) (session_by volumes k d b)
+deed_alike volumes k d a b (Some task) is alike = session_same _ _ (ap (session_by volumes k d) (alike.going (ap is_some is)))
+deed_alike volumes k Elsewhere a b None is alike = alike
+deed_alike volumes k (Begins line) a b None is alike =
+    session_same _ _ (λ i. session_by volumes k (Begins line) (record { op = alike.op i; current = None; round = 1; heard = []; collected = []; floor = alike.floor i }))
+deed_alike volumes k (Hears m) a b None is alike = idle_alike _ _ alike.op alike.floor (alike.current ∙ is) is
+deed_alike volumes k (Moves m round tag) a b None is alike = rw (is, alike.current ∙ is) (idle_alike _ _ alike.op alike.floor refl refl)
+deed_alike volumes k Ends a b None is alike = idle_alike _ _ alike.op alike.floor refl refl
+
+-- ---- what is told and sent
+
+-- a part of which only this is known
+abbrev just : Setting → Servers → (op : ℕ) → Option Task → (floor : ℕ) → State
+just s aim op current floor = state_of s.volumes aim (record { brought = λ file. []; session = λ j. record { op = op; current = current; round = 1; heard = []; collected = []; floor = floor } })
+
+abbrev only : Setting → Servers → Session → State
+only s aim session = state_of s.volumes aim (record { brought = λ file. []; session = λ j. session })
+
+retry_idle : (s : Setting) (aim : Servers) (p : Part) (k : ℕ) → (p.session k).current ≡ None → step_of s p (Asks (Retry k) aim) ≡ (if is_in 1 s.row.sessions k then quiet (Refused Idle) else quiet (Refused NoSession))
+retry_idle s aim p k idle = elim (cases_Bool (is_in 1 s.row.sessions k)) [
+  | inl inside ↦ (rw (inside, idle) refl)
+  | inr outside ↦ (rw outside refl)
+]
+
+retry_alike : (s : Setting) (aim : Servers) (p q : Part) (k : ℕ) (current : Option Task) → (q.session k).current ≡ current → SessionAlike (p.session k) (q.session k) → step_of s p (Asks (Retry k) aim) ≡ step_of s q (Asks (Retry k) aim)
+retry_alike s aim p q k None is alike = retry_idle s aim p k (alike.current ∙ is) ∙ sym (retry_idle s aim q k is)
+retry_alike s aim p q k (Some task) is alike = λ i. asked_step s.grid s.row (only s aim (alike.going (ap is_some is) i)) (Retry k)
+
+asked_alike : (s : Setting) (aim : Servers) (p q : Part) (line : Line) → IsOfSession line → SessionAlike (p.session (asker line)) (q.session (asker line)) → step_of s p (Asks line aim) ≡ step_of s q (Asks line aim)
+asked_alike s aim p q (Write k v f bytes) its alike = λ i. asked_step s.grid s.row (just s aim (alike.op i) (alike.current i) (alike.floor i)) (Write k v f bytes)
+asked_alike s aim p q (Read k v f) its alike = λ i. asked_step s.grid s.row (just s aim (alike.op i) (alike.current i) (alike.floor i)) (Read k v f)
+asked_alike s aim p q (ListFiles k v) its alike = λ i. asked_step s.grid s.row (just s aim (alike.op i) (alike.current i) (alike.floor i)) (ListFiles k v)
+asked_alike s aim p q (Retry k) its alike = retry_alike s aim p q k (q.session k).current refl alike
+asked_alike s aim p q (Abandon k) its alike = λ i. asked_step s.grid s.row (just s aim (alike.op i) (alike.current i) (alike.floor i)) (Abandon k)
+asked_alike s aim p q other its alike = absurd its
+
+-- an operation of one is that of the other
+operation_alike : (k : ℕ) (a b : Session) (current : Option Task) → b.current ≡ current → SessionAlike a b → option_map (operation_with k a) a.current ≡ option_map (operation_with k b) b.current
+operation_alike k a b None is alike = rw (alike.current ∙ is, is) refl
+operation_alike k a b (Some task) is alike = ap (λ (x : Session). option_map (operation_with k x) x.current) (alike.going (ap is_some is))
+
+heard_alike : (s : Setting) (p q : Part) (m : OwnMessage) (aim : Servers) → to_server m.body ≡ false → SessionAlike (p.session m.session) (q.session m.session) → step_of s p (Comes m aim) ≡ step_of s q (Comes m aim)
+heard_alike s p q m aim goes alike =
+    let law : (x : Part) → step_of s x (Comes m aim) ≡ hear_step s.grid (just s aim 0 None 0) m (option_map (operation_with m.session (x.session m.session)) (x.session m.session).current) = λ x. rw goes refl in
+    law p ∙ ap (hear_step s.grid (just s aim 0 None 0) m) (operation_alike m.session (p.session m.session) (q.session m.session) (q.session m.session).current refl alike) ∙ sym (law q)
+
+served_alike : (s : Setting) (p q : Part) (m : OwnMessage) (aim : Servers) → to_server m.body ≡ true → copy_in p m.file ≡ copy_in q m.file → step_of s p (Comes m aim) ≡ step_of s q (Comes m aim)
+served_alike s p q m aim goes same =
+    let S : StoredCopy → Step = λ copy. record { told = Replied 0; new = reply_to copy m ∷ [] } in
+    let law : (x : Part) → step_of s x (Comes m aim) ≡ S (copy_in x m.file) = λ x. rw goes refl in
+    law p ∙ ap S same ∙ sym (law q)
+
+-- the act can be one: a line is one of a session
+abbrev pub IsAct : Act → Type 0
+IsAct (Asks line aim) = IsOfSession line
+IsAct (Comes m aim) = Unit {0}
+
+pub step_alike : (s : Setting) (n : ℕ) (p q : Part) (act : Act) → IsAct act → node_of s.home act ≡ n → PartAlike s.home n p q → step_of s p act ≡ step_of s q act
+step_alike s n p q (Asks line aim) its here alike = asked_alike s aim p q line its (alike.sessions (asker line) here)
+step_alike s n p q (Comes m aim) its here alike = elim (cases_Bool (to_server m.body)) [
+  | inl goes ↦ (served_alike s p q m aim goes (alike.copies m.file))
+  | inr goes ↦ (heard_alike s p q m aim goes (alike.sessions m.session (rw goes at here)))
+]
+
+-- ---- what is left
+
+brought_alike : (up : Servers) (message : Option OwnMessage) (p q : Part) (n : ℕ) (file : File) → copy_in p file ≡ copy_in q file →
+    greatest (first_copy ∷ brought_by up message (λ server. p.brought) n file) ≡ greatest (first_copy ∷ brought_by up message (λ server. q.brought) n file)
+brought_alike up None p q n file same = same
+brought_alike up (Some m) p q n file same = by m.session m.op m.round m.server m.file m.body
+  where
+    stored : (b : Bool) (copy : StoredCopy) → greatest (first_copy ∷ (if b then p.brought file ++ copy ∷ [] else p.brought file)) ≡ greatest (first_copy ∷ (if b then q.brought file ++ copy ∷ [] else q.brought file))
+    stored true copy = greatest-push first_copy copy (p.brought file) ∙ ap (λ c. newer_of c copy) same ∙ sym (greatest-push first_copy copy (q.brought file))
+    stored false copy = same
+
+    by : (session op round server : ℕ) (f : File) (body : Body) →
+        let m : OwnMessage = record { session = session; op = op; round = round; server = server; file = f; body = body } in
+        greatest (first_copy ∷ brought_by up (Some m) (λ server. p.brought) n file) ≡ greatest (first_copy ∷ brought_by up (Some m) (λ server. q.brought) n file)
+    by session op round server f Ask = same
+    by session op round server f (Copy copy) = same
+    by session op round server f (Store copy) = stored ((server == n) && is_file f file && up n) copy
+    by session op round server f Stored = same
+
+pub entry_alike : (s : Setting) (aim : Servers) (e : Entry) (n : ℕ) (p q : Part) → PartAlike s.home n p q → PartAlike s.home n (part_of n (changed e (state_of s.volumes aim p))) (part_of n (changed e (state_of s.volumes aim q)))
+entry_alike s aim e n p q alike = record {
+  copies = λ file. brought_alike aim e.message p q n file (alike.copies file);
+  sessions = λ k here. deed_alike s.volumes k (deed k e) (p.session k) (q.session k) (q.session k).current refl (alike.sessions k here);
+}
+
+pub part_alike : (s : Setting) (n : ℕ) (p q : Part) (act : Act) → IsAct act → node_of s.home act ≡ n → PartAlike s.home n p q → PartAlike s.home n (part_after s n p act) (part_after s n q act)
+part_alike s n p q act its here alike =
+    let same : step_of s p act ≡ step_of s q act = step_alike s n p q act its here alike in
+    let P : Step → Part → Part = λ z x. if is_refusal z.told then x else part_of n (changed (act_entry act z) (state_of s.volumes (aim_of act) x)) in
+    subst (λ (z : Step). PartAlike s.home n (P z p) (P (step_of s q act) q)) (sym same) (by (is_refusal (step_of s q act).told) refl)
+  where
+    by : (b : Bool) → is_refusal (step_of s q act).told ≡ b →
+        PartAlike s.home n (if is_refusal (step_of s q act).told then p else part_of n (changed (act_entry act (step_of s q act)) (state_of s.volumes (aim_of act) p))) (part_after s n q act)
+    by true is = rw is alike
+    by false is = rw is (entry_alike s (aim_of act) (act_entry act (step_of s q act)) n p q alike)

@@ -1,0 +1,61 @@
+-- What a node gives for a tenant is what the tenant's part does, whatever comes for others between.
+use Rattle.std.proofs.Common.{◌≡◌, ◌∙◌, ℕ, Bool, true, false, List, [], ◌∷◌, refl, sym, ap, subst}
+use Rattle.std.specs.Prelude.{◌==◌, if◌then◌else◌}
+use Rattle.std.proofs.lemmas.Bool.{eqb-true, eqb-false}
+use Rattle.gq_node.specs.declared.output.Output.{Output}
+use Rattle.gq_node.specs.Apart.{Call, inputs_for, outputs_for, AllGive, GoesByPart, AllCallsByParts, AllGiveTheSame, AllTenantsApart}
+use Rattle.gq_node.specs.Inputs.{Input, does, after_one, doings}
+use Rattle.gq_node.specs.Local.{Local, Doing}
+use Rattle.gq_node.specs.Sites.{Site, site_of}
+use Rattle.gq_node.specs.Tables.{Tables, Agrees, Acts}
+
+-- the node as the tenant sees it stays
+same_site : (old next : Tables) (t : ℕ) → next.plan ≡ old.plan → next.server ≡ old.server → site_of next.plan next.server t ≡ site_of old.plan old.server t
+same_site old next t plan server = ap (λ p. site_of p next.server t) plan ∙ ap (λ n. site_of old.plan n t) server
+
+-- one call more before those that are so
+one_call : (old next new : Tables) (call : Call) (rest : List Call) (t : ℕ) (local : Local) → Acts old call.tenant (does call.input) call.out next → Agrees old t local →
+    ((after : Local) → Agrees next t after → GoesByPart (site_of next.plan next.server t) new t after (inputs_for t rest) (outputs_for t rest)) →
+    GoesByPart (site_of old.plan old.server t) new t local (inputs_for t (call ∷ rest)) (outputs_for t (call ∷ rest))
+one_call old next new call rest t local acts agrees later = by (call.tenant == t) refl
+  where
+    site : Site
+    site = site_of old.plan old.server t
+
+    from_next : (after : Local) → Agrees next t after → GoesByPart site new t after (inputs_for t rest) (outputs_for t rest)
+    from_next after there =
+        subst (λ (s : Site). GoesByPart s new t after (inputs_for t rest) (outputs_for t rest)) (same_site old next t acts.leads.plan acts.leads.server) (later after there)
+
+    by : (b : Bool) → (call.tenant == t) ≡ b →
+        GoesByPart site new t local (if b then call.input ∷ inputs_for t rest else inputs_for t rest) (if b then call.out ∷ outputs_for t rest else outputs_for t rest)
+    by true is =
+        let own : Acts old t (does call.input) call.out next = subst (λ u. Acts old u (does call.input) call.out next) (eqb-true call.tenant t is) acts in
+        let behind : GoesByPart site new t (after_one site local call.input) (inputs_for t rest) (outputs_for t rest) = from_next (after_one site local call.input) (own.leads.own local agrees) in
+        record { gives = (own.gives local agrees, behind.gives); agrees = behind.agrees }
+    by false is = from_next local (acts.leads.others t (λ e. eqb-false call.tenant t is (sym e)) local agrees)
+
+pub calls_by_parts : AllCallsByParts
+calls_by_parts old new [] t local calls agrees = record { gives = tt; agrees = subst (λ (w : Tables). Agrees w t local) (sym calls) agrees }
+calls_by_parts old new (call ∷ rest) t local calls agrees =
+    one_call old calls.0 new call rest t local calls.1 agrees (λ after there. calls_by_parts calls.0 new rest t after calls.2 there)
+
+-- ---- two runs
+
+same_given : (t : ℕ) (doings : List Doing) (ones twos : List Output) → AllGive t doings ones → AllGive t doings twos → AllGiveTheSame ones twos
+same_given t [] [] [] one two = tt
+same_given t [] [] (b ∷ twos) one two = absurd two
+same_given t [] (a ∷ ones) twos one two = absurd one
+same_given t (doing ∷ doings) [] twos one two = absurd one
+same_given t (doing ∷ doings) (a ∷ ones) [] one two = absurd two
+same_given t (doing ∷ doings) (a ∷ ones) (b ∷ twos) one two = (
+  record { answer = one.0.answer ∙ sym two.0.answer; letters = one.0.letters ∙ sym two.0.letters; fact = one.0.fact ∙ sym two.0.fact },
+  same_given t doings ones twos one.1 two.1,
+)
+
+pub tenants_apart : AllTenantsApart
+tenants_apart one two one_new two_new ones twos t local one_calls two_calls site one_agrees two_agrees came =
+    let first = calls_by_parts one one_new ones t local one_calls one_agrees in
+    let second = calls_by_parts two two_new twos t local two_calls two_agrees in
+    let P : Site → List Input → Type 0 = λ s came. AllGive t (doings s local came) (outputs_for t twos) in
+    same_given t (doings (site_of one.plan one.server t) local (inputs_for t ones)) (outputs_for t ones) (outputs_for t twos) first.gives
+    (subst (P (site_of one.plan one.server t)) (sym came) (subst (λ s. P s (inputs_for t twos)) (sym site) second.gives))

@@ -1,0 +1,286 @@
+-- A letter comes to a session.
+use Rattle.std.proofs.Common.{◌≡◌, ◌∙◌, ℕ, ◌-◌, ◌<◌, ◌≤◌, Bool, true, false, List, [], length, map, refl, sym, ap, subst, Option, Some, None, inl, inr}
+use Rattle.std.specs.Prelude.{option_map, slice_set, ◌==◌, ◌&&◌, if◌then◌else◌}
+use Rattle.std.proofs.lemmas.Bool.{cases_Bool, eq-eqb}
+use Rattle.std.proofs.lemmas.List.{set-get_or}
+use Rattle.gq_grid.specs.Grid.{Grid, Servers}
+use Rattle.gq_tag.specs.declared.StoredCopy.{StoredCopy}
+use Rattle.gq_tag.specs.declared.FileId.{FileId}
+use Rattle.gq_tag.specs.declared.Message.{Message}
+use Rattle.gq_tag.specs.Tag.{File, is_file, file_place, OwnMessage, own_message, message_of, to_server}
+use Rattle.gq_desk.specs.CheckedPlan.{row_at}
+use Rattle.gq_desk.specs.declared.volumes.VolumeRow.{VolumeRow}
+use Rattle.gq_phase.specs.declared.Outcome.{Outcome}
+use Rattle.gq_phase.specs.declared.Heard.{Heard}
+use Rattle.gq_phase.specs.declared.operation.Operation.{Operation as Code}
+use Rattle.gq_phase.specs.Phase.{Task, Reply, Operation, heard_servers, Heard as Saying, HeardStale, HeardNoted, HeardNext, HeardDone}
+use Rattle.gq_phase.specs.Standing.{heard_as, messages_of}
+use Rattle.gq_model.specs.declared.events.Line.TheVariants.{Deliver}
+use Rattle.gq_model.specs.Trace.{Own, Entry, State, Session, changed, operation, operation_with, session_by, heard_deed, floor_by}
+use Rattle.gq_model.specs.Lone.{heard_step, hear_step}
+use Rattle.gq_node.specs.declared.seats.Seat.{Seat}
+use Rattle.gq_node.specs.declared.output.Output.{Output}
+use Rattle.gq_node.specs.declared.output.Fact.TheVariants.{Numbered as HasNumber}
+use Rattle.gq_node.specs.Sites.{Site, site_of}
+use Rattle.gq_cluster.specs.Facts.{Numbered}
+use Rattle.gq_node.specs.Local.{Local, Resident, Doing, state_of, state_for, nothing, goes_on, brings, hears, has_above, of_round, aim_at, outcome_after, waits_after, answer_of, session_fact}
+use Rattle.gq_node.specs.Heard.{HeardGives, heard_answer, heard_fact, heard_outcome, heard_waits}
+use Rattle.gq_node.specs.Seats.{has_heard, is_of_round, seat_aim, SeatHears, SeatAttends, SaysAndGives, GivesNothing, said_by, operation_after, last_of, last_in}
+use Rattle.gq_node.specs.Shape.{IsShaped}
+use Rattle.gq_node.specs.Tables.{Tables, Agrees, Acts, Leads, Gives, SeatAgrees, Sits, seats_at, seat_at, with_seat, fact_of, no_seat}
+use Rattle.gq_node.proofs.Seating.{Settles, aim_is, seat_of, seat_leads, same_leads, place_there, tenant_there, last_agrees}
+
+-- ---- what the model says
+
+-- the entry of the letter
+abbrev pub delivery : OwnMessage → Saying → Entry
+delivery m s = record { turn = Own (Deliver 0); message = Some m; told = (heard_step 0 s).told; new = (heard_step 0 s).new }
+
+hears_as : (grid : Grid) (state : State) (m : OwnMessage) (o : Option Operation) → hear_step grid state m o ≡ heard_step (length state.sent) (said_by grid state.up o m)
+hears_as grid state m None = refl
+hears_as grid state m (Some o) = refl
+
+-- whether the session hears it
+abbrev heard_in : Site → Local → OwnMessage → Bool
+heard_in site local m = has_above (local.residents m.session).session.floor && of_round (operation (state_for site local m.session) m.session) m.file
+
+-- and what it then does
+abbrev heard_by : Site → Local → OwnMessage → Saying → Doing
+heard_by site local m s =
+    goes_on local m.session (local.residents m.session).session.op (heard_servers (local.residents m.session).session.heard m.server) (state_for site local m.session) (delivery m s)
+
+hears_is : (site : Site) (local : Local) (m : OwnMessage) → heard_in site local m ≡ true →
+    hears site local m ≡ heard_by site local m (said_by site.grid (aim_at site.grid (local.residents m.session)) (operation (state_for site local m.session) m.session) m)
+hears_is site local m fits =
+    rw fits (ap (λ step. goes_on local m.session (local.residents m.session).session.op (heard_servers (local.residents m.session).session.heard m.server) (state_for site local m.session) (brings m step))
+    (hears_as site.grid (state_for site local m.session) m (operation (state_for site local m.session) m.session)))
+
+hears_nothing : (site : Site) (local : Local) (m : OwnMessage) → heard_in site local m ≡ false → hears site local m ≡ nothing local
+hears_nothing site local m none = rw none refl
+
+-- ---- the session
+
+heard_op : (volumes : List VolumeRow) (k : ℕ) (m : OwnMessage) (s : Saying) (session : Session) → (session_by volumes k (heard_deed m (heard_step 0 s).told) session).op ≡ session.op
+heard_op volumes k m HeardStale session = refl
+heard_op volumes k m HeardNoted session = refl
+heard_op volumes k m (HeardNext round tag messages) session = refl
+heard_op volumes k m (HeardDone outcome) session = refl
+
+abbrev session_of : ℕ → Option Task → ℕ → List Reply → List StoredCopy → ℕ → Session
+session_of op current round heard collected floor = record { op = op; current = current; round = round; heard = heard; collected = collected; floor = floor }
+
+any_last : (grid : Grid) (t own last also : ℕ) (code : Option Code) (o : Operation) → Sits grid t own code last (Some o) → Sits grid t own code also (Some o)
+any_last grid t own last also None o sits = sits
+any_last grid t own last also (Some code) o sits = sits
+
+heard_sits : (grid : Grid) (t k : ℕ) (volumes : List VolumeRow) (m : OwnMessage) (op : ℕ) (current : Option Task) (round : ℕ) (heard : List Reply) (collected : List StoredCopy) (floor : ℕ) (s : Saying) (own : ℕ) (code : Option Code) →
+    (current ≡ None → s ≡ HeardStale) →
+    Sits grid t own code (last_of floor (option_map (operation_with k (session_of op current round heard collected floor)) current)) (operation_after (option_map (operation_with k (session_of op current round heard collected floor)) current) m s) →
+    Sits grid t own code (session_by volumes k (heard_deed m (heard_step 0 s).told) (session_of op current round heard collected floor)).floor
+    (option_map (operation_with k (session_by volumes k (heard_deed m (heard_step 0 s).told) (session_of op current round heard collected floor))) (session_by volumes k (heard_deed m (heard_step 0 s).told) (session_of op current round heard collected floor)).current)
+heard_sits grid t k volumes m op None round heard collected floor HeardStale own code none sits = sits
+heard_sits grid t k volumes m op None round heard collected floor HeardNoted own code none sits = let e = none refl in absurd (cc)
+heard_sits grid t k volumes m op None round heard collected floor (HeardNext r tag messages) own code none sits = let e = none refl in absurd (cc)
+heard_sits grid t k volumes m op None round heard collected floor (HeardDone outcome) own code none sits = let e = none refl in absurd (cc)
+heard_sits grid t k volumes m op (Some task) round heard collected floor HeardStale own code none sits = sits
+heard_sits grid t k volumes m op (Some task) round heard collected floor HeardNoted own code none sits = sits
+heard_sits grid t k volumes m op (Some task) round heard collected floor (HeardNext r tag messages) own code none sits = any_last grid t own floor (floor_by tag floor (Some task)) code _ sits
+heard_sits grid t k volumes m op (Some task) round heard collected floor (HeardDone outcome) own code none sits = sits
+
+own_session : (state : State) (m : OwnMessage) (s : Saying) → to_server m.body ≡ false →
+    (changed (delivery m s) state).session m.session ≡ session_by state.volumes m.session (heard_deed m (heard_step 0 s).told) (state.session m.session)
+own_session state m s goes = rw (goes, eq-eqb m.session m.session refl) refl
+
+-- a session without an operation says that the letter is stale
+says_stale : (grid : Grid) (up : Servers) (k : ℕ) (session : Session) (m : OwnMessage) (s : Saying) → said_by grid up (option_map (operation_with k session) session.current) m ≡ s → session.current ≡ None → s ≡ HeardStale
+says_stale grid up k session m s says none = sym says ∙ ap (λ current. said_by grid up (option_map (operation_with k session) current) m) none
+
+waits_as : (t : ℕ) (s : Saying) (known old new : Bool) → old ≡ new → heard_waits (heard_as t s) known old ≡ waits_after (heard_step 0 s).told known new
+waits_as t HeardStale known old new same = same
+waits_as t HeardNoted known old new same = ap (λ b. known && b) same
+waits_as t (HeardNext round tag messages) known old new same = refl
+waits_as t (HeardDone outcome) known old new same = refl
+
+-- the servers heard are those of the model; without an operation nothing is new
+waits_is : (grid : Grid) (up : Servers) (t k own : ℕ) (code : Option Code) (session : Session) (current : Option Task) (m : OwnMessage) (old new : Bool) →
+    Sits grid t own code session.floor (option_map (operation_with k session) current) → old ≡ new →
+    heard_waits (heard_as t (said_by grid up (option_map (operation_with k session) current) m)) (has_heard code m.server) old
+    ≡ waits_after (heard_step 0 (said_by grid up (option_map (operation_with k session) current) m)).told (heard_servers session.heard m.server) new
+waits_is grid up t k own None session None m old new sits same = same
+waits_is grid up t k own None session (Some task) m old new sits same = absurd sits
+waits_is grid up t k own (Some code) session None m old new sits same = absurd sits
+waits_is grid up t k own (Some code) session (Some task) m old new sits same =
+    let s : Saying = said_by grid up (Some (operation_with k session task)) m in
+    ap (λ (set : Servers). heard_waits (heard_as t s) (set m.server) old) sits.heard ∙ waits_as t s (heard_servers session.heard m.server) old new same
+
+outcome_as : (t : ℕ) (s : Saying) (old new : Option Outcome) → old ≡ new → heard_outcome (heard_as t s) old ≡ outcome_after (heard_step 0 s).told new
+outcome_as t HeardStale old new same = same
+outcome_as t HeardNoted old new same = same
+outcome_as t (HeardNext round tag messages) old new same = same
+outcome_as t (HeardDone outcome) old new same = refl
+
+-- the file of the round is that of the model
+round_is : (grid : Grid) (t k own : ℕ) (code : Option Code) (session : Session) (current : Option Task) (file : File) →
+    Sits grid t own code session.floor (option_map (operation_with k session) current) → is_of_round code file ≡ of_round (option_map (operation_with k session) current) file
+round_is grid t k own None session None file sits = refl
+round_is grid t k own None session (Some task) file sits = absurd sits
+round_is grid t k own (Some code) session None file sits = absurd sits
+round_is grid t k own (Some code) session (Some task) file sits = ap (λ (id : FileId). is_file file (file_place id)) sits.file
+
+-- the resident that the letter leaves
+abbrev heard_resident : Local → State → OwnMessage → Saying → Resident
+heard_resident local state m s = record (local.residents m.session) {
+  session = (changed (delivery m s) state).session m.session;
+  outcome = outcome_after (heard_step 0 s).told (local.residents m.session).outcome;
+  waited = waits_after (heard_step 0 s).told (heard_servers (local.residents m.session).session.heard m.server) (local.residents m.session).waited;
+}
+
+heard_agrees : (grid : Grid) (t : ℕ) (local : Local) (up : Servers) (M : Message) (old new : Seat) (heard : Heard) → to_server M.body ≡ false →
+    SeatAgrees grid t M.session old (local.residents M.session) → SeatHears old new up M heard →
+    SeatAgrees grid t M.session new (heard_resident local (state_of up local) (own_message M) (said_by grid up (operation (state_of up local) M.session) (own_message M)))
+heard_agrees grid t local up M old new heard goes agrees h =
+    let k : ℕ = M.session in
+    let m : OwnMessage = own_message M in
+    let state : State = state_of up local in
+    let session : Session = state.session k in
+    let s : Saying = said_by grid up (operation state k) m in
+    let P : Session → Type 0 = λ after. (new.op ≡ after.op) × Sits grid t new.floor new.operation after.floor (option_map (operation_with k after) after.current) in
+    let both : P (session_by state.volumes k (heard_deed m (heard_step 0 s).told) session) = (
+      h.op ∙ agrees.op ∙ sym (heard_op state.volumes k m s session),
+      heard_sits grid t k state.volumes m session.op session.current session.round session.heard session.collected session.floor s new.floor new.operation
+          (says_stale grid up k session m s refl) (h.sits grid t session.floor (operation state k) agrees.sits),
+    ) in
+    let now : P ((changed (delivery m s) state).session k) = subst P (sym (own_session state m s goes)) both in
+    record {
+      op = now.0;
+      sits = now.1;
+      outcome = h.outcome ∙ ap (λ x. heard_outcome x old.outcome) (h.says grid t session.floor (operation state k) agrees.sits) ∙ outcome_as t s old.outcome (local.residents k).outcome agrees.outcome;
+      row = h.row ∙ agrees.row;
+      column = h.column ∙ agrees.column;
+      waited = h.waited ∙ ap (λ x. heard_waits x (has_heard old.operation M.server) old.waited) (h.says grid t session.floor (operation state k) agrees.sits)
+          ∙ waits_is grid up t k old.floor old.operation session session.current m old.waited (local.residents k).waited agrees.sits agrees.waited;
+    }
+
+-- ---- what is given
+
+answer_as : (k op last t : ℕ) (s : Saying) → heard_answer (heard_as t s) ≡ answer_of k op last (heard_step 0 s).told
+answer_as k op last t HeardStale = refl
+answer_as k op last t HeardNoted = refl
+answer_as k op last t (HeardNext round tag messages) = refl
+answer_as k op last t (HeardDone outcome) = refl
+
+sent_as : (t : ℕ) (s : Saying) → messages_of (heard_as t s) ≡ map (message_of t) (heard_step 0 s).new
+sent_as t HeardStale = refl
+sent_as t HeardNoted = refl
+sent_as t (HeardNext round tag messages) = refl
+sent_as t (HeardDone outcome) = refl
+
+next_fact : (t k before after : ℕ) (same : Bool) → (if same then None else Some (HasNumber t k after)) ≡ option_map (fact_of t) (if same then None else Some (Numbered k after))
+next_fact t k before after true = refl
+next_fact t k before after false = refl
+
+fact_as : (t k before after : ℕ) (s : Saying) → heard_fact t k before after (heard_as t s) ≡ option_map (fact_of t) (session_fact k (heard_step 0 s).told before after)
+fact_as t k before after HeardStale = refl
+fact_as t k before after HeardNoted = refl
+fact_as t k before after (HeardNext round tag messages) = next_fact t k before after (after == before)
+fact_as t k before after (HeardDone outcome) = refl
+
+heard_gives : (grid : Grid) (t : ℕ) (local : Local) (up : Servers) (M : Message) (old new : Seat) (heard : Heard) (out : Output) → to_server M.body ≡ false →
+    SeatAgrees grid t M.session old (local.residents M.session) → SeatHears old new up M heard → HeardGives t M.session (last_in old) (last_in new) heard out →
+    Gives t (goes_on local M.session (local.residents M.session).session.op (heard_servers (local.residents M.session).session.heard M.server) (state_of up local)
+    (delivery (own_message M) (said_by grid up (operation (state_of up local) M.session) (own_message M)))) out
+heard_gives grid t local up M old new heard out goes agrees h gives =
+    let k : ℕ = M.session in
+    let m : OwnMessage = own_message M in
+    let state : State = state_of up local in
+    let s : Saying = said_by grid up (operation state k) m in
+    let is : heard ≡ heard_as t s = h.says grid t (state.session k).floor (operation state k) agrees.sits in
+    let before : last_in old ≡ (state.session k).floor = last_agrees grid t k old (local.residents k) agrees in
+    let after : last_in new ≡ ((changed (delivery m s) state).session k).floor = last_agrees grid t k new (heard_resident local state m s) (heard_agrees grid t local up M old new heard goes agrees h) in
+    record {
+      answer = gives.answer ∙ ap heard_answer is ∙ answer_as k (state.session k).op (state.session k).op t s;
+      letters = gives.letters ∙ ap messages_of is ∙ sent_as t s;
+      fact = gives.fact ∙ ap (heard_fact t k (last_in old) (last_in new)) is ∙ ap (λ x. heard_fact t k x (last_in new) (heard_as t s)) before
+          ∙ ap (λ x. heard_fact t k (state.session k).floor x (heard_as t s)) after ∙ fact_as t k (state.session k).floor ((changed (delivery m s) state).session k).floor s;
+    }
+
+-- ---- the tables
+
+abbrev seat_hears_it : Seat → Message → Bool
+seat_hears_it seat M = has_above (last_in seat) && is_of_round seat.operation (file_place M.file)
+
+attends_it : (t k : ℕ) (grid : Grid) (old new : Seat) (M : Message) (out : Output) → seat_hears_it old M ≡ true → SeatAttends t k grid old new M out → SaysAndGives t k (seat_aim grid old) old new M out
+attends_it t k grid old new M out fits attends = rw fits at attends
+
+attends_not : (t k : ℕ) (grid : Grid) (old new : Seat) (M : Message) (out : Output) → seat_hears_it old M ≡ false → SeatAttends t k grid old new M out → (new ≡ old) × GivesNothing out
+attends_not t k grid old new M out none attends = rw none at attends
+
+-- the seat hears what the session hears
+hears_it : (site : Site) (t : ℕ) (local : Local) (seat : Seat) (M : Message) → SeatAgrees site.grid t M.session seat (local.residents M.session) → seat_hears_it seat M ≡ heard_in site local (own_message M)
+hears_it site t local seat M agrees =
+    let k : ℕ = M.session in
+    let session : Session = (local.residents k).session in
+    ap (λ n. has_above n && is_of_round seat.operation (file_place M.file)) (last_agrees site.grid t k seat (local.residents k) agrees)
+    ∙ ap (λ b. has_above session.floor && b) (round_is site.grid t k seat.floor seat.operation session session.current (file_place M.file) agrees.sits)
+
+-- what a part of the node that agrees does
+record Attended (w : Tables) (t : ℕ) (M : Message) (seat : Seat) (out : Output) (local : Local) : Type 0 where
+  pub settles : Settles w t M.session seat (λ site local. hears site local (own_message M)) local
+  pub gives : Gives t (hears (site_of w.plan w.server t) local (own_message M)) out
+
+attended : (w : Tables) (t : ℕ) (M : Message) (seat : Seat) (out : Output) (local : Local) → to_server M.body ≡ false → 1 ≤ M.session → M.session ≤ (row_at w.plan t).sessions →
+    seat_hears_it (seat_at w t M.session) M ≡ true → SeatAttends t M.session w.plan.grid (seat_at w t M.session) seat M out → Agrees w t local → Attended w t M seat out local
+attended w t M seat out local goes low high fits attends agrees =
+    let k : ℕ = M.session in
+    let m : OwnMessage = own_message M in
+    let site : Site = site_of w.plan w.server t in
+    let grid : Grid = w.plan.grid in
+    let old : Seat = seat_at w t k in
+    let r : Resident = local.residents k in
+    let before : SeatAgrees grid t k old r = seat_of w t k local agrees low high in
+    let h : SaysAndGives t k (seat_aim grid old) old seat M out = attends_it t k grid old seat M out fits attends in
+    let hears' : SeatHears old seat (aim_at grid r) M h.heard = subst (λ (x : Servers). SeatHears old seat x M h.heard) (aim_is grid t k old r before) h.hears in
+    let is = hears_is site local m (sym (hears_it site t local old M before) ∙ fits) in
+    let state : State = state_for site local k in
+    let s : Saying = said_by grid (aim_at grid r) (operation state k) m in
+    record {
+      settles = record {
+        resident = heard_resident local state m s;
+        agrees = heard_agrees grid t local (aim_at grid r) M old seat h.heard goes before hears';
+        left = ap (λ (d : Doing). d.local) is;
+      };
+      gives = subst (λ (d : Doing). Gives t d out) (sym is) (heard_gives grid t local (aim_at grid r) M old seat h.heard out goes before hears' h.gives);
+    }
+
+gives_nothing : (t : ℕ) (local : Local) (out : Output) → GivesNothing out → Gives t (nothing local) out
+gives_nothing t local out none = record { answer = none.answer; letters = none.letters; fact = none.fact }
+
+-- a seat put in its place again
+pub unchanged : (w : Tables) (t k : ℕ) (seat : Seat) → seat ≡ seat_at w t k → w ≡ with_seat w t k seat
+unchanged w t k seat is =
+    let seats : slice_set (seats_at w.seats t) (k - 1) seat ≡ seats_at w.seats t = ap (slice_set (seats_at w.seats t) (k - 1)) is ∙ set-get_or (seats_at w.seats t) (k - 1) no_seat in
+    sym (ap (λ all. record w { seats = all }) (ap (slice_set w.seats t) seats ∙ set-get_or w.seats t []))
+
+pub attend_acts : (w : Tables) (t : ℕ) (M : Message) (seat : Seat) (out : Output) → IsShaped w → t < length w.plan.rows → to_server M.body ≡ false → 1 ≤ M.session → M.session ≤ (row_at w.plan t).sessions →
+    SeatAttends t M.session w.plan.grid (seat_at w t M.session) seat M out → Acts w t (λ site local. hears site local (own_message M)) out (with_seat w t M.session seat)
+attend_acts w t M seat out shaped within goes low high attends =
+    let k : ℕ = M.session in
+    let old : Seat = seat_at w t k in
+    let step = λ (site : Site) (local : Local). hears site local (own_message M) in
+    let tenants = tenant_there w t shaped within in
+    let places = place_there w t k shaped within low high in
+    elim (cases_Bool (seat_hears_it old M)) [
+      | inl fits ↦ (record {
+        leads = seat_leads w t k seat step tenants places low (λ local agrees. (attended w t M seat out local goes low high fits attends agrees).settles);
+        gives = λ local agrees. (attended w t M seat out local goes low high fits attends agrees).gives;
+      })
+      | inr none ↦ (
+          let h = attends_not t k w.plan.grid old seat M out none attends in
+          let model : (local : Local) → Agrees w t local → hears (site_of w.plan w.server t) local (own_message M) ≡ nothing local =
+          λ local agrees. hears_nothing (site_of w.plan w.server t) local (own_message M)
+          (sym (hears_it (site_of w.plan w.server t) t local old M (seat_of w t k local agrees low high)) ∙ none) in
+          record {
+            leads = subst (λ (x : Tables). Leads w t step x) (unchanged w t k seat h.0) (same_leads w t step (λ local agrees. ap (λ (d : Doing). d.local) (model local agrees)));
+            gives = λ local agrees. subst (λ (d : Doing). Gives t d out) (sym (model local agrees)) (gives_nothing t local out h.1);
+          })
+    ]

@@ -1,0 +1,563 @@
+-- The facts that a start needs make of a node that was never started the node at rest.
+use Rattle.std.proofs.Common.{◌≡◌, ◌≢◌, ◌∙◌, ℕ, zero, suc, ◌+◌, ◌*◌, ◌<◌, ◌≤◌, Bool, true, false, List, [], ◌∷◌, ◌++◌, length, map, Option, Some, None, refl, sym, ap, subst, arith, inl, inr, append_assoc, append-nil}
+use Rattle.std.specs.Prelude.{nat_lt, ◌==◌, slice_get, slice_index_or, if◌then◌else◌}
+use Rattle.std.specs.List.{flat_map, range_with_len}
+use Rattle.std.specs.Option.{option_and_then, option_map}
+use Rattle.std.proofs.lemmas.Bool.{cases_eq, cases_lt, cases_Bool, eq-eqb, ne_eqb, eqb-true, lt-ltb, ltb-true, le-leb}
+use Rattle.std.proofs.lemmas.List.{map-append}
+use Rattle.std.proofs.lemmas.Option.{slice_get-get_or, slice_get_past, slice_get-map}
+use Rattle.std.proofs.Math.ListN.{get_or-eq_default}
+use Rattle.gq_tag.specs.declared.StoredCopy.{StoredCopy}
+use Rattle.gq_tag.specs.declared.Body.TheVariants.{Store}
+use Rattle.gq_tag.specs.Tag.{File, file_of, is_file, is_less, first_tag, first_copy, greatest}
+use Rattle.gq_pool.specs.declared.TheConstants.{BLOCK_BYTES}
+use Rattle.gq_desk.specs.CheckedPlan.{row_at}
+use Rattle.gq_desk.specs.Plans.{is_in}
+use Rattle.gq_desk.specs.Volumes.{Account, account_at, limit_of, limit_in}
+use Rattle.gq_desk.specs.declared.volumes.VolumeRow.{VolumeRow}
+use Rattle.gq_store.specs.Copies.{TenantCopies, VolumeCopies, copy_at, copies_account, volume_size, volume_copy, tenant_in, empty_volume}
+use Rattle.gq_model.specs.Trace.{files_of, limit_at}
+use Rattle.gq_cluster.specs.Cluster.{everyone}
+use Rattle.gq_laws.proofs.Holding.{greatest-push}
+use Rattle.gq_node.specs.declared.output.Fact.{Fact}
+use Rattle.gq_cluster.specs.Facts.{OwnFact, Begun, Numbered, Kept}
+use Rattle.gq_node.specs.Local.{Local, new_local, state_of, recalled, fact_fits, file_fits, file_in}
+use Rattle.gq_node.specs.Recalling.{tenant_of, own_fact}
+use Rattle.gq_node.specs.Resting.{recall_one, recall_all, those_of, IsAtRest, AllOfPlan, Needed}
+use Rattle.gq_node.specs.Needing.{begun_facts, number_facts, numbers_facts, seat_facts, copy_facts, place_of, place_facts, files_in, volume_facts, volumes_facts, tenant_facts, all_facts, IsReadable, PlaceReadable, AllReadable}
+use Rattle.gq_node.specs.Seats.{last_in}
+use Rattle.gq_node.specs.Shape.{IsShaped}
+use Rattle.gq_node.specs.Sites.{Site, site_of}
+use Rattle.gq_node.specs.Tables.{Tables, Agrees, seat_at, fact_of}
+use Rattle.gq_node.proofs.Listing.{files_at}
+use Rattle.gq_node.proofs.Recalling.{recalls_fits}
+use Rattle.gq_node.proofs.Serving.{limit_is, is_same_file}
+use Rattle.gq_node.proofs.Seating.{in_range, seat_of, last_agrees}
+
+-- ---- lists of lists
+
+pub flat_suc : {A : Type 0} (f : ℕ → List A) (a n : ℕ) → flat_map f (range_with_len a (suc n)) ≡ flat_map f (range_with_len a n) ++ f (a + n)
+flat_suc f a zero = append-nil (f a) ∙ ap f (let e : a ≡ a + 0 = omega arith in e)
+flat_suc f a (suc n) =
+    ap (λ z. f a ++ z) (flat_suc f (a + 1) n)
+    ∙ sym (append_assoc (f a) (flat_map f (range_with_len (a + 1) n)) (f (a + 1 + n)))
+    ∙ ap (λ m. (f a ++ flat_map f (range_with_len (a + 1) n)) ++ f m) (let e : a + 1 + n ≡ a + suc n = omega arith in e)
+
+-- a loop over the places from a on has put what each gives
+pub put_more : (t : ℕ) (f : ℕ → List OwnFact) (a n j : ℕ) (old mid new : List Fact) → a + n ≡ j → mid ≡ old ++ map (fact_of t) (flat_map f (range_with_len a n)) → new ≡ mid ++ map (fact_of t) (f j) →
+    new ≡ old ++ map (fact_of t) (flat_map f (range_with_len a (n + 1)))
+put_more t f a n j old mid new at before last =
+    last
+    ∙ ap (λ z. z ++ map (fact_of t) (f j)) before
+    ∙ append_assoc old (map (fact_of t) (flat_map f (range_with_len a n))) (map (fact_of t) (f j))
+    ∙ ap (λ z. old ++ z) (sym (map-append (fact_of t) (flat_map f (range_with_len a n)) (f j)))
+    ∙ ap (λ z. old ++ map (fact_of t) z) (ap (λ m. flat_map f (range_with_len a n) ++ f m) (sym at) ∙ sym (flat_suc f a n))
+    ∙ ap (λ m. old ++ map (fact_of t) (flat_map f (range_with_len a m))) (let e : suc n ≡ n + 1 = omega arith in e)
+
+pub put_one_more : (f : ℕ → List Fact) (n : ℕ) (mid new : List Fact) → mid ≡ flat_map f (range_with_len 0 n) → new ≡ mid ++ f n → new ≡ flat_map f (range_with_len 0 (n + 1))
+put_one_more f n mid new before last =
+    last
+    ∙ ap (λ z. z ++ f n) before
+    ∙ ap (λ m. flat_map f (range_with_len 0 n) ++ f m) (let e : n ≡ 0 + n = omega arith in e)
+    ∙ sym (flat_suc f 0 n)
+    ∙ ap (λ m. flat_map f (range_with_len 0 m)) (let e : suc n ≡ n + 1 = omega arith in e)
+
+-- what is taken of a list of lists
+record Splits {A B : Type 0} (take_of : List A → List B) : Type 0 where
+  none : take_of [] ≡ []
+  join : (a b : List A) → take_of (a ++ b) ≡ take_of a ++ take_of b
+
+flat_none : {A B : Type 0} (take_of : List A → List B) → Splits take_of → (g : ℕ → List A) (a n : ℕ) → ((u : ℕ) → a ≤ u → u < a + n → take_of (g u) ≡ []) → take_of (flat_map g (range_with_len a n)) ≡ []
+flat_none take_of s g a zero none = s.none
+flat_none take_of s g a (suc n) none =
+    s.join (g a) (flat_map g (range_with_len (a + 1) n))
+    ∙ ap (λ z. z ++ take_of (flat_map g (range_with_len (a + 1) n))) (none a (omega arith) (omega arith))
+    ∙ flat_none take_of s g (a + 1) n (λ u low high. none u (omega arith) (omega arith))
+
+flat_one : {A B : Type 0} (take_of : List A → List B) → Splits take_of → (g : ℕ → List A) (t a n : ℕ) → a ≤ t → t < a + n → ((u : ℕ) → u ≢ t → take_of (g u) ≡ []) → take_of (flat_map g (range_with_len a n)) ≡ take_of (g t)
+flat_one take_of s g t a zero low high none = absurd (omega arith)
+flat_one take_of s g t a (suc n) low high none = elim (cases_eq a t) [
+  | inl here ↦ (
+      s.join (g a) (flat_map g (range_with_len (a + 1) n))
+      ∙ ap (λ z. take_of (g a) ++ z) (flat_none take_of s g (a + 1) n (λ u above below. none u (λ e. omega arith)))
+      ∙ append-nil (take_of (g a))
+      ∙ ap (λ z. take_of (g z)) here)
+  | inr other ↦ (
+      s.join (g a) (flat_map g (range_with_len (a + 1) n))
+      ∙ ap (λ z. z ++ take_of (flat_map g (range_with_len (a + 1) n))) (none a other)
+      ∙ flat_one take_of s g t (a + 1) n (omega arith) (omega arith) none)
+]
+
+-- ---- what facts say of one session, and of one file
+
+abbrev pub ops_of : ℕ → List OwnFact → List ℕ
+ops_of j [] = []
+ops_of j (Begun k op ∷ facts) = if k == j then op ∷ ops_of j facts else ops_of j facts
+ops_of j (Numbered k number ∷ facts) = ops_of j facts
+ops_of j (Kept file copy ∷ facts) = ops_of j facts
+
+abbrev pub numbers_of : ℕ → List OwnFact → List ℕ
+numbers_of j [] = []
+numbers_of j (Begun k op ∷ facts) = numbers_of j facts
+numbers_of j (Numbered k number ∷ facts) = if k == j then number ∷ numbers_of j facts else numbers_of j facts
+numbers_of j (Kept file copy ∷ facts) = numbers_of j facts
+
+abbrev pub copies_of : File → List OwnFact → List StoredCopy
+copies_of f [] = []
+copies_of f (Begun k op ∷ facts) = copies_of f facts
+copies_of f (Numbered k number ∷ facts) = copies_of f facts
+copies_of f (Kept file copy ∷ facts) = if is_file file f then copy ∷ copies_of f facts else copies_of f facts
+
+ops_split : (j : ℕ) → Splits (ops_of j)
+ops_split j = record { none = refl; join = joined }
+  where
+    joined : (a b : List OwnFact) → ops_of j (a ++ b) ≡ ops_of j a ++ ops_of j b
+    joined [] b = refl
+    joined (Begun k op ∷ a) b = elim (cases_Bool (k == j)) [
+      | inl same ↦ (rw same (ap (λ z. op ∷ z) (joined a b)))
+      | inr other ↦ (rw other (joined a b))
+    ]
+    joined (Numbered k number ∷ a) b = joined a b
+    joined (Kept file copy ∷ a) b = joined a b
+
+numbers_split : (j : ℕ) → Splits (numbers_of j)
+numbers_split j = record { none = refl; join = joined }
+  where
+    joined : (a b : List OwnFact) → numbers_of j (a ++ b) ≡ numbers_of j a ++ numbers_of j b
+    joined [] b = refl
+    joined (Begun k op ∷ a) b = joined a b
+    joined (Numbered k number ∷ a) b = elim (cases_Bool (k == j)) [
+      | inl same ↦ (rw same (ap (λ z. number ∷ z) (joined a b)))
+      | inr other ↦ (rw other (joined a b))
+    ]
+    joined (Kept file copy ∷ a) b = joined a b
+
+copies_split : (f : File) → Splits (copies_of f)
+copies_split f = record { none = refl; join = joined }
+  where
+    joined : (a b : List OwnFact) → copies_of f (a ++ b) ≡ copies_of f a ++ copies_of f b
+    joined [] b = refl
+    joined (Begun k op ∷ a) b = joined a b
+    joined (Numbered k number ∷ a) b = joined a b
+    joined (Kept file copy ∷ a) b = elim (cases_Bool (is_file file f)) [
+      | inl same ↦ (rw same (ap (λ z. copy ∷ z) (joined a b)))
+      | inr other ↦ (rw other (joined a b))
+    ]
+
+those_split : (t : ℕ) → Splits (those_of t)
+those_split t = record { none = refl; join = joined }
+  where
+    joined : (a b : List Fact) → those_of t (a ++ b) ≡ those_of t a ++ those_of t b
+    joined [] b = refl
+    joined (fact ∷ a) b = elim (cases_Bool (tenant_of fact == t)) [
+      | inl same ↦ (rw same (ap (λ z. own_fact fact ∷ z) (joined a b)))
+      | inr other ↦ (rw other (joined a b))
+    ]
+
+-- the last of some numbers
+abbrev pub last_of : ℕ → List ℕ → ℕ
+last_of d [] = d
+last_of d (x ∷ xs) = last_of x xs
+
+-- ---- what recalling facts makes
+
+-- each fact fits, in files of these limits
+abbrev pub FactsFit : Site → (File → Option ℕ) → List OwnFact → Type 0
+FactsFit site limit [] = Unit {0}
+FactsFit site limit (fact ∷ facts) = (fact_fits site (limit (file_in fact)) fact ≡ true) × FactsFit site limit facts
+
+fit_append : (site : Site) (limit : File → Option ℕ) (a b : List OwnFact) → FactsFit site limit a → FactsFit site limit b → FactsFit site limit (a ++ b)
+fit_append site limit [] b x y = y
+fit_append site limit (fact ∷ a) b x y = (x.0, fit_append site limit a b x.1 y)
+
+fit_flat : (site : Site) (limit : File → Option ℕ) (g : ℕ → List OwnFact) (a n : ℕ) → ((u : ℕ) → a ≤ u → u < a + n → FactsFit site limit (g u)) → FactsFit site limit (flat_map g (range_with_len a n))
+fit_flat site limit g a zero fit = tt
+fit_flat site limit g a (suc n) fit = fit_append site limit (g a) (flat_map g (range_with_len (a + 1) n)) (fit a (omega arith) (omega arith)) (fit_flat site limit g (a + 1) n (λ u low high. fit u (omega arith) (omega arith)))
+
+record Makes (local : Local) (facts : List OwnFact) (made : Local) : Type 0 where
+  volumes : made.volumes ≡ local.volumes
+  brought : (f : File) → made.brought f ≡ local.brought f ++ copies_of f facts
+  ops : (j : ℕ) → (made.residents j).session.op ≡ last_of (local.residents j).session.op (ops_of j facts)
+  floors : (j : ℕ) → (made.residents j).session.floor ≡ last_of (local.residents j).session.floor (numbers_of j facts)
+  idle : (j : ℕ) → (local.residents j).session.current ≡ None → (made.residents j).session.current ≡ None
+
+-- by one fact first
+makes_first : (fact : OwnFact) (local : Local) (facts : List OwnFact) (made : Local) → Makes (recalled fact local) facts made → Makes local (fact ∷ facts) made
+makes_first (Begun k op) local facts made m = record {
+  volumes = m.volumes;
+  brought = m.brought;
+  ops = λ j. m.ops j ∙ op_is j (k == j) refl;
+  floors = λ j. m.floors j ∙ ap (λ z. last_of z (numbers_of j facts)) (floor_is j (k == j) refl);
+  idle = λ j idle. m.idle j (rest_is j idle (k == j) refl);
+}
+  where
+    op_is : (j : ℕ) (b : Bool) → (k == j) ≡ b → last_of ((recalled (Begun k op) local).residents j).session.op (ops_of j facts) ≡ last_of (local.residents j).session.op (ops_of j (Begun k op ∷ facts))
+    op_is j true is = rw is refl
+    op_is j false is = rw is refl
+
+    floor_is : (j : ℕ) (b : Bool) → (k == j) ≡ b → ((recalled (Begun k op) local).residents j).session.floor ≡ (local.residents j).session.floor
+    floor_is j true is = rw is (ap (λ x. (local.residents x).session.floor) (eqb-true k j is))
+    floor_is j false is = rw is refl
+
+    rest_is : (j : ℕ) → (local.residents j).session.current ≡ None → (b : Bool) → (k == j) ≡ b → ((recalled (Begun k op) local).residents j).session.current ≡ None
+    rest_is j idle true is = rw is refl
+    rest_is j idle false is = rw is idle
+makes_first (Numbered k number) local facts made m = record {
+  volumes = m.volumes;
+  brought = m.brought;
+  ops = λ j. m.ops j ∙ ap (λ z. last_of z (ops_of j facts)) (op_is j (k == j) refl);
+  floors = λ j. m.floors j ∙ floor_is j (k == j) refl;
+  idle = λ j idle. m.idle j (rest_is j idle (k == j) refl);
+}
+  where
+    op_is : (j : ℕ) (b : Bool) → (k == j) ≡ b → ((recalled (Numbered k number) local).residents j).session.op ≡ (local.residents j).session.op
+    op_is j true is = rw is (ap (λ x. (local.residents x).session.op) (eqb-true k j is))
+    op_is j false is = rw is refl
+
+    floor_is : (j : ℕ) (b : Bool) → (k == j) ≡ b → last_of ((recalled (Numbered k number) local).residents j).session.floor (numbers_of j facts) ≡ last_of (local.residents j).session.floor (numbers_of j (Numbered k number ∷ facts))
+    floor_is j true is = rw is refl
+    floor_is j false is = rw is refl
+
+    rest_is : (j : ℕ) → (local.residents j).session.current ≡ None → (b : Bool) → (k == j) ≡ b → ((recalled (Numbered k number) local).residents j).session.current ≡ None
+    rest_is j idle true is = rw is refl
+    rest_is j idle false is = rw is idle
+makes_first (Kept file copy) local facts made m = record {
+  volumes = m.volumes;
+  brought = λ f. m.brought f ∙ more f (is_file file f) refl;
+  ops = m.ops;
+  floors = m.floors;
+  idle = m.idle;
+}
+  where
+    more : (f : File) (b : Bool) → is_file file f ≡ b → (recalled (Kept file copy) local).brought f ++ copies_of f facts ≡ local.brought f ++ copies_of f (Kept file copy ∷ facts)
+    more f true is = rw is (append_assoc (local.brought f) (copy ∷ []) (copies_of f facts))
+    more f false is = rw is refl
+
+all_make : (site : Site) (limit : File → Option ℕ) (facts : List OwnFact) (local : Local) → ((f : File) → limit_at (state_of everyone local) f.volume f.place ≡ limit f) → FactsFit site limit facts → Makes local facts (recall_all site local facts)
+all_make site limit [] local limits fit = record { volumes = refl; brought = λ f. sym (append-nil (local.brought f)); ops = λ j. refl; floors = λ j. refl; idle = λ j idle. idle }
+all_make site limit (fact ∷ facts) local limits fit =
+    let fits : fact_fits site (limit_at (state_of everyone local) (file_in fact).volume (file_in fact).place) fact ≡ true = ap (λ l. fact_fits site l fact) (limits (file_in fact)) ∙ fit.0 in
+    let one : recall_one site local fact ≡ recalled fact local = ap (λ d. d.local) (recalls_fits fact site local fits) in
+    let rest : Makes (recalled fact local) facts (recall_all site (recalled fact local) facts) = all_make site limit facts (recalled fact local) (still fact) fit.1 in
+    subst (λ z. Makes local (fact ∷ facts) (recall_all site z facts)) (sym one) (makes_first fact local facts (recall_all site (recalled fact local) facts) rest)
+  where
+    still : (fact : OwnFact) (f : File) → limit_at (state_of everyone (recalled fact local)) f.volume f.place ≡ limit f
+    still (Begun k op) f = limits f
+    still (Numbered k number) f = limits f
+    still (Kept file copy) f = limits f
+
+-- ---- of one session
+
+begun_ops : (j k op : ℕ) → k ≢ j → ops_of j (begun_facts k op) ≡ []
+begun_ops j k op other = elim (cases_Bool (op == 0)) [
+  | inl is ↦ (rw is refl)
+  | inr is ↦ (rw (is, ne_eqb k j other) refl)
+]
+
+number_ops : (j k number : ℕ) → ops_of j (number_facts k number) ≡ []
+number_ops j k number = elim (cases_Bool (number == 0)) [
+  | inl is ↦ (rw is refl)
+  | inr is ↦ (rw is refl)
+]
+
+begun_numbers : (j k op : ℕ) → numbers_of j (begun_facts k op) ≡ []
+begun_numbers j k op = elim (cases_Bool (op == 0)) [
+  | inl is ↦ (rw is refl)
+  | inr is ↦ (rw is refl)
+]
+
+number_numbers : (j k number : ℕ) → k ≢ j → numbers_of j (number_facts k number) ≡ []
+number_numbers j k number other = elim (cases_Bool (number == 0)) [
+  | inl is ↦ (rw is refl)
+  | inr is ↦ (rw (is, ne_eqb k j other) refl)
+]
+
+other_ops : (j k op number : ℕ) → k ≢ j → ops_of j (numbers_facts k op number) ≡ []
+other_ops j k op number other = (ops_split j).join (begun_facts k op) (number_facts k number) ∙ ap (λ z. z ++ ops_of j (number_facts k number)) (begun_ops j k op other) ∙ number_ops j k number
+
+other_numbers : (j k op number : ℕ) → k ≢ j → numbers_of j (numbers_facts k op number) ≡ []
+other_numbers j k op number other =
+    (numbers_split j).join (begun_facts k op) (number_facts k number) ∙ ap (λ z. z ++ numbers_of j (number_facts k number)) (begun_numbers j k op) ∙ number_numbers j k number other
+
+own_op : (k op number : ℕ) → last_of 0 (ops_of k (numbers_facts k op number)) ≡ op
+own_op k op number =
+    ap (last_of 0) ((ops_split k).join (begun_facts k op) (number_facts k number) ∙ ap (λ z. ops_of k (begun_facts k op) ++ z) (number_ops k k number) ∙ append-nil (ops_of k (begun_facts k op)))
+    ∙ (elim (cases_Bool (op == 0)) [
+      | inl is ↦ (rw is (sym (eqb-true op 0 is)))
+      | inr is ↦ (rw (is, eq-eqb k k refl) refl)
+    ])
+
+own_number : (k op number : ℕ) → last_of 0 (numbers_of k (numbers_facts k op number)) ≡ number
+own_number k op number =
+    ap (last_of 0) ((numbers_split k).join (begun_facts k op) (number_facts k number) ∙ ap (λ z. z ++ numbers_of k (number_facts k number)) (begun_numbers k k op))
+    ∙ (elim (cases_Bool (number == 0)) [
+      | inl is ↦ (rw is (sym (eqb-true number 0 is)))
+      | inr is ↦ (rw (is, eq-eqb k k refl) refl)
+    ])
+
+seat_copies : (f : File) (k op number : ℕ) → copies_of f (numbers_facts k op number) ≡ []
+seat_copies f k op number = (copies_split f).join (begun_facts k op) (number_facts k number) ∙ ap (λ z. z ++ copies_of f (number_facts k number)) left ∙ right
+  where
+    left : copies_of f (begun_facts k op) ≡ []
+    left = elim (cases_Bool (op == 0)) [
+      | inl is ↦ (rw is refl)
+      | inr is ↦ (rw is refl)
+    ]
+
+    right : copies_of f (number_facts k number) ≡ []
+    right = elim (cases_Bool (number == 0)) [
+      | inl is ↦ (rw is refl)
+      | inr is ↦ (rw is refl)
+    ]
+
+seat_fit : (site : Site) (limit : File → Option ℕ) (k op number : ℕ) → is_in 1 site.row.sessions k ≡ true → FactsFit site limit (numbers_facts k op number)
+seat_fit site limit k op number inside = fit_append site limit (begun_facts k op) (number_facts k number) left right
+  where
+    left : FactsFit site limit (begun_facts k op)
+    left = elim (cases_Bool (op == 0)) [
+      | inl is ↦ (rw is tt)
+      | inr is ↦ (rw is (inside, tt))
+    ]
+
+    right : FactsFit site limit (number_facts k number)
+    right = elim (cases_Bool (number == 0)) [
+      | inl is ↦ (rw is tt)
+      | inr is ↦ (rw is (inside, tt))
+    ]
+
+-- ---- of one file
+
+copy_ops : (j : ℕ) (file : File) (copy : StoredCopy) → ops_of j (copy_facts file copy) ≡ []
+copy_ops j file copy = elim (cases_Bool (is_less first_tag copy.tag)) [
+  | inl is ↦ (rw is refl)
+  | inr is ↦ (rw is refl)
+]
+
+copy_numbers : (j : ℕ) (file : File) (copy : StoredCopy) → numbers_of j (copy_facts file copy) ≡ []
+copy_numbers j file copy = elim (cases_Bool (is_less first_tag copy.tag)) [
+  | inl is ↦ (rw is refl)
+  | inr is ↦ (rw is refl)
+]
+
+other_copies : (f file : File) (copy : StoredCopy) → is_file file f ≡ false → copies_of f (copy_facts file copy) ≡ []
+other_copies f file copy other = elim (cases_Bool (is_less first_tag copy.tag)) [
+  | inl is ↦ (rw (is, other) refl)
+  | inr is ↦ (rw is refl)
+]
+
+-- a start has the copy again
+own_copy : (file : File) (copy : StoredCopy) (limit : ℕ) → IsReadable limit copy → greatest (first_copy ∷ copies_of file (copy_facts file copy)) ≡ copy
+own_copy file copy limit readable = elim (cases_Bool (is_less first_tag copy.tag)) [
+  | inl is ↦ (
+      let one : copies_of file (copy_facts file copy) ≡ copy ∷ [] = rw (is, is_same_file file) refl in
+      ap (λ xs. greatest (first_copy ∷ xs)) one ∙ greatest-push first_copy copy [] ∙ (rw is refl))
+  | inr is ↦ (
+      let none : copies_of file (copy_facts file copy) ≡ [] = rw is refl in
+      ap (λ xs. greatest (first_copy ∷ xs)) none ∙ sym (readable.first is))
+]
+
+copy_fit : (site : Site) (limit : File → Option ℕ) (file : File) (copy : StoredCopy) (bytes : ℕ) → limit file ≡ Some bytes → IsReadable bytes copy → FactsFit site limit (copy_facts file copy)
+copy_fit site limit file copy bytes there readable = elim (cases_Bool (is_less first_tag copy.tag)) [
+  | inl is ↦ (rw is (ap (λ l. file_fits l (Store copy)) there ∙ readable.above is, tt))
+  | inr is ↦ (rw is tt)
+]
+
+-- ---- which files are there
+
+abbrev no_volume : VolumeRow
+no_volume = record { files = 0; blocks = 0 }
+
+there_limit : (volumes : List VolumeRow) (v p : ℕ) → v < length volumes → p < files_of volumes v → option_and_then (limit_in p) (slice_get volumes v) ≡ Some (BLOCK_BYTES * (slice_index_or volumes v no_volume).blocks)
+there_limit volumes v p low small =
+    let within : p < (slice_index_or volumes v no_volume).files = subst (λ n. p < n) (sym (files_at volumes v no_volume low)) small in
+    ap (option_and_then (limit_in p)) (slice_get-get_or volumes v no_volume low) ∙ (rw (lt-ltb p (slice_index_or volumes v no_volume).files within) refl)
+
+-- where a file is there, its volume and its place are
+limit_there : (volumes : List VolumeRow) (v p bytes : ℕ) → option_and_then (limit_in p) (slice_get volumes v) ≡ Some bytes → (v < length volumes) × (p < files_of volumes v)
+limit_there volumes v p bytes is = elim (cases_lt v (length volumes)) [
+  | inr past ↦ (let e : option_and_then (limit_in p) (slice_get volumes v) ≡ None = ap (option_and_then (limit_in p)) (slice_get_past volumes v past) in absurd (cc))
+  | inl low ↦ (
+      let row : VolumeRow = slice_index_or volumes v no_volume in
+      let e : limit_in p row ≡ Some bytes = ap (option_and_then (limit_in p)) (sym (slice_get-get_or volumes v no_volume low)) ∙ is in
+      elim (cases_Bool (nat_lt p row.files)) [
+        | inl small ↦ ((low, subst (λ n. p < n) (files_at volumes v no_volume low) (ltb-true p row.files small)))
+        | inr large ↦ (let f : limit_in p row ≡ None = rw large refl in absurd (cc))
+      ])
+]
+
+account_is : (tenants : List TenantCopies) (t : ℕ) → account_at (map copies_account tenants) t ≡ copies_account (tenant_in tenants t)
+account_is [] t = refl
+account_is (x ∷ xs) zero = refl
+account_is (x ∷ xs) (suc t) = account_is xs t
+
+-- a file that is not there has its first copy
+absent_in : (volumes : List VolumeCopies) (v p : ℕ) → option_and_then (limit_in p) (slice_get (map volume_size volumes) v) ≡ None → volume_copy (slice_index_or volumes v empty_volume) p ≡ first_copy
+absent_in volumes v p none = elim (cases_lt v (length volumes)) [
+  | inr past ↦ (ap (λ (z : VolumeCopies). volume_copy z p) (get_or-eq_default volumes empty_volume past))
+  | inl low ↦ (
+      let volume : VolumeCopies = slice_index_or volumes v empty_volume in
+      let e : limit_in p (volume_size volume) ≡ None = ap (option_and_then (limit_in p)) (ap (option_map volume_size) (sym (slice_get-get_or volumes v empty_volume low)) ∙ sym (slice_get-map volume_size volumes v)) ∙ none in
+      elim (cases_lt p (length volume.copies)) [
+        | inr past ↦ (get_or-eq_default volume.copies first_copy past)
+        | inl small ↦ (let f : limit_in p (volume_size volume) ≡ Some (BLOCK_BYTES * volume.blocks) = rw (lt-ltb p (length volume.copies) small) refl in absurd (cc))
+      ])
+]
+
+absent_copy : (w : Tables) (t : ℕ) (f : File) → IsShaped w → limit_of w.desk (file_of t f) ≡ None → copy_at w.store (file_of t f) ≡ first_copy
+absent_copy w t f shaped none =
+    let volumes : (account_at w.desk t).volumes ≡ map volume_size (tenant_in w.store.tenants t).volumes = ap (λ (desk : List Account). (account_at desk t).volumes) (sym shaped.accounts) ∙ ap (λ (a : Account). a.volumes) (account_is w.store.tenants t) in
+    absent_in (tenant_in w.store.tenants t).volumes f.volume f.place (ap (λ (vs : List VolumeRow). option_and_then (limit_in f.place) (slice_get vs f.volume)) (sym volumes) ∙ none)
+
+-- ---- all facts of a tenant
+
+volume_ops : (w : Tables) (t j : ℕ) → ops_of j (volumes_facts w t) ≡ []
+volume_ops w t j = flat_none (ops_of j) (ops_split j) (volume_facts w t) 0 (length (account_at w.desk t).volumes)
+    (λ v low high. flat_none (ops_of j) (ops_split j) (place_facts w t v) 0 (files_in w t v) (λ p a b. copy_ops j (place_of v p) (copy_at w.store (file_of t (place_of v p)))))
+
+volume_numbers : (w : Tables) (t j : ℕ) → numbers_of j (volumes_facts w t) ≡ []
+volume_numbers w t j = flat_none (numbers_of j) (numbers_split j) (volume_facts w t) 0 (length (account_at w.desk t).volumes)
+    (λ v low high. flat_none (numbers_of j) (numbers_split j) (place_facts w t v) 0 (files_in w t v) (λ p a b. copy_numbers j (place_of v p) (copy_at w.store (file_of t (place_of v p)))))
+
+-- of another volume, and of another place of its own volume, nothing is of the file
+other_volume : (w : Tables) (t : ℕ) (f : File) (u : ℕ) → u ≢ f.volume → copies_of f (volume_facts w t u) ≡ []
+other_volume w t f u other = flat_none (copies_of f) (copies_split f) (place_facts w t u) 0 (files_in w t u)
+    (λ p a b. other_copies f (place_of u p) (copy_at w.store (file_of t (place_of u p))) (let e : is_file (place_of u p) f ≡ false = rw (ne_eqb u f.volume other) refl in e))
+
+other_place : (w : Tables) (t : ℕ) (f : File) (p : ℕ) → p ≢ f.place → copies_of f (place_facts w t f.volume p) ≡ []
+other_place w t f p other = other_copies f (place_of f.volume p) (copy_at w.store (file_of t (place_of f.volume p))) (let e : is_file (place_of f.volume p) f ≡ false = rw (eq-eqb f.volume f.volume refl, ne_eqb p f.place other) refl in e)
+
+there_copies : (w : Tables) (t : ℕ) (f : File) → f.volume < length (account_at w.desk t).volumes → f.place < files_in w t f.volume → copies_of f (volumes_facts w t) ≡ copies_of f (copy_facts f (copy_at w.store (file_of t f)))
+there_copies w t f low small =
+    flat_one (copies_of f) (copies_split f) (volume_facts w t) f.volume 0 (length (account_at w.desk t).volumes) (omega arith) (omega arith) (λ u other. other_volume w t f u other)
+    ∙ flat_one (copies_of f) (copies_split f) (place_facts w t f.volume) f.place 0 (files_in w t f.volume) (omega arith) (omega arith) (λ p other. other_place w t f p other)
+
+absent_copies : (w : Tables) (t : ℕ) (f : File) → limit_of w.desk (file_of t f) ≡ None → copies_of f (volumes_facts w t) ≡ []
+absent_copies w t f none = elim (cases_lt f.volume (length (account_at w.desk t).volumes)) [
+  | inr past ↦ (flat_none (copies_of f) (copies_split f) (volume_facts w t) 0 (length (account_at w.desk t).volumes) (λ u a b. other_volume w t f u (λ e. omega arith)))
+  | inl low ↦ (
+      flat_one (copies_of f) (copies_split f) (volume_facts w t) f.volume 0 (length (account_at w.desk t).volumes) (omega arith) (omega arith) (λ u other. other_volume w t f u other)
+      ∙ (elim (cases_lt f.place (files_in w t f.volume)) [
+        | inr past ↦ (flat_none (copies_of f) (copies_split f) (place_facts w t f.volume) 0 (files_in w t f.volume) (λ p a b. other_place w t f p (λ e. omega arith)))
+        | inl small ↦ (let e : limit_of w.desk (file_of t f) ≡ Some (BLOCK_BYTES * (slice_index_or (account_at w.desk t).volumes f.volume no_volume).blocks) = there_limit (account_at w.desk t).volumes f.volume f.place low small in absurd (cc))
+      ]))
+]
+
+copies_again : (w : Tables) (t : ℕ) (f : File) → IsShaped w → AllReadable w t → greatest (first_copy ∷ copies_of f (volumes_facts w t)) ≡ copy_at w.store (file_of t f)
+copies_again w t f shaped readable = by (limit_of w.desk (file_of t f)) refl
+  where
+    copy : StoredCopy
+    copy = copy_at w.store (file_of t f)
+
+    by : (o : Option ℕ) → limit_of w.desk (file_of t f) ≡ o → greatest (first_copy ∷ copies_of f (volumes_facts w t)) ≡ copy
+    by None none = ap (λ xs. greatest (first_copy ∷ xs)) (absent_copies w t f none) ∙ sym (absent_copy w t f shaped none)
+    by (Some bytes) is =
+        let there = limit_there (account_at w.desk t).volumes f.volume f.place bytes is in
+        ap (λ xs. greatest (first_copy ∷ xs)) (there_copies w t f there.0 there.1) ∙ own_copy f copy bytes (readable f bytes is)
+
+-- ---- the node at rest
+
+pub at_rest : (w : Tables) (t : ℕ) (local : Local) → IsShaped w → AllReadable w t → Agrees w t local →
+    IsAtRest (row_at w.plan t) (recall_all (site_of w.plan w.server t) (new_local w.plan.grid w.server local.volumes) (tenant_facts w t)) local
+at_rest w t local shaped readable agrees = record {
+  volumes = made.volumes;
+  copies = λ f.
+      ap (λ xs. greatest (first_copy ∷ xs)) (made.brought f ∙ (copies_split f).join s v ∙ ap (λ z. z ++ copies_of f v) (seats_copies f))
+      ∙ copies_again w t f shaped readable ∙ agrees.copies f;
+  ops = λ k inside. (
+      let range = in_range n k inside in
+      made.ops k ∙ ap (last_of 0) ((ops_split k).join s v ∙ ap (λ z. ops_of k s ++ z) (volume_ops w t k) ∙ append-nil (ops_of k s)
+      ∙ flat_one (ops_of k) (ops_split k) (seat_facts w t) k 1 n range.0 (let h : k < 1 + n = omega (arith, range.1) in h) (λ u other. other_ops k u (seat_at w t u).op (last_in (seat_at w t u)) other))
+      ∙ own_op k (seat_at w t k).op (last_in (seat_at w t k)) ∙ (seat_of w t k local agrees range.0 range.1).op);
+  floors = λ k inside. (
+      let range = in_range n k inside in
+      made.floors k ∙ ap (last_of 0) ((numbers_split k).join s v ∙ ap (λ z. numbers_of k s ++ z) (volume_numbers w t k) ∙ append-nil (numbers_of k s)
+      ∙ flat_one (numbers_of k) (numbers_split k) (seat_facts w t) k 1 n range.0 (let h : k < 1 + n = omega (arith, range.1) in h) (λ u other. other_numbers k u (seat_at w t u).op (last_in (seat_at w t u)) other))
+      ∙ own_number k (seat_at w t k).op (last_in (seat_at w t k)) ∙ last_agrees w.plan.grid t k (seat_at w t k) (local.residents k) (seat_of w t k local agrees range.0 range.1));
+  idle = λ k. made.idle k refl;
+}
+  where
+    n : ℕ
+    n = (row_at w.plan t).sessions
+
+    s : List OwnFact
+    s = flat_map (seat_facts w t) (range_with_len 1 n)
+
+    v : List OwnFact
+    v = volumes_facts w t
+
+    site : Site
+    site = site_of w.plan w.server t
+
+    limit : File → Option ℕ
+    limit f = limit_of w.desk (file_of t f)
+
+    fresh : Local
+    fresh = new_local w.plan.grid w.server local.volumes
+
+    seats_copies : (f : File) → copies_of f s ≡ []
+    seats_copies f = flat_none (copies_of f) (copies_split f) (seat_facts w t) 1 n (λ u a b. seat_copies f u (seat_at w t u).op (last_in (seat_at w t u)))
+
+    there : (u p : ℕ) → u < length (account_at w.desk t).volumes → p < files_in w t u → FactsFit site limit (place_facts w t u p)
+    there u p low small =
+        let bytes : ℕ = BLOCK_BYTES * (slice_index_or (account_at w.desk t).volumes u no_volume).blocks in
+        let is : limit_of w.desk (file_of t (place_of u p)) ≡ Some bytes = there_limit (account_at w.desk t).volumes u p low small in
+        copy_fit site limit (place_of u p) (copy_at w.store (file_of t (place_of u p))) bytes is (readable (place_of u p) bytes is)
+
+    inside_is : (u : ℕ) → 1 ≤ u → u < 1 + n → is_in 1 n u ≡ true
+    inside_is u low high = rw (le-leb 1 u low, le-leb u n (omega arith)) refl
+
+    fit : FactsFit site limit (s ++ v)
+    fit = fit_append site limit s v
+        (fit_flat site limit (seat_facts w t) 1 n (λ u low high. seat_fit site limit u (seat_at w t u).op (last_in (seat_at w t u)) (inside_is u low high)))
+        (fit_flat site limit (volume_facts w t) 0 (length (account_at w.desk t).volumes) (λ u a b. fit_flat site limit (place_facts w t u) 0 (files_in w t u) (λ p c d. there u p (omega arith) (omega arith))))
+
+    made : Makes fresh (s ++ v) (recall_all site fresh (s ++ v))
+    made = all_make site limit (s ++ v) fresh (λ f. sym (limit_is w t (file_of t f) local refl agrees)) fit
+
+-- ---- all tenants
+
+its_place : (t : ℕ) (fact : OwnFact) → tenant_of (fact_of t fact) ≡ t
+its_place t (Begun k op) = refl
+its_place t (Numbered k number) = refl
+its_place t (Kept file copy) = refl
+
+its_fact : (t : ℕ) (fact : OwnFact) → own_fact (fact_of t fact) ≡ fact
+its_fact t (Begun k op) = refl
+its_fact t (Numbered k number) = refl
+its_fact t (Kept file copy) = refl
+
+own_facts_are : (t : ℕ) (facts : List OwnFact) → those_of t (map (fact_of t) facts) ≡ facts
+own_facts_are t [] = refl
+own_facts_are t (fact ∷ facts) = rw (eq-eqb (tenant_of (fact_of t fact)) t (its_place t fact)) (ap (λ z. z ∷ those_of t (map (fact_of t) facts)) (its_fact t fact) ∙ ap (λ z. fact ∷ z) (own_facts_are t facts))
+
+other_facts_are : (t u : ℕ) (facts : List OwnFact) → u ≢ t → those_of t (map (fact_of u) facts) ≡ []
+other_facts_are t u [] other = refl
+other_facts_are t u (fact ∷ facts) other = rw (ne_eqb (tenant_of (fact_of u fact)) t (λ e. other (sym (its_place u fact) ∙ e))) (other_facts_are t u facts other)
+
+plan_append : (w : Tables) (a b : List Fact) → AllOfPlan w a → AllOfPlan w b → AllOfPlan w (a ++ b)
+plan_append w [] b x y = y
+plan_append w (fact ∷ a) b x y = (x.0, plan_append w a b x.1 y)
+
+plan_map : (w : Tables) (t : ℕ) (facts : List OwnFact) → t < length w.plan.rows → AllOfPlan w (map (fact_of t) facts)
+plan_map w t [] within = tt
+plan_map w t (fact ∷ facts) within = (subst (λ n. n < length w.plan.rows) (sym (its_place t fact)) within, plan_map w t facts within)
+
+plan_flat : (w : Tables) (a n : ℕ) → a + n ≤ length w.plan.rows → AllOfPlan w (flat_map (λ t. map (fact_of t) (tenant_facts w t)) (range_with_len a n))
+plan_flat w a zero within = tt
+plan_flat w a (suc n) within = plan_append w (map (fact_of a) (tenant_facts w a)) (flat_map (λ t. map (fact_of t) (tenant_facts w t)) (range_with_len (a + 1) n)) (plan_map w a (tenant_facts w a) (omega arith)) (plan_flat w (a + 1) n (omega arith))
+
+pub all_needed : (w : Tables) → IsShaped w → ((t : ℕ) → t < length w.plan.rows → AllReadable w t) → Needed w (all_facts w)
+all_needed w shaped readable = record {
+  within = plan_flat w 0 (length w.plan.rows) (omega arith);
+  makes = λ t within local agrees. (
+      let are : those_of t (all_facts w) ≡ tenant_facts w t =
+      flat_one (those_of t) (those_split t) (λ u. map (fact_of u) (tenant_facts w u)) t 0 (length w.plan.rows) (omega arith) (omega arith) (λ u other. other_facts_are t u (tenant_facts w u) other)
+      ∙ own_facts_are t (tenant_facts w t) in
+      subst (λ facts. IsAtRest (row_at w.plan t) (recall_all (site_of w.plan w.server t) (new_local w.plan.grid w.server local.volumes) facts) local) (sym are) (at_rest w t local shaped (readable t within) agrees));
+}
+
+-- the copies are readable, volume by volume
+pub all_readable : (w : Tables) (t : ℕ) → ((v : ℕ) → v < length (account_at w.desk t).volumes → (p : ℕ) → p < files_in w t v → PlaceReadable w t v p) → AllReadable w t
+all_readable w t by_place f bytes is =
+    let there = limit_there (account_at w.desk t).volumes f.volume f.place bytes is in
+    by_place f.volume there.0 f.place there.1 bytes is

@@ -1,0 +1,116 @@
+-- What a session's seat stands for after a message.
+use Rattle.std.proofs.Common.{◌≡◌, ◌∙◌, ℕ, Bool, false, Option, Some, None, refl, sym, ap}
+use Rattle.gq_grid.specs.Grid.{Grid, Servers}
+use Rattle.gq_grid.specs.Sets.{servers}
+use Rattle.gq_tag.specs.declared.Message.{Message}
+use Rattle.gq_tag.specs.Tag.{OwnMessage, own_message}
+use Rattle.gq_phase.specs.declared.Outcome.{Outcome}
+use Rattle.gq_phase.specs.declared.Heard.{Heard}
+use Rattle.gq_phase.specs.declared.Heard.TheVariants.{Stale, Noted, Next, Done}
+use Rattle.gq_phase.specs.declared.operation.Operation.{Operation as Code}
+use Rattle.gq_phase.specs.Phase.{Operation, Heard as Saying, HeardStale, HeardNoted, HeardNext, HeardDone, hear}
+use Rattle.gq_phase.specs.Standing.{StandsAfter, HearsAs, heard_as, floor_of}
+use Rattle.gq_node.specs.Heard.{heard_outcome, heard_waits}
+use Rattle.gq_node.specs.Tables.{Sits}
+use Rattle.gq_node.specs.declared.seats.Seat.{Seat}
+use Rattle.gq_node.specs.Seats.{has_heard, said_by, operation_after, last_of, SeatHears}
+
+-- what the value says is what the operation says
+pub seat_says : (old new : Code) (floor : ℕ) (up : Servers) (m : Message) (heard : Heard) → HearsAs old new up m heard →
+    (grid : Grid) (t last : ℕ) (o : Option Operation) → Sits grid t floor (Some old) last o → heard ≡ heard_as t (said_by grid up o (own_message m))
+seat_says old new floor up m heard hears grid t last None sits = absurd sits
+seat_says old new floor up m heard hears grid t last (Some o) sits = (hears grid t o sits).0
+
+-- it goes on
+after_saying : (grid : Grid) (t floor : ℕ) (new : Code) (o : Operation) (l : OwnMessage) (heard : Heard) (s : Saying) → heard ≡ heard_as t s → ((x : Outcome) → heard ≡ Done x → ⊥) → StandsAfter grid t new o l s →
+    Sits grid t floor (Some new) o.floor (operation_after (Some o) l s)
+after_saying grid t floor new o l heard HeardStale is not stands = stands
+after_saying grid t floor new o l heard HeardNoted is not stands = stands
+after_saying grid t floor new o l heard (HeardNext round tag messages) is not stands = stands
+after_saying grid t floor new o l heard (HeardDone outcome) is not stands = absurd (not outcome is)
+
+pub seat_goes_on : (old new : Code) (floor : ℕ) (up : Servers) (m : Message) (heard : Heard) → HearsAs old new up m heard → ((x : Outcome) → heard ≡ Done x → ⊥) →
+    (grid : Grid) (t last : ℕ) (o : Option Operation) → Sits grid t floor (Some old) last o → Sits grid t floor (Some new) (last_of last o) (operation_after o (own_message m) (said_by grid up o (own_message m)))
+seat_goes_on old new floor up m heard hears not grid t last None sits = absurd sits
+seat_goes_on old new floor up m heard hears not grid t last (Some o) sits =
+    let h = hears grid t o sits in
+    after_saying grid t floor new o (own_message m) heard (hear grid up o (own_message m)) h.0 not h.1
+
+-- it is done
+done_saying : (grid : Grid) (t floor : ℕ) (new : Code) (o : Operation) (l : OwnMessage) (outcome : Outcome) (s : Saying) → ◌≡◌ {A = Heard} (Done outcome) (heard_as t s) → StandsAfter grid t new o l s → floor ≡ floor_of new →
+    Sits grid t floor None o.floor (operation_after (Some o) l s)
+done_saying grid t floor new o l outcome HeardStale is stands own = absurd (cc)
+done_saying grid t floor new o l outcome HeardNoted is stands own = absurd (cc)
+done_saying grid t floor new o l outcome (HeardNext round tag messages) is stands own = absurd (cc)
+done_saying grid t floor new o l outcome (HeardDone other) is stands own = own ∙ stands.1
+
+pub seat_rests : (old new : Code) (before floor : ℕ) (up : Servers) (m : Message) (outcome : Outcome) → HearsAs old new up m (Done outcome) → floor ≡ floor_of new →
+    (grid : Grid) (t last : ℕ) (o : Option Operation) → Sits grid t before (Some old) last o → Sits grid t floor None (last_of last o) (operation_after o (own_message m) (said_by grid up o (own_message m)))
+seat_rests old new before floor up m outcome hears own grid t last None sits = absurd sits
+seat_rests old new before floor up m outcome hears own grid t last (Some o) sits =
+    let h = hears grid t o sits in
+    done_saying grid t floor new o (own_message m) outcome (hear grid up o (own_message m)) h.0 h.1 own
+
+-- a seat without an operation says that the message is stale
+pub empty_says : (floor : ℕ) (up : Servers) (m : Message) (grid : Grid) (t last : ℕ) (o : Option Operation) → Sits grid t floor None last o → Stale ≡ heard_as t (said_by grid up o (own_message m))
+empty_says floor up m grid t last None sits = refl
+empty_says floor up m grid t last (Some o) sits = absurd sits
+
+pub empty_stays : (floor : ℕ) (up : Servers) (m : Message) (grid : Grid) (t last : ℕ) (o : Option Operation) → Sits grid t floor None last o → Sits grid t floor None (last_of last o) (operation_after o (own_message m) (said_by grid up o (own_message m)))
+empty_stays floor up m grid t last None sits = sits
+empty_stays floor up m grid t last (Some o) sits = absurd sits
+
+-- ---- the seat
+
+not_stale : (heard : Heard) (known waited : Bool) → (heard ≡ Stale → ⊥) → (heard ≡ Noted → ⊥) → heard_waits heard known waited ≡ false
+not_stale Stale known waited not noted = absurd (not refl)
+not_stale Noted known waited not noted = absurd (noted refl)
+not_stale (Next round tag messages) known waited not noted = refl
+not_stale (Done outcome) known waited not noted = refl
+
+not_done : (heard : Heard) (outcome : Option Outcome) → ((x : Outcome) → heard ≡ Done x → ⊥) → outcome ≡ heard_outcome heard outcome
+not_done Stale outcome not = refl
+not_done Noted outcome not = refl
+not_done (Next round tag messages) outcome not = refl
+not_done (Done done) outcome not = absurd (not done refl)
+
+pub seat_hears : (old : Seat) (code new : Code) (waited : Bool) (up : Servers) (m : Message) (heard : Heard) → old.operation ≡ Some code → HearsAs code new up m heard → ((x : Outcome) → heard ≡ Done x → ⊥) →
+    waited ≡ heard_waits heard (servers code.heard m.server) old.waited → SeatHears old (record old { operation = Some new; waited = waited }) up m heard
+seat_hears old code new waited up m heard is hears not waits = record {
+  op = refl;
+  row = refl;
+  column = refl;
+  outcome = not_done heard old.outcome not;
+  waited = waits ∙ ap (λ o. heard_waits heard (has_heard o m.server) old.waited) (sym is);
+  says = λ grid t last o sits. seat_says code new old.floor up m heard hears grid t last o (rw is at sits);
+  sits = λ grid t last o sits. seat_goes_on code new old.floor up m heard hears not grid t last o (rw is at sits);
+}
+
+-- what is new ends the waiting
+pub seat_moves : (old : Seat) (code new : Code) (up : Servers) (m : Message) (heard : Heard) → old.operation ≡ Some code → HearsAs code new up m heard → ((x : Outcome) → heard ≡ Done x → ⊥) →
+    (heard ≡ Stale → ⊥) → (heard ≡ Noted → ⊥) → SeatHears old (record old { operation = Some new; waited = false }) up m heard
+seat_moves old code new up m heard is hears not stale noted =
+    seat_hears old code new false up m heard is hears not (sym (not_stale heard (servers code.heard m.server) old.waited stale noted))
+
+pub seat_ends : (old : Seat) (code new : Code) (floor : ℕ) (up : Servers) (m : Message) (outcome : Outcome) → old.operation ≡ Some code → HearsAs code new up m (Done outcome) → floor ≡ floor_of new →
+    SeatHears old (record old { floor = floor; operation = None; outcome = Some outcome; waited = false }) up m (Done outcome)
+seat_ends old code new floor up m outcome is hears own = record {
+  op = refl;
+  row = refl;
+  column = refl;
+  outcome = refl;
+  waited = refl;
+  says = λ grid t last o sits. seat_says code new old.floor up m (Done outcome) hears grid t last o (rw is at sits);
+  sits = λ grid t last o sits. seat_rests code new old.floor floor up m outcome hears own grid t last o (rw is at sits);
+}
+
+pub seat_is_empty : (old : Seat) (up : Servers) (m : Message) → old.operation ≡ None → SeatHears old old up m Stale
+seat_is_empty old up m is = record {
+  op = refl;
+  row = refl;
+  column = refl;
+  outcome = refl;
+  waited = refl;
+  says = λ grid t last o sits. empty_says old.floor up m grid t last o (rw is at sits);
+  sits = λ grid t last o sits. rw is (empty_stays old.floor up m grid t last o (rw is at sits));
+}

@@ -1,0 +1,7 @@
+-- Whatever comes to the nodes is a list of steps of the law of clusters, and so a run of the service.
+use Rattle.gq_node.proofs.Following.{all_nodes_follow, all_nodes_serve}
+use Rattle.gq_node.proofs.Volumes.{all_volumes_open}
+use Rattle.gq_node.proofs.laws.nodes.Goals as goal
+
+pub returns : goal.returns
+returns c = record { follow = all_nodes_follow; serve = all_nodes_serve; volumes = all_volumes_open }

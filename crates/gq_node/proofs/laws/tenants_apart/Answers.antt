@@ -1,0 +1,5 @@
+use Rattle.gq_node.proofs.Apart.{calls_by_parts, tenants_apart}
+use Rattle.gq_node.proofs.laws.tenants_apart.Goals as goal
+
+pub returns : goal.returns
+returns c = record { parts = calls_by_parts; apart = tenants_apart }

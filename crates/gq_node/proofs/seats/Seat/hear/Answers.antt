@@ -1,0 +1,46 @@
+-- The seat stands for what the letter leaves of the operation.
+use Rattle.std.proofs.Common.{Bool, false, Some, None, refl, sym, subst}
+use Rattle.std.specs.Prelude.{◌&&◌}
+use Rattle.gq_grid.specs.Sets.{servers}
+use Rattle.gq_phase.specs.declared.Outcome.{Outcome}
+use Rattle.gq_phase.specs.declared.Heard.{Heard}
+use Rattle.gq_phase.specs.declared.Heard.TheVariants.{Stale, Noted, Done}
+use Rattle.gq_phase.specs.Standing.{HearsAs}
+use Rattle.gq_node.specs.declared.seats.Seat.{Seat}
+use Rattle.gq_node.specs.Seats.{SeatHears}
+use Rattle.gq_node.proofs.Sitting.{seat_hears, seat_moves, seat_ends}
+use Rattle.gq_node.proofs.seats.Seat.hear.Goals as goal
+
+pub returns-in-Stale : goal.returns-in-Stale
+returns-in-Stale c =
+    let P : Heard → Type 0 = λ heard. HearsAs c.in-Some.operation c.hear.new.self (servers c.args.up) c.args.message.now heard in
+    record {
+      hears = seat_hears c.args.self.now c.in-Some.operation c.hear.new.self c.args.self.now.waited (servers c.args.up) c.args.message.now Stale
+          c.in-Some.is (subst P c.in-Stale.is c.in_ok-heard.ensures.hears) (λ x e. cc) refl;
+    }
+
+pub returns-in-Noted : goal.returns-in-Noted
+returns-in-Noted c =
+    let P : Heard → Type 0 = λ heard. HearsAs c.in-Some.operation c.hear.new.self (servers c.args.up) c.args.message.now heard in
+    let Q : Seat → Type 0 = λ seat. SeatHears c.args.self.now seat (servers c.args.up) c.args.message.now Noted in
+    let R : Bool → Type 0 = λ known. Q (record c.args.self.now { operation = Some c.hear.new.self; waited = known && c.args.self.now.waited }) in
+    record {
+      hears = subst Q (sym c.note.ensures) (subst R (sym c.has_heard-known.ensures) (seat_hears c.args.self.now c.in-Some.operation c.hear.new.self (servers c.in-Some.operation.heard c.args.message.now.server && c.args.self.now.waited) (servers c.args.up) c.args.message.now Noted
+          c.in-Some.is (subst P c.in-Noted.is c.in_ok-heard.ensures.hears) (λ x e. cc) refl));
+    }
+
+pub returns-in_ok-share-in-Done : goal.returns-in_ok-share-in-Done
+returns-in_ok-share-in-Done c =
+    let P : Heard → Type 0 = λ heard. HearsAs c.in-Some.operation c.hear.new.self (servers c.args.up) c.args.message.now heard in
+    let Q : Seat → Type 0 = λ seat. SeatHears c.args.self.now seat (servers c.args.up) c.args.message.now (Done c.in-Done.outcome) in
+    let R : Outcome → Type 0 = λ outcome. Q (record c.args.self.now { floor = c.floor-floor.result; operation = None; outcome = Some outcome; waited = false }) in
+    record {
+      hears = subst Q (sym c.rest.ensures) (subst R (sym c.in_ok-share-in-Done.ensures) (seat_ends c.args.self.now c.in-Some.operation c.hear.new.self c.floor-floor.result (servers c.args.up) c.args.message.now c.in-Done.outcome
+          c.in-Some.is (subst P c.in-Done.is c.in_ok-heard.ensures.hears) c.floor-floor.ensures));
+    }
+
+pub returns-in_default-heard : goal.returns-in_default-heard
+returns-in_default-heard c = record {
+  hears = seat_moves c.args.self.now c.in-Some.operation c.hear.new.self (servers c.args.up) c.args.message.now c.in_ok-heard.heard
+      c.in-Some.is c.in_ok-heard.ensures.hears c.in_default-heard.not-Done c.in_default-heard.not-Stale c.in_default-heard.not-Noted;
+}

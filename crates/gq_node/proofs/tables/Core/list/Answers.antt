@@ -1,0 +1,81 @@
+-- The request is refused as the model refuses it, and begins as it does.
+use Rattle.std.proofs.Common.{◌≡◌, ◌∙◌, ℕ, List, true, ap, sym, subst}
+use Rattle.std.proofs.lemmas.Result.{IfOk-weaker}
+use Rattle.std.specs.Prelude.{IfOk}
+use Rattle.gq_grid.specs.Sets.{servers}
+use Rattle.gq_desk.specs.Volumes.{account_at}
+use Rattle.gq_phase.specs.Phase.{Listing}
+use Rattle.gq_phase.specs.Standing.{Begins}
+use Rattle.gq_model.specs.Trace.{files_of}
+use Rattle.gq_model.specs.declared.events.Line.{Line}
+use Rattle.gq_model.specs.declared.events.Line.TheVariants.{List as ListFiles}
+use Rattle.gq_model.specs.Lone.{Cause}
+use Rattle.gq_node.specs.declared.output.Output.{Output}
+use Rattle.gq_node.specs.Local.{asks}
+use Rattle.gq_node.specs.Asking.{volume_causes, Starts}
+use Rattle.gq_node.specs.Shape.{IsShaped}
+use Rattle.gq_node.specs.Tables.{Tables, Acts, seat_at}
+use Rattle.gq_node.proofs.Asking.{below, IsRequest, is_list, list_task, early_acts, goes_range, goes_number, never_refused, requested}
+use Rattle.gq_node.proofs.Listing.{listed_there}
+use Rattle.gq_node.proofs.tables.Core.list.Goals as goal
+
+pub returns-in-Some : goal.returns-in-Some
+returns-in-Some c =
+    let line : Line = ListFiles c.args.session c.args.volume in
+    let causes : List Cause = volume_causes c.args.self.now c.args.tenant c.args.session c.args.volume in
+    let r : IsRequest c.args.self.now c.args.tenant c.args.session (list_task c.args.self.now c.args.tenant c.args.volume) line causes = is_list c.args.self.now c.args.tenant c.args.session c.args.volume in
+    record {
+      acts = early_acts c.args.self.now c.args.tenant c.args.session c.args.op (list_task c.args.self.now c.args.tenant c.args.volume) line causes c.in-Some.word c.refused.result r c.requires.goes (sym c.volume_refusal.ensures ∙ c.in-Some.is)
+          (record { answer_is = c.refused.ensures.answer; letters = c.refused.ensures.letters; fact = c.refused.ensures.fact });
+    }
+
+pub refused-requires : goal.refused-requires
+refused-requires c =
+    let range = goes_range c.args.self.now c.args.tenant c.args.session c.args.op true c.requires.goes in
+    record { tenant = c.requires.tenant; first = range.0; last = range.1 }
+
+pub next-next-requires-clause-number : goal.next-next-requires-clause-number
+next-next-requires-clause-number c = below c.args.op (seat_at c.args.self.now c.args.tenant c.args.session).op (goes_number c.args.self.now c.args.tenant c.args.session c.args.op c.requires.goes) c.ranges.op.fits
+
+pub next-next-requires-clause-first : goal.next-next-requires-clause-first
+next-next-requires-clause-first c = (goes_range c.args.self.now c.args.tenant c.args.session c.args.op true c.requires.goes).0
+
+pub next-next-requires-clause-last : goal.next-next-requires-clause-last
+next-next-requires-clause-last c = (goes_range c.args.self.now c.args.tenant c.args.session c.args.op true c.requires.goes).1
+
+pub start-requires-clause-number : goal.start-requires-clause-number
+start-requires-clause-number c = below c.args.op (seat_at c.args.self.now c.args.tenant c.args.session).op (goes_number c.args.self.now c.args.tenant c.args.session c.args.op c.requires.goes) c.ranges.op.fits
+
+pub start-requires-clause-first : goal.start-requires-clause-first
+start-requires-clause-first c = (goes_range c.args.self.now c.args.tenant c.args.session c.args.op true c.requires.goes).0
+
+pub start-requires-clause-quorum : goal.start-requires-clause-quorum
+start-requires-clause-quorum c =
+    let w : Tables = c.args.self.now in
+    let shaped : IsShaped w = subst IsShaped c.self.view_is c.self.invariant in
+    never_refused w c.args.tenant c.args.session c.list-began.result c.grid.result.now c.next-next.result.up shaped (c.grid.ensures ∙ ap (λ (x : Tables). x.plan.grid) c.self.view_is) c.next-next.ensures.up c.list-began.ensures.none
+
+pub start-requires-clause-last : goal.start-requires-clause-last
+start-requires-clause-last c = (goes_range c.args.self.now c.args.tenant c.args.session c.args.op true c.requires.goes).1
+
+pub returns : goal.returns
+returns c =
+    let w : Tables = c.args.self.now in
+    let t : ℕ = c.args.tenant in
+    let k : ℕ = c.args.session in
+    let line : Line = ListFiles c.args.session c.args.volume in
+    let causes : List Cause = volume_causes c.args.self.now c.args.tenant c.args.session c.args.volume in
+    let r : IsRequest w t k (list_task c.args.self.now c.args.tenant c.args.volume) line causes = is_list w t k c.args.volume in
+    let shaped : IsShaped w = subst IsShaped c.self.view_is c.self.invariant in
+    let grid : c.grid.result.now ≡ w.plan.grid = c.grid.ensures ∙ ap (λ (x : Tables). x.plan.grid) c.self.view_is in
+    let P : Output → Type 0 = λ out. Starts w t k c.list-began.result out c.start.new.self in
+    let Q : Output → Type 0 = λ out. Acts w t (asks c.args.op line) out c.start.new.self in
+    let B : ℕ → Type 0 = λ n. IfOk c.list-began.result (λ b. Begins c.grid.result.now c.next-next.result.who (Listing c.args.volume n) c.next-next.result.floor (servers c.next-next.result.up) b.0 b.1) in
+    let ok : B (files_of (account_at w.desk t).volumes c.args.volume) = subst B c.files-files.ensures.value c.list-began.ensures.ok in
+    record {
+      acts = IfOk-weaker c.start.result P Q (λ out starts. requested w t k c.args.op (list_task c.args.self.now c.args.tenant c.args.volume) line causes c.list-began.result c.grid.result.now c.next-next.result.who c.next-next.result.floor c.next-next.result.up out c.start.new.self shaped c.requires.tenant r
+          c.requires.goes (sym c.in_default.ensures) grid c.next-next.ensures.who c.next-next.ensures.floor c.next-next.ensures.up ok starts) c.start.ensures.starts;
+    }
+
+pub files-files-requires-clause-volume : goal.files-files-requires-clause-volume
+files-files-requires-clause-volume c = listed_there c.args.self.now c.args.tenant c.args.session c.args.volume (sym c.in_default.ensures)

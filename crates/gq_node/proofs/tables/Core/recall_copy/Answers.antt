@@ -1,0 +1,25 @@
+-- The server has the copy from now on, where it is greater.
+use Rattle.std.proofs.Common.{◌≡◌, ◌∙◌, true, Some, ap, sym, subst}
+use Rattle.gq_tag.specs.declared.FileId.{FileId}
+use Rattle.gq_tag.specs.declared.Body.TheVariants.{Store}
+use Rattle.gq_tag.specs.declared.StoredCopy.{StoredCopy}
+use Rattle.gq_tag.specs.Tag.{file_place, newer_of}
+use Rattle.gq_desk.specs.Volumes.{limit_of}
+use Rattle.gq_store.specs.Copies.{StoreCopies, copy_at}
+use Rattle.gq_cluster.specs.Facts.{Kept}
+use Rattle.gq_node.specs.Local.{recalls, file_fits}
+use Rattle.gq_node.specs.Tables.{Tables, Leads}
+use Rattle.gq_node.proofs.Recalling.{copy_leads}
+use Rattle.gq_node.proofs.tables.Core.recall_copy.Goals as goal
+
+pub returns : goal.returns
+returns c =
+    let file : FileId = c.args.file in
+    let copy : StoredCopy = c.args.copy.now in
+    let V : StoreCopies → Tables = λ store. record { plan = c.self.inside.plan; server = c.self.inside.server; desk = c.self.inside.desk; store = store; seats = c.self.inside.seats.items } in
+    let v : Tables = V c.self.inside.store in
+    let is : v ≡ c.args.self.now = c.self.view_is in
+    let there : limit_of v.desk file ≡ Some c.in-Some.limit = sym c.limit.ensures ∙ c.in-Some.is in
+    let fits : file_fits (limit_of v.desk file) (Store copy) ≡ true = ap (λ limit. file_fits limit (Store copy)) there ∙ sym c.if-not-copy_fits.ensures in
+    let put : copy_at c.put-put.new.self file ≡ newer_of (copy_at v.store file) copy = c.put-put.ensures.copy ∙ ap (λ bytes. newer_of (copy_at v.store file) (record { tag = copy.tag; bytes = bytes })) c.as_slice.ensures in
+    record { leads = subst (λ (x : Tables). Leads x file.tenant (recalls (Kept (file_place file) copy)) (V c.put-put.new.self)) is (copy_leads v file copy c.put-put.new.self fits put c.put-put.ensures.others) }

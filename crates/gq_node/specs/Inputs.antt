@@ -1,0 +1,32 @@
+-- What comes to one tenant's part of a node, and what the part does by it.
+use Rattle.std.specs.Prelude.{ℕ, List, [], ◌∷◌, fold}
+use Rattle.gq_tag.specs.Tag.{OwnMessage}
+use Rattle.gq_model.specs.declared.events.Line.{Line}
+use Rattle.gq_node.specs.Local.{Local, Doing, asks, receives, ticks}
+use Rattle.gq_node.specs.Sites.{Site}
+
+pub data Input : Type 0 where
+  -- a line of the tenant, with the number that its operation is to have
+  Asked : (op : ℕ) (line : Line) → Input
+  -- a letter from that node
+  Brought : (from : ℕ) (letter : OwnMessage) → Input
+  -- a tick for this session
+  Ticked : (session : ℕ) → Input
+
+-- what the part does by it
+abbrev pub does : Input → Site → Local → Doing
+does (Asked op line) site local = asks op line site local
+does (Brought from letter) site local = receives from letter site local
+does (Ticked session) site local = ticks session site local
+
+-- the part after it, and after several, in order
+abbrev pub after_one : Site → Local → Input → Local
+after_one site local input = (does input site local).local
+
+abbrev pub after_all : Site → Local → List Input → Local
+after_all site local inputs = fold (after_one site) local inputs
+
+-- what it does by each of several
+abbrev pub doings : Site → Local → List Input → List Doing
+doings site local [] = []
+doings site local (input ∷ rest) = does input site local ∷ doings site (after_one site local input) rest

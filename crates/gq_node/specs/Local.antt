@@ -1,0 +1,343 @@
+-- One tenant's part of a node, and what a line does to it: each step is one of the model, on the answers to the model's
+-- questions that are made of this part. Nothing here names another tenant.
+use Rattle.std.specs.Prelude.{ℕ, ◌*◌, ◌+◌, ◌/◌, ◌%◌, List, [], ◌∷◌, ◌++◌, Bool, true, false, ◌&&◌, ◌||◌, ◌==◌, not, nat_lt, nat_le, Option, Some, None, is_some, length, if◌then◌else◌}
+use Rattle.gq_grid.specs.Grid.{Grid, Servers}
+use Rattle.gq_tag.specs.declared.StoredCopy.{StoredCopy}
+use Rattle.gq_tag.specs.declared.Body.{Body}
+use Rattle.gq_tag.specs.declared.Body.TheVariants.{Ask, Copy, Store, Stored}
+use Rattle.gq_tag.specs.Tag.{File, is_file, OwnMessage, to_server}
+use Rattle.gq_phase.specs.declared.Outcome.{Outcome}
+use Rattle.gq_phase.specs.Phase.{Operation, is_collect, round_file, heard_servers}
+use Rattle.gq_desk.specs.Plans.{is_in}
+use Rattle.gq_desk.specs.declared.volumes.VolumeRow.{VolumeRow}
+use Rattle.gq_model.specs.declared.events.Line.{Line}
+use Rattle.gq_model.specs.declared.events.Line.TheVariants.{Write, Read, List as ListFiles, Deliver, Abandon}
+use Rattle.gq_model.specs.declared.events.Refusal.{Refusal}
+use Rattle.gq_model.specs.declared.events.Refusal.TheVariants.{NoSession, Busy}
+use Rattle.gq_model.specs.Told.{Told, Began, Noted, Round, Done, Abandoned, Refused}
+use Rattle.gq_model.specs.Trace.{Own, Entry, State, Session, new_session, changed, held, operation, limit_at}
+use Rattle.gq_model.specs.Lone.{Step, entry_of, is_refusal, asked_step, serve_step, hear_step, retry_step}
+use Rattle.gq_node.specs.declared.output.Answer.{Answer}
+use Rattle.gq_node.specs.declared.output.Answer.TheVariants.{Done as IsDone, Gone, Refused as IsRefused, Old, Early, Busy as IsBusy, Away, Bad as IsBad}
+use Rattle.gq_node.specs.declared.output.Admission.{Admission}
+use Rattle.gq_node.specs.declared.output.Admission.TheVariants.{Tells, Passes, Goes}
+use Rattle.gq_cluster.specs.Cluster.{Part, everyone, state_of as state_of_part}
+use Rattle.gq_cluster.specs.Facts.{OwnFact, Begun, Numbered, Kept, replaced_in}
+use Rattle.gq_node.specs.Sites.{Site, aim, next_of}
+
+-- ---- a tenant's part
+
+-- a session of the tenant: the model's, the outcome of its last operation if that was done since the start, the row and the
+-- column that it tries, and whether a tick came since it last heard something new
+pub record Resident : Type 0 where
+  pub session : Session
+  pub outcome : Option Outcome
+  pub row : ℕ
+  pub column : ℕ
+  pub waited : Bool
+
+-- the tenant's volumes, the copies that stores brought to this server of each file, and the tenant's sessions
+pub record Local : Type 0 where
+  pub volumes : List VolumeRow
+  pub brought : File → List StoredCopy
+  pub residents : ℕ → Resident
+
+-- a session that tries the row and the column of this server
+abbrev pub new_resident : Grid → ℕ → Resident
+new_resident grid server = record { session = new_session; outcome = None; row = server / grid.cols; column = server % grid.cols; waited = false }
+
+-- of the node of that server which was never started, with these volumes
+abbrev pub new_local : Grid → ℕ → List VolumeRow → Local
+new_local grid server volumes = record { volumes = volumes; brought = λ file. []; residents = λ k. new_resident grid server }
+
+-- what the law of clusters calls the node's part
+abbrev pub part_in : Local → Part
+part_in local = record { brought = local.brought; session = λ k. (local.residents k).session }
+
+-- the answers to the model's questions, where these servers are up
+abbrev pub state_of : Servers → Local → State
+state_of up local = state_of_part local.volumes up (part_in local)
+
+-- whom the resident asks
+abbrev pub aim_at : Grid → Resident → Servers
+aim_at grid r = aim grid r.row r.column
+
+-- the answers for session k, by whom it asks
+abbrev pub state_for : Site → Local → ℕ → State
+state_for site local k = state_of (aim_at site.grid (local.residents k)) local
+
+-- session k is another one
+abbrev pub with_resident : Local → ℕ → Resident → Local
+with_resident local k resident = record local { residents = λ j. if k == j then resident else local.residents j }
+
+-- ---- what a step gives
+
+-- the tenant's part after a step, what the tenant is told, the letters that go out, and what must not be forgotten
+pub record Doing : Type 0 where
+  pub local : Local
+  pub answer : Option Answer
+  pub letters : List OwnMessage
+  pub fact : Option OwnFact
+
+-- nothing is done; the tenant is told this alone
+abbrev pub nothing : Local → Doing
+nothing local = record { local = local; answer = None; letters = []; fact = None }
+
+abbrev pub tells : Local → Answer → Doing
+tells local answer = record { local = local; answer = Some answer; letters = []; fact = None }
+
+-- ---- a step of a session
+
+-- how a request is refused, whose session's last operation has that number
+abbrev pub refused_with : (k op last : ℕ) → Refusal → Answer
+refused_with k op last Busy = IsBusy k op last
+refused_with k op last word = IsRefused k op word
+
+-- what the tenant is told where its session k was told this to a line with the number op, when its last operation had that number;
+-- that an operation begins is not told
+abbrev pub answer_of : (k op last : ℕ) → Told → Option Answer
+answer_of k op last (Done outcome) = Some (IsDone outcome)
+answer_of k op last Abandoned = Some (Gone k op)
+answer_of k op last (Refused refusal) = Some (refused_with k op last refusal)
+answer_of k op last _ = None
+
+-- whether the session has waited after it was told this, to a reply from a server that it had heard or had not: a request that
+-- begins, a reply from a server not yet heard, and the end of a round end the waiting
+abbrev pub waits_after : Told → (known waited : Bool) → Bool
+waits_after (Began op first count) known waited = false
+waits_after Noted known waited = known && waited
+waits_after (Round round tag first count) known waited = false
+waits_after (Done outcome) known waited = false
+waits_after _ known waited = waited
+
+-- the outcome of its last operation then
+abbrev pub outcome_after : Told → Option Outcome → Option Outcome
+outcome_after (Began op first count) outcome = None
+outcome_after (Done outcome) before = Some outcome
+outcome_after Abandoned outcome = None
+outcome_after _ outcome = outcome
+
+-- what must not be forgotten where session k was told this: that the operation began, and the session's own last number
+-- where it is a new one
+abbrev pub session_fact : ℕ → Told → (old new : ℕ) → Option OwnFact
+session_fact k (Began op first count) old new = Some (Begun k op)
+session_fact k (Round round tag first count) old new = if new == old then None else Some (Numbered k new)
+session_fact k _ old new = None
+
+-- session k goes on by the entry, as the model says; it came with the number op, from a server that was heard or was not
+abbrev pub goes_on : Local → (k op : ℕ) → (known : Bool) → State → Entry → Doing
+goes_on local k op known state e = record {
+  local = with_resident local k (record (local.residents k) {
+    session = (changed e state).session k;
+    outcome = outcome_after e.told (local.residents k).outcome;
+    waited = waits_after e.told known (local.residents k).waited;
+  });
+  answer = answer_of k op (local.residents k).session.op e.told;
+  letters = e.new;
+  fact = session_fact k e.told (state.session k).floor ((changed e state).session k).floor;
+}
+
+-- ---- a request
+
+-- the session that a request is of, none where the line is no request
+abbrev pub asker : Line → Option ℕ
+asker (Write k v f bytes) = Some k
+asker (Read k v f) = Some k
+asker (ListFiles k v) = Some k
+asker (Abandon k) = Some k
+asker _ = None
+
+-- whether the request begins an operation
+abbrev pub begins : Line → Bool
+begins (Abandon k) = false
+begins _ = true
+
+-- how the session's last operation ended, of which this is known
+abbrev pub ended : (k op : ℕ) → Option Outcome → Answer
+ended k op None = Gone k op
+ended k op (Some outcome) = IsDone outcome
+
+-- a request with the number of the last operation, which goes on or does not
+abbrev pub again : (k op : ℕ) → (begins going : Bool) → Option Outcome → Admission
+again k op begins true outcome = if begins then Passes else Goes
+again k op begins false outcome = Tells (ended k op outcome)
+
+-- what the number op alone says of a request at the home of session k, whose last operation has that number
+abbrev pub own_admission : (k op : ℕ) → (begins : Bool) → (last : ℕ) → (going : Bool) → Option Outcome → Admission
+own_admission k op begins last going outcome =
+    if nat_lt op last || op == 0 then Tells (Old k op last)
+    else if op == last then again k op begins going outcome
+    else if begins && op == last + 1 then Goes
+    else Tells (Early k op last)
+
+-- and at any node: whether there is the session, and where its home is, come first
+abbrev pub admission : Site → (k op : ℕ) → (begins : Bool) → (last : ℕ) → (going : Bool) → Option Outcome → Admission
+admission site k op begins last going outcome =
+    if not (is_in 1 site.row.sessions k) then Tells (IsRefused k op NoSession)
+    else if not (site.home k == site.here) then Tells (Away k op (site.home k))
+    else own_admission k op begins last going outcome
+
+abbrev pub admission_in : Site → Local → (k op : ℕ) → Bool → Admission
+admission_in site local k op begins =
+    admission site k op begins (local.residents k).session.op (is_some (local.residents k).session.current) (local.residents k).outcome
+
+-- what the model says to the request
+abbrev pub asked_by : Local → (k op : ℕ) → State → Line → Step → Doing
+asked_by local k op state line step = by (is_refusal step.told)
+  where
+    by : Bool → Doing
+    by true = record { local = local; answer = answer_of k op (local.residents k).session.op step.told; letters = []; fact = None }
+    by false = goes_on local k op false state (entry_of state (Own line) step)
+
+abbrev pub asks_in : Site → Local → (op : ℕ) → Line → ℕ → Doing
+asks_in site local op line k = by (admission_in site local k op (begins line))
+  where
+    by : Admission → Doing
+    by (Tells answer) = tells local answer
+    by Passes = nothing local
+    by Goes = asked_by local k op (state_for site local k) line (asked_step site.grid site.row (state_for site local k) line)
+
+-- a line of the tenant with the number op
+abbrev pub asks : (op : ℕ) → Line → Site → Local → Doing
+asks op line site local = by (asker line)
+  where
+    by : Option ℕ → Doing
+    by None = tells local IsBad
+    by (Some k) = asks_in site local op line k
+
+-- ---- a letter
+
+-- the greatest number that a tag may have lets no other be above
+abbrev pub has_above : ℕ → Bool
+has_above number = nat_lt number 18446744073709551615
+
+-- whether the copy is within the limit of its file in bytes, and a number is above that of its tag
+abbrev pub copy_fits : ℕ → StoredCopy → Bool
+copy_fits limit copy = nat_le (length copy.bytes) limit && has_above copy.tag.number
+
+abbrev pub body_fits : ℕ → Body → Bool
+body_fits limit Ask = true
+body_fits limit (Copy copy) = copy_fits limit copy
+body_fits limit (Store copy) = copy_fits limit copy
+body_fits limit Stored = true
+
+-- the file is there, and the body fits
+abbrev pub file_fits : Option ℕ → Body → Bool
+file_fits None body = false
+file_fits (Some limit) body = body_fits limit body
+
+-- a letter goes from a session's home to a server, or back
+abbrev pub goes_between : Site → ℕ → OwnMessage → Bool
+goes_between site from m =
+    if to_server m.body then m.server == site.here && site.home m.session == from
+    else site.home m.session == site.here && m.server == from
+
+-- whether an honest node from there sends this letter to this one, in a file of that limit
+abbrev pub letter_fits : Site → Option ℕ → ℕ → OwnMessage → Bool
+letter_fits site limit from m =
+    is_in 1 site.row.sessions m.session && nat_lt m.server (site.grid.rows * site.grid.cols) && goes_between site from m && file_fits limit m.body
+
+-- the entry of a letter that came
+abbrev pub brings : OwnMessage → Step → Entry
+brings m step = record { turn = Own (Deliver 0); message = Some m; told = step.told; new = step.new }
+
+-- the server of this node serves the letter
+abbrev pub serves : Site → Local → OwnMessage → Doing
+serves site local m =
+    let state : State = state_of everyone local in
+    let step : Step = serve_step state m in
+    record {
+      local = record local { brought = (changed (brings m step) state).brought site.here };
+      answer = None;
+      letters = step.new;
+      fact = replaced_in (held state site.here m.file) m.file m.body;
+    }
+
+-- whether the file is that of the operation's round
+abbrev pub of_round : Option Operation → File → Bool
+of_round None file = true
+of_round (Some o) file = is_file file (round_file o.task o.round)
+
+-- a session hears the letter, unless no number is above its own last one, or the letter is of another file than the round
+abbrev pub hears : Site → Local → OwnMessage → Doing
+hears site local m = by (has_above (local.residents m.session).session.floor && of_round (operation (state_for site local m.session) m.session) m.file)
+  where
+    state : State
+    state = state_for site local m.session
+
+    by : Bool → Doing
+    by false = nothing local
+    by true = goes_on local m.session (local.residents m.session).session.op (heard_servers (local.residents m.session).session.heard m.server) state
+        (brings m (hear_step site.grid state m (operation state m.session)))
+
+-- a letter from another node, or from this one
+abbrev pub receives : ℕ → OwnMessage → Site → Local → Doing
+receives from m site local = by (letter_fits site (limit_at (state_of everyone local) m.file.volume m.file.place) from m)
+  where
+    goes : Bool → Doing
+    goes true = serves site local m
+    goes false = hears site local m
+
+    by : Bool → Doing
+    by false = nothing local
+    by true = goes (to_server m.body)
+
+-- ---- a tick
+
+-- the resident tries the next row where its round collects, else the next column
+abbrev pub tries_next : Grid → (collects : Bool) → Resident → Resident
+tries_next grid true r = record r { row = next_of grid.rows r.row }
+tries_next grid false r = record r { column = next_of grid.cols r.column }
+
+-- a tick comes to session k, which has waited or not
+abbrev pub waits_on : Site → Local → ℕ → Bool → Doing
+waits_on site local k waited = by waited
+  where
+    resident : Resident
+    resident = tries_next site.grid (is_collect (local.residents k).session.round) (local.residents k)
+
+    state : State
+    state = state_of (aim_at site.grid resident) local
+
+    by : Bool → Doing
+    by false = record (nothing local) { local = with_resident local k (record (local.residents k) { waited = true }) }
+    by true = record (nothing local) { local = with_resident local k resident; letters = (retry_step site.grid state (operation state k)).new }
+
+-- a tick does nothing in a session without an operation
+abbrev pub ticks : ℕ → Site → Local → Doing
+ticks k site local = by (is_some (local.residents k).session.current)
+  where
+    by : Bool → Doing
+    by false = nothing local
+    by true = waits_on site local k (local.residents k).waited
+
+-- ---- a start
+
+-- a session that has no operation, with the number of its last operation and its own last number
+abbrev pub rested : Resident → ℕ → ℕ → Resident
+rested r op floor = record { session = record new_session { op = op; floor = floor }; outcome = None; row = r.row; column = r.column; waited = false }
+
+-- what a start makes of a fact
+abbrev pub recalled : OwnFact → Local → Local
+recalled (Begun k op) local = with_resident local k (rested (local.residents k) op (local.residents k).session.floor)
+recalled (Numbered k number) local = with_resident local k (rested (local.residents k) (local.residents k).session.op number)
+recalled (Kept file copy) local = record local { brought = λ f. if is_file file f then local.brought f ++ copy ∷ [] else local.brought f }
+
+-- whether a fact can be one of this tenant, in a file of that limit
+abbrev pub fact_fits : Site → Option ℕ → OwnFact → Bool
+fact_fits site limit (Begun k op) = is_in 1 site.row.sessions k
+fact_fits site limit (Numbered k number) = is_in 1 site.row.sessions k
+fact_fits site limit (Kept file copy) = file_fits limit (Store copy)
+
+-- the file of a fact
+abbrev pub file_in : OwnFact → File
+file_in (Kept file copy) = file
+file_in _ = record { volume = 0; place = 0 }
+
+-- a fact that does not fit is passed over
+abbrev pub recalls : OwnFact → Site → Local → Doing
+recalls fact site local = by (fact_fits site (limit_at (state_of everyone local) (file_in fact).volume (file_in fact).place) fact)
+  where
+    by : Bool → Doing
+    by false = nothing local
+    by true = nothing (recalled fact local)

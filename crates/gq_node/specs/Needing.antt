@@ -1,0 +1,72 @@
+-- The facts that a start needs, one by one.
+use Rattle.std.specs.Prelude.{◌≡◌, ℕ, List, [], ◌∷◌, ◌++◌, true, false, ◌==◌, Some, length, map, if◌then◌else◌}
+use Rattle.std.specs.List.{flat_map, range_with_len}
+use Rattle.gq_tag.specs.declared.StoredCopy.{StoredCopy}
+use Rattle.gq_tag.specs.Tag.{File, file_of, is_less, first_tag, first_copy}
+use Rattle.gq_desk.specs.CheckedPlan.{row_at}
+use Rattle.gq_desk.specs.Volumes.{account_at, limit_of}
+use Rattle.gq_model.specs.Trace.{files_of}
+use Rattle.gq_store.specs.Copies.{copy_at}
+use Rattle.gq_node.specs.declared.output.Fact.{Fact}
+use Rattle.gq_cluster.specs.Facts.{OwnFact, Begun, Numbered, Kept}
+use Rattle.gq_node.specs.Local.{copy_fits}
+use Rattle.gq_node.specs.Seats.{last_in}
+use Rattle.gq_node.specs.Tables.{Tables, seat_at, fact_of}
+
+-- the session's last operation, and its own last number, where they are not 0
+abbrev pub begun_facts : (k op : ℕ) → List OwnFact
+begun_facts k op = if op == 0 then [] else Begun k op ∷ []
+
+abbrev pub number_facts : (k number : ℕ) → List OwnFact
+number_facts k number = if number == 0 then [] else Numbered k number ∷ []
+
+abbrev pub numbers_facts : (k op number : ℕ) → List OwnFact
+numbers_facts k op number = begun_facts k op ++ number_facts k number
+
+abbrev pub seat_facts : Tables → (t k : ℕ) → List OwnFact
+seat_facts w t k = numbers_facts k (seat_at w t k).op (last_in (seat_at w t k))
+
+-- the copy of a file, where it is above the first one
+abbrev pub copy_facts : File → StoredCopy → List OwnFact
+copy_facts file copy = if is_less first_tag copy.tag then Kept file copy ∷ [] else []
+
+abbrev pub place_of : (volume place : ℕ) → File
+place_of volume place = record { volume = volume; place = place }
+
+abbrev pub place_facts : Tables → (t volume place : ℕ) → List OwnFact
+place_facts w t volume place = copy_facts (place_of volume place) (copy_at w.store (file_of t (place_of volume place)))
+
+-- of so many files of the volume
+abbrev pub files_facts : Tables → (t volume files : ℕ) → List OwnFact
+files_facts w t volume files = flat_map (place_facts w t volume) (range_with_len 0 files)
+
+-- how many files the volume of that number has
+abbrev pub files_in : Tables → (t volume : ℕ) → ℕ
+files_in w t volume = files_of (account_at w.desk t).volumes volume
+
+abbrev pub volume_facts : Tables → (t volume : ℕ) → List OwnFact
+volume_facts w t volume = files_facts w t volume (files_in w t volume)
+
+-- of all volumes
+abbrev pub volumes_facts : Tables → ℕ → List OwnFact
+volumes_facts w t = flat_map (volume_facts w t) (range_with_len 0 (length (account_at w.desk t).volumes))
+
+-- of the tenant at place t
+abbrev pub tenant_facts : Tables → ℕ → List OwnFact
+tenant_facts w t = flat_map (seat_facts w t) (range_with_len 1 (row_at w.plan t).sessions) ++ volumes_facts w t
+
+-- of all tenants
+abbrev pub all_facts : Tables → List Fact
+all_facts w = flat_map (λ t. map (fact_of t) (tenant_facts w t)) (range_with_len 0 (length w.plan.rows))
+
+-- a start takes the copy again: it is the first one, or it fits the limit and a number is above that of its tag
+pub record IsReadable (limit : ℕ) (copy : StoredCopy) : Type 0 where
+  pub above : is_less first_tag copy.tag ≡ true → copy_fits limit copy ≡ true
+  pub first : is_less first_tag copy.tag ≡ false → copy ≡ first_copy
+
+abbrev pub PlaceReadable : Tables → (t volume place : ℕ) → Type 0
+PlaceReadable w t volume place = (limit : ℕ) → limit_of w.desk (file_of t (place_of volume place)) ≡ Some limit → IsReadable limit (copy_at w.store (file_of t (place_of volume place)))
+
+-- so is each copy of the tenant's files
+abbrev pub AllReadable : Tables → ℕ → Type 0
+AllReadable w t = (file : File) (limit : ℕ) → limit_of w.desk (file_of t file) ≡ Some limit → IsReadable limit (copy_at w.store (file_of t file))

@@ -1,0 +1,73 @@
+-- A request takes effect once, however often it comes.
+use Rattle.std.specs.Prelude.{◌≡◌, ℕ, ◌+◌, List, [], ◌∷◌, length, Bool, true, false, ◌&&◌, ◌==◌, nat_le, Option, Some, None, if◌then◌else◌}
+use Rattle.std.specs.List.{range_with_len}
+use Rattle.gq_node.specs.Inputs.{Input, Asked, does, after_one, after_all, doings}
+use Rattle.gq_cluster.specs.Facts.{OwnFact, Begun}
+use Rattle.gq_node.specs.Local.{Local, Doing, asker, begins}
+use Rattle.gq_node.specs.Sites.{Site}
+
+-- ---- a request that comes again
+
+-- it would begin an operation of its session, and its number is not above that of the session's last one
+abbrev pub comes_again : Local → Input → Bool
+comes_again local (Asked op line) = by (asker line)
+  where
+    by : Option ℕ → Bool
+    by None = false
+    by (Some k) = begins line && nat_le op (local.residents k).session.op
+comes_again local _ = false
+
+-- all stays as it is, nothing is sent, and nothing is to be kept
+pub record LeavesAll (local : Local) (doing : Doing) : Type 0 where
+  pub part : doing.local ≡ local
+  pub letters : doing.letters ≡ []
+  pub fact : doing.fact ≡ None
+
+-- so it is at each request that comes again
+abbrev pub AllAgainLeave : Type 0
+AllAgainLeave = (site : Site) (local : Local) (input : Input) → comes_again local input ≡ true → LeavesAll local (does input site local)
+
+-- ---- what comes, without the requests that come again
+
+abbrev pub first_inputs : Site → Local → List Input → List Input
+first_inputs site local [] = []
+first_inputs site local (input ∷ rest) =
+    if comes_again local input then first_inputs site local rest
+    else input ∷ first_inputs site (after_one site local input) rest
+
+-- what is done by these, the others having come between
+abbrev pub first_doings : Site → Local → List Input → List Doing
+first_doings site local [] = []
+first_doings site local (input ∷ rest) =
+    if comes_again local input then first_doings site local rest
+    else does input site local ∷ first_doings site (after_one site local input) rest
+
+-- requests that come again change nothing of what is done by all others, nor of the part in the end
+pub record TakesOnce (site : Site) (local : Local) (inputs : List Input) : Type 0 where
+  pub doings_are : first_doings site local inputs ≡ doings site local (first_inputs site local inputs)
+  pub part : after_all site local inputs ≡ after_all site local (first_inputs site local inputs)
+
+abbrev pub AllTakeOnce : Type 0
+AllTakeOnce = (site : Site) (local : Local) (inputs : List Input) → TakesOnce site local inputs
+
+-- ---- each number begins once
+
+-- the number of the operation of session k that began by the fact, if one did
+abbrev pub begun_by : ℕ → Option OwnFact → Option ℕ
+begun_by k (Some (Begun j op)) = if j == k then Some op else None
+begun_by k _ = None
+
+-- and the numbers of those that began, in order
+abbrev pub with_number : Option ℕ → List ℕ → List ℕ
+with_number None numbers = numbers
+with_number (Some op) numbers = op ∷ numbers
+
+abbrev pub numbers_begun : ℕ → List Doing → List ℕ
+numbers_begun k [] = []
+numbers_begun k (doing ∷ rest) = with_number (begun_by k doing.fact) (numbers_begun k rest)
+
+-- they are those that follow the number of the session's last operation, each one once
+abbrev pub AllBeginOnce : Type 0
+AllBeginOnce = (site : Site) (local : Local) (inputs : List Input) (k : ℕ) →
+    let numbers : List ℕ = numbers_begun k (doings site local inputs) in
+    numbers ≡ range_with_len ((local.residents k).session.op + 1) (length numbers)

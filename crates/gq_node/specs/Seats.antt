@@ -1,0 +1,135 @@
+-- What a letter and a tick do in a session, whatever is known of it.
+use Rattle.std.specs.Prelude.{◌≡◌, ℕ, ◌+◌, ◌<◌, ◌&&◌, List, [], Bool, true, false, Option, Some, None}
+use Rattle.gq_grid.specs.Grid.{Grid, Servers}
+use Rattle.gq_tag.specs.declared.Message.{Message}
+use Rattle.gq_tag.specs.Tag.{File, file_place, is_file, OwnMessage, own_message}
+use Rattle.gq_phase.specs.declared.Heard.{Heard}
+use Rattle.gq_phase.specs.declared.ResendRefused.TheVariants.{NoQuorum}
+use Rattle.gq_phase.specs.declared.operation.Operation.{Operation as Code}
+use Rattle.gq_phase.specs.Phase.{Operation, Heard as Saying, HeardStale, HeardNoted, HeardNext, HeardDone, hear, with_reply, moved}
+use Rattle.gq_phase.specs.Standing.{heard_as, floor_of, heard_of, is_collecting, its_file, IsGoing, ResendsAs, RefusesAs, last_number}
+use Rattle.gq_node.specs.declared.seats.Seat.{Seat}
+use Rattle.gq_node.specs.Sites.{aim, next_of}
+use Rattle.gq_node.specs.Tables.{Sits}
+use Rattle.gq_node.specs.declared.output.Output.{Output}
+use Rattle.gq_node.specs.Local.{has_above}
+use Rattle.gq_node.specs.Heard.{heard_outcome, heard_waits, HeardGives}
+
+-- the session's own last number
+abbrev pub last_in : Seat → ℕ
+last_in seat = last_number seat.floor seat.operation
+
+-- the seat with one operation more
+abbrev pub busy_seat : Seat → Code → Seat
+busy_seat seat code = record seat { op = seat.op + 1; operation = Some code; outcome = None; waited = false }
+
+-- the seat without its operation, whose last number it keeps
+abbrev pub rested_seat : Seat → Seat
+rested_seat seat = record seat { floor = last_in seat; operation = None; outcome = None }
+
+-- a seat of a start
+abbrev pub recalled_seat : Seat → ℕ → ℕ → Seat
+recalled_seat seat op floor = record seat { op = op; floor = floor; operation = None; outcome = None; waited = false }
+
+-- whom the seat asks
+abbrev pub seat_aim : Grid → Seat → Servers
+seat_aim grid seat = aim grid seat.row seat.column
+
+-- whether the server was heard in the round of this operation
+abbrev pub has_heard : Option Code → ℕ → Bool
+has_heard None server = false
+has_heard (Some code) server = heard_of code server
+
+-- whether the file is that of its round
+abbrev pub is_of_round : Option Code → File → Bool
+is_of_round None file = true
+is_of_round (Some code) file = is_file file (file_place (its_file code))
+
+-- whether its round collects
+abbrev pub collects_in : Option Code → Bool
+collects_in None = true
+collects_in (Some code) = is_collecting code
+
+-- what a session with this operation, or with none, says to the message
+abbrev pub said_by : Grid → Servers → Option Operation → OwnMessage → Saying
+said_by grid up None message = HeardStale
+said_by grid up (Some o) message = hear grid up o message
+
+-- the operation that it then has
+abbrev pub operation_after : Option Operation → OwnMessage → Saying → Option Operation
+operation_after None message saying = None
+operation_after (Some o) message HeardStale = Some o
+operation_after (Some o) message HeardNoted = Some (with_reply o message)
+operation_after (Some o) message (HeardNext round tag messages) = Some (moved o message round tag)
+operation_after (Some o) message (HeardDone outcome) = None
+
+-- the session's own last number, once it has none
+abbrev pub last_of : ℕ → Option Operation → ℕ
+last_of last None = last
+last_of last (Some o) = o.floor
+
+-- whatever operation the seat stands for, this is what it says, and the seat stands for it afterwards
+pub record SeatHears (old new : Seat) (up : Servers) (message : Message) (heard : Heard) : Type 0 where
+  pub op : new.op ≡ old.op
+  pub row : new.row ≡ old.row
+  pub column : new.column ≡ old.column
+  pub outcome : new.outcome ≡ heard_outcome heard old.outcome
+  pub waited : new.waited ≡ heard_waits heard (has_heard old.operation message.server) old.waited
+  pub says : (grid : Grid) (t last : ℕ) (o : Option Operation) → Sits grid t old.floor old.operation last o → heard ≡ heard_as t (said_by grid up o (own_message message))
+  pub sits : (grid : Grid) (t last : ℕ) (o : Option Operation) → Sits grid t old.floor old.operation last o →
+      Sits grid t new.floor new.operation (last_of last o) (operation_after o (own_message message) (said_by grid up o (own_message message)))
+
+-- the operation of the session, if it has one, is not done
+abbrev pub Goes : Option Code → Type 0
+Goes None = Unit {0}
+Goes (Some code) = IsGoing code
+
+-- the number of a session's operation leaves a greater one
+abbrev pub FloorIsBelow : Option Code → Type 0
+FloorIsBelow None = Unit {0}
+FloorIsBelow (Some code) = floor_of code < 18446744073709551615
+
+-- what a session with this operation, or with none, sends once more: the round's message, or nothing where no quorum is up
+abbrev pub ResendsIn : Option Code → Servers → Option (List Message) → Type 0
+ResendsIn None up None = Unit {0}
+ResendsIn None up (Some messages) = ⊥
+ResendsIn (Some code) up (Some messages) = ResendsAs code up messages
+ResendsIn (Some code) up None = RefusesAs code up NoQuorum
+
+-- the seat tries the next row where its round collects, else the next column
+abbrev pub seat_tries : Grid → Bool → Seat → Seat
+seat_tries grid true seat = record seat { row = next_of grid.rows seat.row }
+seat_tries grid false seat = record seat { column = next_of grid.cols seat.column }
+
+-- what a tick does to a seat that has waited, or has not, and what is sent
+abbrev pub TicksIn : Grid → Bool → Seat → Seat → Option (List Message) → Type 0
+TicksIn grid true old new messages =
+    (new ≡ seat_tries grid (collects_in old.operation) old) × ResendsIn old.operation (seat_aim grid (seat_tries grid (collects_in old.operation) old)) messages
+TicksIn grid false old new messages = (new ≡ record old { waited = true }) × (messages ≡ None)
+
+abbrev pub TicksWith : Option Code → Grid → Seat → Seat → Option (List Message) → Type 0
+TicksWith None grid old new messages = (new ≡ old) × (messages ≡ None)
+TicksWith (Some code) grid old new messages = TicksIn grid old.waited old new messages
+
+abbrev pub SeatTicks : Grid → Seat → Seat → Option (List Message) → Type 0
+SeatTicks grid old new messages = TicksWith old.operation grid old new messages
+
+-- nothing is given
+pub record GivesNothing (out : Output) : Type 0 where
+  pub answer : out.answer ≡ None
+  pub letters : out.letters.items ≡ []
+  pub fact : out.fact ≡ None
+
+-- the operation of session k says this to the message, and this is given
+pub record SaysAndGives (t k : ℕ) (up : Servers) (old new : Seat) (message : Message) (out : Output) : Type 0 where
+  pub heard : Heard
+  pub hears : SeatHears old new up message heard
+  pub gives : HeardGives t k (last_in old) (last_in new) heard out
+
+-- session k hears the message where a number is above its own last one, and the message is of the round's file
+abbrev pub SeatAttends : ℕ → ℕ → Grid → Seat → Seat → Message → Output → Type 0
+SeatAttends t k grid old new message out = by (has_above (last_in old) && is_of_round old.operation (file_place message.file))
+  where
+    by : Bool → Type 0
+    by false = (new ≡ old) × GivesNothing out
+    by true = SaysAndGives t k (seat_aim grid old) old new message out

@@ -1,0 +1,117 @@
+-- What a contract sees of a node's tables, and what a tenant's part of them stands for.
+use Rattle.std.specs.Prelude.{◌≡◌, ◌≢◌, ℕ, ◌+◌, ◌-◌, ◌/◌, ◌%◌, ◌<◌, List, [], ◌∷◌, Option, Some, None, Bool, false, length, map, option_map, slice_index_or, slice_set}
+use Rattle.gq_grid.specs.Grid.{Grid}
+use Rattle.gq_tag.specs.Tag.{File, file_of, message_of, first_copy, greatest}
+use Rattle.gq_desk.specs.CheckedPlan.{CheckedPlan, row_at}
+use Rattle.gq_desk.specs.Volumes.{Account, account_at}
+use Rattle.gq_phase.specs.Phase.{Operation}
+use Rattle.gq_phase.specs.Standing.{StandsFor}
+use Rattle.gq_phase.specs.declared.operation.Operation.{Operation as Code}
+use Rattle.gq_store.specs.Copies.{StoreCopies, copy_at}
+use Rattle.gq_model.specs.Trace.{operation_with}
+use Rattle.gq_node.specs.declared.seats.Seat.{Seat}
+use Rattle.gq_node.specs.declared.output.Output.{Output}
+use Rattle.gq_node.specs.declared.output.Fact.{Fact}
+use Rattle.gq_node.specs.declared.output.Fact.TheVariants.{Began, Numbered as HasNumber, Kept as IsKept}
+use Rattle.gq_cluster.specs.Facts.{OwnFact, Begun, Numbered, Kept}
+use Rattle.gq_node.specs.Local.{Local, Resident, Doing}
+use Rattle.gq_node.specs.Sites.{Site, site_of}
+
+-- the plan, the number of the node's server, the tenants' volumes, the server's copies, and the tenants' sessions
+pub record Tables : Type 0 where
+  pub plan : CheckedPlan
+  pub server : ℕ
+  pub desk : List Account
+  pub store : StoreCopies
+  pub seats : List (List Seat)
+
+-- a session that began nothing
+abbrev pub no_seat : Seat
+no_seat = record { op = 0; floor = 0; operation = None; outcome = None; row = 0; column = 0; waited = false }
+
+-- and one that tries the row and the column of this server
+abbrev pub first_seat : Grid → ℕ → Seat
+first_seat grid server = record { op = 0; floor = 0; operation = None; outcome = None; row = server / grid.cols; column = server % grid.cols; waited = false }
+
+-- the sessions of the tenant at place t, and the one at a place of them, which is the session of one more
+abbrev pub seats_at : List (List Seat) → ℕ → List Seat
+seats_at seats t = slice_index_or seats t []
+
+abbrev pub seat_in : List Seat → ℕ → Seat
+seat_in seats place = slice_index_or seats place no_seat
+
+-- session k of the tenant at place t
+abbrev pub seat_at : Tables → ℕ → ℕ → Seat
+seat_at w t k = seat_in (seats_at w.seats t) (k - 1)
+
+-- the tables in which that session is another
+abbrev pub with_seat : Tables → ℕ → ℕ → Seat → Tables
+with_seat w t k seat = record w { seats = slice_set w.seats t (slice_set (seats_at w.seats t) (k - 1) seat) }
+
+-- ---- what the tables stand for
+
+-- a session has the operation of the resident, and without one its own last number
+abbrev pub Sits : Grid → ℕ → ℕ → Option Code → ℕ → Option Operation → Type 0
+Sits grid t floor None last None = floor ≡ last
+Sits grid t floor None last (Some o) = ⊥
+Sits grid t floor (Some code) last None = ⊥
+Sits grid t floor (Some code) last (Some o) = StandsFor grid t code o
+
+pub record SeatAgrees (grid : Grid) (t k : ℕ) (seat : Seat) (r : Resident) : Type 0 where
+  pub op : seat.op ≡ r.session.op
+  pub sits : Sits grid t seat.floor seat.operation r.session.floor (option_map (operation_with k r.session) r.session.current)
+  pub outcome : seat.outcome ≡ r.outcome
+  pub row : seat.row ≡ r.row
+  pub column : seat.column ≡ r.column
+  pub waited : seat.waited ≡ r.waited
+
+-- the tables have for the tenant at place t this part of the node
+pub record Agrees (w : Tables) (t : ℕ) (local : Local) : Type 0 where
+  pub account : account_at w.desk t ≡ record { share = (row_at w.plan t).share; volumes = local.volumes }
+  pub copies : (file : File) → copy_at w.store (file_of t file) ≡ greatest (first_copy ∷ local.brought file)
+  pub seats : (place : ℕ) → place < (row_at w.plan t).sessions → SeatAgrees w.plan.grid t (place + 1) (seat_in (seats_at w.seats t) place) (local.residents (place + 1))
+
+-- ---- what a step gives
+
+-- the fact of the tenant at place t
+abbrev pub fact_of : ℕ → OwnFact → Fact
+fact_of t (Begun k op) = Began t k op
+fact_of t (Numbered k number) = HasNumber t k number
+fact_of t (Kept file copy) = IsKept (file_of t file) copy
+
+-- what is written is what the step of the tenant at place t gives
+pub record Gives (t : ℕ) (doing : Doing) (out : Output) : Type 0 where
+  pub answer : out.answer ≡ doing.answer
+  pub letters : out.letters.items ≡ map (message_of t) doing.letters
+  pub fact : out.fact ≡ option_map (fact_of t) doing.fact
+
+-- the step of the tenant at place t leads from the old tables to the new, whatever part of the node the tables have for the
+-- tenant; for all others they have what they had
+pub record Leads (old : Tables) (t : ℕ) (step : Site → Local → Doing) (new : Tables) : Type 0 where
+  pub plan : new.plan ≡ old.plan
+  pub server : new.server ≡ old.server
+  pub own : (local : Local) → Agrees old t local → Agrees new t (step (site_of old.plan old.server t) local).local
+  pub others : (u : ℕ) → u ≢ t → (local : Local) → Agrees old u local → Agrees new u local
+
+-- this is what the step gives, whatever part of the node the tables have for the tenant
+abbrev pub GivesAt : Tables → ℕ → (Site → Local → Doing) → Output → Type 0
+GivesAt old t step out = (local : Local) → Agrees old t local → Gives t (step (site_of old.plan old.server t) local) out
+
+-- the step leads from the old tables to the new, and gives this
+pub record Acts (old : Tables) (t : ℕ) (step : Site → Local → Doing) (out : Output) (new : Tables) : Type 0 where
+  pub leads : Leads old t step new
+  pub gives : GivesAt old t step out
+
+-- the tables have for the tenant some part of the node
+pub record Stands (w : Tables) (t : ℕ) : Type 0 where
+  pub local : Local
+  pub agrees : Agrees w t local
+
+-- they have one for each tenant
+abbrev pub AllStand : Tables → Type 0
+AllStand w = (t : ℕ) → t < length w.plan.rows → Stands w t
+
+-- the tables, and whether memory ran out
+pub record Whole : Type 0 where
+  pub tables : Tables
+  pub ended : Bool

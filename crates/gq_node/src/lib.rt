@@ -1,0 +1,16 @@
+//! A node: one server of the grid, and the home of some sessions, without files and streams. It takes requests of tenants,
+//! letters of nodes and ticks, and gives what is to be written and what must not be forgotten. What it does for a tenant is
+//! said by that tenant's part of it alone (`specs/Local.antt`), in the steps of the model.
+#![tactic(auto)]
+
+mod aims;
+mod homes;
+pub mod laws;
+mod node;
+mod output;
+mod seats;
+mod tables;
+
+pub use gq_model::{Line, Refusal};
+pub use node::{Ended, Node};
+pub use output::{Answer, Fact, NeedRefused, Output};

@@ -1,0 +1,199 @@
+//! The node, until memory runs out.
+
+ghost use Rattle.std.specs.Prelude.{◌≡◌, ◌*◌, ◌<◌, ◌≤◌, ℕ, [], true, false, length, IfOk, IfErr, OnOk, OnErr, IsErr};
+ghost use Rattle.gq_tag.specs.Tag.{own_message};
+ghost use Rattle.gq_desk.specs.CheckedPlan.{row_at};
+ghost use Rattle.gq_desk.specs.Volumes.{IsRefusedFor, open_fault, account_at};
+ghost use Rattle.gq_node.specs.Sites.{address_of};
+ghost use Rattle.gq_node.specs.Local.{new_local, asks, receives, ticks, recalls};
+ghost use Rattle.gq_node.specs.Recalling.{tenant_of, own_fact};
+ghost use Rattle.gq_node.specs.Resting.{Needed};
+ghost use Rattle.gq_node.specs.Opening.{Opens};
+ghost use Rattle.gq_node.specs.Tables.{Acts, Leads, Agrees, AllStand};
+
+use crate::output::{Fact, NeedRefused, Output};
+use crate::tables::Core;
+use gq_desk::{OpenRefused, Plan};
+use gq_memory::OutOfMemory;
+use gq_model::Line;
+use gq_tag::Message;
+use std::alloc::Global;
+use std::marker::Model;
+use thiserror::Error;
+
+/// A node: the server of one number, and the home of some sessions of each tenant. What it has for a tenant, tells it and sends
+/// for it depends on that tenant's lines and letters and on the ticks alone.
+#[derive(Drop)]
+pub struct Node {
+    tables: Core,
+    ended: Option<OutOfMemory>,
+}
+
+impl Model for Node {
+    ghost use Rattle.std.specs.Prelude.{◌≡◌, false, is_some};
+    ghost use Rattle.gq_node.specs.Tables.{Whole, AllStand};
+
+    ghost Value = { Whole };
+
+    ghost view = { λ w. record { tables = w.tables; ended = is_some w.ended } };
+
+    ghost invariant = { λ w. is_some w.ended ≡ false → AllStand w.tables };
+}
+
+/// Memory was wanting, in this step or in an earlier one. The node takes no further line.
+#[derive(Debug, Drop, Error)]
+#[error("out of memory")]
+pub struct Ended(pub OutOfMemory);
+
+impl Node {
+    /// The node of the plan's server of this number, which was never started: no volume is open. Where memory is wanting the
+    /// plan is given up.
+    pub fn new(alloc: Global, plan: Plan, server: u8) -> Result<Node, OutOfMemory>
+        requires { server < plan.grid.rows * plan.grid.cols }
+        ensures plan { IfOk result (λ w. w.tables.plan ≡ plan) }
+        ensures server { IfOk result (λ w. w.tables.server ≡ server) }
+        ensures agrees { IfOk result (λ w. (t : ℕ) → t < length plan.rows → Agrees w.tables t (new_local plan.grid server [])) }
+        ensures goes { IfOk result (λ w. w.ended ≡ false) }
+    {
+        let tables = Core::new(alloc, plan, server)?;
+        Ok(Node {
+            tables,
+            ended: None,
+        })
+    }
+
+    /// Opens the next volume of the tenant at that place of the plan: so many files of so many blocks each. The causes of a
+    /// refusal are tested in the order of [`OpenRefused`]; the node is then given up.
+    pub fn open(self, tenant: u8, files: u32, blocks: u32) -> Result<Node, OpenRefused>
+        requires tenant { tenant < length self.tables.plan.rows }
+        requires goes { self.ended ≡ false }
+        ensures opened { IfOk result (λ w. Opens self.tables tenant (record { files = files; blocks = blocks }) w.tables) }
+        ensures goes { IfOk result (λ w. w.ended ≡ false) }
+        ensures refused { IfErr result (IsRefusedFor (open_fault (account_at self.tables.desk tenant) (record { files = files; blocks = blocks }))) }
+    {
+        let Node { tables, ended: _ } = self;
+        let tables = tables.open(tenant, files, blocks)?;
+        Ok(Node {
+            tables,
+            ended: None,
+        })
+    }
+
+    /// Reads a fact of an earlier run. Answers whether it fits the plan and its volumes; one that does not changes nothing.
+    pub fn recall(&mut self, fact: &Fact) -> bool
+        requires { tenant_of fact.now < length self.old.tables.plan.rows }
+        ensures leads { Leads self.old.tables (tenant_of fact.now) (recalls (own_fact fact.now)) self.new.tables }
+        ensures ended { self.new.ended ≡ self.old.ended }
+    {
+        self.tables.recall(fact)
+    }
+
+    /// Whether the node takes lines, since memory was never wanting. Then it has a part for each tenant.
+    pub fn goes(&self) -> Result<(), Ended>
+        ensures stand { OnOk result (AllStand self.now.tables) }
+        ensures goes { OnOk result (self.now.ended ≡ false) }
+        ensures ended { OnErr result (self.now.ended ≡ true) }
+    {
+        match &self.ended {
+            Some(refused) => Err(Ended(refused.again())),
+            None => Ok(()),
+        }
+    }
+
+    /// The facts that a start needs to know what this node knows, its sessions' operations gone.
+    pub fn needed(&self) -> Result<Vec<Fact>, NeedRefused>
+        ensures { IfOk result (λ facts. Needed self.now.tables facts.items) }
+    {
+        self.tables.needed()
+    }
+
+    /// The plan.
+    pub fn plan(&self) -> &Plan
+        ensures { result.now ≡ self.now.tables.plan }
+    {
+        self.tables.plan()
+    }
+
+    /// The number of the node's server.
+    pub fn server(&self) -> u8
+        ensures { result ≡ self.now.tables.server }
+    {
+        self.tables.server()
+    }
+
+    /// The node that the letter goes to.
+    pub fn address(&self, message: &Message) -> u8
+        requires tenant { message.now.tenant < length self.now.tables.plan.rows }
+        requires first { 1 ≤ message.now.session }
+        ensures { result ≡ address_of self.now.tables.plan message.now }
+    {
+        self.tables.address(message)
+    }
+
+    /// Takes a line of a tenant with the number that its operation is to have. `Ended` comes first where memory is wanting in the call, and from then on for each line, with
+    /// nothing changed; so in all calls that may answer it.
+    pub fn request(&mut self, tenant: u8, op: u32, line: &Line) -> Result<Output, Ended>
+        requires { tenant < length self.old.tables.plan.rows }
+        ensures acts { IfOk result (λ out. Acts self.old.tables tenant (asks op line.now) out self.new.tables) }
+        ensures ended { OnErr result (self.new.ended ≡ true) }
+        ensures after { self.old.ended ≡ true → IsErr result }
+        ensures still { self.old.ended ≡ true → self.new ≡ self.old }
+        ensures goes { OnOk result (self.new.ended ≡ false) }
+    {
+        if let Some(refused) = &self.ended {
+            return Err(Ended(refused.again()));
+        }
+        match self.tables.request(tenant, op, line) {
+            Ok(out) => Ok(out),
+            Err(refused) => {
+                self.ended = Some(refused.again());
+                Err(Ended(refused))
+            }
+        }
+    }
+
+    /// Takes a letter from the node of that number. One that no honest node sends to this one is passed over.
+    pub fn letter(&mut self, from: u8, message: &Message) -> Result<Output, Ended>
+        requires tenant { message.now.tenant < length self.old.tables.plan.rows }
+        requires own { message.now.file.tenant ≡ message.now.tenant }
+        ensures acts { IfOk result (λ out. Acts self.old.tables message.now.tenant (receives from (own_message message.now)) out self.new.tables) }
+        ensures ended { OnErr result (self.new.ended ≡ true) }
+        ensures after { self.old.ended ≡ true → IsErr result }
+        ensures still { self.old.ended ≡ true → self.new ≡ self.old }
+        ensures goes { OnOk result (self.new.ended ≡ false) }
+    {
+        if let Some(refused) = &self.ended {
+            return Err(Ended(refused.again()));
+        }
+        match self.tables.letter(from, message) {
+            Ok(out) => Ok(out),
+            Err(refused) => {
+                self.ended = Some(refused.again());
+                Err(Ended(refused))
+            }
+        }
+    }
+
+    /// Takes a tick for the tenant's session: a tick of the node is one for each session of each tenant, in order.
+    pub fn tick(&mut self, tenant: u8, session: u32) -> Result<Output, Ended>
+        requires tenant { tenant < length self.old.tables.plan.rows }
+        requires first { 1 ≤ session }
+        requires last { session ≤ (row_at self.old.tables.plan tenant).sessions }
+        ensures acts { IfOk result (λ out. Acts self.old.tables tenant (ticks session) out self.new.tables) }
+        ensures ended { OnErr result (self.new.ended ≡ true) }
+        ensures after { self.old.ended ≡ true → IsErr result }
+        ensures still { self.old.ended ≡ true → self.new ≡ self.old }
+        ensures goes { OnOk result (self.new.ended ≡ false) }
+    {
+        if let Some(refused) = &self.ended {
+            return Err(Ended(refused.again()));
+        }
+        match self.tables.tick(tenant, session) {
+            Ok(out) => Ok(out),
+            Err(refused) => {
+                self.ended = Some(refused.again());
+                Err(Ended(refused))
+            }
+        }
+    }
+}

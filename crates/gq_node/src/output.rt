@@ -1,0 +1,256 @@
+//! What a node gives.
+
+ghost use Rattle.std.specs.Prelude.{◌≡◌, ◌++◌, [], None, Some, IfOk, OnOk, map, unwrap_or};
+ghost use Rattle.gq_node.specs.Needing.{begun_facts, number_facts};
+ghost use Rattle.gq_node.specs.Tables.{fact_of};
+ghost use Rattle.gq_node.specs.Heard.{HeardGives};
+ghost use Rattle.gq_node.specs.Local.{ended, refused_with};
+
+use gq_memory::{GrowVec, OutOfMemory};
+use gq_model::Refusal;
+use gq_phase::{Heard, Messages, Outcome};
+use gq_tag::{FileId, Message, StoredCopy};
+use std::alloc::Global;
+
+/// What a node tells a tenant. Each answer names the session and the number of the operation that it is of.
+#[derive(Debug, Drop)]
+pub enum Answer {
+    /// An operation is done.
+    Done(Outcome),
+    /// The node does not know how the operation ended: it was given up, or the node was started again since.
+    Gone {
+        session: u32,
+        op: u32,
+    },
+    /// The request is refused.
+    Refused {
+        session: u32,
+        op: u32,
+        refusal: Refusal,
+    },
+    /// The number is below that of the session's last operation, or 0.
+    Old {
+        session: u32,
+        op: u32,
+        last: u32,
+    },
+    /// The number is above that of the session's next operation, or that of the next one where one is to be given up.
+    Early {
+        session: u32,
+        op: u32,
+        last: u32,
+    },
+    /// The number is that of the session's next operation, and the last one goes on.
+    Busy {
+        session: u32,
+        op: u32,
+        last: u32,
+    },
+    /// The session's home is this node.
+    Away {
+        session: u32,
+        op: u32,
+        home: u8,
+    },
+    /// The line is no request.
+    Bad,
+}
+
+/// What the number of a request alone decides.
+#[derive(Drop)]
+pub(crate) enum Admission {
+    /// The tenant is told this.
+    Tells(Answer),
+    /// The request is passed over.
+    Passes,
+    /// It is the model's to answer.
+    Goes,
+}
+
+/// What must not be forgotten.
+#[derive(Debug, Drop)]
+pub enum Fact {
+    /// The session's operation of this number began.
+    Began {
+        tenant: u8,
+        session: u8,
+        op: u32,
+    },
+    /// A write of the session stores under a tag of this number.
+    Numbered {
+        tenant: u8,
+        session: u8,
+        number: u64,
+    },
+    /// This is the server's copy of the file.
+    Kept {
+        file: FileId,
+        copy: StoredCopy,
+    },
+}
+
+/// What a step gives: what the tenant is told, the letters that go out, and what must not be forgotten. What goes out rests on
+/// the fact: nothing of it may leave before the fact is safe.
+#[derive(Debug, Drop)]
+pub struct Output {
+    pub answer: Option<Answer>,
+    pub letters: Vec<Message>,
+    pub fact: Option<Fact>,
+}
+
+impl Output {
+    // Nothing.
+    pub(crate) fn nothing(alloc: Global) -> Output
+        ensures answer { result.answer ≡ None }
+        ensures letters { result.letters.items ≡ [] }
+        ensures fact { result.fact ≡ None }
+    {
+        Output {
+            answer: None,
+            letters: Vec::new(alloc),
+            fact: None,
+        }
+    }
+
+    // The tenant is told this alone.
+    pub(crate) fn told(alloc: Global, answer: Answer) -> Output
+        ensures answer { result.answer ≡ Some answer }
+        ensures letters { result.letters.items ≡ [] }
+        ensures fact { result.fact ≡ None }
+    {
+        Output {
+            answer: Some(answer),
+            letters: Vec::new(alloc),
+            fact: None,
+        }
+    }
+}
+
+// How a request is refused, whose session's last operation has that number.
+pub(crate) fn refused_answer(session: u32, op: u32, last: u32, refusal: Refusal) -> Answer
+    ensures { result ≡ refused_with session op last refusal }
+{
+    match refusal {
+        Refusal::Busy => Answer::Busy { session, op, last },
+        refusal => Answer::Refused {
+            session,
+            op,
+            refusal,
+        },
+    }
+}
+
+// How the session's last operation ended, of which this is known.
+pub(crate) fn ended(session: u32, op: u32, outcome: &Option<Outcome>) -> Result<Answer, OutOfMemory>
+    ensures { IfOk result (λ answer. answer ≡ ended session op outcome.now) }
+{
+    match outcome {
+        Some(outcome) => Ok(Answer::Done(outcome.share()?)),
+        None => Ok(Answer::Gone { session, op }),
+    }
+}
+
+// The letters one by one.
+pub(crate) fn letters_of(
+    alloc: Global,
+    messages: Option<Messages>,
+) -> Result<Vec<Message>, OutOfMemory>
+    ensures { IfOk result (λ letters. letters.items ≡ unwrap_or messages []) }
+{
+    match messages {
+        Some(messages) => messages.to_vec(alloc),
+        None => Ok(Vec::new(alloc)),
+    }
+}
+
+// What is given where an operation of the session said this. Its own last number was `before`, and is `after`.
+pub(crate) fn heard_output(
+    alloc: Global,
+    tenant: u8,
+    session: u8,
+    before: u64,
+    after: u64,
+    heard: Heard,
+) -> Result<Output, OutOfMemory>
+    ensures { IfOk result (λ out. HeardGives tenant session before after heard out) }
+{
+    match heard {
+        Heard::Stale => Ok(Output::nothing(alloc)),
+        Heard::Noted => Ok(Output::nothing(alloc)),
+        Heard::Next { messages, .. } => {
+            let letters = messages.to_vec(alloc)?;
+            let fact = if after == before {
+                None
+            } else {
+                Some(Fact::Numbered {
+                    tenant,
+                    session,
+                    number: after,
+                })
+            };
+            Ok(Output {
+                answer: None,
+                letters,
+                fact,
+            })
+        }
+        Heard::Done(outcome) => Ok(Output::told(alloc, Answer::Done(outcome))),
+    }
+}
+
+/// Why it can't be told what a start needs.
+#[derive(Debug, Drop)]
+pub enum NeedRefused {
+    /// Memory was wanting.
+    Memory(OutOfMemory),
+    /// A start would not take a copy again. No letter brings such a copy.
+    Unreadable,
+}
+
+impl From<OutOfMemory> for NeedRefused {
+    ghost use Rattle.gq_node.specs.declared.output.NeedRefused.TheVariants.{Memory as OfMemory};
+
+    ghost from_gives = { λ m e. e ≡ OfMemory m };
+
+    fn from(refused: OutOfMemory) -> NeedRefused {
+        NeedRefused::Memory(refused)
+    }
+}
+
+// Appends that the session began this operation, if it began one.
+pub(crate) fn put_begun(
+    tenant: u8,
+    session: u8,
+    op: u32,
+    facts: &mut Vec<Fact>,
+) -> Result<(), OutOfMemory>
+    ensures { OnOk result (facts.new.items ≡ facts.old.items ++ map (fact_of tenant) (begun_facts session op)) }
+{
+    if op == 0 {
+        return Ok(());
+    }
+    facts.grow(Fact::Began {
+        tenant,
+        session,
+        op,
+    })
+}
+
+// Appends the session's own last number, if it gave one.
+pub(crate) fn put_number(
+    tenant: u8,
+    session: u8,
+    number: u64,
+    facts: &mut Vec<Fact>,
+) -> Result<(), OutOfMemory>
+    ensures { OnOk result (facts.new.items ≡ facts.old.items ++ map (fact_of tenant) (number_facts session number)) }
+{
+    if number == 0 {
+        return Ok(());
+    }
+    facts.grow(Fact::Numbered {
+        tenant,
+        session,
+        number,
+    })
+}
