@@ -1,0 +1,125 @@
+-- The line of a request is read as that request.
+use Rattle.std.proofs.Common.{◌≡◌, ℕ, ◌+◌, ◌<◌, ◌≤◌, List, [], ◌∷◌, length, Some, None, true, false, refl, ap, ◌∙◌, arith, length-append}
+use Rattle.std.specs.Prelude.{codes, decimal, nat_le, nat_lt}
+use Rattle.std.specs.List.{list_all}
+use Rattle.std.proofs.lemmas.Bool.{and_parts, eq-eqb, ne_eqb, le-leb, lt-leb, leb-true, le-ltb}
+use Rattle.gq_desk.specs.Names.{is_letter, is_name}
+use Rattle.gq_desk.specs.CheckedPlan.{CheckedPlan, row_at}
+use Rattle.gq_model.specs.declared.events.Line.{Line}
+use Rattle.gq_model.specs.declared.events.Line.TheVariants.{Write, Read, List as ListFiles, Abandon}
+use Rattle.gq_text.specs.Words.{Word, number_of, number_up_to}
+use Rattle.gq_text.specs.AnswerText.{content_word, spaced}
+use Rattle.gq_text.specs.Canonical.{IsPlan, IsNumber}
+use Rattle.gq_text.proofs.Numbers.{numbers_read_back}
+use Rattle.gq_text.proofs.Plain.{are_plain, decimal_plain, content_plain}
+use Rattle.gq_text.proofs.LinesBack.{words_back}
+use Rattle.gq_text.proofs.EventsBack.{line_of-words}
+use Rattle.gq_wire.specs.declared.incoming.TheConstants.{MOST_LINE}
+use Rattle.gq_wire.specs.declared.incoming.Incoming.TheVariants.{Request}
+use Rattle.gq_wire.specs.Requests.{request_of, request_words}
+use Rattle.gq_wire.specs.Incoming.{incoming_of_words}
+use Rattle.gq_wire.specs.Laws.{FitsRequest, request_text, RequestsReadBack}
+use Rattle.gq_wire.proofs.ValuesBack.{name_at, name_is_plain, place_back}
+use Rattle.gq_wire.proofs.Lengths.{short_number, short_name, content_length-le, one_more}
+
+-- ---- a name is no number
+
+first_letter : (c : ℕ) (word : Word) → list_all is_letter (c ∷ word) ≡ true → 97 ≤ c
+first_letter c word letters = leb-true 97 c (and_parts (nat_le 97 c) (nat_le c 122) (and_parts (is_letter c) (list_all is_letter word) letters).0).0
+
+no_digits : (word : Word) → list_all is_letter word ≡ true → 1 ≤ length word → number_of word ≡ None
+unfolding number_up_to
+no_digits [] letters some = absurd (omega arith)
+no_digits (c ∷ []) letters some =
+    let big = first_letter c [] letters in
+    let low : nat_le 48 c ≡ true = le-leb 48 c (omega arith) in
+    let high : nat_le c 57 ≡ false = lt-leb c 57 (omega arith) in
+    rw (low, high) refl
+no_digits (c ∷ d ∷ word) letters some =
+    let big = first_letter c (d ∷ word) letters in
+    let low : nat_le 48 c ≡ true = le-leb 48 c (omega arith) in
+    let high : nat_le c 57 ≡ false = lt-leb c 57 (omega arith) in
+    rw (ne_eqb c 48 (omega arith), low, high) refl
+
+pub name_is_no_number : (name : Word) → is_name name ≡ true → number_of name ≡ None
+name_is_no_number name is =
+    let parts = and_parts _ _ is in
+    no_digits name (and_parts _ _ parts.1).0 (leb-true 1 (length name) (and_parts _ _ parts.0).0)
+
+-- ---- the words
+
+words_plain : (op : ℕ) (line : Line) → FitsRequest op line → are_plain (request_words op line) ≡ true
+words_plain op (Write k v f bytes) fits = rw (decimal_plain k fits.1, decimal_plain op fits.0, decimal_plain v fits.2, decimal_plain f fits.3, content_plain bytes fits.4.0) refl
+words_plain op (Read k v f) fits = rw (decimal_plain k fits.1, decimal_plain op fits.0, decimal_plain v fits.2, decimal_plain f fits.3) refl
+words_plain op (ListFiles k v) fits = rw (decimal_plain k fits.1, decimal_plain op fits.0, decimal_plain v fits.2) refl
+words_plain op (Abandon k) fits = rw (decimal_plain k fits.1, decimal_plain op fits.0) refl
+words_plain op line fits = absurd fits
+
+words_back_as : (op : ℕ) (line : Line) → FitsRequest op line → request_of (request_words op line) ≡ Some (op, line)
+unfolding request_of
+words_back_as op (Write k v f bytes) fits = rw (numbers_read_back op fits.0, line_of-words (Write k v f bytes) (fits.1, fits.2, fits.3, fits.4.0)) refl
+words_back_as op (Read k v f) fits = rw (numbers_read_back op fits.0, line_of-words (Read k v f) (fits.1, fits.2, fits.3)) refl
+words_back_as op (ListFiles k v) fits = rw (numbers_read_back op fits.0, line_of-words (ListFiles k v) (fits.1, fits.2)) refl
+words_back_as op (Abandon k) fits = rw (numbers_read_back op fits.0, line_of-words (Abandon k) fits.1) refl
+words_back_as op line fits = absurd fits
+
+number_more : (n : ℕ) (words : List Word) (k : ℕ) → IsNumber n → length (spaced words) ≤ k → length (spaced (decimal n ∷ words)) ≤ 11 + k
+number_more n words k fits rest = omega (arith, one_more (decimal n) words 10 k (short_number n fits) rest)
+
+words_short : (op : ℕ) (line : Line) → FitsRequest op line → length (spaced (request_words op line)) ≤ 2099
+words_short op (Write k v f bytes) fits =
+    one_more (codes "write") (decimal k ∷ decimal op ∷ decimal v ∷ decimal f ∷ content_word bytes ∷ []) 5 2093 (omega arith)
+    (number_more k (decimal op ∷ decimal v ∷ decimal f ∷ content_word bytes ∷ []) 2082 fits.1
+    (number_more op (decimal v ∷ decimal f ∷ content_word bytes ∷ []) 2071 fits.0
+    (number_more v (decimal f ∷ content_word bytes ∷ []) 2060 fits.2
+    (number_more f (content_word bytes ∷ []) 2049 fits.3
+    (one_more (content_word bytes) [] 2048 0 (content_length-le bytes fits.4.1) (omega arith))))))
+words_short op (Read k v f) fits =
+    omega (
+      arith,
+      one_more (codes "read") (decimal k ∷ decimal op ∷ decimal v ∷ decimal f ∷ []) 4 44 (omega arith)
+          (number_more k (decimal op ∷ decimal v ∷ decimal f ∷ []) 33 fits.1
+          (number_more op (decimal v ∷ decimal f ∷ []) 22 fits.0
+          (number_more v (decimal f ∷ []) 11 fits.2
+          (number_more f [] 0 fits.3 (omega arith))))),
+    )
+words_short op (ListFiles k v) fits =
+    omega (
+      arith,
+      one_more (codes "list") (decimal k ∷ decimal op ∷ decimal v ∷ []) 4 33 (omega arith)
+          (number_more k (decimal op ∷ decimal v ∷ []) 22 fits.1
+          (number_more op (decimal v ∷ []) 11 fits.0
+          (number_more v [] 0 fits.2 (omega arith)))),
+    )
+words_short op (Abandon k) fits =
+    omega (
+      arith,
+      one_more (codes "abandon") (decimal k ∷ decimal op ∷ []) 7 22 (omega arith)
+          (number_more k (decimal op ∷ []) 11 fits.1
+          (number_more op [] 0 fits.0 (omega arith))),
+    )
+words_short op line fits = absurd fits
+
+-- ---- the line
+
+text_short : (plan : CheckedPlan) (to t op : ℕ) (line : Line) → IsPlan plan → IsNumber to → t < length plan.rows → FitsRequest op line → length (request_text plan to t op line) ≤ MOST_LINE
+text_short plan to t op line is to_fits within fits =
+    let name = one_more (row_at plan t).name (request_words op line) 16 2099 (short_name (row_at plan t).name (name_at plan t is within)) (words_short op line fits) in
+    omega (arith, length-append (decimal to) (spaced ((row_at plan t).name ∷ request_words op line)), short_number to to_fits, name)
+
+line_back : (plan : CheckedPlan) (to t op : ℕ) (line : Line) → IsPlan plan → IsNumber to → t < length plan.rows → FitsRequest op line → incoming_of_words plan to (decimal to ∷ (row_at plan t).name ∷ request_words op line) ≡ Request t op line
+unfolding incoming_of_words
+line_back plan to t op line is to_fits within fits =
+    rw (
+      numbers_read_back to to_fits,
+      eq-eqb to to refl,
+      name_is_no_number (row_at plan t).name (name_at plan t is within),
+      place_back plan t is within,
+      words_back_as op line fits,
+    ) refl
+
+pub requests_read_back : RequestsReadBack
+requests_read_back plan to t op line is to_fits within fits =
+    let short : nat_lt MOST_LINE (length (request_text plan to t op line)) ≡ false = le-ltb MOST_LINE (length (request_text plan to t op line)) (text_short plan to t op line is to_fits within fits) in
+    let others : are_plain ((row_at plan t).name ∷ request_words op line) ≡ true = rw (name_is_plain plan t is within) (words_plain op line fits) in
+    rw short (ap (incoming_of_words plan to) (words_back (decimal to) ((row_at plan t).name ∷ request_words op line) (decimal_plain to to_fits) others) ∙ line_back plan to t op line is to_fits within fits)

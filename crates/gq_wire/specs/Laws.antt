@@ -1,0 +1,116 @@
+-- What is read of the lines that are written.
+use Rattle.std.specs.Prelude.{◌≡◌, ◌≢◌, ℕ, ◌*◌, ◌<◌, ◌≤◌, ◌^◌, List, [], ◌∷◌, ◌++◌, Bool, true, false, not, ◌==◌, codes, decimal, length, if◌then◌else◌}
+use Rattle.std.specs.List.{list_all}
+use Rattle.hex.specs.Hex.{IsBytes}
+use Rattle.gq_tag.specs.declared.StoredCopy.{StoredCopy}
+use Rattle.gq_tag.specs.declared.Body.{Body}
+use Rattle.gq_tag.specs.declared.Body.TheVariants.{Copy, Store}
+use Rattle.gq_tag.specs.declared.Message.{Message}
+use Rattle.gq_tag.specs.Tag.{to_server}
+use Rattle.gq_pool.specs.declared.TheConstants.{BLOCK_BYTES}
+use Rattle.gq_desk.specs.declared.limits.TheConstants.{MOST_FILE_BLOCKS}
+use Rattle.gq_desk.specs.CheckedPlan.{CheckedPlan, row_at}
+use Rattle.gq_model.specs.declared.events.Line.{Line}
+use Rattle.gq_model.specs.declared.events.Line.TheVariants.{Write, Read, List as ListFiles, Abandon}
+use Rattle.gq_text.specs.Words.{Word}
+use Rattle.gq_text.specs.AnswerText.{spaced}
+use Rattle.gq_text.specs.Canonical.{IsPlan, IsNumber}
+use Rattle.gq_wire.specs.declared.incoming.Incoming.{Incoming}
+use Rattle.gq_wire.specs.declared.incoming.Incoming.TheVariants.{Request, Bad, Letter, Nothing}
+use Rattle.gq_wire.specs.Requests.{request_words}
+use Rattle.gq_wire.specs.Letters.{is_of_round}
+use Rattle.gq_wire.specs.Incoming.{incoming_of}
+use Rattle.gq_wire.specs.Texts.{first_text, letter_words, letter_line}
+
+-- the numbers of a copy fit in the words of a line
+abbrev pub FitsCopy : StoredCopy → Type 0
+FitsCopy copy = (copy.tag.number < 2 ^ 64) × (copy.tag.session < 256) × IsBytes copy.bytes
+
+abbrev pub FitsBody : Body → Type 0
+FitsBody (Copy copy) = FitsCopy copy
+FitsBody (Store copy) = FitsCopy copy
+FitsBody _ = Unit {0}
+
+-- how many bytes of content a body has
+abbrev pub content_length : Body → ℕ
+content_length (Copy copy) = length copy.bytes
+content_length (Store copy) = length copy.bytes
+content_length _ = 0
+
+-- a letter between these two, of a tenant of the plan, whose numbers fit, whose content is no longer than
+-- a file may have, and whose body is of its round
+pub record FitsLetter (plan : CheckedPlan) (to from : ℕ) (m : Message) : Type 0 where
+  pub tenant : m.tenant < length plan.rows
+  pub own : m.file.tenant ≡ m.tenant
+  pub to_fits : to < 2 ^ 32
+  pub from_fits : from < 2 ^ 32
+  pub node : from < plan.grid.rows * plan.grid.cols
+  pub server : m.server ≡ (if to_server m.body then to else from)
+  pub session : m.session < 256
+  pub op : m.op < 2 ^ 32
+  pub round : m.round < 2 ^ 32
+  pub volume : m.file.volume < 2 ^ 32
+  pub file : m.file.file < 2 ^ 32
+  pub body : FitsBody m.body
+  pub short : content_length m.body ≤ BLOCK_BYTES * MOST_FILE_BLOCKS
+  pub in_round : is_of_round m.round m.body ≡ true
+
+-- no byte of the line is a newline
+abbrev pub is_one_line : List ℕ → Bool
+is_one_line line = list_all (λ c. not (c == 10)) line
+
+-- the line of a letter, without its newline
+abbrev pub letter_text : CheckedPlan → (to from : ℕ) → Message → List ℕ
+letter_text plan to from m = decimal to ++ spaced (decimal from ∷ letter_words plan m)
+
+-- the line that one node writes is read by the other as that letter
+abbrev pub LettersReadBack : Type 0
+LettersReadBack =
+    (plan : CheckedPlan) (to from : ℕ) (m : Message) → IsPlan plan → FitsLetter plan to from m →
+    (letter_line plan to from m ≡ letter_text plan to from m ++ 10 ∷ []) × (is_one_line (letter_text plan to from m) ≡ true) × (incoming_of plan to (letter_text plan to from m) ≡ Letter from m)
+
+-- ---- requests
+
+-- a content that a file may have
+abbrev pub FitsContent : List ℕ → Type 0
+FitsContent bytes = IsBytes bytes × (length bytes ≤ BLOCK_BYTES * MOST_FILE_BLOCKS)
+
+-- a request whose numbers fit
+abbrev pub FitsRequest : ℕ → Line → Type 0
+FitsRequest op (Write k v f bytes) = IsNumber op × IsNumber k × IsNumber v × IsNumber f × FitsContent bytes
+FitsRequest op (Read k v f) = IsNumber op × IsNumber k × IsNumber v × IsNumber f
+FitsRequest op (ListFiles k v) = IsNumber op × IsNumber k × IsNumber v
+FitsRequest op (Abandon k) = IsNumber op × IsNumber k
+FitsRequest op _ = ⊥
+
+-- the line of a tenant's request to that node, without its newline
+abbrev pub request_text : CheckedPlan → (to tenant op : ℕ) → Line → List ℕ
+request_text plan to tenant op line = decimal to ++ spaced ((row_at plan tenant).name ∷ request_words op line)
+
+-- the request that a tenant writes is read as that request
+abbrev pub RequestsReadBack : Type 0
+RequestsReadBack =
+    (plan : CheckedPlan) (to tenant op : ℕ) (line : Line) → IsPlan plan → IsNumber to → tenant < length plan.rows → FitsRequest op line →
+    incoming_of plan to (request_text plan to tenant op line) ≡ Request tenant op line
+
+-- ---- lines that are not for the node
+
+-- a line that begins with a tenant's name is nothing to a node, and so is a letter to another node: of what nodes write, a node acts on
+-- letters to it alone
+pub record PassesOver : Type 0 where
+  pub told : (plan : CheckedPlan) (here tenant : ℕ) (words : List Word) → IsPlan plan → tenant < length plan.rows → incoming_of plan here ((row_at plan tenant).name ++ spaced words) ≡ Nothing
+  pub others : (plan : CheckedPlan) (here to from : ℕ) (m : Message) → IsPlan plan → FitsLetter plan to from m → to ≢ here → incoming_of plan here (letter_text plan to from m) ≡ Nothing
+
+-- ---- torn lines
+
+-- the line is no request, no letter and no tick
+abbrev pub is_formless : Incoming → Bool
+is_formless (Bad tenant) = true
+is_formless Nothing = true
+is_formless _ = false
+
+-- the first line that a node writes has no form, whatever was torn before it: it ends with a word that ends no line
+abbrev pub TornLinesHaveNoForm : Type 0
+TornLinesHaveNoForm =
+    (plan : CheckedPlan) (here : ℕ) (torn : List ℕ) →
+    (torn ++ first_text ≡ (torn ++ spaced (codes "?" ∷ [])) ++ 10 ∷ []) × (is_formless (incoming_of plan here (torn ++ spaced (codes "?" ∷ []))) ≡ true)

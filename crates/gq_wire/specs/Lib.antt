@@ -1,0 +1,6 @@
+pub mod Values
+pub mod Requests
+pub mod Letters
+pub mod Incoming
+pub mod Texts
+pub mod Laws

@@ -1,0 +1,94 @@
+-- The lines that a node writes.
+use Rattle.std.specs.Prelude.{ℕ, List, [], ◌∷◌, codes, decimal, length, slice_index_or}
+use Rattle.gq_tag.specs.declared.StoredCopy.{StoredCopy}
+use Rattle.gq_tag.specs.declared.Body.{Body}
+use Rattle.gq_tag.specs.declared.Body.TheVariants.{Ask, Copy, Store, Stored}
+use Rattle.gq_tag.specs.declared.Message.{Message}
+use Rattle.gq_desk.specs.CheckedPlan.{CheckedPlan, row_at}
+use Rattle.gq_model.specs.declared.events.Line.{Line}
+use Rattle.gq_model.specs.declared.events.Line.TheVariants.{Write, Read, List as ListFiles}
+use Rattle.gq_model.specs.declared.events.Refusal.{Refusal}
+use Rattle.gq_model.specs.declared.events.Refusal.TheVariants.{NoVolume, NoFile, TooLong}
+use Rattle.gq_text.specs.Words.{Word}
+use Rattle.gq_text.specs.AnswerText.{content_word, outcome_words, refusal_words, line_text}
+use Rattle.gq_node.specs.declared.output.Answer.{Answer}
+use Rattle.gq_node.specs.declared.output.Answer.TheVariants.{Done, Gone, Refused, Old, Early, Busy, Away, Bad}
+
+-- the first line that a node writes
+abbrev pub first_text : List ℕ
+first_text = line_text [] (codes "?" ∷ [])
+
+-- ---- a letter
+
+abbrev pub copy_words : StoredCopy → List Word
+copy_words copy = decimal copy.tag.number ∷ decimal copy.tag.session ∷ content_word copy.bytes ∷ []
+
+abbrev pub body_words : Body → List Word
+body_words Ask = codes "ask" ∷ []
+body_words (Store copy) = codes "store" ∷ copy_words copy
+body_words (Copy copy) = codes "copy" ∷ copy_words copy
+body_words Stored = codes "stored" ∷ []
+
+-- the words of a letter behind its addresses, of which these are the body's
+abbrev pub headed : CheckedPlan → Message → List Word → List Word
+headed plan m body =
+    (row_at plan m.tenant).name ∷ decimal m.session ∷ decimal m.op ∷ decimal m.round ∷ decimal m.file.volume ∷ decimal m.file.file ∷ body
+
+abbrev pub letter_words : CheckedPlan → Message → List Word
+letter_words plan m = headed plan m (body_words m.body)
+
+abbrev pub letter_line : CheckedPlan → (to from : ℕ) → Message → List ℕ
+letter_line plan to from m = line_text (decimal to) (decimal from ∷ letter_words plan m)
+
+-- ---- a refusal
+
+-- the volume, the file and the length of the content that a request names
+abbrev pub volume_in : Line → ℕ
+volume_in (Write k v f bytes) = v
+volume_in (Read k v f) = v
+volume_in (ListFiles k v) = v
+volume_in _ = 0
+
+abbrev pub file_in : Line → ℕ
+file_in (Write k v f bytes) = f
+file_in (Read k v f) = f
+file_in _ = 0
+
+abbrev pub length_in : Line → ℕ
+length_in (Write k v f bytes) = length bytes
+length_in _ = 0
+
+-- the first word by which a script is told the refusal; no node tells one that has two
+abbrev pub word_of : Refusal → Word
+word_of refusal = slice_index_or (refusal_words refusal) 0 []
+
+-- what of the request it is that is refused
+abbrev pub subject_words : Refusal → Line → List Word
+subject_words NoVolume asked = decimal (volume_in asked) ∷ []
+subject_words NoFile asked = decimal (volume_in asked) ∷ decimal (file_in asked) ∷ []
+subject_words TooLong asked = decimal (volume_in asked) ∷ decimal (file_in asked) ∷ decimal (length_in asked) ∷ []
+subject_words _ asked = []
+
+abbrev pub refusal_words_of : (session op : ℕ) → Refusal → Line → List Word
+refusal_words_of session op refusal asked = word_of refusal ∷ decimal session ∷ decimal op ∷ subject_words refusal asked
+
+-- a number that can't begin is refused with that of the session's last operation
+abbrev pub last_words : (session op last : ℕ) → List Word
+last_words session op last = decimal session ∷ decimal op ∷ decimal last ∷ []
+
+-- ---- what a tenant is told
+
+-- the words of an answer to the request `asked`
+abbrev pub told_words : Line → Answer → List Word
+told_words asked (Done outcome) = codes "done" ∷ outcome_words outcome
+told_words asked (Gone session op) = codes "gone" ∷ decimal session ∷ decimal op ∷ []
+told_words asked (Refused session op refusal) = codes "refused" ∷ refusal_words_of session op refusal asked
+told_words asked (Old session op last) = codes "refused" ∷ codes "old" ∷ last_words session op last
+told_words asked (Early session op last) = codes "refused" ∷ codes "early" ∷ last_words session op last
+told_words asked (Busy session op last) = codes "refused" ∷ codes "busy" ∷ last_words session op last
+told_words asked (Away session op home) = codes "refused" ∷ codes "home" ∷ decimal home ∷ decimal session ∷ decimal op ∷ []
+told_words asked Bad = codes "refused" ∷ codes "bad" ∷ []
+
+-- the line of it, from that node
+abbrev pub told_line : CheckedPlan → (from tenant : ℕ) → Line → Answer → List ℕ
+told_line plan from tenant asked answer = line_text (row_at plan tenant).name (decimal from ∷ told_words asked answer)

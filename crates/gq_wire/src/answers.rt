@@ -1,0 +1,264 @@
+//! The lines by which a node tells a tenant.
+
+ghost use Rattle.std.specs.Prelude.{◌≡◌, [], ◌∷◌, ◌++◌, ◌<◌, length, codes, decimal, OnOk, OnErr};
+ghost use Rattle.std.specs.List.{flat_map};
+ghost use Rattle.gq_desk.specs.CheckedPlan.{row_at};
+ghost use Rattle.gq_text.specs.AnswerText.{line_text, outcome_words};
+ghost use Rattle.gq_text.specs.Pieces.{words_in, Extends};
+ghost use Rattle.gq_wire.specs.Texts.{volume_in, file_in, length_in, word_of, refusal_words_of, told_words, told_line};
+
+use gq_desk::Plan;
+use gq_memory::{GrowCopies, GrowVec, OutOfMemory};
+use gq_model::{Line, Refusal};
+use gq_node::Answer;
+use gq_phase::Outcome;
+use gq_text::{Piece, put_done, put_number, put_words};
+
+// The volume that the request names.
+fn volume_in(line: &Line) -> u32
+    ensures { result ≡ volume_in line.now }
+{
+    match line {
+        Line::Write { volume, .. } => *volume,
+        Line::Read { volume, .. } => *volume,
+        Line::List { volume, .. } => *volume,
+        _ => 0,
+    }
+}
+
+// The file that the request names.
+fn file_in(line: &Line) -> u32
+    ensures { result ≡ file_in line.now }
+{
+    match line {
+        Line::Write { file, .. } => *file,
+        Line::Read { file, .. } => *file,
+        _ => 0,
+    }
+}
+
+// The length of the content that the request has.
+fn length_in(line: &Line) -> u64
+    ensures { result ≡ length_in line.now }
+{
+    match line {
+        Line::Write { bytes, .. } => bytes.len() as u64,
+        _ => 0,
+    }
+}
+
+// The first word by which a script is told the refusal.
+fn refusal_word(refusal: Refusal) -> &'static [u8]
+    ensures { word_of refusal ≡ result.now }
+{
+    match refusal {
+        Refusal::Spent => b"spent",
+        Refusal::Bad => b"bad",
+        Refusal::NoSession => b"nosession",
+        Refusal::Busy => b"busy",
+        Refusal::Idle => b"idle",
+        Refusal::NoVolume => b"novolume",
+        Refusal::NoFile => b"nofile",
+        Refusal::TooLong => b"toolong",
+        Refusal::NoQuorum => b"noquorum",
+        Refusal::NoMessage => b"nomessage",
+        Refusal::Size => b"size",
+        Refusal::Volumes => b"volumes",
+        Refusal::Share { .. } => b"share",
+    }
+}
+
+// Appends to whom a line goes, and from which node.
+fn put_head(out: &mut Vec<u8>, plan: &Plan, from: u8, tenant: u8) -> Result<(), OutOfMemory>
+    requires { tenant < length plan.now.rows }
+    ensures ok { OnOk result (out.new.items ≡ out.old.items ++ (row_at plan.now tenant).name ++ 32 ∷ decimal from) }
+    ensures err { OnErr result (Extends out.old.items out.new.items) }
+{
+    out.grow_by(plan.row(tenant).name.as_bytes())?;
+    out.grow(b' ')?;
+    put_number(out, u64::from(from))
+}
+
+// Appends a line to the tenant from that node.
+fn put_line(
+    out: &mut Vec<u8>,
+    plan: &Plan,
+    from: u8,
+    tenant: u8,
+    words: &[Piece],
+) -> Result<(), OutOfMemory>
+    requires { tenant < length plan.now.rows }
+    ensures ok { OnOk result (out.new.items ≡ out.old.items ++ line_text (row_at plan.now tenant).name (decimal from ∷ flat_map words_in words.now)) }
+    ensures err { OnErr result (Extends out.old.items out.new.items) }
+{
+    put_head(out, plan, from, tenant)?;
+    put_words(out, words)
+}
+
+// Appends the line of how an operation ended.
+fn put_ended(
+    out: &mut Vec<u8>,
+    plan: &Plan,
+    from: u8,
+    tenant: u8,
+    outcome: &Outcome,
+) -> Result<(), OutOfMemory>
+    requires { tenant < length plan.now.rows }
+    ensures ok { OnOk result (out.new.items ≡ out.old.items ++ line_text (row_at plan.now tenant).name (decimal from ∷ codes "done" ∷ outcome_words outcome.now)) }
+    ensures err { OnErr result (Extends out.old.items out.new.items) }
+{
+    put_head(out, plan, from, tenant)?;
+    put_done(out, outcome)
+}
+
+// Appends the line by which the request `asked` is refused, whose operation was to have that number.
+fn put_refused(
+    out: &mut Vec<u8>,
+    plan: &Plan,
+    from: u8,
+    tenant: u8,
+    session: u32,
+    op: u32,
+    refusal: Refusal,
+    asked: &Line,
+) -> Result<(), OutOfMemory>
+    requires { tenant < length plan.now.rows }
+    ensures ok { OnOk result (out.new.items ≡ out.old.items ++ line_text (row_at plan.now tenant).name (decimal from ∷ codes "refused" ∷ refusal_words_of session op refusal asked.now)) }
+    ensures err { OnErr result (Extends out.old.items out.new.items) }
+{
+    let session = Piece::Number(u64::from(session));
+    let op = Piece::Number(u64::from(op));
+    let volume = Piece::Number(u64::from(volume_in(asked)));
+    let file = Piece::Number(u64::from(file_in(asked)));
+    let length = Piece::Number(length_in(asked));
+    match refusal {
+        Refusal::NoVolume => put_line(
+            out,
+            plan,
+            from,
+            tenant,
+            &[Piece::Text(b"refused novolume"), session, op, volume],
+        ),
+        Refusal::NoFile => put_line(
+            out,
+            plan,
+            from,
+            tenant,
+            &[Piece::Text(b"refused nofile"), session, op, volume, file],
+        ),
+        Refusal::TooLong => put_line(
+            out,
+            plan,
+            from,
+            tenant,
+            &[
+                Piece::Text(b"refused toolong"),
+                session,
+                op,
+                volume,
+                file,
+                length,
+            ],
+        ),
+        refusal => put_line(
+            out,
+            plan,
+            from,
+            tenant,
+            &[
+                Piece::Text(b"refused"),
+                Piece::Text(refusal_word(refusal)),
+                session,
+                op,
+            ],
+        ),
+    }
+}
+
+// Appends the line by which a number that can't begin is refused for this word, with the number of the session's last
+// operation behind it.
+fn put_last(
+    out: &mut Vec<u8>,
+    plan: &Plan,
+    from: u8,
+    tenant: u8,
+    word: &[u8],
+    session: u32,
+    op: u32,
+    last: u32,
+) -> Result<(), OutOfMemory>
+    requires { tenant < length plan.now.rows }
+    ensures ok { OnOk result (out.new.items ≡ out.old.items ++ line_text (row_at plan.now tenant).name (decimal from ∷ codes "refused" ∷ word.now ∷ decimal session ∷ decimal op ∷ decimal last ∷ [])) }
+    ensures err { OnErr result (Extends out.old.items out.new.items) }
+{
+    put_line(
+        out,
+        plan,
+        from,
+        tenant,
+        &[
+            Piece::Text(b"refused"),
+            Piece::Text(word),
+            Piece::Number(u64::from(session)),
+            Piece::Number(u64::from(op)),
+            Piece::Number(u64::from(last)),
+        ],
+    )
+}
+
+/// Appends the line by which the node of that number tells the tenant this, or a part of it where memory is refused. `asked` is
+/// the request that is answered; where an operation is done by a letter it is not looked at.
+pub fn put_told(
+    out: &mut Vec<u8>,
+    plan: &Plan,
+    from: u8,
+    tenant: u8,
+    asked: &Line,
+    answer: &Answer,
+) -> Result<(), OutOfMemory>
+    requires { tenant < length plan.now.rows }
+    ensures ok { OnOk result (out.new.items ≡ out.old.items ++ told_line plan.now from tenant asked.now answer.now) }
+    ensures err { OnErr result (Extends out.old.items out.new.items) }
+{
+    match answer {
+        Answer::Done(outcome) => put_ended(out, plan, from, tenant, outcome),
+        Answer::Gone { session, op } => put_line(
+            out,
+            plan,
+            from,
+            tenant,
+            &[
+                Piece::Text(b"gone"),
+                Piece::Number(u64::from(*session)),
+                Piece::Number(u64::from(*op)),
+            ],
+        ),
+        Answer::Refused {
+            session,
+            op,
+            refusal,
+        } => put_refused(out, plan, from, tenant, *session, *op, *refusal, asked),
+        Answer::Old { session, op, last } => {
+            put_last(out, plan, from, tenant, b"old", *session, *op, *last)
+        }
+        Answer::Early { session, op, last } => {
+            put_last(out, plan, from, tenant, b"early", *session, *op, *last)
+        }
+        Answer::Busy { session, op, last } => {
+            put_last(out, plan, from, tenant, b"busy", *session, *op, *last)
+        }
+        Answer::Away { session, op, home } => put_line(
+            out,
+            plan,
+            from,
+            tenant,
+            &[
+                Piece::Text(b"refused home"),
+                Piece::Number(u64::from(*home)),
+                Piece::Number(u64::from(*session)),
+                Piece::Number(u64::from(*op)),
+            ],
+        ),
+        Answer::Bad => put_line(out, plan, from, tenant, &[Piece::Text(b"refused bad")]),
+    }
+}

@@ -1,0 +1,135 @@
+//! A line that comes to a node.
+
+ghost use Rattle.std.specs.Prelude.{◌≡◌, ◌*◌, ◌<◌, length, IfOk};
+ghost use Rattle.gq_text.specs.Words.{words_of, words_after, number_of};
+ghost use Rattle.gq_text.specs.Input.{place_named};
+ghost use Rattle.gq_wire.specs.Incoming.{is_tick, from_node, from_tenant, incoming_from, incoming_of_words, incoming_of, FitsPlan};
+
+use crate::letters::letter;
+use crate::requests::request;
+use gq_desk::Plan;
+use gq_memory::OutOfMemory;
+use gq_model::Line;
+use gq_tag::Message;
+use gq_text::{first_word, is_end, next_word, number};
+use std::alloc::Global;
+
+/// The most bytes of a line, its newline not counted.
+pub const MOST_LINE: usize = 4095;
+
+/// What a line is to a node.
+#[derive(Debug, Drop)]
+pub enum Incoming {
+    /// What the tenant at this place in the plan asks, and the number that its operation is to have.
+    Request { tenant: u8, op: u32, line: Line },
+    /// A line of that tenant whose body has no form.
+    Bad { tenant: u8 },
+    /// A letter from the node of this number.
+    Letter { from: u8, message: Message },
+    /// A tick.
+    Tick,
+    /// It is passed over: it is for another node, from nobody of the plan, too long, or a letter without form.
+    Nothing,
+}
+
+// The words are that of a tick, and no more.
+fn is_tick(text: &[u8]) -> bool
+    ensures { result ≡ is_tick (words_after text.now) }
+{
+    match next_word(text) {
+        Some((word, rest)) => word == b"tick".as_slice() && is_end(rest),
+        None => false,
+    }
+}
+
+// The line from the node of that number, if there is one, behind its addresses.
+fn from_node(
+    alloc: Global,
+    from: u32,
+    text: &[u8],
+    plan: &Plan,
+    here: u8,
+) -> Result<Incoming, OutOfMemory>
+    ensures incoming { IfOk result (λ incoming. incoming ≡ from_node plan.now here from (words_after text.now)) }
+    ensures fits { IfOk result (λ incoming. FitsPlan plan.now incoming) }
+{
+    if from as usize >= plan.grid().servers() {
+        return Ok(Incoming::Nothing);
+    }
+    let from = from as u8;
+    if from == here && is_tick(text) {
+        return Ok(Incoming::Tick);
+    }
+    match letter(alloc, text, plan, here, from)? {
+        Some(message) => Ok(Incoming::Letter { from, message }),
+        None => Ok(Incoming::Nothing),
+    }
+}
+
+// The line from the tenant of that name, if there is one, behind its addresses.
+fn from_tenant(
+    alloc: Global,
+    name: &[u8],
+    text: &[u8],
+    plan: &Plan,
+) -> Result<Incoming, OutOfMemory>
+    ensures incoming { IfOk result (λ incoming. incoming ≡ from_tenant (place_named plan.now name.now) (words_after text.now)) }
+    ensures fits { IfOk result (λ incoming. FitsPlan plan.now incoming) }
+{
+    let Some(tenant) = plan.find_word(name) else {
+        return Ok(Incoming::Nothing);
+    };
+    match request(alloc, text)? {
+        Some((op, line)) => Ok(Incoming::Request { tenant, op, line }),
+        None => Ok(Incoming::Bad { tenant }),
+    }
+}
+
+// The line from whom the word names, behind its addresses.
+fn from_whom(
+    alloc: Global,
+    word: &[u8],
+    text: &[u8],
+    plan: &Plan,
+    here: u8,
+) -> Result<Incoming, OutOfMemory>
+    ensures incoming { IfOk result (λ incoming. incoming ≡ incoming_from plan.now here (number_of word.now) word.now (words_after text.now)) }
+    ensures fits { IfOk result (λ incoming. FitsPlan plan.now incoming) }
+{
+    match number(word) {
+        Some(from) => from_node(alloc, from, text, plan, here),
+        None => from_tenant(alloc, word, text, plan),
+    }
+}
+
+// The line, however long it is.
+#[tactic(auto, unfolding(crate::specs::Incoming::incoming_of_words))]
+fn read_words(alloc: Global, line: &[u8], plan: &Plan, here: u8) -> Result<Incoming, OutOfMemory>
+    ensures incoming { IfOk result (λ incoming. incoming ≡ incoming_of_words plan.now here (words_of line.now)) }
+    ensures fits { IfOk result (λ incoming. FitsPlan plan.now incoming) }
+{
+    let (to, rest) = first_word(line);
+    if number(to) != Some(u32::from(here)) {
+        return Ok(Incoming::Nothing);
+    }
+    match next_word(rest) {
+        Some((from, text)) => from_whom(alloc, from, text, plan, here),
+        None => Ok(Incoming::Nothing),
+    }
+}
+
+/// What the line, which has no newline, is to the node of this number. Only a content takes memory.
+pub fn read_incoming(
+    alloc: Global,
+    line: &[u8],
+    plan: &Plan,
+    here: u8,
+) -> Result<Incoming, OutOfMemory>
+    ensures incoming { IfOk result (λ incoming. incoming ≡ incoming_of plan.now here line.now) }
+    ensures fits { IfOk result (λ incoming. FitsPlan plan.now incoming) }
+{
+    if line.len() > MOST_LINE {
+        return Ok(Incoming::Nothing);
+    }
+    read_words(alloc, line, plan, here)
+}

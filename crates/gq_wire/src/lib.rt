@@ -1,0 +1,15 @@
+//! The lines between nodes, and between a node and its tenants: `TO FROM BODY`, as they are read and written.
+#![tactic(auto)]
+
+mod answers;
+mod incoming;
+pub mod laws;
+mod letters;
+mod requests;
+mod values;
+mod writing;
+
+pub use answers::put_told;
+pub use incoming::{Incoming, MOST_LINE, read_incoming};
+pub use values::{read_copy, take_byte, take_long, take_number};
+pub use writing::{put_first, put_letter};
