@@ -1,9 +1,8 @@
 -- What a session's line or a letter to it is told depends on this session alone, on the volumes, and on whom the quorums are
 -- taken of; a letter to a server on the copies of its file there. Numbers of messages aside.
-use Rattle.std.proofs.Common.{◌≡◌, ℕ, ◌+◌, ◌*◌, Bool, true, false, List, [], ◌∷◌, length, refl, ap, ◌∙◌, Option, Some, None}
-use Rattle.std.specs.Prelude.{option_map, nat_lt, is_none}
+use Rattle.std.proofs.Common.{◌≡◌, ℕ, ◌+◌, true, false, List, [], ◌∷◌, length, refl, ap, ◌∙◌, Option, Some, None}
+use Rattle.std.specs.Prelude.{option_map, is_none}
 use Rattle.gq_grid.specs.Grid.{Grid, Servers}
-use Rattle.gq_tag.specs.declared.StoredCopy.{StoredCopy}
 use Rattle.gq_tag.specs.Tag.{OwnMessage, to_server, greatest, first_copy}
 use Rattle.gq_desk.specs.declared.plans.TenantRow.{TenantRow}
 use Rattle.gq_desk.specs.declared.volumes.VolumeRow.{VolumeRow}

@@ -1,6 +1,6 @@
 -- All steps of nodes, one after another, are a run of the service.
 use Rattle.std.proofs.Common.{◌≡◌, ℕ, ◌+◌, ◌*◌, ◌≤◌, Bool, true, false, List, [], ◌∷◌, ◌++◌, length, map, refl, sym, ap, ◌∙◌, subst, arith, min, append_assoc}
-use Rattle.std.specs.Prelude.{nat_le, filter, fold, is_some, ◌==◌, ◌&&◌, ⊤}
+use Rattle.std.specs.Prelude.{nat_le, fold, is_some, ◌==◌, ◌&&◌, ⊤}
 use Rattle.std.specs.List.{range_with_len}
 use Rattle.std.proofs.Math.Nat.{suc-mul}
 use Rattle.std.proofs.lemmas.List.{length-map}

@@ -80,46 +80,21 @@ steps =
 pub steps_enough : StepsEnough row opens steps
 steps_enough = omega arith
 
+-- a step, and those behind it
+infixr 4 ◌and◌
+◌and◌ : {P Q : Type 0} → P → Q → P × Q
+p and q = (p, q)
+
 -- each letter was written before, at this place
 pub can_follow : CanFollow two new_cluster steps
 unfolding collect_quorum store_quorum ends_collect ends_store
-can_follow = (
-  tt,
-  (
-    (0, omega arith, refl),
-    (
-      (1, omega arith, refl),
-      (
-        (2, omega arith, refl),
-        (
-          (3, omega arith, refl),
-          (
-            tt,
-            (
-              tt,
-              (
-                (5, omega arith, refl),
-                (
-                  (6, omega arith, refl),
-                  (
-                    (7, omega arith, refl),
-                    (
-                      (8, omega arith, refl),
-                      (
-                        (4, omega arith, refl),
-                        (tt, ((10, omega arith, refl), ((11, omega arith, refl), ((12, omega arith, refl), ((13, omega arith, refl), tt))))),
-                      ),
-                    ),
-                  ),
-                ),
-              ),
-            ),
-          ),
-        ),
-      ),
-    ),
-  ),
-)
+can_follow =
+    tt and (0, omega arith, refl) and (1, omega arith, refl) and (2, omega arith, refl) and (3, omega arith, refl)
+    and tt
+    and tt and (5, omega arith, refl) and (6, omega arith, refl) and (7, omega arith, refl) and (8, omega arith, refl)
+    and (4, omega arith, refl)
+    and tt and (10, omega arith, refl) and (11, omega arith, refl) and (12, omega arith, refl) and (13, omega arith, refl)
+    and tt
 
 -- so the laws speak of it
 pub is_served : IsServed two_servers row home opens steps

@@ -1,14 +1,13 @@
 -- The same operations at places that rise as the old ones do have the same order.
-use Rattle.std.proofs.Common.{◌≡◌, ◌≢◌, ◌⊎◌, ℕ, zero, suc, ◌+◌, ◌<◌, ◌≤◌, Bool, true, false, ◌||◌, ◌&&◌, ◌∙◌, List, [], ◌∷◌, map, refl, sym, ap, inl, inr, Option, Some, None, option_map, arith}
+use Rattle.std.proofs.Common.{◌≡◌, ◌≢◌, ◌⊎◌, ℕ, ◌+◌, ◌<◌, ◌≤◌, ◌&&◌, ◌∙◌, List, [], ◌∷◌, map, refl, sym, ap, inl, inr, Option, Some, None, option_map, arith}
 use Rattle.std.specs.Prelude.{nat_lt, ◌==◌, is_some, slice_get, if◌then◌else◌}
-use Rattle.std.specs.List.{list_any, filter_map}
+use Rattle.std.specs.List.{list_any}
 use Rattle.std.proofs.lemmas.Bool.{cases_lt, cases_eq, lt-ltb, le-ltb, eq-eqb, ne_eqb}
 use Rattle.std.proofs.lemmas.Option.{slice_get-map}
-use Rattle.gq_tag.specs.declared.Tag.{Tag}
 use Rattle.gq_laws.specs.declared.ops.Op.{Op}
 use Rattle.gq_laws.specs.Laws.{IsRising}
-use Rattle.gq_laws.specs.Operations.{is_write, ops_at}
-use Rattle.gq_laws.specs.Orders.{tag_of, key, key_at, is_lex_less, equal_option_tags, is_standing, insert, order_from, order}
+use Rattle.gq_laws.specs.Operations.{ops_at}
+use Rattle.gq_laws.specs.Orders.{key, key_at, is_lex_less, equal_option_tags, is_standing, insert, order_from, order}
 use Rattle.gq_laws.proofs.OtherPlaces.{moved_op, low_was}
 
 less_same : (f : ℕ → ℕ) → IsRising f → (x y : ℕ) → nat_lt (f x) (f y) ≡ nat_lt x y

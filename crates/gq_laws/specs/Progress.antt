@@ -14,7 +14,7 @@ use Rattle.gq_phase.specs.Quorums.{collect_quorum, store_quorum}
 use Rattle.gq_model.specs.declared.events.Event.{Event}
 use Rattle.gq_model.specs.declared.events.Event.TheVariants.{Tenant}
 use Rattle.gq_model.specs.declared.events.Line.{Line}
-use Rattle.gq_model.specs.declared.events.Line.TheVariants.{Write, Read, List as ListFiles, Deliver, Retry, Abandon}
+use Rattle.gq_model.specs.declared.events.Line.TheVariants.{Deliver, Retry, Abandon}
 use Rattle.gq_model.specs.declared.events.Refusal.TheVariants.{Busy}
 use Rattle.gq_model.specs.Told.{Told, Done, Abandoned, Refused}
 use Rattle.gq_model.specs.Trace.{Turn, Own, State, Past, questions, operation, task_of}

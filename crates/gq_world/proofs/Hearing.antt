@@ -1,6 +1,6 @@
 -- What an operation says to a message, by cases, and how many messages it sends.
-use Rattle.std.proofs.Common.{◌≡◌, ◌∙◌, ℕ, ◌+◌, ◌*◌, ◌≤◌, Bool, true, false, List, [], ◌∷◌, length, map, refl, sym, ap, subst, Option, Some, None, arith, inl, inr}
-use Rattle.std.specs.Prelude.{nat_lt, filter}
+use Rattle.std.proofs.Common.{◌≡◌, ℕ, ◌*◌, ◌≤◌, Bool, true, false, length, map, refl, sym, subst, Option, Some, None, arith, inl, inr}
+use Rattle.std.specs.Prelude.{nat_lt}
 use Rattle.std.proofs.lemmas.Bool.{cases_Bool}
 use Rattle.std.proofs.lemmas.List.{length-map}
 use Rattle.std.proofs.lemmas.List.FromFn.{length-range_with_len}
@@ -9,7 +9,7 @@ use Rattle.gq_grid.specs.Grid.{Grid, Servers, rising, below}
 use Rattle.gq_tag.specs.Tag.{OwnMessage}
 use Rattle.gq_phase.specs.declared.Outcome.{Outcome}
 use Rattle.gq_phase.specs.declared.Outcome.TheVariants.{Wrote, Gave, Listed}
-use Rattle.gq_phase.specs.Phase.{Task, Writing, Reading, Listing, Operation, Heard as Saying, HeardStale, HeardNoted, HeardNext, HeardDone, hear, is_current, is_collect, ends_round, with_reply, with_decided, begin_store, begin_collect, file_done, skips_store, in_round, round_messages, round_quorum, stored_copy, listed_row}
+use Rattle.gq_phase.specs.Phase.{Task, Writing, Reading, Listing, Operation, Heard as Saying, HeardStale, HeardNoted, HeardDone, hear, is_current, is_collect, ends_round, with_reply, with_decided, begin_store, begin_collect, file_done, skips_store, round_messages, round_quorum, stored_copy, listed_row}
 use Rattle.gq_phase.specs.Laws.{SameQuorums}
 use Rattle.gq_phase.proofs.ByQuorums.{hear_up}
 use Rattle.gq_phase.proofs.Saying.{hear_noted, hear_collected, hear_skipped, hear_stored}

@@ -1,5 +1,5 @@
 -- What is told and sent where an operation says this to a message, over the code's types.
-use Rattle.std.specs.Prelude.{ℕ, ◌++◌, List, [], Some, map, slice_set, length}
+use Rattle.std.specs.Prelude.{ℕ, ◌++◌, List, Some, map, slice_set, length}
 use Rattle.gq_tag.specs.declared.Message.{Message}
 use Rattle.gq_phase.specs.declared.Heard.{Heard}
 use Rattle.gq_phase.specs.declared.Heard.TheVariants.{Stale, Noted, Next, Done}
