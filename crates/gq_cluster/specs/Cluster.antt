@@ -34,7 +34,8 @@ new_part = record { brought = λ file. []; session = λ k. new_session }
 abbrev pub copy_in : Part → File → StoredCopy
 copy_in part file = greatest (first_copy ∷ part.brought file)
 
--- the part as the model's state, in which those of the aim are up; of other servers and of messages sent nothing is known
+-- the part as the model's state: those of the aim are up, no message was sent, and each server has the node's copies, of which an
+-- act looks at its own server's alone
 abbrev pub state_of : List VolumeRow → Servers → Part → State
 state_of volumes aim part =
     record { up = aim; volumes = volumes; sent = []; is_lost = λ n. false; brought = λ server. part.brought; session = part.session }
@@ -201,7 +202,7 @@ abbrev pub exchanges_of : Setting → Cluster → List Act → List Exchange
 exchanges_of s c [] = []
 exchanges_of s c (act ∷ acts) = exchange_of act (step_in s c act) ∷ exchanges_of s (after_act s c act) acts
 
--- and of node steps
+-- and of node steps; what is said at a restart, nobody is told
 abbrev pub exchanges : Setting → Cluster → List NodeStep → List Exchange
 exchanges s c [] = []
 exchanges s c (step ∷ steps) = exchanges_of s c (acts_of s c step) ++ exchanges s (after_step s c step) steps
