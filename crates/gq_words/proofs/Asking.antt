@@ -12,7 +12,7 @@ use Rattle.clap.specs.Simple.{Shape, built, names_of}
 use Rattle.clap.specs.Walk.{Held, Outcome, Rule, Text, Walk, Names, arg_by_long, arg_by_short, bundle_met, after_flag, idle, long_or_other, nothing_held, plain, reacted, short_or_plain, subcommand_met, takes_values, value, walk, walk_from, walked}
 use Rattle.clap.specs.declared.error.kind.ErrorKind.TheVariants.{DisplayHelp, InvalidSubcommand, MissingSubcommand, TooManyValues}
 use Rattle.clap.proofs.OnLiterals.{clap_on_literals}
-use Rattle.gq_cli.specs.Words.{faults_in, gridfs}
+use Rattle.gq_words.specs.Words.{faults_in, gridfs}
 
 both : (a b : Kinds) → or_else a b ≡ [] → (a ≡ []) × (b ≡ [])
 both [] b none = (refl, none)

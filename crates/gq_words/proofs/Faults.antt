@@ -5,7 +5,7 @@ use Rattle.clap.specs.Simple.{built}
 use Rattle.clap.specs.Walk.{Text, nothing_held}
 use Rattle.clap.specs.declared.error.kind.ErrorKind.TheVariants.{DisplayHelp, DisplayVersion}
 use Rattle.clap.proofs.OnLiterals.{clap_on_literals}
-use Rattle.gq_cli.specs.Words.{AsksForLive, IsAlone, faults_in, gridfs}
+use Rattle.gq_words.specs.Words.{AsksForLive, IsAlone, faults_in, gridfs}
 
 pub asked_is_right : (words : List Text) → IsAlone (codes "run") words → faults_in words ≡ []
 unfolding clap_on_literals

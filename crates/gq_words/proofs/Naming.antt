@@ -8,10 +8,10 @@ use Rattle.clap.specs.Simple.{HasMatchesOf, built, entered, subcommand_of}
 use Rattle.clap.specs.declared.parser.matches.ArgMatches.{ArgMatches}
 use Rattle.clap.specs.Walk.{Row, Text, Walk, nothing_held, walk, walked}
 use Rattle.clap.proofs.OnLiterals.{clap_on_literals}
-use Rattle.gq_cli.specs.declared.words.Request.{Request}
-use Rattle.gq_cli.specs.declared.words.Request.TheVariants.{Run, Step, Order, History, Picture, Finish, Live}
-use Rattle.gq_cli.specs.Words.{AsksForHistory, AsksForLive, AsksForPicture, AsksToFinish, AsksToRun, AsksToOrder, AsksToStep, IsAskedBy, IsOf, gridfs}
-use Rattle.gq_cli.proofs.Asking.{Alone, Asks, Behind, names, finish_is_met, history_is_met, order_is_met, picture_is_met, rest_is_kept, run_is_met, start, step_is_met, top}
+use Rattle.gq_words.specs.declared.words.Request.{Request}
+use Rattle.gq_words.specs.declared.words.Request.TheVariants.{Run, Step, Order, History, Picture, Finish, Live}
+use Rattle.gq_words.specs.Words.{AsksForHistory, AsksForLive, AsksForPicture, AsksToFinish, AsksToRun, AsksToOrder, AsksToStep, IsAskedBy, IsOf, gridfs}
+use Rattle.gq_words.proofs.Asking.{Alone, Asks, Behind, names, finish_is_met, history_is_met, order_is_met, picture_is_met, rest_is_kept, run_is_met, start, step_is_met, top}
 
 -- the name of a subcommand with its matches
 abbrev first_part : Text × List Row → Text

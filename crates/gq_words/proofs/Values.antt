@@ -13,11 +13,11 @@ use Rattle.clap.specs.declared.builder.value_parser.Reading.{Reading}
 use Rattle.clap.specs.Simple.{HasMatchesOf, subcommand_rows_of}
 use Rattle.clap.specs.declared.parser.matches.ArgMatches.{ArgMatches}
 use Rattle.clap.specs.declared.parser.matches.Found.{Found}
-use Rattle.gq_cli.specs.declared.words.Request.{Request}
-use Rattle.gq_cli.specs.declared.words.Request.TheVariants.{Run, Step, Order, History, Picture, Finish, Live}
-use Rattle.gq_cli.specs.Words.{IsAskedBy, IsOf, gridfs}
-use Rattle.gq_cli.specs.Given.{HasValues, IsNumberGiven, IsNumberIn, given_by, name_of, rows_behind, text_given}
-use Rattle.gq_cli.proofs.Naming.{named, run_is_named}
+use Rattle.gq_words.specs.declared.words.Request.{Request}
+use Rattle.gq_words.specs.declared.words.Request.TheVariants.{Run, Step, Order, History, Picture, Finish, Live}
+use Rattle.gq_words.specs.Words.{IsAskedBy, IsOf, gridfs}
+use Rattle.gq_words.specs.Given.{HasValues, IsNumberGiven, IsNumberIn, given_by, name_of, rows_behind, text_given}
+use Rattle.gq_words.proofs.Naming.{named, run_is_named}
 
 first_text : (values : List (Bor Text)) → slice_get (texts values) 0 ≡ option_map (λ s. s.now) (slice_get values 0)
 first_text [] = refl

@@ -3,9 +3,9 @@ use Rattle.std.specs.Prelude.{◌≡◌, ◌<◌, ◌^◌, ℕ, List, [], Option
 use Rattle.std.specs.Str.Parse.{IsNumeral, digits_value, without_leading_plus}
 use Rattle.clap.specs.Simple.{subcommand_of}
 use Rattle.clap.specs.Walk.{Row, Text, first_of, one_of}
-use Rattle.gq_cli.specs.declared.words.Request.{Request}
-use Rattle.gq_cli.specs.declared.words.Request.TheVariants.{Run, Step, Order, History, Picture, Finish, Live}
-use Rattle.gq_cli.specs.Words.{gridfs}
+use Rattle.gq_words.specs.declared.words.Request.{Request}
+use Rattle.gq_words.specs.declared.words.Request.TheVariants.{Run, Step, Order, History, Picture, Finish, Live}
+use Rattle.gq_words.specs.Words.{gridfs}
 
 -- what was found behind a subcommand, with its name
 abbrev pub rows_behind : Option (Text × List Row) → List Row

@@ -8,10 +8,10 @@ use Rattle.clap.specs.Walk.{Rule, Text}
 use Rattle.clap.specs.declared.builder.action.ArgAction.TheVariants.{Set}
 use Rattle.clap.specs.declared.builder.value_parser.ValueParser.TheVariants.{Signed}
 use Rattle.clap.specs.declared.error.kind.ErrorKind.{ErrorKind}
-use Rattle.gq_cli.specs.declared.words.Request.{Request}
-use Rattle.gq_cli.specs.declared.words.Request.TheVariants.{Run, Step, Order, History, Picture, Finish, Live}
-use Rattle.gq_cli.specs.declared.words.Usage.{Usage}
-use Rattle.gq_cli.specs.declared.words.Usage.TheVariants.{Shown, Memory}
+use Rattle.gq_words.specs.declared.words.Request.{Request}
+use Rattle.gq_words.specs.declared.words.Request.TheVariants.{Run, Step, Order, History, Picture, Finish, Live}
+use Rattle.gq_words.specs.declared.words.Usage.{Usage}
+use Rattle.gq_words.specs.declared.words.Usage.TheVariants.{Shown, Memory}
 
 -- the subcommand `run`, which may be given a number of threads below 2^32
 abbrev pub jobs_rule : Rule

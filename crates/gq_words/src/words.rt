@@ -7,8 +7,8 @@ ghost use Rattle.clap.specs.Walk.{rows_of, rule_of};
 ghost use Rattle.clap.specs.declared.builder.command.Command.TheViews.{out-Command as fields_of};
 ghost use Rattle.clap.specs.Walk.{Text, texts};
 ghost use Rattle.clap.specs.declared.error.kind.ErrorKind.TheVariants.{DisplayHelp, DisplayVersion};
-ghost use Rattle.gq_cli.specs.Words.{AsksForLive, IsAlone, IsAskedBy, IsMemory, IsOf, ShownFor, Shows, bare_gridfs, finish_shape, file_shape, gridfs, name_rule, number_rule, jobs_rule, run_shape, step_shape};
-ghost use Rattle.gq_cli.specs.Given.{HasValues, IsNumberGiven, given_by, name_of, rows_behind, text_given};
+ghost use Rattle.gq_words.specs.Words.{AsksForLive, IsAlone, IsAskedBy, IsMemory, IsOf, ShownFor, Shows, bare_gridfs, finish_shape, file_shape, gridfs, name_rule, number_rule, jobs_rule, run_shape, step_shape};
+ghost use Rattle.gq_words.specs.Given.{HasValues, IsNumberGiven, given_by, name_of, rows_behind, text_given};
 
 use clap::error::ErrorKind;
 use clap::{Arg, ArgAction, ArgMatches, Command, Error};

@@ -1,6 +1,6 @@
 use Rattle.std.proofs.Common.{◌∙◌, ap, true}
 use Rattle.clap.specs.Simple.{App, app_of_fields, on_top}
-use Rattle.gq_cli.proofs.words.bare.Goals as goal
+use Rattle.gq_words.proofs.words.bare.Goals as goal
 
 abbrev with_version : App → App
 with_version a = on_top (λ s. record s { has_version = true }) a

@@ -1,6 +1,6 @@
 use Rattle.std.proofs.Common.{ap}
-use Rattle.gq_cli.proofs.Subcommands.{top_of}
-use Rattle.gq_cli.proofs.words.command.Goals as goal
+use Rattle.gq_words.proofs.Subcommands.{top_of}
+use Rattle.gq_words.proofs.words.command.Goals as goal
 
 pub returns : goal.returns
 returns c =

@@ -1,6 +1,6 @@
 use Rattle.std.proofs.Common.{refl, ◌≡◌, ◌∙◌, ◌||◌, Bool, ap, ap₂, false}
 use Rattle.clap.specs.Simple.{App, Shape, with_rule}
-use Rattle.gq_cli.proofs.words.finish.Goals as goal
+use Rattle.gq_words.proofs.words.finish.Goals as goal
 
 neither : (a b new : Bool) → new ≡ (a || b) → a ≡ false → b ≡ false → new ≡ false
 neither a b new is x y = is ∙ rw (x, y) refl

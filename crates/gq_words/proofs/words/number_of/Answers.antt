@@ -1,9 +1,9 @@
 use Rattle.std.proofs.Common.{ℕ, sym, subst}
 use Rattle.clap.specs.Matches.{found_of}
 use Rattle.clap.specs.Walk.{rows_of}
-use Rattle.gq_cli.specs.Given.{IsNumberGiven}
-use Rattle.gq_cli.proofs.Values.{number_read}
-use Rattle.gq_cli.proofs.words.number_of.Goals as goal
+use Rattle.gq_words.specs.Given.{IsNumberGiven}
+use Rattle.gq_words.proofs.Values.{number_read}
+use Rattle.gq_words.proofs.words.number_of.Goals as goal
 
 pub returns : goal.returns
 returns c =

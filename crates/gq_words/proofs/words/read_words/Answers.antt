@@ -5,12 +5,12 @@ use Rattle.clap.specs.Simple.{App, HasMatchesOf}
 use Rattle.clap.specs.Values.{kind_of}
 use Rattle.clap.specs.Walk.{texts}
 use Rattle.clap.specs.declared.error.kind.ErrorKind.TheVariants.{OutOfMemory}
-use Rattle.gq_cli.specs.Words.{faults_in, gridfs}
-use Rattle.gq_cli.proofs.Asking.{asks}
-use Rattle.gq_cli.proofs.Naming.{asked_by, found_is_named, rules_are_exact}
-use Rattle.gq_cli.proofs.Values.{given_is, name_is}
-use Rattle.gq_cli.proofs.Faults.{asked_is_right, help_is_shown, live_is_right, version_is_shown}
-use Rattle.gq_cli.proofs.words.read_words.Goals as goal
+use Rattle.gq_words.specs.Words.{faults_in, gridfs}
+use Rattle.gq_words.proofs.Asking.{asks}
+use Rattle.gq_words.proofs.Naming.{asked_by, found_is_named, rules_are_exact}
+use Rattle.gq_words.proofs.Values.{given_is, name_is}
+use Rattle.gq_words.proofs.Faults.{asked_is_right, help_is_shown, live_is_right, version_is_shown}
+use Rattle.gq_words.proofs.words.read_words.Goals as goal
 
 -- clap found nothing wrong
 right : (c : goal.Joined-matches) → faults_in (texts c.args.words.now) ≡ []

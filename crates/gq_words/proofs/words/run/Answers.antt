@@ -1,7 +1,7 @@
 use Rattle.std.proofs.Common.{◌∙◌, ap, ap₂}
 use Rattle.clap.specs.Simple.{with_rule}
-use Rattle.gq_cli.proofs.Subcommands.{neither, top_of}
-use Rattle.gq_cli.proofs.words.run.Goals as goal
+use Rattle.gq_words.proofs.Subcommands.{neither, top_of}
+use Rattle.gq_words.proofs.words.run.Goals as goal
 
 pub returns : goal.returns
 returns c = record {

@@ -2,7 +2,7 @@ use Rattle.std.proofs.Common.{◌∙◌, Bool, ap}
 use Rattle.clap.specs.Simple.{app_of_fields}
 use Rattle.clap.specs.declared.builder.command.Command.{Command}
 use Rattle.clap.specs.declared.builder.command.Command.TheOpen.{Command-F}
-use Rattle.gq_cli.proofs.words.subcommand.Goals as goal
+use Rattle.gq_words.proofs.words.subcommand.Goals as goal
 
 abbrev globals : Command-F Command → Bool
 globals f = f.has_globals
