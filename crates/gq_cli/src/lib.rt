@@ -1,6 +1,11 @@
-//! The command line of the program: from its words to what they ask for.
+//! What a program or a test calls: the words of a command line, and what they ask for, done between any reader and any writer.
+//! Each name is passed on from the crate that has it.
 #![tactic(auto)]
 
-mod words;
-
-pub use words::{Request, Usage, read_words};
+pub use gq_files::{OrderFault, order_run};
+pub use gq_live::{Gate, GaveUp, LiveFault, OpenGate, Programs};
+pub use gq_runs::{
+    LiveRunFault, NamedMismatch, ProgramFault, RequestFault, carry_out, live_run, read_programs,
+};
+pub use gq_script::{MOST_INPUT, NoNotice, Notice, RunFault, Watched};
+pub use gq_words::{Request, Usage, read_words};

@@ -9,7 +9,7 @@ use Rattle.gq_laws.specs.Tenants.{tenant_operations}
 use Rattle.gq_text.specs.Input.{event_of}
 use Rattle.gq_script.specs.Seeing.{seen_events, seen_places}
 use Rattle.gq_files.specs.Histories.{IsHistoryOf, TellsHistory, line_behind, placed}
-use Rattle.gq_files.specs.Orders.{operations_of}
+use Rattle.gq_script.specs.Linearizable.{operations_of}
 use Rattle.gq_files.proofs.Placing.{operations_placed}
 
 -- the pieces of a line, one after another

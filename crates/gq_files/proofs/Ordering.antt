@@ -17,7 +17,8 @@ use Rattle.gq_laws.proofs.AllTenants.{operations_alone, place_in_all, place_rise
 use Rattle.gq_text.specs.Input.{event_of}
 use Rattle.gq_text.specs.Lines.{joined}
 use Rattle.gq_script.specs.Out.{output_lines}
-use Rattle.gq_files.specs.Orders.{operation_line_at, op_line, op_lines, ordered, operations_of}
+use Rattle.gq_script.specs.Linearizable.{operations_of}
+use Rattle.gq_files.specs.Orders.{operation_line_at, op_line, op_lines, ordered}
 use Rattle.gq_script.specs.Seeing.{seen_events}
 use Rattle.gq_script.proofs.Answering.{own_seen}
 

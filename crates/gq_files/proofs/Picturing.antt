@@ -21,7 +21,7 @@ use Rattle.gq_script.specs.Seeing.{is_seen, seen_events, seen_places}
 use Rattle.gq_svg.specs.Svg.{picture_text}
 use Rattle.gq_svg.specs.declared.picture.Heading.{Heading}
 use Rattle.gq_files.specs.Histories.{placed}
-use Rattle.gq_files.specs.Orders.{operations_of}
+use Rattle.gq_script.specs.Linearizable.{operations_of}
 use Rattle.gq_files.specs.Pictures.{IsPictureOf, TellsPicture, absences_of, heading_of, servers_of}
 use Rattle.gq_files.proofs.Histories.{operations_kept}
 

@@ -16,7 +16,7 @@ use Rattle.gq_text.specs.Lines.{lines_of}
 use Rattle.gq_text.specs.PlanText.{Reading, plan_of}
 use Rattle.gq_script.specs.Watched.{AppendsPrefix}
 use Rattle.gq_text.specs.Words.{Word}
-use Rattle.gq_files.specs.Orders.{operations_of}
+use Rattle.gq_script.specs.Linearizable.{operations_of}
 
 -- ---- the words of a moment
 

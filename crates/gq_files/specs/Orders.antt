@@ -7,12 +7,12 @@ use Rattle.gq_laws.specs.declared.ops.Kind.TheVariants.{Write as Writes, Read as
 use Rattle.gq_laws.specs.declared.ops.Op.{Op}
 use Rattle.gq_laws.specs.Operations.{ops_at}
 use Rattle.gq_laws.specs.Orders.{order}
-use Rattle.gq_laws.specs.Tenants.{tenant_operations}
 use Rattle.gq_text.specs.Words.{Word}
 use Rattle.gq_text.specs.Lines.{lines_of, joined}
-use Rattle.gq_text.specs.Input.{event_of, place_named}
+use Rattle.gq_text.specs.Input.{place_named}
 use Rattle.gq_text.specs.PlanText.{Reading, plan_of, NamesTenant}
 use Rattle.gq_text.specs.AnswerText.{content_word, line_text}
+use Rattle.gq_script.specs.Linearizable.{operations_of}
 use Rattle.gq_script.specs.Out.{out, IsPlanFaultOf}
 use Rattle.gq_script.specs.Steps.{IsFaultOfLines}
 use Rattle.gq_files.specs.declared.order.OrderFault.{OrderFault}
@@ -47,10 +47,6 @@ operation_line_at ops place = by (slice_get ops place)
 -- the lines of the operations in their order, and that it is legal
 abbrev pub ordered : List Op → List ℕ
 ordered ops = op_lines ops (order ops) ++ codes "legal" ++ 10 ∷ []
-
--- the operations on a file of the tenant at place t, where these lines come after the plan
-abbrev pub operations_of : CheckedPlan → List (List ℕ) → ℕ → File → List Op
-operations_of plan lines t file = tenant_operations plan (map (event_of plan) lines) t file
 
 -- what is written behind the output of the run
 abbrev pub order_of : Reading (CheckedPlan × List (List ℕ)) → List ℕ → File → List ℕ

@@ -18,7 +18,7 @@ use Rattle.gq_script.specs.Watched.{AppendsPrefix}
 use Rattle.gq_svg.specs.Svg.{picture_text}
 use Rattle.gq_svg.specs.declared.picture.Heading.{Heading}
 use Rattle.gq_files.specs.Histories.{line_behind}
-use Rattle.gq_files.specs.Orders.{operations_of}
+use Rattle.gq_script.specs.Linearizable.{operations_of}
 
 -- how many servers the plan has
 abbrev pub servers_of : CheckedPlan → ℕ

@@ -6,12 +6,13 @@ ghost use Rattle.gq_tag.specs.Tag.{file_place};
 ghost use Rattle.gq_laws.specs.Tenants.{tenant_operations};
 ghost use Rattle.gq_text.specs.Lines.{lines_of, joined};
 ghost use Rattle.gq_text.specs.AnswerText.{ended};
+ghost use Rattle.gq_script.specs.Linearizable.{operations_of};
 ghost use Rattle.gq_script.specs.Out.{output_lines, IsAccepted, IsPlanFaultOf};
 ghost use Rattle.gq_text.specs.PlanText.{plan_of, NamesTenant};
 ghost use Rattle.gq_text.specs.Pieces.{words_in};
 ghost use Rattle.gq_script.specs.Watched.{inner_of, has_failed, AppendsPrefix};
 ghost use Rattle.gq_order.specs.Runs.{IsRun};
-ghost use Rattle.gq_files.specs.Orders.{operation_line_at, op_line, op_lines, ordered, operations_of, order_out, IsPlanFault, IsFaultOfOutput};
+ghost use Rattle.gq_files.specs.Orders.{operation_line_at, op_line, op_lines, ordered, order_out, IsPlanFault, IsFaultOfOutput};
 
 use crate::asked_file::{answer_by_new_world, asked_file};
 use gq_desk::Plan;

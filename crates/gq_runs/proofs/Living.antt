@@ -1,5 +1,5 @@
 -- The events of an inspected live run keep what its input asked.
-use Rattle.std.proofs.Common.{◌≡◌, ◌⊎◌, ℕ, zero, suc, ◌<◌, Bool, true, false, List, [], ◌∷◌, Some, None, length, map, refl, ap, ◌∙◌, inl, inr, arith, Ok, Err, Result, Vec, Global}
+use Rattle.std.proofs.Common.{◌≡◌, ◌⊎◌, ℕ, zero, suc, ◌<◌, ◌≤◌, Bool, true, false, List, [], ◌∷◌, Some, None, length, map, refl, ap, ◌∙◌, inl, inr, arith, Ok, Err, Result, Vec, Global}
 use Rattle.std.specs.Prelude.{◌==◌, ◌&&◌, IfOk, option_map, slice_get, if◌then◌else◌}
 use Rattle.std.proofs.lemmas.Bool.{eq-eqb, eqb-true}
 use Rattle.std.proofs.lemmas.Option.{slice_get-get_or, slice_get-map, slice_get_within}
@@ -18,6 +18,7 @@ use Rattle.gq_session.specs.declared.records.Programs.{Programs}
 use Rattle.gq_session.specs.declared.records.Records.{Records}
 use Rattle.gq_session.specs.declared.records.SessionEntry.{SessionEntry}
 use Rattle.gq_text.specs.Input.{event_of}
+use Rattle.gq_script.specs.declared.script.TheConstants.{MOST_INPUT}
 use Rattle.gq_runs.specs.Live.{IsRecordOf, KeepsInput}
 use Rattle.gq_runs.specs.LiveRuns.{IsLiveScript, IsScriptOfRun}
 use Rattle.gq_runs.specs.Programs.{AreOf, IsProgramsOf, server_line_in, names_session, opening_of, request_for, requests_for}
@@ -89,8 +90,9 @@ keeps_input plan programs r asked events are recorded run = record {
         requests_picked plan r events run k id _ at list (request_for id) (requests_are id) ∙ recorded.asked k _ (requests_for asked id) list program
 
 -- the script of a run of an input's programs is that of a live run of the input
-script_is : (input : List ℕ) (plan : CheckedPlan) (programs : Programs) → IsProgramsOf input plan programs → (text : List ℕ) → IsScriptOfRun plan programs text → IsLiveScript input text
-script_is input plan programs reads text of = record {
+script_is : (input : List ℕ) (plan : CheckedPlan) (programs : Programs) → length input ≤ MOST_INPUT → IsProgramsOf input plan programs → (text : List ℕ) → IsScriptOfRun plan programs text → IsLiveScript input text
+script_is input plan programs small reads text of = record {
+  small = small;
   plan = plan;
   programs = programs;
   reads = reads;
@@ -98,7 +100,7 @@ script_is input plan programs reads text of = record {
   keeps = keeps_input plan programs of.run.records (map (event_of plan) reads.lines) of.events reads.are of.run.recorded of.run.run;
 }
 
-pub scripts_are : {E : Type 0} (input : List ℕ) (plan : CheckedPlan) (programs : Programs) → IsProgramsOf input plan programs → (given : Result (Vec ℕ Global) E)
+pub scripts_are : {E : Type 0} (input : List ℕ) (plan : CheckedPlan) (programs : Programs) → length input ≤ MOST_INPUT → IsProgramsOf input plan programs → (given : Result (Vec ℕ Global) E)
     → IfOk given (λ text. IsScriptOfRun plan programs text.items) → IfOk given (λ text. IsLiveScript input text.items)
-scripts_are input plan programs reads (Ok text) of = script_is input plan programs reads text.items of
-scripts_are input plan programs reads (Err fault) of = tt
+scripts_are input plan programs small reads (Ok text) of = script_is input plan programs small reads text.items of
+scripts_are input plan programs small reads (Err fault) of = tt

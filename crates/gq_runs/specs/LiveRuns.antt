@@ -1,5 +1,5 @@
 -- What a live run writes, and its faults.
-use Rattle.std.specs.Prelude.{ℕ, ◌≡◌, ◌≢◌, ◌<◌, List, map, length, Option, Some, None}
+use Rattle.std.specs.Prelude.{ℕ, ◌≡◌, ◌≢◌, ◌<◌, ◌≤◌, List, map, length, Option, Some, None}
 use Rattle.std.specs.Io.KnownBytes.{Appends}
 use Rattle.gq_desk.specs.CheckedPlan.{CheckedPlan, row_at}
 use Rattle.gq_model.specs.declared.events.Event.{Event}
@@ -36,6 +36,7 @@ pub record IsScriptOfRun (plan : CheckedPlan) (programs : Programs) (text : List
 -- the text is the script of a live run of the input's programs, which keeps the input's opens, each session's requests in
 -- order, and of the server lines some, in order
 pub record IsLiveScript (input : List ℕ) (script : List ℕ) : Type 0 where
+  pub small : length input ≤ MOST_INPUT
   pub plan : CheckedPlan
   pub programs : Programs
   pub reads : IsProgramsOf input plan programs
@@ -51,9 +52,9 @@ AppendsLivePrefix input old new = (script : List ℕ) × IsLiveScript input scri
 
 -- ---- faults
 
--- the input gives programs
+-- the input is small enough, and gives programs
 abbrev pub GivesPrograms : List ℕ → Type 0
-GivesPrograms input = fault_of (plan_of (lines_of input)) ≡ None
+GivesPrograms input = (length input ≤ MOST_INPUT) × (fault_of (plan_of (lines_of input)) ≡ None)
 
 -- a fault of the threads, of the inspection or of the memory; want of memory is told one way only
 abbrev pub IsFaultOfRun : LiveRunFault → Type 0
@@ -64,7 +65,7 @@ IsFaultOfRun _ = ⊥
 
 -- a fault behind the reading: the first one of the input, or one of its run
 abbrev pub IsFaultOfScript : List ℕ → LiveRunFault → Type 0
-IsFaultOfScript input (Program fault) = fault_of (plan_of (lines_of input)) ≡ Some fault
+IsFaultOfScript input (Program fault) = (length input ≤ MOST_INPUT) × (fault_of (plan_of (lines_of input)) ≡ Some fault)
 IsFaultOfScript input (Live fault) = (fault ≢ LiveMemory tt) × GivesPrograms input
 IsFaultOfScript input (Mismatch named) = (named.mismatch ≢ MismatchMemory tt) × GivesPrograms input
 IsFaultOfScript input (Memory _) = Unit {0}

@@ -1,18 +1,20 @@
 //! What a command line asks for, done.
 
-ghost use Rattle.std.specs.Prelude.{◌≡◌, ◌≤◌, false, IfErr, IfSome, OnOk};
-ghost use Rattle.gq_script.specs.Out.{out};
-ghost use Rattle.gq_script.specs.Watched.{inner_of, has_failed, AppendsPrefix};
-ghost use Rattle.gq_runs.specs.Requests.{Writes, MayHaveWritten, IsOfStep, status_of};
+ghost use Rattle.std.specs.Prelude.{◌≡◌, ◌≤◌, ◌↔◌, ℕ, List, false, true, Some, IfErr, IfSome, IsErrAnd, IsErrOf, OnOk};
+ghost use Rattle.std.specs.Io.KnownBytes.{Consumes};
+ghost use Rattle.gq_script.specs.Stepping.{AnswersEnded};
+ghost use Rattle.gq_script.specs.Watched.{inner_of, has_failed};
+ghost use Rattle.gq_script.specs.declared.script.RunFault.{RunFault};
+ghost use Rattle.gq_runs.specs.Requests.{Writes, WritesPrefix, MayHaveWritten, IsFaultFor, run_fault, status_of};
 ghost use Rattle.gq_runs.specs.declared.requests.RequestFault.{RequestFault};
 
 use crate::live::{LiveRunFault, live_run};
-use gq_cli::Request;
 use gq_files::{OrderFault, history_run, order_run, picture_run};
 use gq_finish::{FinishFault, finish_run};
 use gq_live::{LiveFault, OpenGate};
 use gq_script::{Notice, RunFault, Watched, step};
 use gq_shards::{SHORT, run_in_shards};
+use gq_words::Request;
 use std::alloc::Global;
 use std::io::{Read, Write};
 use std::sync::Wait;
@@ -106,8 +108,8 @@ fn shards_of(rt: &impl Threads, jobs: u32) -> usize
     }
 }
 
-/// Does what a command line asks for between a reader and a writer. What is written is what the words ask for; the faults, and
-/// what was written at each, are those of [`gq_shards::run_in_shards`], [`gq_script::step`], [`gq_files::order_run`],
+/// Does what a command line asks for between a reader and a writer. What is written is what the words ask for, or at a fault of
+/// writing a beginning of it; the faults, when each comes, and what was written at each, are those of [`gq_shards::run_in_shards`], [`gq_script::step`], [`gq_files::order_run`],
 /// [`gq_files::history_run`], [`gq_files::picture_run`], [`gq_finish::finish_run`] and [`crate::live_run`]. The notice is told by a run that
 /// answers each line as it comes. How many shards a run has depends on the machine where the words say 0, and no answer does.
 pub fn carry_out<T: Threads + Wait + Sync, N: Notice, R: Read, W: Write>(
@@ -120,11 +122,24 @@ pub fn carry_out<T: Threads + Wait + Sync, N: Notice, R: Read, W: Write>(
 ) -> Result<(), RequestFault>
     requires reader { has_failed reader.old ≡ false }
     requires writer { has_failed writer.old ≡ false }
+
+    // Ok: what was asked for was appended.
     ensures ok { OnOk result (IfSome (R.remaining (inner_of reader.old)) (λ input.
         Writes request.entry input (W.contents (inner_of writer.old)) (W.contents (inner_of writer.new)))) }
+
+    // When each fault comes.
+    ensures read { IsErrAnd result (λ fault. run_fault fault ≡ Some RunFault.Read) ↔ (has_failed reader.new ≡ true) }
+    ensures cause { IfErr result (λ fault. IfSome (R.remaining (inner_of reader.old)) (λ input.
+        IsFaultFor request.entry input fault)) }
+    ensures write { IsErrAnd result (λ fault. run_fault fault ≡ Some RunFault.Write) ↔ (has_failed writer.new ≡ true) }
+
+    // What was written at a fault.
     ensures nothing { IfErr result (λ fault. (MayHaveWritten fault → ⊥) → writer.new ≡ writer.old) }
-    ensures prefix { IfErr result (λ fault. IsOfStep fault → IfSome (R.remaining (inner_of reader.old)) (λ input.
-        AppendsPrefix (W.contents (inner_of writer.old)) (W.contents (inner_of writer.new)) (out input))) }
+    ensures part { IfErr result (λ fault. MayHaveWritten fault → IfSome (R.remaining (inner_of reader.old)) (λ input.
+        WritesPrefix request.entry input (W.contents (inner_of writer.old)) (W.contents (inner_of writer.new)))) }
+    ensures answered { IsErrOf result (RequestFault.Step RunFault.Read) → (input : List ℕ) ×
+        Consumes (R.remaining (inner_of reader.old)) (R.remaining (inner_of reader.new)) input ×
+        AnswersEnded input (W.contents (inner_of writer.old)) (W.contents (inner_of writer.new)) }
 {
     match request {
         Request::Run { jobs } => {

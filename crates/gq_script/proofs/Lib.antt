@@ -2,6 +2,7 @@ pub mod KnownBytesLemmas
 pub mod Answering
 pub mod Places
 pub mod Sights
+pub mod OutputLines
 pub mod Alone
 pub mod Behind
 pub mod FewMessages

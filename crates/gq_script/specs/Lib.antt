@@ -3,5 +3,6 @@ pub mod Out
 pub mod Seeing
 pub mod Steps
 pub mod Alone
+pub mod Linearizable
 pub mod Completing
 pub mod Stepping

@@ -1,8 +1,10 @@
 -- What is written for an input.
-use Rattle.std.specs.Prelude.{◌≡◌, ◌≤◌, ℕ, List, [], ◌∷◌, ◌++◌, map, length, Ok, Err, IsOk}
+use Rattle.std.specs.Prelude.{◌≡◌, ◌≤◌, ℕ, List, [], ◌∷◌, map, length, Ok, Err, IsOk}
 use Rattle.gq_desk.specs.CheckedPlan.{CheckedPlan}
 use Rattle.gq_model.specs.declared.events.Event.{Event}
 use Rattle.gq_model.specs.Events.{answer_to}
+use Rattle.gq_model.specs.Told.{Told}
+use Rattle.gq_laws.specs.Tenants.{answers_from}
 use Rattle.gq_script.specs.declared.script.TheConstants.{MOST_INPUT}
 use Rattle.gq_script.specs.declared.script.RunFault.{RunFault}
 use Rattle.gq_script.specs.declared.script.RunFault.TheVariants.{Plan}
@@ -11,10 +13,14 @@ use Rattle.gq_text.specs.Input.{event_of, event_cut}
 use Rattle.gq_text.specs.PlanText.{Reading, plan_of}
 use Rattle.gq_text.specs.AnswerText.{answer_line}
 
--- the lines that answer the events, those before them being so
+-- each event with what is told to it, in this form
+abbrev pub lines_by : (Event → Told → List ℕ) → List Event → List Told → List (List ℕ)
+lines_by form (event ∷ events) (told ∷ more) = form event told ∷ lines_by form events more
+lines_by form _ _ = []
+
+-- the lines that answer the events, those before them being so, each with the newline that ends it
 abbrev pub answer_lines : CheckedPlan → List Event → List Event → List (List ℕ)
-answer_lines plan before [] = []
-answer_lines plan before (event ∷ events) = answer_line plan event (answer_to plan before event) ∷ answer_lines plan (before ++ event ∷ []) events
+answer_lines plan before events = lines_by (answer_line plan) events (answers_from plan before events)
 
 -- the answer line to a line that is cut behind its first word, after these events
 abbrev pub line_cut : CheckedPlan → List Event → List ℕ → List ℕ → List ℕ

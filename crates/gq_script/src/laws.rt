@@ -2,14 +2,23 @@
 
 ghost use Rattle.gq_script.specs.Alone.{AnswersEachLine, TellsAsAlone, TellsTheSame};
 
-/// What other tenants do changes nothing of what a tenant is told. A tenant's lines of the output are those of its run by
-/// itself over its own lines and the server lines. So in two accepted inputs whose plans agree on the grid and the
-/// tenant's row, and which agree on these lines in order, they are the same byte for byte; blocks, other rows, the
-/// tenant's place and all other lines are free.
+/// What other tenants do changes nothing of what a tenant is told. The lines of the output, which are what stands between its
+/// newlines, are the answers to the lines of the input, one for each. A tenant's are those of its run by itself over its own
+/// lines and the server lines. So in two accepted inputs whose plans agree on the grid and the tenant's row, and which agree on
+/// these lines in order, they are the same byte for byte; blocks, other rows, the tenant's place and all other lines are free.
 pub fn alone()
     ensures lines { AnswersEachLine }
     ensures alone { TellsAsAlone }
     ensures same { TellsTheSame }
+{}
+
+ghost use Rattle.gq_script.specs.Linearizable.{AllFilesLinearizable};
+
+/// Each file of each tenant is linearizable, whatever the lines of an accepted input: its operations, which are read off the lines
+/// and what is told to them, have an order in which each completed one stands once, which keeps precedence, and in which a single
+/// register gives the same answers (Herlihy and Wing, Linearizability, ACM TOPLAS 12(3), 1990).
+pub fn linearizable()
+    ensures { AllFilesLinearizable }
 {}
 
 ghost use Rattle.gq_script.specs.Stepping.{OutputsGrow};

@@ -1,4 +1,5 @@
-//! From the bytes of a script to the bytes of its answers.
+//! From the bytes of a script to the bytes of its answers. The forms of single lines and of plans are passed on from the crate of
+//! texts.
 #![tactic(auto)]
 
 pub mod laws;
@@ -8,6 +9,7 @@ mod seeing;
 mod stepping;
 mod watched;
 
+pub use gq_text::{PlanText, TextFault, read_line, read_plan, write_answer, write_script};
 pub use notice::{NoNotice, Notice};
 pub use script::{MOST_INPUT, RunFault, answers_of, read_whole, run, write_whole};
 pub use seeing::{Answered, answer_lines};

@@ -43,6 +43,7 @@ ghost use Rattle.gq_text.specs.Lines.{lines_of, joined};
 ghost use Rattle.gq_text.specs.PlanText.{plan_of};
 ghost use Rattle.gq_model.specs.declared.events.Event.{Event};
 ghost use Rattle.gq_script.specs.Out.{answer_lines as event_lines, output_lines, out, IsAccepted, IsPlanFaultOf};
+ghost use Rattle.gq_script.specs.Alone.{IsAnswered};
 ghost use Rattle.gq_script.specs.Steps.{IsReadingFault, IsFaultOfLines};
 ghost use Rattle.gq_script.specs.Watched.{inner_of, has_failed, AppendsPrefix, Moves};
 
@@ -219,6 +220,9 @@ pub fn run<R: Read, W: Write>(
     ensures accepted { OnOk result (IfSome (R.remaining (inner_of reader.old)) IsAccepted) }
     ensures ok { OnOk result (IfSome (R.remaining (inner_of reader.old)) (λ input.
         Appends (W.contents (inner_of writer.old)) (W.contents (inner_of writer.new)) (out input))) }
+
+    // The lines of that output are the answers to the lines of the input, one for each.
+    ensures lines { OnOk result (IfSome (R.remaining (inner_of reader.old)) IsAnswered) }
 
     // When each fault comes.
     ensures read { IsErrOf result RunFault.Read ↔ (has_failed reader.new ≡ true) }

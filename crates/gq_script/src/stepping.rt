@@ -31,6 +31,7 @@ ghost use Rattle.gq_text.specs.Input.{event_of};
 ghost use Rattle.gq_text.specs.Lines.{lines_of, joined};
 ghost use Rattle.gq_text.specs.PlanText.{plan_of};
 ghost use Rattle.gq_script.specs.Out.{output_lines, out, IsAccepted};
+ghost use Rattle.gq_script.specs.Alone.{IsAnswered};
 ghost use Rattle.gq_script.specs.Steps.{IsFaultOfLines};
 ghost use Rattle.gq_script.specs.Stepping.{AllEnded, AnswersEnded, IsPlanFaultIn, IsOfPlan, IsFinal, MissesGo, HasAnswered};
 ghost use Rattle.gq_script.specs.Watched.{inner_of, has_failed, AppendsPrefix};
@@ -276,6 +277,9 @@ pub fn step<R: Read, W: Write, N: Notice>(
     ensures accepted { OnOk result (IfSome (R.remaining (inner_of reader.old)) IsAccepted) }
     ensures ok { OnOk result (IfSome (R.remaining (inner_of reader.old)) (λ input.
         Appends (W.contents (inner_of writer.old)) (W.contents (inner_of writer.new)) (out input))) }
+
+    // The lines of that output are the answers to the lines of the input, one for each.
+    ensures lines { OnOk result (IfSome (R.remaining (inner_of reader.old)) IsAnswered) }
 
     // When each fault comes.
     ensures read { IsErrOf result RunFault.Read ↔ (has_failed reader.new ≡ true) }

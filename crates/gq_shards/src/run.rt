@@ -6,6 +6,7 @@ ghost use Rattle.gq_script.specs.declared.script.TheConstants.{MOST_INPUT};
 ghost use Rattle.gq_script.specs.declared.script.RunFault.{RunFault};
 ghost use Rattle.gq_text.specs.Lines.{lines_of};
 ghost use Rattle.gq_text.specs.PlanText.{plan_of};
+ghost use Rattle.gq_script.specs.Alone.{IsAnswered};
 ghost use Rattle.gq_script.specs.Out.{out, IsAccepted, IsPlanFaultOf};
 ghost use Rattle.gq_script.specs.Steps.{IsFaultOfLines};
 ghost use Rattle.gq_script.specs.Watched.{inner_of, has_failed, AppendsPrefix};
@@ -60,6 +61,9 @@ pub fn run_in_shards<T: Threads + Sync, R: Read, W: Write>(
     ensures accepted { OnOk result (IfSome (R.remaining (inner_of reader.old)) IsAccepted) }
     ensures ok { OnOk result (IfSome (R.remaining (inner_of reader.old)) (λ input.
         Appends (W.contents (inner_of writer.old)) (W.contents (inner_of writer.new)) (out input))) }
+
+    // The lines of that output are the answers to the lines of the input, one for each.
+    ensures lines { OnOk result (IfSome (R.remaining (inner_of reader.old)) IsAnswered) }
 
     // When each fault comes.
     ensures read { IsErrOf result RunFault.Read ↔ (has_failed reader.new ≡ true) }

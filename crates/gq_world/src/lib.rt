@@ -10,5 +10,5 @@ mod tables;
 mod world;
 
 pub use gq_laws::laws;
-pub use gq_model::{Answer, Event, Line, Refusal, ServerLine, ServerRefusal};
+pub use gq_model::{Answer, Event, Line, Refusal, Said, ServerLine, ServerRefusal, said_of};
 pub use world::{Ended, World};

@@ -1,9 +1,7 @@
 //! The program: the words, the standard streams and the runtime go down, and a status comes back.
 #![tactic(auto)]
 
-use gq_cli::{Request, Usage, read_words};
-use gq_runs::carry_out;
-use gq_script::{Notice, Watched};
+use gq_cli::{Notice, Request, Usage, Watched, carry_out, read_words};
 use std::alloc::Global;
 use std::fmt::Display;
 use std::io::IsTerminal;

@@ -1,0 +1,5 @@
+pub mod Asking
+pub mod Faults
+pub mod Naming
+pub mod Subcommands
+pub mod Values

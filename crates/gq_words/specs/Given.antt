@@ -1,0 +1,62 @@
+-- The values that the words of a command line give, by the rules that clap states for its commands.
+use Rattle.std.specs.Prelude.{◌≡◌, ◌<◌, ◌^◌, ℕ, List, [], Option, Some, None, unwrap_or, option_map, codes}
+use Rattle.std.specs.Str.Parse.{IsNumeral, digits_value, without_leading_plus}
+use Rattle.clap.specs.Simple.{subcommand_of}
+use Rattle.clap.specs.Walk.{Row, Text, first_of, one_of}
+use Rattle.gq_words.specs.declared.words.Request.{Request}
+use Rattle.gq_words.specs.declared.words.Request.TheVariants.{Run, Step, Order, History, Picture, Finish, Live}
+use Rattle.gq_words.specs.Words.{gridfs}
+
+-- what was found behind a subcommand, with its name
+abbrev pub rows_behind : Option (Text × List Row) → List Row
+rows_behind found = unwrap_or (option_map (λ p. p.1) found) []
+
+-- what is found behind the subcommand that the words name
+abbrev pub given_by : List Text → List Row
+given_by words = rows_behind (subcommand_of gridfs words)
+
+-- the text that is given for this id, the empty one where none is
+abbrev pub text_given : List Row → Text → Text
+text_given rows id = unwrap_or (first_of id rows) []
+
+-- the text writes the number in decimal digits
+abbrev pub Writes : Text → ℕ → Type 0
+Writes text number = digits_value 10 (without_leading_plus text) ≡ number
+
+-- it is a number below 2^32 in decimal digits
+abbrev pub IsNumber : Text → Type 0
+IsNumber text = IsNumeral 10 (without_leading_plus text) × (digits_value 10 (without_leading_plus text) < 2 ^ 32)
+
+-- the number is that of the text, or where there is none the other one
+abbrev pub IsNumberIn : Option Text → ℕ → ℕ → Type 0
+IsNumberIn None otherwise number = number ≡ otherwise
+IsNumberIn (Some text) otherwise number = IsNumber text → Writes text number
+
+-- the number is the one that is given for the id, or where none is given the other one
+abbrev pub IsNumberGiven : List Row → Text → ℕ → ℕ → Type 0
+IsNumberGiven rows id otherwise number = IsNumberIn (one_of id rows) otherwise number
+
+-- the name of the subcommand by which it is asked for
+abbrev pub name_of : Request → Text
+name_of (Run jobs) = codes "run"
+name_of Step = codes "step"
+name_of (Order name volume file) = codes "order"
+name_of (History name volume file) = codes "history"
+name_of (Picture name volume file) = codes "picture"
+name_of (Finish name session) = codes "finish"
+name_of Live = codes "live"
+
+-- the name, the volume and the file are those that are given
+abbrev pub HasFile : List Row → Text → ℕ → ℕ → Type 0
+HasFile rows name volume file =
+    (name ≡ text_given rows (codes "NAME")) × IsNumberGiven rows (codes "VOLUME") 0 volume × IsNumberGiven rows (codes "FILE") 0 file
+
+-- the request has the values that are given
+abbrev pub HasValues : List Row → Request → Type 0
+HasValues rows (Run jobs) = IsNumberGiven rows (codes "JOBS") 1 jobs
+HasValues rows Step = Unit {0}
+HasValues rows (Order name volume file) = HasFile rows name.now volume file
+HasValues rows (History name volume file) = HasFile rows name.now volume file
+HasValues rows (Picture name volume file) = HasFile rows name.now volume file
+HasValues rows (Finish name session) = (name.now ≡ text_given rows (codes "NAME")) × IsNumberGiven rows (codes "SESSION") 0 session
+HasValues rows Live = Unit {0}

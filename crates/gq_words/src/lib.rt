@@ -1,0 +1,6 @@
+//! The command line of the program: from its words to what they ask for.
+#![tactic(auto)]
+
+mod words;
+
+pub use words::{Request, Usage, read_words};
