@@ -8,6 +8,8 @@ mod gates;
 #[cfg(test)]
 mod live;
 #[cfg(test)]
+mod names;
+#[cfg(test)]
 mod replay;
 #[cfg(test)]
 mod texts;

@@ -1,11 +1,10 @@
 //! Live runs of texts, under gates.
 
 use crate::gates::{Counting, Meeting, Overtaking, Shut};
+use gq_cli::{LiveRunFault, MOST_INPUT, Watched, live_run, read_programs};
 use gq_desk::Plan;
 use gq_inspect::{Mismatch, inspect};
 use gq_live::{CellEntry, Entries, Gate, Journal, LiveFault, OpenGate, Records, Said, fits, live};
-use gq_runs::{LiveRunFault, live_run, read_programs};
-use gq_script::{MOST_INPUT, Watched};
 use gq_tag::{Body, Tag};
 use std::alloc::Global;
 use std::process::Abort;
@@ -19,8 +18,12 @@ const TWO_SERVERS: &[u8] =
 const TWO_SESSIONS: &[u8] =
     b"grid 1 1\nblocks 1\ntenant ann 1 2 1000000\ngo\nann open 1 1\nann read 1 0 0\nann read 2 0 0\n";
 
-const THREE_TENANTS: &[u8] =
-    b"grid 2 2\nblocks 6\ntenant ann 2 2 1000000\ntenant bob 2 1 1000000\ntenant cid 2 1 1000000\ngo\nann open 1 2\nbob open 1 2\ncid open 1 2\nann write 1 0 0 aa\nann read 1 0 0\nann write 2 0 0 bb\nann read 2 0 0\nbob write 1 0 0 cc\nbob read 1 0 0\ncid write 1 0 0 dd\ncid read 1 0 0\n";
+const THREE_TENANTS: &[u8] = b"\
+grid 2 2\nblocks 6\ntenant ann 2 2 1000000\ntenant bob 2 1 1000000\ntenant cid 2 1 1000000\ngo\nann open 1 2\nbob open 1 2\ncid open 1 2\n\
+ann write 1 0 0 a0\nann read 1 0 0\nann write 1 0 0 a1\nann read 1 0 0\nann write 1 0 0 a2\nann read 1 0 0\nann write 1 0 0 a3\nann read 1 0 0\n\
+ann write 2 0 0 b0\nann read 2 0 0\nann write 2 0 0 b1\nann read 2 0 0\nann write 2 0 0 b2\nann read 2 0 0\nann write 2 0 0 b3\nann read 2 0 0\n\
+bob write 1 0 0 c0\nbob read 1 0 0\nbob write 1 0 0 c1\nbob read 1 0 0\nbob write 1 0 0 c2\nbob read 1 0 0\nbob write 1 0 0 c3\nbob read 1 0 0\n\
+cid write 1 0 0 d0\ncid read 1 0 0\ncid write 1 0 0 d1\ncid read 1 0 0\ncid write 1 0 0 d2\ncid read 1 0 0\ncid write 1 0 0 d3\ncid read 1 0 0\n";
 
 const FOUR_VOLUMES: &[u8] =
     b"grid 1 1\nblocks 4\ntenant ann 4 1 1000000\ngo\nann open 1 1\nann open 1 1\nann open 1 1\nann open 1 1\n";
@@ -76,6 +79,17 @@ fn two_servers_serve_at_once(rt: HostRuntime) {
 }
 
 #[test]
+fn each_of_two_servers_serves_one_letter(rt: HostRuntime) {
+    let gate = Meeting::new();
+    let (_, records) = run_of(&rt, rt.alloc(), TWO_SERVERS, &gate);
+    assert!(rt; gate.first.load(Ordering::SeqCst) == 1 && gate.second.load(Ordering::SeqCst) == 1);
+    assert!(rt; records.cells.len() == 2);
+    for journal in &records.cells {
+        assert!(rt; journal.items.len() == 1 && served_in(journal) == 1);
+    }
+}
+
+#[test]
 fn two_workers_serve_one_server_at_once(rt: HostRuntime) {
     let gate = Overtaking::new();
     let _run = run_of(&rt, rt.alloc(), TWO_SESSIONS, &gate);
@@ -90,14 +104,14 @@ fn tells_that_the_gate_gave_up(rt: HostRuntime) {
     assert!(rt; matches!(done, Err(LiveRunFault::Live(LiveFault::Gate))));
 }
 
-// Each letter served was a hold of its server's cell, and each session's two operations were done.
+// Each letter served was a hold of its server's cell, and each session's eight operations were done.
 fn has_each_hold(rt: &impl Abort, records: &Records, gate: &Counting) {
     assert!(rt; records.cells.len() == 4 && records.sessions.len() == 4);
     for (journal, held) in records.cells.iter().zip(gate.held.iter()) {
         assert!(rt; served_in(journal) == held.load(Ordering::SeqCst));
     }
     for entries in &records.sessions {
-        assert!(rt; done_in(entries) == 2);
+        assert!(rt; done_in(entries) == 8);
     }
 }
 

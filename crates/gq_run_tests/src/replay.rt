@@ -3,14 +3,16 @@
 use crate::live::run_of;
 use bytes::Bytes;
 use gq_cell::{BoardEntry, CellEntry};
+use gq_cli::{MOST_INPUT, read_programs};
 use gq_inspect::inspect;
 use gq_live::OpenGate;
 use gq_memory::{GrowVec, OutOfMemory};
 use gq_model::Said;
 use gq_phase::Outcome;
-use gq_session::{Did, Entries, Journal, Records, SessionEntry};
+use gq_session::{Did, Journal, Records, SessionEntry};
 use gq_tag::{Body, Tag};
 use std::alloc::Global;
+use std::fmt::Debug;
 use std::process::Abort;
 use std::sync::Wait;
 use std::thread::Threads;
@@ -18,40 +20,60 @@ use std::thread::Threads;
 const SMALLEST: &[u8] =
     b"grid 1 1\nblocks 1\ntenant ann 1 1 1000000\ngo\nann open 1 1\nann write 1 0 0 6869\n";
 
-fn has_stamps(rt: &impl Abort, entries: &Entries, stamps: &[u64]) {
-    assert!(rt; entries.items.len() == stamps.len());
-    for (entry, stamp) in entries.items.iter().zip(stamps.iter()) {
-        assert!(rt; entry.stamp == *stamp);
-    }
-}
+// The programs of its input.
+const PROGRAMS: &str = "\
+Programs { volumes: [Opening { tenant: 0, files: 1, blocks: 1 }], sessions: [Lines { items: [Write { session: 1, \
+volume: 0, file: 0, bytes: b\"hi\" }] }], changes: [] }";
 
-fn has_letters(rt: &impl Abort, journal: &Journal, stamps: &[(u64, u64)]) {
-    assert!(rt; journal.items.len() == stamps.len());
-    for (entry, stamps) in journal.items.iter().zip(stamps.iter()) {
-        match entry {
-            CellEntry::Served { letter, reply } => assert!(rt;
-                (letter.stamp, reply.stamp) == *stamps
-            ),
-            _ => panic!(rt; "not served"),
-        }
-    }
-}
+// What is recorded: the volume; the server was asked and told its first copy, and then was sent the new one and stored it; no server
+// changed; the session asked its request, and heard the copy and that the other was stored.
+const RECORDS: &str = "\
+Records { volumes: [Opening { tenant: 0, files: 1, blocks: 1 }], cells: [Journal { items: [Served { letter: Letter { \
+place: 0, stamp: 1, index: 0, message: Message { tenant: 0, session: 1, op: 1, round: 1, server: 0, file: FileId { \
+tenant: 0, volume: 0, file: 0 }, body: Ask } }, reply: Letter { place: 1, stamp: 2, index: 0, message: Message { \
+tenant: 0, session: 1, op: 1, round: 1, server: 0, file: FileId { tenant: 0, volume: 0, file: 0 }, \
+body: Copy(StoredCopy { tag: Tag { number: 0, session: 0 }, bytes: b\"\" }) } } }, Served { letter: Letter { place: 0, \
+stamp: 3, index: 0, message: Message { tenant: 0, session: 1, op: 1, round: 2, server: 0, file: FileId { tenant: 0, \
+volume: 0, file: 0 }, body: Store(StoredCopy { tag: Tag { number: 1, session: 1 }, bytes: b\"hi\" }) } }, \
+reply: Letter { place: 1, stamp: 4, index: 0, message: Message { tenant: 0, session: 1, op: 1, round: 2, server: 0, \
+file: FileId { tenant: 0, volume: 0, file: 0 }, body: Stored } } }] }], board: [], sessions: [Entries { items: [\
+SessionEntry { stamp: 1, did: Asked(Write { session: 1, volume: 0, file: 0, bytes: b\"hi\" }), said: Began { op: 1, \
+sent: 1 } }, SessionEntry { stamp: 3, did: Heard(Letter { place: 1, stamp: 2, index: 0, message: Message { tenant: 0, \
+session: 1, op: 1, round: 1, server: 0, file: FileId { tenant: 0, volume: 0, file: 0 }, body: Copy(StoredCopy { \
+tag: Tag { number: 0, session: 0 }, bytes: b\"\" }) } }), said: Round { round: 2, tag: Some(Tag { number: 1, \
+session: 1 }), sent: 1 } }, SessionEntry { stamp: 5, did: Heard(Letter { place: 1, stamp: 4, index: 0, \
+message: Message { tenant: 0, session: 1, op: 1, round: 2, server: 0, file: FileId { tenant: 0, volume: 0, file: 0 }, \
+body: Stored } }), said: Done(Wrote { session: 1, op: 1, tag: Tag { number: 1, session: 1 } }) }] }] }";
 
-// The server was asked and replied, and then stored and replied; the session asked, and heard each reply.
-fn has_all_stamps(rt: &impl Abort, records: &Records) {
-    match (records.cells.as_slice(), records.sessions.as_slice()) {
-        ([cell], [session]) => {
-            has_letters(rt, cell, &[(1, 2), (3, 4)]);
-            has_stamps(rt, session, &[1, 3, 5]);
-        }
-        _ => panic!(rt; "not one server and one session"),
-    }
+// The run that they are.
+const EVENTS: &str = "\
+[Tenant { tenant: 0, line: NewVolume { files: 1, blocks: 1 } }, Tenant { tenant: 0, line: Write { session: 1, \
+volume: 0, file: 0, bytes: b\"hi\" } }, Tenant { tenant: 0, line: Deliver { number: 0 } }, Tenant { tenant: 0, \
+line: Deliver { number: 1 } }, Tenant { tenant: 0, line: Deliver { number: 2 } }, Tenant { tenant: 0, line: Deliver { \
+number: 3 } }]";
+
+// How the value is shown.
+fn shown(rt: &impl Abort, alloc: Global, value: &impl Debug) -> String {
+    format!(in alloc; "{value:?}").expect(rt, "memory")
 }
 
 #[test]
-fn stamps_rise_with_each_letter(rt: HostRuntime) {
-    let (_, records) = run_of(&rt, rt.alloc(), SMALLEST, &OpenGate);
-    has_all_stamps(&rt, &records);
+fn reads_the_programs_of_the_smallest_run(rt: HostRuntime) {
+    assert!(rt; SMALLEST.len() <= MOST_INPUT);
+    let Ok((_, programs)) = read_programs(rt.alloc(), SMALLEST) else {
+        panic!(rt; "no programs");
+    };
+    assert!(rt; shown(&rt, rt.alloc(), &programs).as_str() == PROGRAMS);
+}
+
+#[test]
+fn records_the_smallest_run(rt: HostRuntime) {
+    let (plan, records) = run_of(&rt, rt.alloc(), SMALLEST, &OpenGate);
+    assert!(rt; shown(&rt, rt.alloc(), &records).as_str() == RECORDS);
+    let Ok(events) = inspect(rt.alloc(), &plan, &records) else {
+        panic!(rt; "a mismatch is told");
+    };
+    assert!(rt; shown(&rt, rt.alloc(), &events).as_str() == EVENTS);
 }
 
 // The same of two servers, of which the second serves one letter.
@@ -83,8 +105,13 @@ enum Forgery {
 
 fn forge_body(body: &mut Body) {
     match body {
-        Body::Copy(copy) => copy.tag.number = 7,
-        Body::Store(copy) => copy.bytes = Bytes::new(),
+        Body::Copy(copy) => {
+            copy.tag = Tag {
+                number: 7,
+                session: 1,
+            };
+        }
+        Body::Store(copy) => copy.bytes = Bytes::from_static(b"\0"),
         Body::Ask | Body::Stored => {}
     }
 }
