@@ -1,0 +1,286 @@
+//! A grid of 2 by 2, one node for each server, and the letters between them by hand.
+
+use bytes::Bytes;
+use gq_desk::{Name, Plan, TenantRow};
+use gq_grid::Grid;
+use gq_memory::GrowVec;
+use gq_node::{Answer, Fact, Line, Node, Output};
+use gq_phase::Outcome;
+use gq_tag::Message;
+use std::alloc::Global;
+use std::process::Abort;
+use std::test::Fail;
+
+// What a tenant is told, with the number that matters.
+#[derive(Clone, Copy, Debug, PartialEq, Eq)]
+enum Told {
+    // Nothing.
+    Nothing,
+    // A write has a tag of this number.
+    Wrote(u64),
+    // The operation of this number read so many bytes.
+    Read(u32, usize),
+    // The operation of this number is gone.
+    Gone(u32),
+    // The number is too old, too early, or comes while this one goes on: that of the last operation.
+    Old(u32),
+    Early(u32),
+    Busy(u32),
+    // The home is this node.
+    Away(u8),
+    // Something else.
+    Other,
+}
+
+fn shown(answer: &Option<Answer>) -> Told {
+    match answer {
+        None => Told::Nothing,
+        Some(Answer::Done(Outcome::Wrote { tag, .. })) => Told::Wrote(tag.number),
+        Some(Answer::Done(Outcome::Gave { op, copy, .. })) => Told::Read(*op, copy.bytes.len()),
+        Some(Answer::Gone { op, .. }) => Told::Gone(*op),
+        Some(Answer::Old { last, .. }) => Told::Old(*last),
+        Some(Answer::Early { last, .. }) => Told::Early(*last),
+        Some(Answer::Busy { last, .. }) => Told::Busy(*last),
+        Some(Answer::Away { home, .. }) => Told::Away(*home),
+        Some(_) => Told::Other,
+    }
+}
+
+// Four nodes, the letters on their way with the nodes that they are from, and the facts that were given.
+#[derive(Drop)]
+struct Cluster {
+    nodes: Vec<Node>,
+    letters: Vec<(u8, Message)>,
+    facts: Vec<Fact>,
+}
+
+fn row(rt: &impl Abort, name: &[u8]) -> TenantRow {
+    TenantRow {
+        name: Name::new(name).expect(rt, "a name"),
+        share: 8,
+        sessions: 2,
+        steps: 10,
+    }
+}
+
+fn plan(rt: &impl Abort, alloc: Global) -> Plan {
+    let grid = Grid::new(2, 2).expect(rt, "a grid");
+    let rows = [row(rt, b"ann"), row(rt, b"bob")];
+    Plan::check(alloc, grid, 16, &rows).expect(rt, "a plan")
+}
+
+// The node of that server, at which the first tenant has a volume of two files of one block.
+fn node(rt: &impl Abort, alloc: Global, server: u8) -> Node {
+    let plan = plan(rt, alloc);
+    assert!(rt; (server as usize) < plan.grid().servers());
+    let node = Node::new(alloc, plan, server).expect(rt, "memory");
+    assert!(rt; 0 < node.plan().tenants());
+    node.open(0, 2, 1).expect(rt, "a volume")
+}
+
+// Takes a line of the first tenant.
+fn ask(rt: &impl Abort, node: &mut Node, op: u32, line: &Line) -> Output {
+    assert!(rt; 0 < node.plan().tenants());
+    node.request(0, op, line).expect(rt, "memory")
+}
+
+// Takes a letter.
+fn bring(rt: &impl Abort, node: &mut Node, from: u8, letter: &Message) -> Output {
+    let tenant = letter.tenant;
+    assert!(rt; (tenant as usize) < node.plan().tenants());
+    assert!(rt; letter.file.tenant == tenant);
+    node.letter(from, letter).expect(rt, "memory")
+}
+
+// Takes a tick for the session of the first tenant.
+fn tick(rt: &impl Abort, node: &mut Node, session: u32) -> Output {
+    assert!(rt; 0 < node.plan().tenants());
+    assert!(rt; 1 <= session && session <= node.plan().row(0).sessions);
+    node.tick(0, session).expect(rt, "memory")
+}
+
+// Takes a fact of an earlier run.
+fn recall(rt: &impl Abort, node: &mut Node, fact: &Fact) {
+    let tenant = match fact {
+        Fact::Began { tenant, .. } | Fact::Numbered { tenant, .. } => *tenant,
+        Fact::Kept { file, .. } => file.tenant,
+    };
+    assert!(rt; (tenant as usize) < node.plan().tenants());
+    assert!(rt; node.recall(fact));
+}
+
+fn address(rt: &impl Abort, node: &Node, letter: &Message) -> u8 {
+    assert!(rt; (letter.tenant as usize) < node.plan().tenants() && 1 <= letter.session);
+    node.address(letter)
+}
+
+impl Cluster {
+    fn new(rt: &impl Abort, alloc: Global) -> Cluster {
+        let mut nodes = Vec::new(alloc);
+        for server in 0..4u8 {
+            nodes.grow(node(rt, alloc, server)).expect(rt, "memory");
+        }
+        Cluster {
+            nodes,
+            letters: Vec::new(alloc),
+            facts: Vec::new(alloc),
+        }
+    }
+
+    fn node(&mut self, rt: &impl Abort, at: u8) -> &mut Node {
+        assert!(rt; (at as usize) < self.nodes.len());
+        &mut self.nodes[at as usize]
+    }
+
+    // Sends what a node gave, and keeps its fact. Answers what it tells the tenant.
+    fn send(&mut self, rt: &impl Abort, from: u8, out: Output) -> Told {
+        let Output {
+            answer,
+            letters,
+            fact,
+        } = out;
+        for letter in letters {
+            self.letters.grow((from, letter)).expect(rt, "memory");
+        }
+        if let Some(fact) = fact {
+            self.facts.grow(fact).expect(rt, "memory");
+        }
+        shown(&answer)
+    }
+
+    fn ask(&mut self, rt: &impl Abort, at: u8, op: u32, line: &Line) -> Told {
+        let out = ask(rt, self.node(rt, at), op, line);
+        self.send(rt, at, out)
+    }
+
+    fn tick(&mut self, rt: &impl Abort, at: u8, session: u32) -> Told {
+        let out = tick(rt, self.node(rt, at), session);
+        self.send(rt, at, out)
+    }
+
+    // The first letter comes, unless it is to the server that is dead. Answers what its node tells the tenant.
+    fn step(&mut self, rt: &impl Abort, dead: u8) -> Told {
+        assert!(rt; !self.letters.is_empty());
+        let (from, letter) = self.letters.remove(0);
+        let to = address(rt, self.node(rt, 0), &letter);
+        if to == dead {
+            return Told::Nothing;
+        }
+        let out = bring(rt, self.node(rt, to), from, &letter);
+        self.send(rt, to, out)
+    }
+
+    // All letters come but those to the server that is dead. Answers what was told last.
+    fn run(&mut self, rt: &impl Abort, dead: u8) -> Told {
+        let mut last = Told::Nothing;
+        for _ in 0..100u32 {
+            if self.letters.is_empty() {
+                break;
+            }
+            let told = self.step(rt, dead);
+            if told != Told::Nothing {
+                last = told;
+            }
+        }
+        last
+    }
+}
+
+// No server of the grid.
+const NONE: u8 = 9;
+
+fn write(session: u32, bytes: &'static [u8]) -> Line {
+    Line::Write {
+        session,
+        volume: 0,
+        file: 1,
+        bytes: Bytes::from_static(bytes),
+    }
+}
+
+const READ: Line = Line::Read {
+    session: 2,
+    volume: 0,
+    file: 1,
+};
+
+fn comes_again(rt: &impl Abort, cluster: &mut Cluster, one: &Line, other: &Line) {
+    // a request that begins is not answered, nor when it comes again
+    assert_eq!(rt; cluster.ask(rt, 0, 1, one), Told::Nothing);
+    assert_eq!(rt; cluster.letters.len(), 2);
+    assert_eq!(rt; cluster.ask(rt, 0, 1, one), Told::Nothing);
+    assert_eq!(rt; cluster.letters.len(), 2);
+    assert_eq!(rt; cluster.run(rt, NONE), Told::Wrote(1));
+    // began, numbered, and two copies kept
+    assert_eq!(rt; cluster.facts.len(), 4);
+    // once it is done, the answer is told again, whatever the line says
+    assert_eq!(rt; cluster.ask(rt, 0, 1, other), Told::Wrote(1));
+    assert_eq!(rt; cluster.letters.len(), 0);
+    assert_eq!(rt; cluster.facts.len(), 4);
+    assert_eq!(rt; cluster.ask(rt, 0, 0, other), Told::Old(1));
+    assert_eq!(rt; cluster.ask(rt, 0, 3, other), Told::Early(1));
+}
+
+#[test]
+fn a_request_that_comes_again(rt: HostRuntime) -> Result<(), Fail> {
+    let mut cluster = Cluster::new(&rt, rt.alloc());
+    comes_again(&rt, &mut cluster, &write(1, b"one"), &write(1, b"other"));
+    Ok(())
+}
+
+fn goes_round(rt: &impl Abort, cluster: &mut Cluster, one: &Line) {
+    assert_eq!(rt; cluster.ask(rt, 0, 1, one), Told::Nothing);
+    assert_eq!(rt; cluster.run(rt, NONE), Told::Wrote(1));
+    // the home of session 2 is node 1
+    assert_eq!(rt; cluster.ask(rt, 0, 1, &READ), Told::Away(1));
+    // server 0 is dead: the row of node 1 is that of server 0, and does not answer whole
+    assert_eq!(rt; cluster.ask(rt, 1, 1, &READ), Told::Nothing);
+    assert_eq!(rt; cluster.run(rt, 0), Told::Nothing);
+    assert_eq!(rt; cluster.ask(rt, 1, 2, &READ), Told::Busy(1));
+    assert_eq!(rt; cluster.tick(rt, 1, 2), Told::Nothing);
+    assert_eq!(rt; cluster.letters.len(), 0);
+    assert_eq!(rt; cluster.tick(rt, 1, 2), Told::Nothing);
+    assert_eq!(rt; cluster.letters.len(), 2);
+    assert_eq!(rt; cluster.run(rt, 0), Told::Read(1, 3));
+    // the row that served stays: the next read needs no tick
+    assert_eq!(rt; cluster.ask(rt, 1, 2, &READ), Told::Nothing);
+    assert_eq!(rt; cluster.run(rt, 0), Told::Read(2, 3));
+}
+
+#[test]
+fn a_dead_server_costs_two_ticks(rt: HostRuntime) -> Result<(), Fail> {
+    let mut cluster = Cluster::new(&rt, rt.alloc());
+    goes_round(&rt, &mut cluster, &write(1, b"one"));
+    Ok(())
+}
+
+// What a start makes of these facts, to a request.
+fn again(rt: &impl Abort, node: &mut Node, facts: &[Fact], op: u32, line: &Line) -> Told {
+    for fact in facts {
+        recall(rt, node, fact);
+    }
+    let out = ask(rt, node, op, line);
+    shown(&out.answer)
+}
+
+fn starts(rt: &impl Abort, cluster: &mut Cluster, node: &mut Node, one: &Line) {
+    assert_eq!(rt; cluster.ask(rt, 0, 1, one), Told::Nothing);
+    assert_eq!(rt; cluster.run(rt, NONE), Told::Wrote(1));
+    // a node that reads all facts, another's too, knows again the number of the last operation, and not how it ended
+    assert_eq!(rt; again(rt, node, &cluster.facts, 1, one), Told::Gone(1));
+    let needed = node.needed().expect(rt, "memory");
+    assert_eq!(rt; needed.len(), 3);
+    assert_eq!(rt; again(rt, node, &needed, 2, one), Told::Nothing);
+    assert_eq!(rt;
+        again(rt, node, &[], 2, &Line::Abandon { session: 1 }),
+        Told::Gone(2)
+    );
+}
+
+#[test]
+fn a_start_from_facts(rt: HostRuntime) -> Result<(), Fail> {
+    let mut cluster = Cluster::new(&rt, rt.alloc());
+    let mut fresh = node(&rt, rt.alloc(), 0);
+    starts(&rt, &mut cluster, &mut fresh, &write(1, b"one"));
+    Ok(())
+}
