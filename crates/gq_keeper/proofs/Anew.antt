@@ -1,0 +1,63 @@
+-- A journal that is written anew.
+use Rattle.std.proofs.Common.{◌≡◌, ◌⊎◌, ℕ, ◌+◌, ◌^◌, ◌<◌, List, [], ◌∷◌, ◌++◌, length, true, refl, sym, ap, ◌∙◌, subst, arith, inl, inr, ⊎_elim}
+use Rattle.gq_journal.specs.Batches.{Line, lines_text, whole_lines, ended_line, seal, batch_text, journal_text, CanBeSealed, are_batch_lines}
+use Rattle.gq_journal.specs.Laws.{FitBatches}
+use Rattle.gq_keeper.specs.Plans.{IsPlan, is_plan, facts_in, last_plan}
+use Rattle.gq_keeper.specs.Crashes.{Leaves, LeavesReplacing}
+use Rattle.gq_keeper.specs.Restarting.{Needs, Stands, Restarts}
+use Rattle.gq_keeper.specs.Durable.{AllSealed, kept_text, number_after, new_text}
+use Rattle.gq_keeper.proofs.Planning.{batches_for, open_facts, facts_in-for, last_plan-for}
+use Rattle.gq_keeper.proofs.Journals.{sealed_of, kept_is, next_is, fit_for}
+use Rattle.gq_keeper.proofs.Crashing.{found_whole}
+use Rattle.gq_keeper.proofs.Restarts.{restarts_of, restarts_found, sealed_left}
+
+batch_is : (n : ℕ) (body : List ℕ) → CanBeSealed body → batch_text n (whole_lines body) ≡ body ++ ended_line (seal n body)
+batch_is n body b = ap (λ x. x ++ ended_line (seal n x)) b.is
+
+anew_is : (plan text : List ℕ) (facts : List Line) → IsPlan plan → text ≡ lines_text facts → new_text plan text ≡ journal_text 1 (whole_lines plan ∷ batches_for facts)
+anew_is plan text facts p is =
+    ap (λ t. (plan ++ ended_line (seal 1 plan)) ++ kept_text 2 t) is ∙ ap (λ t. (plan ++ ended_line (seal 1 plan)) ++ t) (kept_is 2 facts)
+    ∙ ap (λ b. b ++ journal_text 2 (batches_for facts)) (sym (batch_is 1 plan p.batch))
+
+anew_fit : (plan text : List ℕ) (facts : List Line) → IsPlan plan → text ≡ lines_text facts → length plan < 2 ^ 64 → length text < 2 ^ 64 → are_batch_lines facts ≡ true → FitBatches 1 (whole_lines plan ∷ batches_for facts)
+anew_fit plan text facts p is short small are =
+    ((omega arith, subst (λ x. length x < 2 ^ 64) (sym p.batch.is) short, p.batch.fit), fit_for 2 facts (omega arith) (subst (λ x. length x < 2 ^ 64) is small) are)
+
+facts_then : (plan : List Line) (batches : List (List Line)) → is_plan plan ≡ true → facts_in (plan ∷ batches) ≡ facts_in batches
+facts_then plan batches is = rw is refl
+
+last_then : (plan : List Line) (batches : List (List Line)) → is_plan plan ≡ true → last_plan [] (plan ∷ batches) ≡ last_plan plan batches
+last_then plan batches is = rw is refl
+
+-- what was appended to nothing
+needed_text : {M : Type 0} (recalls : M → List ℕ → M → Type 0) (blank rests : M → M → Type 0) (machine : M) (before after : List ℕ) (n : Needs recalls blank rests machine before after) → before ≡ [] → after ≡ lines_text n.lines
+needed_text recalls blank rests machine before after n none = n.text ∙ ap (λ b. b ++ lines_text n.lines) none
+
+pub anew_sealed : {M : Type 0} (recalls : M → List ℕ → M → Type 0) (blank rests : M → M → Type 0) (machine : M) (before text plan seen synced : List ℕ) (next : ℕ) → Needs recalls blank rests machine before text → before ≡ [] → IsPlan plan → length plan < 2 ^ 64 → length text < 2 ^ 64 →
+    seen ≡ new_text plan text → synced ≡ new_text plan text → next ≡ number_after 2 text → AllSealed seen synced next
+anew_sealed recalls blank rests machine before text plan seen synced next n none p short small a b number =
+    let is = needed_text recalls blank rests machine before text n none in
+    sealed_of (whole_lines plan ∷ batches_for n.lines) seen synced next (a ∙ sym b) (b ∙ anew_is plan text n.lines p is) (anew_fit plan text n.lines p is short small (open_facts n.lines n.facts))
+    (number ∙ ap (number_after 2) is ∙ next_is 2 n.lines ∙ (let e : 2 + length (batches_for n.lines) ≡ 1 + length (whole_lines plan ∷ batches_for n.lines) = omega arith in e))
+
+pub anew_restarts : {M : Type 0} (recalls : M → List ℕ → M → Type 0) (blank rests : M → M → Type 0) (machine : M) (before text plan journal : List ℕ) → Needs recalls blank rests machine before text → before ≡ [] → IsPlan plan → length plan < 2 ^ 64 → length text < 2 ^ 64 →
+    journal ≡ new_text plan text → Restarts recalls blank rests (whole_lines plan) machine journal
+anew_restarts recalls blank rests machine before text plan journal n none p short small is =
+    let text_is = needed_text recalls blank rests machine before text n none in
+    restarts_of recalls blank rests (whole_lines plan) machine (whole_lines plan ∷ batches_for n.lines) journal
+    (subst (Stands recalls blank rests machine) (sym (facts_then (whole_lines plan) (batches_for n.lines) p.plan ∙ facts_in-for n.lines n.facts)) n.stands)
+    p.plan
+    (last_then (whole_lines plan) (batches_for n.lines) p.plan ∙ last_plan-for (whole_lines plan) n.lines n.facts)
+    (found_whole (whole_lines plan ∷ batches_for n.lines) journal (anew_fit plan text n.lines p text_is short small (open_facts n.lines n.facts)) (is ∙ anew_is plan text n.lines p text_is))
+
+-- while a journal is written anew, the old one is left or the new one
+pub anew_left : {M : Type 0} (recalls : M → List ℕ → M → Type 0) (blank rests : M → M → Type 0) (machine : M) (before text plan synced seen left : List ℕ) → Needs recalls blank rests machine before text → before ≡ [] → IsPlan plan → length plan < 2 ^ 64 → length text < 2 ^ 64 →
+    LeavesReplacing synced seen (new_text plan text) left → Leaves synced seen left ⊎ Restarts recalls blank rests (whole_lines plan) machine left
+anew_left recalls blank rests machine before text plan synced seen left n none p short small l =
+    ⊎_elim (λ old. inl old) (λ new. inr (anew_restarts recalls blank rests machine before text plan left n none p short small new)) l
+
+pub due_left : {M : Type 0} (recalls : M → List ℕ → M → Type 0) (blank rests : M → M → Type 0) (machine : M) (before text plan synced seen left : List ℕ) (number : ℕ) → Needs recalls blank rests machine before text → before ≡ [] → IsPlan plan → length plan < 2 ^ 64 → length text < 2 ^ 64 →
+    AllSealed seen synced number → Restarts recalls blank rests (whole_lines plan) machine synced → LeavesReplacing synced seen (new_text plan text) left → Restarts recalls blank rests (whole_lines plan) machine left
+due_left recalls blank rests machine before text plan synced seen left number n none p short small s r l =
+    ⊎_elim (λ old. restarts_found recalls blank rests (whole_lines plan) machine synced left r (sealed_left seen synced number left s old))
+    (λ new. anew_restarts recalls blank rests machine before text plan left n none p short small new) l

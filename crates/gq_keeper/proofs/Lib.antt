@@ -1,0 +1,15 @@
+pub mod Running
+pub mod Ends
+pub mod Planning
+pub mod Instants
+pub mod Journals
+pub mod Crashing
+pub mod Restarts
+pub mod Durability
+pub mod Finding
+pub mod Kept
+pub mod Readings
+pub mod Mended
+pub mod Anew
+pub mod Begun
+pub mod Noted

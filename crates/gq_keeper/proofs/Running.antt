@@ -1,0 +1,85 @@
+-- Steps one after another.
+use Rattle.std.proofs.Common.{◌≡◌, ℕ, List, [], ◌∷◌, ◌++◌, true, false, refl, sym, ap, ◌∙◌, subst, append_assoc, append-nil}
+use Rattle.std.specs.Prelude.{filter}
+use Rattle.std.proofs.lemmas.Grind.{flat_map-append}
+use Rattle.gq_journal.specs.Batches.{Line, ended_line, lines_text, whole_lines, is_one_line}
+use Rattle.gq_journal.proofs.Lines.{ended_then}
+use Rattle.gq_keeper.specs.Lines.{is_short, short_lines}
+use Rattle.gq_keeper.specs.Runs.{Did, lines_of, facts_of, told_of, Runs, Takes, Took}
+
+pub runs_append : {M : Type 0} (steps : M → List ℕ → List (List ℕ) → List ℕ → M → Type 0) (a b c : M) (ds es : List Did) → Runs steps a ds b → Runs steps b es c → Runs steps a (ds ++ es) c
+runs_append steps a b c [] es x y = subst (λ m. Runs steps m es c) (sym x) y
+runs_append steps a b c (d ∷ ds) es x y = (x.0, x.1, runs_append steps x.0 b c ds es x.2 y)
+
+pub lines_append : (ds es : List Did) → lines_of (ds ++ es) ≡ lines_of ds ++ lines_of es
+lines_append [] es = refl
+lines_append (d ∷ ds) es = ap (λ ls. d.line ∷ ls) (lines_append ds es)
+
+pub facts_append : (ds es : List Did) → facts_of (ds ++ es) ≡ facts_of ds ++ facts_of es
+facts_append ds es = flat_map-append (λ (did : Did). did.facts) ds es
+
+pub told_append : (ds es : List Did) → told_of (ds ++ es) ≡ told_of ds ++ told_of es
+told_append ds es = flat_map-append (λ (did : Did). did.told) ds es
+
+pub text_append : (a b : List Line) → lines_text (a ++ b) ≡ lines_text a ++ lines_text b
+text_append a b = flat_map-append ended_line a b
+
+-- ---- lines that are taken, and lines that are too long
+
+kept : (line : Line) (lines : List Line) → is_short line ≡ true → filter is_short (line ∷ lines) ≡ line ∷ filter is_short lines
+kept line lines short = rw short refl
+
+passed : (line : Line) (lines : List Line) → is_short line ≡ false → filter is_short (line ∷ lines) ≡ filter is_short lines
+passed line lines long = rw long refl
+
+next_line : (rest line after more : List ℕ) → rest ≡ ended_line line ++ after → is_one_line line ≡ true → whole_lines (rest ++ more) ≡ line ∷ whole_lines (after ++ more)
+next_line rest line after more cut one = ap (λ r. whole_lines (r ++ more)) cut ∙ ap whole_lines (append_assoc (ended_line line) after more) ∙ ended_then line (after ++ more) one
+
+pub took_none : {M : Type 0} (steps : M → List ℕ → List (List ℕ) → List ℕ → M → Type 0) (old : M) (text facts told : List ℕ) → Took steps old text text facts facts told told old
+took_none steps old text facts told = record { dids = []; runs = refl; front = []; cut = refl; took = λ more. refl; facts = sym (append-nil facts); told = sym (append-nil told) }
+
+pub took_from_none : {M : Type 0} (steps : M → List ℕ → List (List ℕ) → List ℕ → M → Type 0) (old new : M) (text rest f0 f1 t0 t1 : List ℕ) → f0 ≡ [] → t0 ≡ [] →
+    Took steps old text rest f0 f1 t0 t1 new → Took steps old text rest [] f1 [] t1 new
+took_from_none steps old new text rest f0 f1 t0 t1 f t took = record {
+  dids = took.dids;
+  runs = took.runs;
+  front = took.front;
+  cut = took.cut;
+  took = took.took;
+  facts = took.facts ∙ ap (λ x. x ++ lines_text (facts_of took.dids)) f;
+  told = took.told ∙ ap (λ x. x ++ told_of took.dids) t;
+}
+
+front_more : (front rest line after text : List ℕ) → text ≡ front ++ rest → rest ≡ ended_line line ++ after → text ≡ (front ++ ended_line line) ++ after
+front_more front rest line after text is cut = is ∙ ap (λ r. front ++ r) cut ∙ sym (append_assoc front (ended_line line) after)
+
+-- a line that is too long was passed over
+pub took_past : {M : Type 0} (steps : M → List ℕ → List (List ℕ) → List ℕ → M → Type 0) (old m : M) (text rest line after f0 f1 t0 t1 : List ℕ) →
+    Took steps old text rest f0 f1 t0 t1 m → rest ≡ ended_line line ++ after → is_one_line line ≡ true → is_short line ≡ false → Took steps old text after f0 f1 t0 t1 m
+took_past steps old m text rest line after f0 f1 t0 t1 so cut one long = record {
+  dids = so.dids;
+  runs = so.runs;
+  front = so.front ++ ended_line line;
+  cut = front_more so.front rest line after text so.cut cut;
+  took = λ more. so.took more ∙ ap (λ ls. lines_of so.dids ++ ls) (ap (filter is_short) (next_line rest line after more cut one) ∙ passed line (whole_lines (after ++ more)) long);
+  facts = so.facts;
+  told = so.told;
+}
+
+pub took_more : {M : Type 0} (steps : M → List ℕ → List (List ℕ) → List ℕ → M → Type 0) (old m n : M) (text rest line after f0 f1 f2 t0 t1 t2 : List ℕ) →
+    Took steps old text rest f0 f1 t0 t1 m → rest ≡ ended_line line ++ after → is_one_line line ≡ true → is_short line ≡ true → Takes steps m line f1 f2 t1 t2 n → Took steps old text after f0 f2 t0 t2 n
+took_more {M} steps old m n text rest line after f0 f1 f2 t0 t1 t2 so cut one short takes = record {
+  dids = so.dids ++ did ∷ [];
+  runs = runs_append steps old m n so.dids (did ∷ []) so.runs (n, takes.step, refl);
+  front = so.front ++ ended_line line;
+  cut = front_more so.front rest line after text so.cut cut;
+  took = λ more. so.took more ∙ ap (λ ls. lines_of so.dids ++ ls) (ap (filter is_short) (next_line rest line after more cut one) ∙ kept line (whole_lines (after ++ more)) short)
+      ∙ sym (append_assoc (lines_of so.dids) (line ∷ []) (short_lines (after ++ more))) ∙ ap (λ ls. ls ++ short_lines (after ++ more)) (sym (lines_append so.dids (did ∷ [])));
+  facts = takes.facts ∙ ap (λ x. x ++ lines_text takes.lines) so.facts ∙ append_assoc f0 (lines_text (facts_of so.dids)) (lines_text takes.lines)
+      ∙ ap (λ x. f0 ++ x) (sym (text_append (facts_of so.dids) takes.lines) ∙ ap lines_text (ap (λ x. facts_of so.dids ++ x) (sym (append-nil takes.lines)) ∙ sym (facts_append so.dids (did ∷ []))));
+  told = takes.told ∙ ap (λ x. x ++ takes.text) so.told ∙ append_assoc t0 (told_of so.dids) takes.text
+      ∙ ap (λ x. t0 ++ x) (ap (λ x. told_of so.dids ++ x) (sym (append-nil takes.text)) ∙ sym (told_append so.dids (did ∷ [])));
+}
+  where
+    did : Did
+    did = record { line = line; facts = takes.lines; told = takes.text }

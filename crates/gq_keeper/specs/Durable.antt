@@ -1,0 +1,40 @@
+-- What is on disk when something is shown.
+use Rattle.std.specs.Prelude.{◌≡◌, ℕ, ◌+◌, List, [], ◌∷◌, ◌++◌, length}
+use Rattle.gq_journal.specs.Batches.{Line, ended_line, seal, batches_of, journal_text}
+use Rattle.gq_journal.specs.Laws.{FitBatches, Begins}
+use Rattle.gq_keeper.specs.Runs.{Did, Runs, lines_of, told_of}
+use Rattle.gq_keeper.specs.Restarting.{Restarts}
+
+-- all that was written is synced, and is whole batches; the next one has this number
+pub record AllSealed (seen synced : List ℕ) (number : ℕ) : Type 0 where
+  pub all : seen ≡ synced
+  pub whole : synced ≡ journal_text 1 (batches_of synced)
+  pub fit : FitBatches 1 (batches_of synced)
+  pub next : number ≡ 1 + length (batches_of synced)
+
+-- What is shown, behind what was shown at first, is what the steps told that took these lines and led from the first machine to the
+-- last; and a start from what is synced reads the last machine at rest.
+pub record Durable {M : Type 0} (steps : M → List ℕ → List (List ℕ) → List ℕ → M → Type 0) (recalls : M → List ℕ → M → Type 0) (blank rests : M → M → Type 0) (first last : M) (plan lines : List Line) (base synced shown : List ℕ) : Type 0 where
+  pub dids : List Did
+  pub runs : Runs steps first dids last
+  pub took : lines_of dids ≡ lines
+  pub told : shown ≡ base ++ told_of dids
+  pub restarts : Restarts recalls blank rests plan last synced
+
+-- what is appended for the text of facts: nothing where there are none
+abbrev pub kept_text : ℕ → List ℕ → List ℕ
+kept_text n [] = []
+kept_text n (x ∷ facts) = (x ∷ facts) ++ ended_line (seal n (x ∷ facts))
+
+-- the number of the batch after it
+abbrev pub number_after : ℕ → List ℕ → ℕ
+number_after n [] = n
+number_after n (x ∷ facts) = n + 1
+
+-- a journal of this plan and of the text of these facts
+abbrev pub new_text : List ℕ → List ℕ → List ℕ
+new_text plan facts = (plan ++ ended_line (seal 1 plan)) ++ kept_text 2 facts
+
+-- Whatever a crash leaves behind what was synced, the batches that were synced are read, and then whatever batches are behind them.
+abbrev pub SyncedIsRead : Type 0
+SyncedIsRead = (seen synced : List ℕ) (number : ℕ) (rest : List ℕ) → AllSealed seen synced number → Begins (batches_of synced) (batches_of (synced ++ rest))

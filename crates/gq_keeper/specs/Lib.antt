@@ -1,0 +1,10 @@
+pub mod Lines
+pub mod Runs
+pub mod Plans
+pub mod Starting
+pub mod Started
+pub mod Crashes
+pub mod Restarting
+pub mod Durable
+pub mod Notes
+pub mod Instants

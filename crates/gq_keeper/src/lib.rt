@@ -1,0 +1,30 @@
+//! A machine whose facts are on disk before anything that rests on them is shown.
+#![tactic(auto)]
+
+mod fault;
+mod files;
+mod keeping;
+pub mod laws;
+mod log;
+mod machine;
+mod memory;
+mod notes;
+mod output;
+mod plan;
+mod renewing;
+mod serving;
+mod starting;
+mod stream;
+
+pub use fault::Fault;
+pub use files::{FileDisk, Place};
+pub use log::{Disk, Log};
+pub use machine::{Lasting, Machine};
+pub use memory::MemoryDisk;
+pub use notes::Notes;
+pub use output::Output;
+pub use plan::{Plan, is_plan_text};
+pub use renewing::renew;
+pub use serving::{serve, take_text};
+pub use starting::{Recovered, Started, start};
+pub use stream::{Promise, Stream};

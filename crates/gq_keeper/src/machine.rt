@@ -1,0 +1,52 @@
+//! What takes the lines.
+
+ghost use Rattle.std.specs.Prelude.{◌≡◌, ℕ, List, true, OnOk};
+ghost use Rattle.gq_keeper.specs.Plans.{are_facts};
+ghost use Rattle.gq_keeper.specs.Runs.{Takes};
+ghost use Rattle.gq_keeper.specs.Starting.{RecallsAll};
+ghost use Rattle.gq_keeper.specs.Restarting.{Needs};
+
+use crate::Fault;
+
+/// A machine that takes line after line. Of each step it gives the facts that must not be forgotten, as lines, and what is to be
+/// shown, which rests on them.
+pub trait Machine {
+    /// The step of this machine on this line may give these lines of facts, tell this and lead to that machine.
+    ghost steps: { Self → List ℕ → List (List ℕ) → List ℕ → Self → Type 0 };
+
+    /// Recovered a line of an earlier run may lead from this machine to that one.
+    ghost recalls: { Self → List ℕ → Self → Type 0 };
+
+    /// Reads a line of an earlier run's journal. After an `Err` the machine is given up.
+    fn recall(&mut self, line: &[u8]) -> Result<(), Fault>
+        ensures { OnOk result (recalls self.old line.now self.new) };
+
+    /// Takes the line, and appends what the step gives. After an `Err` the machine is given up.
+    fn take(&mut self, line: &[u8], facts: &mut Vec<u8>, told: &mut Vec<u8>) -> Result<(), Fault>
+        ensures { OnOk result (Takes steps self.old line.now facts.old.items facts.new.items told.old.items told.new.items self.new) };
+}
+
+/// A machine that a start makes again. Of what it was the start leaves what the facts say: what was going on is gone.
+pub trait Lasting: Machine {
+    /// A start that makes this machine begins with that one.
+    ghost blank: { Self → Self → Type 0 };
+
+    /// That machine is this one at rest.
+    ghost rests: { Self → Self → Type 0 };
+
+    /// Appends the lines of the facts that a start needs.
+    fn put_needed(&self, facts: &mut Vec<u8>) -> Result<(), Fault>
+        ensures { OnOk result (Needs Self.recalls blank rests self.now facts.old.items facts.new.items) };
+
+    /// The facts of a step are lines of facts.
+    ghost gives_facts: { (old : Self) (line : List ℕ) (facts : List (List ℕ)) (told : List ℕ) (new : Self) → Self.steps old line facts told new → are_facts facts ≡ true };
+
+    /// A step doesn't change with what a start begins.
+    ghost keeps_blank: { (old : Self) (line : List ℕ) (facts : List (List ℕ)) (told : List ℕ) (new other : Self) → Self.steps old line facts told new → blank new other → blank old other };
+
+    /// Recovered the facts of a step makes of the machine before it, at rest, the machine behind it, at rest.
+    ghost keeps_rest: { (old : Self) (line : List ℕ) (facts : List (List ℕ)) (told : List ℕ) (new before after : Self) → Self.steps old line facts told new → rests old before → RecallsAll Self.recalls before facts after → rests new after };
+
+    /// A machine that a start made is one at rest: another start with the same facts makes it again.
+    ghost starts_again: { (first last new again : Self) (lines : List (List ℕ)) → blank first first → RecallsAll Self.recalls first lines last → blank last new → RecallsAll Self.recalls new lines again → rests last again };
+}

@@ -1,0 +1,221 @@
+//! A start: the journal is read, and its wrong end is cut off.
+
+ghost use Rattle.std.specs.Prelude.{◌≡◌, ◌⊎◌, ◌+◌, ◌≤◌, ◌++◌, ◌∷◌, ◌&&◌, ℕ, List, [], true, false, length, take, drop, IfOk, IfErr, OnOk, MatchOption, if◌then◌else◌};
+ghost use Rattle.gq_journal.specs.Batches.{whole_lines, lines_text, batches_of, has_right_batch};
+ghost use Rattle.gq_keeper.specs.Plans.{IsPlan, is_plan, facts_in, last_plan, begins_with_plan, goes_on_from, is_of, new_plan};
+ghost use Rattle.gq_keeper.specs.Crashes.{Leaves, LeavesSyncing, Elapses};
+ghost use Rattle.gq_keeper.specs.Durable.{AllSealed, kept_text, number_after};
+ghost use Rattle.gq_keeper.specs.Starting.{facts_read, RecallsAll, EndsAt, behind, IsDamaged};
+ghost use Rattle.gq_keeper.specs.Started.{ForReady, ForDamage, ForAnother};
+ghost use Rattle.gq_keeper.specs.Restarting.{Restarts, ReadsAs};
+
+use crate::keeping::keep;
+use crate::plan::{goes_on_from, is_plan};
+use crate::{Disk, Fault, Lasting, Log, Machine, Plan};
+use gq_journal::{first_batch, first_whole_line, has_right_batch};
+use gq_memory::{OutOfMemory, slice_copied};
+use std::alloc::Global;
+
+/// What was read of a journal.
+#[derive(Debug, Drop)]
+pub struct Recovered {
+    /// The number of the next batch.
+    pub number: u64,
+    /// Where a wrong end was cut off.
+    pub cut: Option<usize>,
+}
+
+/// What a start finds.
+#[derive(Debug, Drop)]
+pub enum Started {
+    /// The journal is read.
+    Ready(Recovered),
+    /// The first batch that is wrong begins at this byte, and a right one is behind it.
+    Damaged(usize),
+    /// The journal is of another node or grid, or of a plan from which this one doesn't go on.
+    Another,
+}
+
+// What a journal holds: where its right batches end, the number of the next one, whether it begins with a plan, and the text of the
+// last plan.
+#[derive(Drop)]
+struct Found<'x> {
+    at: usize,
+    number: u64,
+    begins: bool,
+    last: &'x [u8],
+}
+
+// The later one of two texts, if it is that of a plan.
+fn later_plan<'x>(last: &'x [u8], body: &'x [u8]) -> &'x [u8]
+    ensures { result.now ≡ (if is_plan (whole_lines body.now) then body.now else last.now) }
+{
+    if is_plan(body) { body } else { last }
+}
+
+// Whether the journal begins with a plan, where this is its batch of this number.
+fn begins_with(begins: bool, number: u64, body: &[u8]) -> bool
+    ensures first { number ≡ 1 → result ≡ is_plan (whole_lines body.now) }
+    ensures later { ¬ (number ≡ 1) → result ≡ begins }
+{
+    if number == 1 { is_plan(body) } else { begins }
+}
+
+// Finds the right batches of a journal.
+fn find(alloc: Global, text: &[u8]) -> Result<Found<'_>, OutOfMemory>
+    ensures ends { IfOk result (λ found. EndsAt text.now found.at found.number) }
+    ensures begins { IfOk result (λ found. found.begins ≡ begins_with_plan (batches_of text.now)) }
+    ensures last { IfOk result (λ found. found.last.now ≡ lines_text (last_plan [] (batches_of text.now))) }
+{
+    let len = text.len();
+    let mut rest = text;
+    let mut number = 1u64;
+    let mut begins = false;
+    let mut last: &[u8] = &text[..0];
+    while let Some((body, after)) = first_batch(alloc, rest, number)? {
+        begins = begins_with(begins, number, body);
+        last = later_plan(last, body);
+        rest = after;
+        number += 1;
+    }
+    Ok(Found {
+        at: len - rest.len(),
+        number,
+        begins,
+        last,
+    })
+}
+
+// Reads the lines of a batch of facts; those of a plan are passed over.
+fn recall_lines<M: Machine>(machine: &mut M, text: &[u8]) -> Result<(), Fault>
+    ensures { OnOk result (RecallsAll M.recalls machine.old (if is_plan (whole_lines text.now) then [] else whole_lines text.now) machine.new) }
+{
+    if is_plan(text) {
+        return Ok(());
+    }
+    let mut rest = text;
+    while let Some((line, after)) = first_whole_line(rest) {
+        machine.recall(line)?;
+        rest = after;
+    }
+    Ok(())
+}
+
+// Reads the facts of a journal.
+fn recall_batches<M: Machine>(alloc: Global, machine: &mut M, text: &[u8]) -> Result<(), Fault>
+    ensures { OnOk result (RecallsAll M.recalls machine.old (facts_read text.now) machine.new) }
+{
+    let mut rest = text;
+    let mut number = 1u64;
+    while let Some((body, after)) = first_batch(alloc, rest, number)? {
+        recall_lines(machine, body)?;
+        rest = after;
+        number += 1;
+    }
+    Ok(())
+}
+
+/// Reads the journal of earlier runs, once it is made sure of: the lines of the facts of all its right batches, in order. A wrong
+/// end is cut off. The plan is appended as a batch where it isn't the last one. Where a right batch is anywhere behind a wrong one
+/// it is told that the journal is damaged, and where; and it is told where the journal is of another node or of a plan from which
+/// this one doesn't go on: the journal stays as it was. Whenever it is killed, another start reads the same.
+pub fn start<M: Lasting, D: Disk, P: Plan>(
+    alloc: Global,
+    machine: &mut M,
+    disk: &mut D,
+    plan: &P,
+) -> Result<Started, Fault>
+    requires blank { M.blank machine.old machine.old }
+    requires plan { IsPlan (P.text plan.now) }
+    ensures sealed { IfOk result (λ found. ForReady found (λ reading. AllSealed (D.seen disk.new) (D.synced disk.new) reading.number)) }
+    ensures restarts { IfOk result (λ found. ForReady found (λ reading. Restarts M.recalls M.blank M.rests (whole_lines (P.text plan.now)) machine.new (D.synced disk.new))) }
+    ensures recalled { IfOk result (λ found. ForReady found (λ reading. RecallsAll M.recalls machine.old (facts_read (D.seen disk.old)) machine.new)) }
+    ensures goes_on { IfOk result (λ found. ForReady found (λ reading. is_of (P.goes_on plan.now) (P.text plan.now) (batches_of (D.seen disk.old)) ≡ true)) }
+    ensures cut { IfOk result (λ found. ForReady found (λ reading. MatchOption reading.cut (behind (D.seen disk.old) ≡ []) (λ at. behind (D.seen disk.old) ≡ drop at (D.seen disk.old)))) }
+    ensures none { IfOk result (λ found. ForReady found (λ reading. has_right_batch (behind (D.seen disk.old)) ≡ false)) }
+    ensures damaged { IfOk result (λ found. ForDamage found (λ at. IsDamaged (D.seen disk.old) at × (D.seen disk.new ≡ D.seen disk.old))) }
+    ensures another { IfOk result (λ found. ForAnother found ((is_of (P.goes_on plan.now) (P.text plan.now) (batches_of (D.seen disk.old)) ≡ false) × (D.seen disk.new ≡ D.seen disk.old))) }
+    ensures crash { Elapses (D.instant disk.old) (D.instant disk.new) (D.left_since disk.old) (D.left_since disk.new)
+        (λ left. Leaves (D.synced disk.old) (D.seen disk.old) left ⊎ ReadsAs (whole_lines (P.text plan.now)) (D.seen disk.old) left) }
+{
+    let journal = disk.read(alloc)?;
+    let text = journal.as_slice();
+    let found = find(alloc, text)?;
+    if has_right_behind(alloc, text, found.at)? {
+        return Ok(Started::Damaged(found.at));
+    }
+    if !is_of(plan, found.begins, found.last)? {
+        return Ok(Started::Another);
+    }
+    recall_batches(alloc, machine, text)?;
+    let cut = mend(disk, text, found.at)?;
+    let number = append_plan(alloc, disk, plan.text(), found.last, found.number)?;
+    Ok(Started::Ready(Recovered { number, cut }))
+}
+
+// Whether there is a right batch somewhere behind the place.
+fn has_right_behind(alloc: Global, text: &[u8], at: usize) -> Result<bool, OutOfMemory>
+    requires { at ≤ length text.now }
+    ensures { IfOk result (λ right. right ≡ has_right_batch (drop at text.now)) }
+{
+    has_right_batch(alloc, &text[at..])
+}
+
+// Whether the journal is of this plan's node: it begins with a plan, and this one goes on from its last.
+fn is_of<P: Plan>(plan: &P, begins: bool, last: &[u8]) -> Result<bool, Fault>
+    ensures { IfOk result (λ is. is ≡ (begins && goes_on_from (P.goes_on plan.now) (P.text plan.now) last.now)) }
+{
+    if !begins {
+        return Ok(false);
+    }
+    goes_on_from(plan, last)
+}
+
+// Cuts off what is behind the right batches. Answers where.
+fn mend<D: Disk>(disk: &mut D, text: &[u8], at: usize) -> Result<Option<usize>, Fault>
+    requires seen { D.seen disk.old ≡ text.now }
+    requires synced { D.synced disk.old ≡ text.now }
+    requires within { at ≤ length text.now }
+    ensures seen { OnOk result (D.seen disk.new ≡ take at text.now) }
+    ensures synced { OnOk result (D.synced disk.new ≡ take at text.now) }
+    ensures cut { IfOk result (λ cut. MatchOption cut (drop at text.now ≡ []) (λ place. place ≡ at)) }
+    ensures crash { Elapses (D.instant disk.old) (D.instant disk.new) (D.left_since disk.old) (D.left_since disk.new) (Leaves (take at text.now) text.now) }
+{
+    if at == text.len() {
+        return Ok(None);
+    }
+    disk.cut(at)?;
+    disk.sync()?;
+    Ok(Some(at))
+}
+
+// The plan, where it isn't the last one; else nothing.
+fn new_plan(alloc: Global, plan: &[u8], last: &[u8]) -> Result<Vec<u8>, OutOfMemory>
+    ensures { IfOk result (λ new. new.items ≡ new_plan plan.now last.now) }
+{
+    if last == plan {
+        return Ok(Vec::new(alloc));
+    }
+    slice_copied(alloc, plan)
+}
+
+// Appends the plan as a batch of this number and syncs it, where it isn't the last plan. Answers the number of the next batch.
+fn append_plan<L: Log>(
+    alloc: Global,
+    log: &mut L,
+    plan: &[u8],
+    last: &[u8],
+    number: u64,
+) -> Result<u64, Fault>
+    requires { L.seen log.old ≡ L.synced log.old }
+    ensures synced { OnOk result (L.synced log.new ≡ L.synced log.old ++ kept_text number (new_plan plan.now last.now)) }
+    ensures all { OnOk result (L.seen log.new ≡ L.synced log.new) }
+    ensures number { IfOk result (λ next. next ≡ number_after number (new_plan plan.now last.now)) }
+    ensures crash { Elapses (L.instant log.old) (L.instant log.new) (L.left_since log.old) (L.left_since log.new)
+        (LeavesSyncing (L.synced log.old) (L.synced log.old ++ kept_text number (new_plan plan.now last.now))) }
+{
+    let mut batch = new_plan(alloc, plan, last)?;
+    let mut next = number;
+    keep(log, &mut next, &mut batch)?;
+    Ok(next)
+}

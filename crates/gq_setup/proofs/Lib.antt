@@ -1,0 +1,5 @@
+pub mod LineByLine
+pub mod Comparing
+pub mod Reading
+pub mod Accounts
+pub mod Staying

@@ -1,0 +1,36 @@
+-- When a setup goes on from an older one: no home and no volume moves.
+use Rattle.std.specs.Prelude.{List, [], ◌∷◌, Bool, true, false, ◌&&◌, ◌==◌, nat_le}
+use Rattle.std.specs.Str.{bytes_eq}
+use Rattle.gq_desk.specs.CheckedPlan.{CheckedPlan}
+use Rattle.gq_desk.specs.declared.plans.TenantRow.{TenantRow}
+use Rattle.gq_desk.specs.declared.volumes.VolumeRow.{VolumeRow}
+use Rattle.gq_desk.specs.Volumes.{Account}
+use Rattle.gq_setup.specs.Setups.{Setup, holdings}
+
+-- the old ones come first, each as the test wants it
+abbrev pub come_first : {A : Type 0} → (A → A → Bool) → List A → List A → Bool
+come_first test [] news = true
+come_first test (old ∷ olds) [] = false
+come_first test (old ∷ olds) (new ∷ news) = test old new && come_first test olds news
+
+-- the row is of the same tenant with as many sessions, and has no smaller share
+abbrev pub row_goes_on : TenantRow → TenantRow → Bool
+row_goes_on old new = bytes_eq old.name new.name && (old.sessions == new.sessions && nat_le old.share new.share)
+
+abbrev pub same_volume : VolumeRow → VolumeRow → Bool
+same_volume old new = old.files == new.files && old.blocks == new.blocks
+
+-- the old volumes come first
+abbrev pub account_goes_on : Account → Account → Bool
+account_goes_on old new = come_first same_volume old.volumes new.volumes
+
+abbrev pub same_servers : CheckedPlan → CheckedPlan → Bool
+same_servers old new = (old.grid.rows == new.grid.rows && old.grid.cols == new.grid.cols) && old.blocks == new.blocks
+
+-- the old tenants come first, each with its old volumes first
+abbrev pub tenants_go_on : Setup → Setup → Bool
+tenants_go_on old new = come_first row_goes_on old.plan.rows new.plan.rows && come_first account_goes_on (holdings old) (holdings new)
+
+-- the same grid and blocks of a server, and the old tenants first
+abbrev pub goes_on : Setup → Setup → Bool
+goes_on old new = same_servers old.plan new.plan && tenants_go_on old new

@@ -1,0 +1,5 @@
+pub mod Setups
+pub mod GoingOn
+pub mod Texts
+pub mod Faults
+pub mod Laws
