@@ -254,16 +254,16 @@ register_is : (os : List Op) (bytes : List ℕ) → Decides (register_gives os b
 register_is [] bytes = (λ h. tt, λ h. refl)
 register_is (a ∷ os) bytes = go a.kind refl (register_is os)
   where
-    both : Decides (register_gives os bytes) (RegisterGives os bytes) → Decides (gives a bytes && register_gives os bytes) (Gives a bytes × RegisterGives os bytes)
-    both later = (
-      λ h. let parts = and_parts (gives a bytes) (register_gives os bytes) h in ((gives_is a bytes).0 parts.0, later.0 parts.1),
-      λ h. and_from (gives a bytes) (register_gives os bytes) ((gives_is a bytes).1 h.0) (later.1 h.1),
+    both : is_write a ≡ false → Decides (register_gives os bytes) (RegisterGives os bytes) → Decides (gives a bytes && register_gives os bytes) ((is_write a ≡ false → Gives a bytes) × RegisterGives os bytes)
+    both reads later = (
+      λ h. let parts = and_parts (gives a bytes) (register_gives os bytes) h in ((λ _. (gives_is a bytes).0 parts.0), later.0 parts.1),
+      λ h. and_from (gives a bytes) (register_gives os bytes) ((gives_is a bytes).1 (h.0 reads)) (later.1 h.1),
     )
 
     go : (k : Kind) → a.kind ≡ k → ((bytes : List ℕ) → Decides (register_gives os bytes) (RegisterGives os bytes)) → Decides (register_gives (a ∷ os) bytes) (RegisterGives (a ∷ os) bytes)
-    go (Writes written) is later = rw is (later written)
-    go (Reads gave) is later = let h = both (later bytes) in rw is (rw is at h)
-    go (Rows gave) is later = let h = both (later bytes) in rw is (rw is at h)
+    go (Writes written) is later = rw is ((λ h. ((λ reads. absurd (true≢false reads)), (later written).0 h)), λ h. (later written).1 h.1)
+    go (Reads gave) is later = let reads : is_write a ≡ false = rw is refl in let h = both reads (later bytes) in rw is (rw is at h)
+    go (Rows gave) is later = let reads : is_write a ≡ false = rw is refl in let h = both reads (later bytes) in rw is (rw is at h)
 
 -- ---- the whole test
 

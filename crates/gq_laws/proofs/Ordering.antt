@@ -259,9 +259,9 @@ register ops places tagged order (i ∷ ps) n bytes rest keeps = by (order.stand
     by (a, at, stands) later = rw at (go a.kind refl)
       where
         go : (k : Kind) → a.kind ≡ k → RegisterGives (a ∷ ops_at ops ps) bytes
-        go (Writes written) is = rw is (later written (keeps_write ops places order n i a bytes written place at is))
-        go (Reads gave) is = let reads : is_write a ≡ false = rw is in let gives = gives_kept ops places tagged order n i a bytes place at reads keeps in rw is ((rw is at gives), later bytes (keeps_read ops places n i a bytes place at reads keeps))
-        go (Rows gave) is = let reads : is_write a ≡ false = rw is in let gives = gives_kept ops places tagged order n i a bytes place at reads keeps in rw is ((rw is at gives), later bytes (keeps_read ops places n i a bytes place at reads keeps))
+        go (Writes written) is = rw is ((λ reads. absurd (true≢false reads)), later written (keeps_write ops places order n i a bytes written place at is))
+        go (Reads gave) is = let reads : is_write a ≡ false = rw is in let gives = gives_kept ops places tagged order n i a bytes place at reads keeps in rw is ((λ _. rw is at gives), later bytes (keeps_read ops places n i a bytes place at reads keeps))
+        go (Rows gave) is = let reads : is_write a ≡ false = rw is in let gives = gives_kept ops places tagged order n i a bytes place at reads keeps in rw is ((λ _. rw is at gives), later bytes (keeps_read ops places n i a bytes place at reads keeps))
 
 -- ---- the law
 

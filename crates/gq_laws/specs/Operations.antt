@@ -200,15 +200,19 @@ pub record Tagged (ops : List Op) : Type 0 where
   pub sourced : (i e : ℕ) (a : Op) (tag : Tag) → At ops i a → is_write a ≡ false → a.end ≡ Some e → a.tag ≡ Some tag →
       ((tag ≡ first_tag) × Gives a []) ⊎ ((j : ℕ) × (w : Op) × (bytes : List ℕ) × At ops j w × WroteWith w tag bytes × (w.begin < e) × Gives a bytes)
 
--- in this order a single register gives the same answers, which holds the bytes before them
--- (the register condition of Herlihy and Wing, Linearizability, ACM TOPLAS 12(3), 1990)
+-- what a register holds after the operation, where it held these bytes before
+abbrev pub held_by : List ℕ → Op → List ℕ
+held_by bytes a = by a.kind
+  where
+    by : Kind → List ℕ
+    by (Writes written) = written
+    by _ = bytes
+
+-- in this order a single register, which holds the bytes before them, gives the same answers: each operation but a write gives what
+-- the register then holds (the register condition of Herlihy and Wing, Linearizability, ACM TOPLAS 12(3), 1990)
 abbrev pub RegisterGives : List Op → List ℕ → Type 0
 RegisterGives [] bytes = ⊤
-RegisterGives (a ∷ rest) bytes = by a.kind (RegisterGives rest)
-  where
-    by : Kind → (List ℕ → Type 0) → Type 0
-    by (Writes written) later = later written
-    by _ later = Gives a bytes × later bytes
+RegisterGives (a ∷ rest) bytes = (is_write a ≡ false → Gives a bytes) × RegisterGives rest (held_by bytes a)
 
 -- the operations at these places, in this order
 abbrev pub ops_at : List Op → List ℕ → List Op

@@ -4,9 +4,9 @@ use Rattle.std.specs.Prelude.{⊤, slice_get}
 use Rattle.gq_laws.specs.declared.ops.Kind.{Kind}
 use Rattle.gq_laws.specs.declared.ops.Kind.TheVariants.{Write as Writes, Read as Reads, Row as Rows}
 use Rattle.gq_laws.specs.declared.ops.Op.{Op}
-use Rattle.gq_laws.specs.Operations.{At, Gives, RegisterGives, is_write, ops_at}
+use Rattle.gq_laws.specs.Operations.{At, Gives, RegisterGives, held_by, is_write, ops_at}
 use Rattle.gq_picture.specs.Drawing.{is_write_at, values_from}
-use Rattle.gq_picture.specs.Register.{held_by, written_by}
+use Rattle.gq_picture.specs.Register.{written_by}
 use Rattle.gq_picture.specs.declared.drawing.Bar.{Bar}
 use Rattle.gq_picture.specs.declared.drawing.Value.{Value}
 use Rattle.gq_picture.specs.Laws.{IsRow, Spans}
@@ -111,23 +111,6 @@ value_under ops edge write left low (y ∷ bars) (suc m) x under up at other =
         (suc rest.0, rest.1, ap (λ values. slice_get values (suc rest.0)) (values_write ops edge write left y bars is) ∙ rest.2, rest.3)
     by false is later = let rises = up.0 in subst IsUnder (sym (values_other ops edge write left y bars is)) (later write left (omega (arith, under, rises)))
 
--- what the register gives one operation on
-register_next : (b : Op) (rest : List Op) (bytes : List ℕ) → RegisterGives (b ∷ rest) bytes → RegisterGives rest (held_by bytes b)
-register_next b rest bytes gives = by b.kind refl
-  where
-    by : (kind : Kind) → b.kind ≡ kind → RegisterGives rest (held_by bytes b)
-    by (Writes written) is = rw is (rw is at gives)
-    by (Reads given) is = rw is (rw is at gives).1
-    by (Rows given) is = rw is (rw is at gives).1
-
-register_first : (b : Op) (rest : List Op) (bytes : List ℕ) → is_write b ≡ false → RegisterGives (b ∷ rest) bytes → Gives b bytes
-register_first b rest bytes other gives = by b.kind refl
-  where
-    by : (kind : Kind) → b.kind ≡ kind → Gives b bytes
-    by (Writes written) is = absurd (let yes : is_write b ≡ true = rw is refl in cc)
-    by (Reads given) is = rw is (rw is at gives).0
-    by (Rows given) is = rw is (rw is at gives).0
-
 held_write : (b : Op) (bytes : List ℕ) → is_write b ≡ true → held_by bytes b ≡ held_by [] b
 held_write b bytes writes = by b.kind refl
   where
@@ -154,7 +137,7 @@ register_write ops p places bytes writes gives = by (slice_get ops p) refl
         let own : is_write b ≡ true = rw found at writes in
         let is : held_by bytes b ≡ written_by ops (Some p) = held_write b bytes own ∙ rw found refl in
         subst (λ (held : List ℕ). RegisterGives (ops_at ops places) held) is
-        (register_next b (ops_at ops places) bytes (subst (λ (those : List Op). RegisterGives those bytes) (ops_more ops p places b found) gives))
+        (subst (λ (those : List Op). RegisterGives those bytes) (ops_more ops p places b found) gives).1
 
 -- and behind any other what it held before
 register_other : (ops : List Op) (p : ℕ) (places : List ℕ) (bytes : List ℕ) → is_write_at ops p ≡ false → RegisterGives (ops_at ops (p ∷ places)) bytes → RegisterGives (ops_at ops places) bytes
@@ -165,7 +148,7 @@ register_other ops p places bytes other gives = by (slice_get ops p) refl
     by (Some b) found =
         let own : is_write b ≡ false = rw found at other in
         subst (λ (held : List ℕ). RegisterGives (ops_at ops places) held) (held_other b bytes own)
-        (register_next b (ops_at ops places) bytes (subst (λ (those : List Op). RegisterGives those bytes) (ops_more ops p places b found) gives))
+        (subst (λ (those : List Op). RegisterGives those bytes) (ops_more ops p places b found) gives).1
 
 -- what stands there is what it holds
 pub value_gives : (ops : List Op) (edge : ℕ) (write : Option ℕ) (left low : ℕ) (bars : List Bar) (m : ℕ) (x : Bar) (a : Op) (j : ℕ) (v : Value)
@@ -187,7 +170,7 @@ value_gives ops edge write left low (y ∷ bars) zero x a j v up gives at found 
     rest = ap (λ values. slice_get values j) (sym (values_other ops edge write left y bars no_write)) ∙ drawn
 
     now : Gives a (written_by ops write)
-    now = register_first a (ops_at ops (map (λ b. b.place) bars)) (written_by ops write) other (subst (λ (those : List Op). RegisterGives those (written_by ops write)) (ops_more ops y.place (map (λ b. b.place) bars) a here) gives)
+    now = (subst (λ (those : List Op). RegisterGives those (written_by ops write)) (ops_more ops y.place (map (λ b. b.place) bars) a here) gives).0 other
 
     by : IsFirstOrLater write left y.point v → Gives a (written_by ops v.write)
     by (inl first) = subst (λ (last : Option ℕ). Gives a (written_by ops last)) (sym first.0) now

@@ -1,16 +1,7 @@
 -- What the register holds.
 use Rattle.std.specs.Prelude.{ℕ, List, [], Option, Some, None, slice_get}
-use Rattle.gq_laws.specs.declared.ops.Kind.{Kind}
-use Rattle.gq_laws.specs.declared.ops.Kind.TheVariants.{Write as Writes}
 use Rattle.gq_laws.specs.declared.ops.Op.{Op}
-
--- what it holds after an operation, where it held these bytes before
-abbrev pub held_by : List ℕ → Op → List ℕ
-held_by bytes a = by a.kind
-  where
-    by : Kind → List ℕ
-    by (Writes written) = written
-    by _ = bytes
+use Rattle.gq_laws.specs.Operations.{held_by}
 
 -- what it holds where the write at this place was the last one, and nothing where there was none
 abbrev pub written_by : List Op → Option ℕ → List ℕ
