@@ -1,9 +1,7 @@
 -- What a start needs of a register.
-use Rattle.std.proofs.Common.{◌≡◌, ◌⊎◌, List, ℕ, [], ◌∷◌, ◌++◌, Bool, true, false, refl, sym, ap, ◌∙◌, subst, append-nil, ⊎_elim, cond}
+use Rattle.std.proofs.Common.{◌≡◌, List, ℕ, [], ◌∷◌, ◌++◌, Bool, true, false, refl, sym, ap, ◌∙◌, append-nil, ⊎_elim, cond}
 use Rattle.std.specs.Prelude.{◌&&◌}
-use Rattle.gq_journal.specs.Batches.{Line, ended_line, lines_text}
-use Rattle.gq_keeper.specs.Plans.{are_facts}
-use Rattle.gq_keeper.specs.Starting.{RecallsAll}
+use Rattle.gq_journal.specs.Batches.{Line, ended_line}
 use Rattle.gq_keeper.specs.Restarting.{Needs}
 use Rattle.gq_keeper_tests.specs.Registers.{is_fact, IsHeld, held_after}
 

@@ -1,4 +1,4 @@
-use Rattle.std.proofs.Common.{◌≡◌, ◌++◌, ap, sym, ◌∙◌, subst}
+use Rattle.std.proofs.Common.{◌++◌, ap, ◌∙◌, subst}
 use Rattle.gq_keeper_tests.specs.Registers.{IsHeld}
 use Rattle.gq_keeper_tests.proofs.Needed.{needed}
 use Rattle.gq_keeper_tests.proofs.register.RegisterLasting.put_needed.Goals as goal
