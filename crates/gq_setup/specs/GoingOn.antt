@@ -1,11 +1,11 @@
 -- When a setup goes on from an older one: no home and no volume moves.
-use Rattle.std.specs.Prelude.{List, [], ◌∷◌, Bool, true, false, ◌&&◌, ◌==◌, nat_le}
+use Rattle.std.specs.Prelude.{List, [], ◌∷◌, Bool, true, false, ◌&&◌, ◌==◌, nat_le, Ok, Err}
 use Rattle.std.specs.Str.{bytes_eq}
 use Rattle.gq_desk.specs.CheckedPlan.{CheckedPlan}
 use Rattle.gq_desk.specs.declared.plans.TenantRow.{TenantRow}
 use Rattle.gq_desk.specs.declared.volumes.VolumeRow.{VolumeRow}
 use Rattle.gq_desk.specs.Volumes.{Account}
-use Rattle.gq_setup.specs.Setups.{Setup, holdings}
+use Rattle.gq_setup.specs.Setups.{Setup, SetupReading, holdings}
 
 -- the old ones come first, each as the test wants it
 abbrev pub come_first : {A : Type 0} → (A → A → Bool) → List A → List A → Bool
@@ -34,3 +34,8 @@ tenants_go_on old new = come_first row_goes_on old.plan.rows new.plan.rows && co
 -- the same grid and blocks of a server, and the old tenants first
 abbrev pub goes_on : Setup → Setup → Bool
 goes_on old new = same_servers old.plan new.plan && tenants_go_on old new
+
+-- the same of what a text tells, if it tells a setup
+abbrev pub goes_on_from_read : SetupReading Setup → Setup → Bool
+goes_on_from_read (Ok old) new = goes_on old new
+goes_on_from_read (Err fault) new = false

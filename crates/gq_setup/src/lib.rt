@@ -4,8 +4,10 @@
 
 mod going_on;
 pub mod laws;
+mod node_plan;
 mod openings;
 mod setup;
 
+pub use node_plan::NodePlan;
 pub use openings::{Opening, SetupFault};
 pub use setup::{Setup, read_setup};

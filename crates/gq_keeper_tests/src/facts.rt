@@ -1,0 +1,111 @@
+//! Each fact as a line, by hand.
+
+use gq_desk::{Name, Plan, TenantRow};
+use gq_facts::{put_fact, read_fact};
+use gq_grid::Grid;
+use gq_memory::{GrowCopies, bytes_of};
+use gq_node::Fact;
+use gq_tag::{FileId, StoredCopy, Tag};
+use std::alloc::Global;
+use std::process::Abort;
+use std::test::Fail;
+
+fn plan(rt: &impl Abort, alloc: Global) -> Plan {
+    let grid = Grid::new(2, 2).expect(rt, "a grid");
+    let row = TenantRow {
+        name: Name::new(b"ann").expect(rt, "a name"),
+        share: 8,
+        sessions: 2,
+        steps: 10,
+    };
+    Plan::check(alloc, grid, 16, &[row]).expect(rt, "a plan")
+}
+
+// The line that is read of the line without its newline, or nothing.
+fn again(rt: &impl Abort, alloc: Global, line: &[u8]) -> Vec<u8> {
+    let plan = plan(rt, alloc);
+    let mut out = Vec::new(alloc);
+    if let Some(fact) = read_fact(alloc, line, &plan).expect(rt, "memory") {
+        put_fact(&mut out, &plan, &fact).expect(rt, "memory");
+    }
+    out
+}
+
+#[test]
+fn writes_each_fact(rt: HostRuntime) -> Result<(), Fail> {
+    let alloc = rt.alloc();
+    let plan = plan(&rt, alloc);
+    let mut bytes = Vec::new(alloc);
+    bytes.grow_by(&[10, 240])?;
+    let copy = StoredCopy {
+        tag: Tag {
+            number: 18_446_744_073_709_551_615,
+            session: 2,
+        },
+        bytes: bytes_of(bytes)?,
+    };
+    let file = FileId {
+        tenant: 0,
+        volume: 1,
+        file: 3,
+    };
+    let facts = [
+        Fact::Began {
+            tenant: 0,
+            session: 1,
+            op: 4_294_967_295,
+        },
+        Fact::Numbered {
+            tenant: 0,
+            session: 2,
+            number: 18_446_744_073_709_551_615,
+        },
+        Fact::Kept { file, copy },
+    ];
+    let mut out = Vec::new(alloc);
+    for fact in &facts {
+        put_fact(&mut out, &plan, fact)?;
+    }
+    assert_eq!(rt;
+        std::str::from_utf8(out.as_slice()).ok(),
+        Some(
+            "began ann 1 4294967295\nnumbered ann 2 18446744073709551615\nkept ann 1 3 18446744073709551615 2 0af0\n"
+        )
+    );
+    Ok(())
+}
+
+#[test]
+fn reads_each_fact(rt: HostRuntime) -> Result<(), Fail> {
+    let alloc = rt.alloc();
+    let cases: [(&str, &str); 16] = [
+        ("began ann 1 5", "began ann 1 5\n"),
+        (
+            "numbered ann 1 18446744073709551615",
+            "numbered ann 1 18446744073709551615\n",
+        ),
+        ("kept ann 0 3 7 1 0aF0", "kept ann 0 3 7 1 0af0\n"),
+        ("kept ann 0 3 7 1 -", "kept ann 0 3 7 1 -\n"),
+        ("", ""),
+        ("began", ""),
+        ("began ann", ""),
+        ("began ann 1", ""),
+        ("began ann 1 5 6", ""),
+        ("began ann 256 5", ""),
+        ("began bob 1 5", ""),
+        ("began ann 1 4294967296", ""),
+        ("numbered ann 1 18446744073709551616", ""),
+        ("kept ann 0 3 7 1", ""),
+        ("kept ann 0 3 7 1 0aF", ""),
+        ("sync 1 2 3", ""),
+    ];
+    for (line, want) in cases {
+        let out = again(&rt, alloc, line.as_bytes());
+        assert_eq!(rt;
+            std::str::from_utf8(out.as_slice()).ok(),
+            Some(want),
+            "{line}"
+        );
+    }
+    Ok(())
+}

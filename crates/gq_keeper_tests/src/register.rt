@@ -1,0 +1,126 @@
+//! A machine of one register.
+
+ghost use Rattle.std.specs.Prelude.{◌≡◌, ◌&&◌, ◌++◌, [], true, not, OnOk};
+ghost use Rattle.gq_journal.specs.Batches.{ended_line, is_batch_line};
+ghost use Rattle.gq_keeper.specs.Plans.{is_head};
+ghost use Rattle.gq_keeper_tests.specs.Registers.{is_fact};
+
+use gq_journal::is_batch_line;
+use gq_keeper::{Fault, Lasting, Machine};
+use gq_memory::{GrowCopies, GrowVec, OutOfMemory};
+use std::alloc::Global;
+use std::marker::Model;
+
+/// A register: of the lines that may be facts it holds the last one. It tells each of them.
+#[derive(Drop)]
+pub struct Register {
+    text: Vec<u8>,
+}
+
+// Its line with the newline that ends it, or nothing at first.
+impl Model for Register {
+    ghost use Rattle.std.specs.Prelude.{List, ℕ};
+    ghost use Rattle.gq_keeper_tests.specs.Registers.{IsHeld};
+
+    ghost Value = { List ℕ };
+
+    ghost view = { λ r. r.text.items };
+
+    ghost invariant = { λ r. IsHeld r.text.items };
+}
+
+impl Register {
+    /// One that holds no line.
+    pub fn new(alloc: Global) -> Register
+        ensures { result ≡ [] }
+    {
+        Register {
+            text: Vec::new(alloc),
+        }
+    }
+
+    /// The line that it holds, with its newline.
+    pub fn text(&self) -> &[u8]
+        ensures { result.now ≡ self.now }
+    {
+        self.text.as_slice()
+    }
+
+    // Holds the line.
+    fn hold(&mut self, line: &[u8]) -> Result<(), OutOfMemory>
+        requires { is_fact line.now ≡ true }
+        ensures { OnOk result (self.new ≡ ended_line line.now) }
+    {
+        let mut text = Vec::new(*self.text.allocator());
+        put_line(&mut text, line)?;
+        self.text = text;
+        Ok(())
+    }
+}
+
+// Whether the line may be one of facts.
+fn is_fact(line: &[u8]) -> bool
+    ensures { result ≡ is_fact line.now }
+{
+    is_batch_line(line) && !is_head(line)
+}
+
+// Whether a plan begins with the line.
+fn is_head(line: &[u8]) -> bool
+    ensures { result ≡ is_head line.now }
+{
+    line.len() >= 5 && &line[..5] == b"node ".as_slice()
+}
+
+// Appends the line and a newline.
+fn put_line(out: &mut Vec<u8>, line: &[u8]) -> Result<(), OutOfMemory>
+    ensures { OnOk result (out.new.items ≡ out.old.items ++ ended_line line.now) }
+{
+    out.grow_by(line)?;
+    out.grow(b'\n')
+}
+
+impl Machine for Register {
+    ghost use Rattle.gq_keeper_tests.specs.Registers.{StepsTo, held_after};
+
+    ghost steps = { StepsTo };
+
+    ghost recalls = { λ old line new. new ≡ held_after old line };
+
+    fn recall(&mut self, line: &[u8]) -> Result<(), Fault> {
+        if is_fact(line) {
+            self.hold(line)?;
+        }
+        Ok(())
+    }
+
+    fn take(&mut self, line: &[u8], facts: &mut Vec<u8>, told: &mut Vec<u8>) -> Result<(), Fault> {
+        if !is_fact(line) {
+            return Ok(());
+        }
+        put_line(facts, line)?;
+        put_line(told, line)?;
+        self.hold(line)?;
+        Ok(())
+    }
+}
+
+impl Lasting for Register {
+    ghost use Rattle.gq_keeper_tests.specs.Registers.{gives_facts, keeps_rest, starts_again};
+
+    ghost blank = { λ machine first. first ≡ [] };
+
+    ghost rests = { λ machine again. again ≡ machine };
+
+    fn put_needed(&self, facts: &mut Vec<u8>) -> Result<(), Fault> {
+        Ok(facts.grow_by(self.text.as_slice())?)
+    }
+
+    ghost gives_facts = { gives_facts };
+
+    ghost keeps_blank = { λ old line facts told new other step begins. begins };
+
+    ghost keeps_rest = { keeps_rest };
+
+    ghost starts_again = { starts_again };
+}

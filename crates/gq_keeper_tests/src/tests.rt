@@ -1,0 +1,355 @@
+//! Starts, loops and crashes over a journal in memory.
+
+ghost use Rattle.std.specs.Prelude.{◌≡◌};
+
+use crate::{Lived, Register, Shown, Terms, begin, live};
+use gq_keeper::{Fault, MemoryDisk};
+use gq_memory::{GrowCopies, slice_copied};
+use std::alloc::Global;
+use std::io;
+use std::io::Read;
+use std::process::Abort;
+
+const PLAN: &[u8] = b"node 0 of 1 by 1\nann\n";
+
+// The digests are those of `sha256sum`.
+const FIRST: &[u8] = b"node 0 of 1 by 1\nann\nsync 1 21 c9a8de68ddf234c7\n";
+
+const SECOND: &[u8] = b"put a\nput b\nsync 2 12 4e4fe65a7733530c\n";
+
+const THIRD: &[u8] = b"put c\nsync 3 6 efa8316c08428f63\n";
+
+const LONGER: &[u8] = b"node 0 of 1 by 1\nann\nbob\n";
+
+const LONGER_THIRD: &[u8] = b"node 0 of 1 by 1\nann\nbob\nsync 3 25 f2cf4f7f0dc73e74\n";
+
+// More calls than any run makes.
+const MANY: usize = 1_000_000;
+
+// Gives at most so many bytes a call.
+#[derive(Drop)]
+struct Source<'a> {
+    text: &'a [u8],
+    each: usize,
+}
+
+impl<'a> Read for Source<'a> {
+    fn read(&mut self, buf: &mut [u8]) -> io::Result<usize> {
+        let n = buf.len().min(self.each).min(self.text.len());
+        let (given, rest) = self.text.split_at(n);
+        buf[..n].copy_from_slice(given);
+        self.text = rest;
+        Ok(n)
+    }
+}
+
+// What is left of a run.
+#[derive(Drop)]
+struct Stopped {
+    lived: Result<Lived, Fault>,
+    journal: MemoryDisk,
+    shown: Shown,
+    register: Register,
+}
+
+impl Stopped {
+    fn held(&self) -> &[u8] {
+        self.register.text()
+    }
+
+    fn cut(&self, rt: &impl Abort) -> Option<usize> {
+        match &self.lived {
+            Ok(Lived::Served(cut)) => *cut,
+            _ => None.expect(rt, "a run that was served"),
+        }
+    }
+}
+
+fn copied(rt: &impl Abort, alloc: Global, bytes: &[u8]) -> Vec<u8>
+    ensures { result.items ≡ bytes.now }
+{
+    slice_copied(alloc, bytes).ok().expect(rt, "memory")
+}
+
+// A run over a journal that a crash left, where the disk and the output answer so many calls.
+fn run(
+    rt: &impl Abort,
+    alloc: Global,
+    left: &[u8],
+    text: &[u8],
+    plan: &[u8],
+    each: usize,
+    calls: usize,
+    shows: usize,
+) -> Stopped {
+    let plan = Terms::of(plan).expect(rt, "a plan");
+    let mut journal = MemoryDisk::new(copied(rt, alloc, left), calls);
+    let mut shown = Shown::new(alloc, shows);
+    let mut register = Register::new(alloc);
+    let mut input = Source { text, each };
+    let lived = live(
+        alloc,
+        &mut register,
+        &mut journal,
+        &plan,
+        &mut input,
+        &mut shown,
+    );
+    Stopped {
+        lived,
+        journal,
+        shown,
+        register,
+    }
+}
+
+// A run of which no call fails.
+fn whole(rt: &impl Abort, alloc: Global, left: &[u8], text: &[u8]) -> Stopped {
+    run(rt, alloc, left, text, PLAN, MANY, MANY, MANY)
+}
+
+fn joined(rt: &impl Abort, alloc: Global, parts: &[&[u8]]) -> Vec<u8> {
+    let mut all = Vec::new(alloc);
+    for part in parts {
+        all.grow_by(*part).ok().expect(rt, "memory");
+    }
+    all
+}
+
+#[test]
+fn writes_the_first_journal(rt: HostRuntime) {
+    let alloc = rt.alloc();
+    let plan = Terms::of(PLAN).expect(&rt, "a plan");
+    let mut journal = MemoryDisk::new(Vec::new(alloc), MANY);
+    assert!(rt; matches!(begin(alloc, &mut journal, &plan), Ok(2)));
+    assert!(rt; journal.bytes() == FIRST);
+    assert!(rt; journal.sure_bytes() == FIRST);
+}
+
+#[test]
+fn keeps_what_it_tells(rt: HostRuntime) {
+    let alloc = rt.alloc();
+    let first = whole(&rt, alloc, FIRST, b"put a\nnode x\nput b\n");
+    assert!(rt; first.shown.bytes() == b" ?\nput a\nput b\n".as_slice());
+    let two = joined(&rt, alloc, &[FIRST, SECOND]);
+    assert!(rt; first.journal.bytes() == two.as_slice());
+    assert!(rt; first.journal.sure_bytes() == two.as_slice());
+    // a line without facts appends nothing
+    let none = whole(&rt, alloc, two.as_slice(), b"node x\nsync 1\n");
+    assert!(rt; none.shown.bytes() == b" ?\n".as_slice());
+    assert!(rt; none.journal.bytes() == two.as_slice());
+    assert!(rt; none.held() == b"put b\n".as_slice());
+    let more = whole(&rt, alloc, two.as_slice(), b"put c\nput d");
+    assert!(rt; more.shown.bytes() == b" ?\nput c\n".as_slice());
+    let three = joined(&rt, alloc, &[FIRST, SECOND, THIRD]);
+    assert!(rt; more.journal.bytes() == three.as_slice());
+}
+
+// The lines `put 0` up to `put 5`, each of them one read.
+const LINES: &[u8] = b"put 0\nput 1\nput 2\nput 3\nput 4\nput 5\n";
+
+// The lines of a text's beginning.
+fn held_after(shown: &[u8]) -> &[u8] {
+    if shown.len() < 6 {
+        return b"";
+    }
+    &shown[shown.len() - 6..]
+}
+
+// A start from what a crash left holds what was told, or the line behind it.
+fn starts_again(rt: &impl Abort, alloc: Global, left: &[u8], told: &[u8]) {
+    let again = whole(rt, alloc, left, b"");
+    let _ = again.cut(rt);
+    let next = &LINES[..(told.len() + 6).min(LINES.len())];
+    assert!(rt; again.held() == held_after(told) || again.held() == held_after(next));
+    // the journal goes on
+    let on = whole(rt, alloc, left, b"put x\n");
+    let _ = on.cut(rt);
+    assert!(rt; on.shown.bytes() == b" ?\nput x\n".as_slice());
+    assert!(rt; whole(rt, alloc, on.journal.bytes(), b"").held() == b"put x\n".as_slice());
+}
+
+#[test]
+fn loses_nothing_that_was_told(rt: HostRuntime) {
+    let alloc = rt.alloc();
+    let mut ends = false;
+    for calls in 0..100 {
+        let stopped = run(&rt, alloc, FIRST, LINES, PLAN, 6, calls, MANY);
+        ends = stopped.lived.is_ok();
+        let shown = stopped.shown.bytes();
+        let told = told_of(shown);
+        assert!(rt; LINES.starts_with(told));
+        // whatever beginning of what was not synced is left
+        let seen = stopped.journal.bytes();
+        let sure = stopped.journal.sure_bytes().len();
+        for k in sure..seen.len() + 1 {
+            if calls > 0 {
+                starts_again(&rt, alloc, &seen[..k], told);
+            }
+        }
+        if ends {
+            assert!(rt; told == LINES);
+            break;
+        }
+    }
+    assert!(rt; ends);
+}
+
+#[test]
+fn shows_nothing_behind_a_failed_write(rt: HostRuntime) {
+    let alloc = rt.alloc();
+    for shows in 0..7 {
+        let stopped = run(&rt, alloc, FIRST, LINES, PLAN, 6, MANY, shows);
+        assert!(rt; matches!(&stopped.lived, Err(Fault::Write)));
+        let told = if shows > 0 { 6 * (shows - 1) } else { 0 };
+        let shown = stopped.shown.bytes();
+        assert!(rt; shown.len() == if shows > 0 { 3 + told } else { 0 });
+        starts_again(&rt, alloc, stopped.journal.bytes(), &LINES[..told]);
+    }
+}
+
+#[test]
+fn tells_damage_from_a_torn_end(rt: HostRuntime) {
+    let alloc = rt.alloc();
+    let three = joined(&rt, alloc, &[FIRST, SECOND, THIRD]);
+    let two = joined(&rt, alloc, &[FIRST, SECOND]);
+    let second = FIRST.len();
+    let third = second + SECOND.len();
+    for at in 0..three.len() {
+        let mut flipped = copied(&rt, alloc, three.as_slice());
+        flipped[at] ^= 1;
+        let started = whole(&rt, alloc, flipped.as_slice(), b"");
+        if at >= third {
+            assert!(rt;
+                matches!(&started.lived, Ok(Lived::Served(Some(place))) if *place == third),
+                "at {at}"
+            );
+            assert!(rt; started.held() == b"put b\n".as_slice());
+            assert!(rt; started.journal.sure_bytes() == two.as_slice());
+        } else {
+            let batch = if at < second { 0 } else { second };
+            assert!(rt;
+                matches!(&started.lived, Ok(Lived::Damaged(place)) if *place == batch),
+                "at {at}"
+            );
+            assert!(rt; started.journal.bytes() == flipped.as_slice());
+            assert!(rt; started.shown.bytes().is_empty());
+        }
+    }
+    // an end of which any beginning is left is cut off
+    for k in third..three.len() {
+        let started = whole(&rt, alloc, &three[..k], b"");
+        let cut = started.cut(&rt);
+        assert!(rt; cut == if k == third { None } else { Some(third) });
+        assert!(rt; started.journal.bytes() == two.as_slice());
+    }
+}
+
+#[test]
+fn goes_on_from_its_plan(rt: HostRuntime) {
+    let alloc = rt.alloc();
+    let two = joined(&rt, alloc, &[FIRST, SECOND]);
+    let grown = run(&rt, alloc, two.as_slice(), b"", LONGER, MANY, MANY, MANY);
+    assert!(rt; grown.cut(&rt).is_none());
+    assert!(rt;
+        grown.journal.sure_bytes() == joined(&rt, alloc, &[FIRST, SECOND, LONGER_THIRD]).as_slice()
+    );
+    assert!(rt; grown.held() == b"put b\n".as_slice());
+    // the shorter one doesn't go on from the longer one
+    for (left, plan) in [
+        (grown.journal.bytes(), PLAN),
+        (two.as_slice(), b"node 1 of 1 by 2\nann\nbob\n".as_slice()),
+        (two.as_slice(), b"node 0 of 1 by 1\nbob\n"),
+        (b"", PLAN),
+    ] {
+        let other = run(&rt, alloc, left, b"put c\n", plan, MANY, MANY, MANY);
+        assert!(rt; matches!(&other.lived, Ok(Lived::Another)));
+        assert!(rt; other.journal.bytes() == left);
+        assert!(rt; other.shown.bytes().is_empty());
+    }
+}
+
+// A text of so many equal bytes and a newline.
+fn long_line(rt: &impl Abort, alloc: Global, c: u8, count: usize) -> Vec<u8> {
+    let mut line = Vec::new(alloc);
+    for _ in 0..count {
+        line.push(c).ok().expect(rt, "memory");
+    }
+    line.push(b'\n').ok().expect(rt, "memory");
+    line
+}
+
+#[test]
+fn passes_over_lines_that_are_too_long(rt: HostRuntime) {
+    let alloc = rt.alloc();
+    let longest = long_line(&rt, alloc, b'a', 4_095);
+    let longer = long_line(&rt, alloc, b'b', 4_096);
+    let long = long_line(&rt, alloc, b'c', 20_000);
+    let last = long_line(&rt, alloc, b'd', 100);
+    let text = joined(
+        &rt,
+        alloc,
+        &[
+            longer.as_slice(),
+            longest.as_slice(),
+            long.as_slice(),
+            last.as_slice(),
+            b"end",
+        ],
+    );
+    let told = joined(&rt, alloc, &[b" ?\n", longest.as_slice(), last.as_slice()]);
+    for each in [1, 7, 1_000, 4_096, MANY] {
+        let took = run(&rt, alloc, FIRST, text.as_slice(), PLAN, each, MANY, MANY);
+        assert!(rt; took.shown.bytes() == told.as_slice(), "each {each}");
+    }
+}
+
+#[test]
+fn writes_a_long_journal_anew(rt: HostRuntime) {
+    let alloc = rt.alloc();
+    let mut text = Vec::new(alloc);
+    for k in 0..270u32 {
+        let line = long_line(&rt, alloc, b'a' + (k % 26) as u8, 4_000);
+        text.grow_by(line.as_slice()).ok().expect(&rt, "memory");
+    }
+    let last = line_of(text.as_slice(), 270);
+    let took = whole(&rt, alloc, FIRST, text.as_slice());
+    assert!(rt; took.shown.bytes().len() == text.len() + 3);
+    assert!(rt; took.journal.bytes().len() < 400_000);
+    assert!(rt; whole(&rt, alloc, took.journal.bytes(), b"").held() == last);
+    // the 36th call writes it anew: what was told stands before, during and after it
+    for calls in 34..38 {
+        let stopped = run(&rt, alloc, FIRST, text.as_slice(), PLAN, MANY, calls, MANY);
+        let shown = stopped.shown.bytes();
+        let told = told_of(shown);
+        let again = whole(&rt, alloc, stopped.journal.sure_bytes(), b"");
+        let before = told.len() / 4_001;
+        let after = lines_behind(text.len(), before);
+        assert!(rt;
+            again.held() == line_of(text.as_slice(), before)
+                || again.held() == line_of(text.as_slice(), after),
+            "calls {calls}"
+        );
+    }
+}
+
+// How many of the long lines are whole after one read more than those that gave so many.
+fn lines_behind(len: usize, before: usize) -> usize {
+    for reads in 0..20 {
+        if (65_536 * reads).min(len) / 4_001 == before {
+            return (65_536 * (reads + 1)).min(len) / 4_001;
+        }
+    }
+    before
+}
+
+// The last of so many long lines.
+fn line_of(text: &[u8], count: usize) -> &[u8] {
+    let end = count.saturating_mul(4_001).min(text.len());
+    &text[end.saturating_sub(4_001)..end]
+}
+
+// What was told, behind the line that greets.
+fn told_of(shown: &[u8]) -> &[u8] {
+    &shown[shown.len().min(3)..]
+}
