@@ -237,17 +237,31 @@ fn put_spaced(out: &mut Vec<u8>, n: u64) -> Result<(), OutOfMemory>
     put_number(out, n)
 }
 
+// Appends numbers, each after a space.
+fn put_numbers(out: &mut Vec<u8>, numbers: &[u64]) -> Result<(), OutOfMemory>
+    ensures ok { OnOk result (out.new.items ≡ out.old.items ++ spaced (map decimal numbers.now)) }
+    ensures err { OnErr result (Extends out.old.items out.new.items) }
+{
+    for number in numbers {
+        put_spaced(out, *number)?;
+    }
+    Ok(())
+}
+
 // Appends what a tenant has.
 fn put_holding(out: &mut Vec<u8>, holding: &Holding) -> Result<(), OutOfMemory>
     ensures ok { OnOk result (out.new.items ≡ out.old.items ++ ended (codes "plan" ∷ holding_words holding.now)) }
     ensures err { OnErr result (Extends out.old.items out.new.items) }
 {
     out.grow_by(b" plan")?;
-    put_spaced(out, u64::from(holding.servers))?;
-    put_spaced(out, u64::from(holding.home))?;
-    put_spaced(out, u64::from(holding.sessions))?;
-    put_spaced(out, u64::from(holding.share))?;
-    put_spaced(out, u64::from(holding.most_blocks))?;
+    let numbers = [
+        u64::from(holding.servers),
+        u64::from(holding.home),
+        u64::from(holding.sessions),
+        u64::from(holding.share),
+        u64::from(holding.most_blocks),
+    ];
+    put_numbers(out, &numbers)?;
     put_volumes(out, holding.volumes.items.as_slice())?;
     out.grow(b'\n')
 }
