@@ -7,6 +7,7 @@ ghost use Rattle.gq_desk.specs.Volumes.{IsRefusedFor, open_fault, account_at};
 ghost use Rattle.gq_node.specs.Sites.{address_of};
 ghost use Rattle.gq_node.specs.Local.{new_local, asks, tells_holding, receives, ticks, recalls};
 ghost use Rattle.gq_node.specs.Recalling.{tenant_of, own_fact};
+ghost use Rattle.gq_node.specs.Needing.{IsRefusedIn};
 ghost use Rattle.gq_node.specs.Resting.{Needed};
 ghost use Rattle.gq_node.specs.Opening.{Opens};
 ghost use Rattle.gq_node.specs.Tables.{Acts, Leads, Agrees, AllStand};
@@ -100,9 +101,11 @@ impl Node {
         }
     }
 
-    /// The facts that a start needs to know what this node knows, its sessions' operations gone.
+    /// The facts that a start needs to know what this node knows, its sessions' operations gone. `Unreadable` comes only where a file has a
+    /// copy that a start would not take again.
     pub fn needed(&self) -> Result<Vec<Fact>, NeedRefused>
-        ensures { IfOk result (λ facts. Needed self.now.tables facts.items) }
+        ensures needed { IfOk result (λ facts. Needed self.now.tables facts.items) }
+        ensures refused { IfErr result (IsRefusedIn self.now.tables) }
     {
         self.tables.needed()
     }
