@@ -5,7 +5,7 @@ ghost use Rattle.gq_tag.specs.Tag.{own_message};
 ghost use Rattle.gq_desk.specs.CheckedPlan.{row_at};
 ghost use Rattle.gq_desk.specs.Volumes.{IsRefusedFor, open_fault, account_at};
 ghost use Rattle.gq_node.specs.Sites.{address_of};
-ghost use Rattle.gq_node.specs.Local.{new_local, asks, receives, ticks, recalls};
+ghost use Rattle.gq_node.specs.Local.{new_local, asks, tells_holding, receives, ticks, recalls};
 ghost use Rattle.gq_node.specs.Recalling.{tenant_of, own_fact};
 ghost use Rattle.gq_node.specs.Resting.{Needed};
 ghost use Rattle.gq_node.specs.Opening.{Opens};
@@ -144,6 +144,28 @@ impl Node {
             return Err(Ended(refused.again()));
         }
         match self.tables.request(tenant, op, line) {
+            Ok(out) => Ok(out),
+            Err(refused) => {
+                self.ended = Some(refused.again());
+                Err(Ended(refused))
+            }
+        }
+    }
+
+    /// Takes the question of a tenant what it has. It is told, and nothing changes.
+    pub fn holding(&mut self, tenant: u8) -> Result<Output, Ended>
+        requires { tenant < length self.old.tables.plan.rows }
+        ensures acts { IfOk result (λ out. Acts self.old.tables tenant tells_holding out self.new.tables) }
+        ensures same { self.new.tables ≡ self.old.tables }
+        ensures ended { OnErr result (self.new.ended ≡ true) }
+        ensures after { self.old.ended ≡ true → IsErr result }
+        ensures still { self.old.ended ≡ true → self.new ≡ self.old }
+        ensures goes { OnOk result (self.new.ended ≡ false) }
+    {
+        if let Some(refused) = &self.ended {
+            return Err(Ended(refused.again()));
+        }
+        match self.tables.tell_holding(tenant) {
             Ok(out) => Ok(out),
             Err(refused) => {
                 self.ended = Some(refused.again());

@@ -15,7 +15,7 @@ ghost use Rattle.gq_model.specs.Trace.{files_of};
 ghost use Rattle.gq_model.specs.Lone.{first_cause};
 ghost use Rattle.gq_cluster.specs.Facts.{replaced_in};
 ghost use Rattle.gq_node.specs.declared.output.Admission.TheVariants.{Goes};
-ghost use Rattle.gq_node.specs.Local.{asks, asker, begins, refused_with, serves, hears, receives, ticks, recalls, goes_between, letter_fits, copy_fits, file_fits, has_above};
+ghost use Rattle.gq_node.specs.Local.{asks, asker, begins, refused_with, holding, tells_holding, serves, hears, receives, ticks, recalls, goes_between, letter_fits, copy_fits, file_fits, has_above};
 ghost use Rattle.gq_node.specs.Needing.{copy_facts, IsReadable};
 ghost use Rattle.gq_node.specs.Recalling.{tenant_of, own_fact};
 ghost use Rattle.gq_node.specs.Shape.{FewSessions};
@@ -25,13 +25,14 @@ ghost use Rattle.gq_node.specs.Tables.{first_seat, fact_of};
 use crate::aims::aim;
 use crate::homes::home;
 use crate::output::{
-    Admission, Answer, Fact, NeedRefused, Output, letters_of, put_begun, put_number, refused_answer,
+    Admission, Answer, Fact, Holding, NeedRefused, Output, letters_of, put_begun, put_number,
+    refused_answer,
 };
 use crate::seats::Seats;
 use bytes::Bytes;
-use gq_desk::{Desk, MOST_VOLUMES, OpenRefused, Plan};
+use gq_desk::{Desk, MOST_FILE_BLOCKS, MOST_VOLUMES, OpenRefused, Plan, VolumeRows};
 use gq_grid::ServerSet;
-use gq_memory::{GrowVec, OutOfMemory, bytes_of};
+use gq_memory::{GrowVec, OutOfMemory, bytes_of, slice_copied};
 use gq_model::{Line, Refusal};
 use gq_phase::{BeginRefused, Messages, Operation, Who};
 use gq_store::{ServeRefused, ServerStore};
@@ -579,6 +580,34 @@ impl Core {
             Admission::Passes => Ok(Output::nothing(self.alloc)),
             Admission::Goes => self.go(tenant, op, line),
         }
+    }
+
+    // ---- what a tenant has
+
+    // What the tenant has.
+    fn holding(&self, tenant: u8) -> Result<Holding, OutOfMemory>
+        requires { tenant < length self.now.plan.rows }
+        ensures { IfOk result (λ has. has ≡ holding (site_of self.now.plan self.now.server tenant) (account_at self.now.desk tenant).volumes) }
+    {
+        let row = self.plan.row(tenant);
+        let items = slice_copied(self.alloc, self.desk.volumes(tenant))?;
+        Ok(Holding {
+            servers: self.plan.grid().servers() as u8,
+            home: home(&self.plan, tenant, 1),
+            sessions: row.sessions,
+            share: row.share,
+            most_blocks: MOST_FILE_BLOCKS,
+            volumes: VolumeRows { items },
+        })
+    }
+
+    // The tenant asks what it has.
+    pub(crate) fn tell_holding(&self, tenant: u8) -> Result<Output, OutOfMemory>
+        requires { tenant < length self.now.plan.rows }
+        ensures acts { IfOk result (λ out. Acts self.now tenant tells_holding out self.now) }
+    {
+        let holding = self.holding(tenant)?;
+        Ok(Output::told(self.alloc, Answer::Has(holding)))
     }
 
     // ---- letters
