@@ -8,4 +8,4 @@ pub use gq_runs::{
     LiveRunFault, NamedMismatch, ProgramFault, RequestFault, carry_out, live_run, read_programs,
 };
 pub use gq_script::{MOST_INPUT, NoNotice, Notice, RunFault, Watched};
-pub use gq_words::{Request, Usage, read_words};
+pub use gq_words::{CommandLine, NodeRequest, Request, Usage, read_words};
