@@ -76,6 +76,7 @@ class Carrier:
     def __init__(self, nodes, hear, fall, tick):
         self.nodes, self.hear, self.fall = nodes, hear, fall
         self.tick, self.next_tick = tick, time.monotonic() + tick
+        self.carried = 0  # lines that were given to nodes
 
     def kill(self, node):
         """Ends the node's process by the signal that none can delay (kill -9). What it wrote and was not read is lost."""
@@ -88,6 +89,7 @@ class Carrier:
         node = self.nodes[int(to)] if to.isdigit() and int(to) < len(self.nodes) else None
         if node and node.child and len(node.waiting) + len(line) < MOST_WAITING:
             node.waiting += line + b"\n"
+            self.carried += 1
 
     def take_from(self, node):
         """Takes on what the node wrote; at the end of its output, its process ends."""

@@ -68,8 +68,8 @@ class Session:
     def hear(self, body):
         """Takes what a node told the tenant. What is of another session or number, or ends no request, is passed over."""
         words, request = body.split(b" "), self.going
-        at = 1 if words[0] == b"gone" else 2
-        if request is None or words[at : at + 2] != [self.session, b"%d" % request.number]:
+        at = {b"gone": 1, b"done": 2, b"refused": 2}.get(words[0])
+        if at is None or request is None or words[at : at + 2] != [self.session, b"%d" % request.number]:
             return
         if words[0] == b"refused":
             if self.last is None and words[1] in (b"early", b"old"):

@@ -23,6 +23,7 @@ STORED = re.compile(rb"(\d+) 3 ann (\d+) (\d+) (\d+) (\d+) (\d+) stored")
 DONE = re.compile(rb"ann 3 (?:done \w+|gone) (\d+) (\d+)\b")
 # A journal that is written anew behind its next batch: it is over 1 MiB, and of all its facts a start needs few.
 LONG = 1_100_000
+LAST, LAST_TAG = 6, 5000  # the last numbers of its sessions
 
 
 class Play:
@@ -184,8 +185,9 @@ def check_again(program, folder, play):
 
 
 def long_journal(draw):
-    """A journal that is to be written anew, and what it gave: of many facts few are needed."""
-    text, number, tags = sealed(1, HEAD), 2, 0
+    """A journal that is to be written anew, and what it gave: of many facts few are needed, and those of sessions are the first ones."""
+    sessions = b"".join(b"began ann %d %d\nnumbered ann %d %d\n" % (session, LAST, session, LAST_TAG) for session in SESSIONS)
+    text, number, tags = sealed(1, HEAD) + sealed(2, sessions), 3, 0
     while len(text) < LONG:
         facts = b""
         for _ in range(16):
@@ -206,6 +208,7 @@ def played(program, folder, seed, is_long, environment):
         put(os.path.join(folder, "journal.synced"), b"%d" % len(text))
         for place, (tag, content) in kept.items():
             play.given[place][tag], play.acknowledged[place] = content, tag
+        play.asked, play.begun, play.numbers = (dict.fromkeys(SESSIONS, it) for it in (LAST, LAST, LAST_TAG))
     node, lives, turn = start(program, folder, environment), True, 0
     try:
         while lives and turn < TURNS:

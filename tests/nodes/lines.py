@@ -1,0 +1,76 @@
+"""Lines that a node is given at its first start, and what it writes: refusals, limits, and lines without a form."""
+
+import os
+
+from faults import PLAN
+from processes import ended, put, words_of
+
+READ, WRITE = b"0 ann read 1 1 0 0\n", b"0 ann write 1 1 0 0 "
+ASK = b"0 0 ann 1 1 1 0 0 ask\n1 0 ann 1 1 1 0 0 ask\n"
+BAD = b"ann 0 refused bad\n"
+STORE = b"0 0 ann 1 1 2 0 0 store "
+STORED = b"0 0 ann 1 1 2 0 0 stored\n"
+GREATEST = 18_446_744_073_709_551_614
+
+
+def filled(length):
+    """A write with so many bytes, of an odd number of digits."""
+    return WRITE + b"a" * (length - len(WRITE)) + b"\n"
+
+
+# Lines and what is written for them, behind the first line.
+LINES = {
+    "a read": (READ, ASK),
+    "what stands behind the last newline": (READ[:-1], b""),
+    "a carriage return": (READ[:-1] + b"\r\n", BAD),
+    "a NUL": (READ[:-1] + b"\0\n" + READ, BAD + ASK),
+    "a line of 4,095 bytes": (filled(4095) + READ, BAD + ASK),
+    "a line of 4,096 bytes": (filled(4096) + READ, ASK),
+    "a line of 65,535 bytes": (filled(65_535) + READ, ASK),
+    "a line of 65,536 bytes": (filled(65_536) + READ, ASK),
+    "a line of 300,000 bytes": (filled(300_000) + READ, ASK),
+    "a long line whose end is a line": (filled(65_536 - len(READ))[:-1] + READ + READ, ASK),
+    "two spaces": (b"0  ann read 1 1 0 0\n0 ann  read 1 1 0 0\n0 ann read 1 1 0 0 \n", BAD + BAD),
+    "a line for another node": (b"1 ann read 1 1 0 0\n1 1 tick\n", b""),
+    "a line of nobody": (b"0 zed read 1 1 0 0\n0 4 ann 1 1 1 0 0 ask\n0 9 tick\n0\n\n0 \n", b""),
+    "a line with no body": (b"0 ann\n0 bob \n", BAD + b"bob 0 refused bad\n"),
+    "numbers with no form": (b"0 ann read 01 1 0 0\n0 ann read 1 1 0 4294967296\n0 ann read -1 1 0 0\n", 3 * BAD),
+    "contents with no form": (WRITE + b"a\n" + WRITE + b"\n" + WRITE + b"ag\n" + WRITE + b"--\n", 4 * BAD),
+    "refusals": (
+        WRITE + b"aa" * 200 + b"\n0 ann list 1 1 5\n0 ann read 1 1 0 7\n0 ann read 9 1 0 0\n0 ann read 2 1 0 0\n0 ann read 1 0 0 0\n0 ann read 1 5 0 0\n0 ann abandon 1 1\n",
+        b"ann 0 refused toolong 1 1 0 0 200\nann 0 refused novolume 1 1 5\nann 0 refused nofile 1 1 0 7\nann 0 refused nosession 9 1\n"
+        b"ann 0 refused home 1 2 1\nann 0 refused old 1 0 0\nann 0 refused early 1 5 0\nann 0 refused early 1 1 0\n",
+    ),
+    "refusals amid an operation": (
+        READ * 3 + b"0 ann read 1 2 0 0\n0 ann read 1 3 0 0\n0 ann abandon 1 2\n0 ann read 1 0 0 0\n",
+        ASK + b"ann 0 refused busy 1 2 1\nann 0 refused early 1 3 1\nann 0 refused early 1 2 1\nann 0 refused old 1 0 1\n",
+    ),
+    "an operation that is given up": (
+        READ + b"0 ann abandon 1 1\n0 ann abandon 1 1\n" + READ + b"0 ann abandon 4294967295 1\n0 ann abandon 1 4294967296\n0 ann abandon 1 4294967295\n",
+        ASK + 3 * b"ann 0 gone 1 1\n" + b"ann 0 refused nosession 4294967295 1\n" + BAD + b"ann 0 refused early 1 4294967295 1\n",
+    ),
+    "an answer that is asked for again": (
+        READ + b"0 0 ann 1 1 1 0 0 copy 3 2 aB\n0 1 ann 1 1 1 0 0 copy 0 0 -\n0 0 ann 1 1 2 0 0 stored\n0 2 ann 1 1 2 0 0 stored\n" + READ + b"0 ann abandon 1 1\n",
+        ASK + b"0 0 ann 1 1 2 0 0 store 3 2 ab\n2 0 ann 1 1 2 0 0 store 3 2 ab\n" + 3 * b"ann 0 done read 1 1 tag 3 2 ab\n",
+    ),
+    "ticks": (READ + 3 * b"0 0 tick\n", ASK + b"2 0 ann 1 1 1 0 0 ask\n3 0 ann 1 1 1 0 0 ask\n" + ASK),
+    "a number of a tag at its limit": (
+        STORE + b"%d 16 AbCd\n" % GREATEST + STORE + b"%d 16 ff\n" % (GREATEST + 1) + STORE + b"018 1 ff\n0 0 ann 1 1 1 0 0 ask\n0 0 ann 1 1 2 0 0 ask\n",
+        STORED + b"0 0 ann 1 1 1 0 0 copy %d 16 abcd\n" % GREATEST,
+    ),
+    "a session of a tag above 255": (STORE + b"1 256 aa\n" + STORE + b"1 255 aa\n", STORED),
+    "a store from another node than its session's home": (b"0 1 ann 1 1 2 0 0 store 1 1 aa\n0 0 ann 2 1 2 0 0 store 1 1 aa\n", b""),
+    "a store of a content that is too long": (STORE + b"1 1 " + b"aa" * 129 + b"\n" + STORE + b"1 1 " + b"aa" * 128 + b"\n", STORED),
+    "a file that is not there": (b"0 0 ann 1 1 1 0 4 ask\n0 0 ann 1 1 1 2 0 ask\n0 0 ann 5 1 1 0 0 ask\n", b""),
+}
+
+
+def tell_lines(program, folder):
+    """How many were tried, and what is wrong."""
+    put(os.path.join(folder, "plan"), PLAN)
+    wrong = []
+    for place, (name, (given, wanted)) in enumerate(LINES.items()):
+        seen = ended(words_of(program, 0, "plan", f"journal{place}", True), given, cwd=folder)
+        if seen != (0, b"gridfs: node 0 of 2 by 2: 0 facts\n", b" ?\n" + wanted):
+            wrong.append(f"{name}: {seen}, not {wanted}")
+    return len(LINES), wrong
