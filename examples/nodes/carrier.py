@@ -1,0 +1,127 @@
+"""Nodes of a grid as processes on this machine, and a carrier that takes their lines from one to another over pipes.
+
+What a carrier owes to nodes stands in docs/FORMATS.md (Lines of nodes). This one keeps it so: a line is taken whole or not at all; each
+line comes from the process whose number it names; what waits for a node that does not read is dropped from some length on, so that
+no node waits for another; and a node is given a tick only once nothing else waits for it.
+"""
+
+import os
+import select
+import subprocess
+import time
+
+READ = 65_536  # bytes of one read, which are more than a line may have
+MOST_WAITING = 1 << 22  # bytes that may wait for one node
+PATIENCE = 5  # seconds that a node has to end by itself
+
+
+def journal_of(folder, number):
+    return os.path.join(folder, f"node{number}.journal")
+
+
+class Node:
+    """The process of a node, what waits to be written to it, and the beginning of a line that was read of it."""
+
+    def __init__(self, program, number, plan, journal):
+        self.words = [program, "node", str(number), "--plan", plan, "--journal", journal]
+        self.number, self.journal = number, journal
+        self.child, self.is_ready = None, False
+        self.waiting, self.begun = bytearray(), b""
+
+    def start(self, is_new=False, **more):
+        """Starts the process, whose standard error is ours. A signal from the terminal does not reach it."""
+        words = self.words + ["--new"] * is_new
+        self.child = subprocess.Popen(words, stdin=subprocess.PIPE, stdout=subprocess.PIPE, bufsize=0, start_new_session=True, **more)
+        for pipe in (self.child.stdin, self.child.stdout):
+            os.set_blocking(pipe.fileno(), False)
+        self.waiting, self.begun, self.is_ready = bytearray(), b"", False
+
+    def lines(self):
+        """The whole lines that can be read now, without their LF. None at the end of its output."""
+        try:
+            read = os.read(self.child.stdout.fileno(), READ)
+        except BlockingIOError:
+            return []
+        if not read:
+            return None
+        *lines, self.begun = (self.begun + read).split(b"\n")
+        return lines
+
+    def give(self):
+        """Writes of what waits as much as goes into the pipe."""
+        try:
+            del self.waiting[: os.write(self.child.stdin.fileno(), self.waiting)]
+        except BlockingIOError:
+            pass
+        except BrokenPipeError:
+            self.waiting.clear()  # (the end of its output is near)
+
+    def gone(self):
+        """Waits for the end of the process, which is near, and gives its status."""
+        self.child.stdin.close()
+        try:
+            status = self.child.wait(PATIENCE)
+        except subprocess.TimeoutExpired:
+            self.child.kill()
+            status = self.child.wait()
+        self.child.stdout.close()
+        self.child = None
+        return status
+
+
+class Carrier:
+    """Carries lines between nodes and tenants. `hear` is called with each line to a tenant, `fall` with a node that has ended, and its
+    status."""
+
+    def __init__(self, nodes, hear, fall, tick):
+        self.nodes, self.hear, self.fall = nodes, hear, fall
+        self.tick, self.next_tick = tick, time.monotonic() + tick
+
+    def kill(self, node):
+        """Ends the node's process by the signal that none can delay (kill -9). What it wrote and was not read is lost."""
+        node.child.kill()
+        node.gone()
+
+    def send(self, line):
+        """Takes a line, without LF, to the node that it names, if that is up and reads."""
+        to = line.split(b" ", 1)[0]
+        node = self.nodes[int(to)] if to.isdigit() and int(to) < len(self.nodes) else None
+        if node and node.child and len(node.waiting) + len(line) < MOST_WAITING:
+            node.waiting += line + b"\n"
+
+    def take_from(self, node):
+        """Takes on what the node wrote; at the end of its output, its process ends."""
+        lines = node.lines()
+        if lines is None:
+            self.fall(node, node.gone())
+            return
+        for line in lines:
+            if line == b" ?":  # a node's first line, to nobody
+                node.is_ready = True
+            elif line[:1].isdigit():
+                self.send(line)
+            else:
+                self.hear(line)
+
+    def give_ticks(self):
+        now = time.monotonic()
+        if now >= self.next_tick:
+            self.next_tick = now + self.tick
+            for node in self.nodes:
+                if node.child and node.is_ready and not node.waiting:
+                    self.send(b"%d %d tick" % (node.number, node.number))
+
+    def turn(self, seconds, more=None):
+        """Carries what can be read and written now, or waits for it so long. Whether there is something to read of one file more."""
+        self.give_ticks()
+        up = [node for node in self.nodes if node.child]
+        wanted = {node.child.stdout: node for node in up}
+        waited = {node.child.stdin: node for node in up if node.waiting}
+        seconds = max(0, min(seconds, self.next_tick - time.monotonic()))
+        read, written, _ = select.select([*wanted, *([] if more is None else [more])], [*waited], [], seconds)
+        for pipe in written:
+            waited[pipe].give()
+        for pipe in read:
+            if pipe in wanted:
+                self.take_from(wanted[pipe])
+        return more in read

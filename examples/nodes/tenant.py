@@ -1,0 +1,86 @@
+"""A tenant's sessions at a grid of nodes: which line is to be sent when, and which answer is to be believed.
+
+The rules are those of docs/FORMATS.md (Lines of nodes). A request is sent again until it is answered; the number behind its session says
+which request an answer is of. A client that begins anew asks its session's home for the last number, by a request to give up an
+operation of a number that is far too high. Then it reads, and believes nothing of the answer: a line of the client before it may
+still be under way with the same number. No clock is asked here, and nothing is sent: the caller does both.
+"""
+
+import collections
+
+AGAIN = 0.5  # seconds until a request is sent again; each time doubled
+LONGEST_AGAIN = 4
+FIRST_TOO_HIGH, LAST_NUMBER = 1 << 31, (1 << 32) - 1
+# The refusals that end a request, and how many of its words they tell. Behind another one the same line may still begin.
+FINAL = {b"novolume": 1, b"nofile": 2, b"toolong": 2}
+
+
+def homes(plan):
+    """How many nodes there are, and the home of each session of the plan, which are numbered in its order."""
+    rows, cols = map(int, plan.split("\n", 1)[0].split()[1:])
+    tenants = [line.split() for line in plan.partition("\ngo\n")[0].split("\n") if line.startswith("tenant ")]
+    sessions = [(words[1], session) for words in tenants for session in range(1, int(words[3]) + 1)]
+    return rows * cols, {session: place % (rows * cols) for place, session in enumerate(sessions)}
+
+
+class Request:
+    """A request of a session: its kind, its words behind the number, its number, and who is told how it ended."""
+
+    def __init__(self, kind, words, number=None, tell=None):
+        self.kind, self.words, self.number, self.tell = kind, words, number, tell
+        self.due, self.again, self.is_given_up = 0, AGAIN, False
+
+
+class Session:
+    """One session, which has one request under way, and those that wait behind it. What is sent and heard is bytes."""
+
+    def __init__(self, name, session, home, draw):
+        self.name, self.session, self.home = name.encode(), b"%d" % session, b"%d" % home
+        self.waiting, self.last = collections.deque(), None
+        self.going = Request(b"abandon", [], draw.randint(FIRST_TOO_HIGH, LAST_NUMBER))
+
+    def ask(self, kind, words, tell):
+        """Has a request wait: `tell` is called with the answer, or with the refusal."""
+        self.waiting.append(Request(kind, words, tell=tell))
+
+    def is_idle(self):
+        return not self.waiting and (self.going is None or self.going.tell is None)
+
+    def give_up(self):
+        """Has the request that is under way be given up: then it is told to be `gone`, or done where it was."""
+        if self.going:
+            self.going.is_given_up, self.going.due = True, 0
+
+    def line(self, kind, words):
+        return b" ".join([self.home, self.name, kind, self.session, b"%d" % self.going.number, *words])
+
+    def due(self, now):
+        """The lines that have to be sent now."""
+        if self.going is None and self.waiting:
+            self.going = self.waiting.popleft()
+            self.going.number = self.last + 1
+        request = self.going
+        if request is None or now < request.due:
+            return []
+        request.due, request.again = now + request.again, min(2 * request.again, LONGEST_AGAIN)
+        return [self.line(request.kind, request.words)] + [self.line(b"abandon", [])] * request.is_given_up
+
+    def hear(self, body):
+        """Takes what a node told the tenant. What is of another session or number, or ends no request, is passed over."""
+        words, request = body.split(b" "), self.going
+        at = 1 if words[0] == b"gone" else 2
+        if request is None or words[at : at + 2] != [self.session, b"%d" % request.number]:
+            return
+        if words[0] == b"refused":
+            if self.last is None and words[1] in (b"early", b"old"):
+                self.last, self.going = int(words[4]), None
+                self.waiting.appendleft(Request(b"read", [b"0", b"0"]))
+                return
+            # (a refusal that tells of another file is of an earlier request with this number)
+            if words[1] not in FINAL or words[4 : 4 + FINAL[words[1]]] != request.words[: FINAL[words[1]]]:
+                return
+        else:
+            self.last = request.number
+        self.going = None
+        if request.tell:
+            request.tell(body)

@@ -1,0 +1,193 @@
+"""Each fault of a start with its text and its status, plans that go on from another and plans that don't, standard streams that are
+closed, a second process on one journal."""
+
+import os
+import resource
+import signal
+import subprocess
+
+from journals import batches, sealed
+from processes import MARKER, SECONDS, Wrong, ended, get, put, words_of
+
+PLAN = f"grid 2 2\nblocks 64\ntenant ann 16 4 1\ntenant bob 16 2 1\n{MARKER}go\nann open 4 2\nbob open 1 1\nann open 1 1\n".encode()
+READY = b"gridfs: node 0 of 2 by 2: %d facts\n"
+OTHER = b"gridfs: journal: of another node or plan\n"
+FIRST = b" ?\n"
+# A plan's fault, and what is told of it.
+PLANS = [
+    (b"", "line 1: end"),
+    (b"grid 2\n", "line 1: form"),
+    (b"grid 9 2\nblocks 1\n", "line 1: rows"),
+    (b"grid 2 2\n", "line 2: end"),
+    (b"grid 2 2\nblocks 64\ngo\n", "line 3: notenant"),
+    (PLAN.replace(b"bob 16", b"bob 0"), "line 4: zeroshare"),
+    (PLAN.replace(b"bob 16", b"bob 64"), "line 6: overblocks 81 64"),
+    *((PLAN + line + b"\n", "line 10: live") for line in (b"ann write 1 0 0 aa", b"server 1 down", b"ann", b"", b"cat open 1 1", b"ann open 1", b"ann open 1 1 ")),
+    *((PLAN + line + b"\n", "line 10: open") for line in (b"ann open 65 1", b"ann open 0 1", b"ann open 1 17", b"ann open 8 1", b"ann open 4294967295 1")),
+]
+# Plans from which the first one does not go on, and plans that go on from the first one.
+NOT_BEHIND = {
+    "another grid": PLAN.replace(b"grid 2 2", b"grid 2 3"),
+    "other blocks": PLAN.replace(b"blocks 64", b"blocks 65"),
+    "tenants in another order": PLAN.replace(b"tenant ann 16 4 1\ntenant bob 16 2 1", b"tenant bob 16 2 1\ntenant ann 16 4 1"),
+    "a session more": PLAN.replace(b"bob 16 2", b"bob 16 3"),
+    "a session less": PLAN.replace(b"bob 16 2", b"bob 16 1"),
+    "a smaller share": PLAN.replace(b"bob 16", b"bob 15"),
+    "volumes in another order": PLAN.replace(b"ann open 4 2\n", b"") + b"ann open 4 2\n",
+    "a volume less": PLAN.replace(b"bob open 1 1\n", b""),
+    "a tenant less": PLAN.replace(b"tenant bob 16 2 1\n", b"").replace(b"bob open 1 1\n", b""),
+    "a larger file": PLAN.replace(b"bob open 1 1", b"bob open 1 2"),
+}
+BEHIND = {
+    "a tenant more": PLAN.replace(b"go\n", b"tenant cat 8 3 1\ngo\n") + b"cat open 2 1\n",
+    "a volume more": PLAN + b"bob open 2 2\n",
+    "a greater share": PLAN.replace(b"bob 16", b"bob 20"),
+    "other steps": PLAN.replace(b"ann 16 4 1", b"ann 16 4 7"),
+    "volumes of tenants mixed otherwise": PLAN.replace(b"bob open 1 1\nann open 1 1\n", b"ann open 1 1\nbob open 1 1\n"),
+    "no newline at the end": PLAN[:-1],
+}
+NO_REQUESTS = ["node", "node x --plan plan --journal journal", "node 0 --plan plan", "node 0 --journal journal", "node 0 1 --plan plan --journal journal", "node 0 --plan plan --journal journal --old"]
+
+
+def first_journal():
+    return sealed(1, b"node 0 of 2 by 2\n" + PLAN)
+
+
+class Faults:
+    """Starts in one folder, each compared with what it has to do."""
+
+    def __init__(self, program, folder):
+        self.program, self.folder, self.tried, self.wrong = program, folder, 0, []
+
+    def at(self, name):
+        return os.path.join(self.folder, name)
+
+    def held(self, name, seen, wanted):
+        self.tried += 1
+        if seen != wanted:
+            self.wrong.append(f"{name}: {seen}, not {wanted}")
+
+    def node(self, given=b"", number=0, plan="plan", journal="journal", is_new=False, **more):
+        return ended(words_of(self.program, number, plan, journal, is_new), given, cwd=self.folder, **more)
+
+    def refused(self, name, status, told, **more):
+        """A start that is refused writes nothing, and leaves the journal as it was."""
+        before = get(self.at("journal"))
+        self.held(name, self.node(**more), (status, told, b""))
+        self.held(f"the journal behind {name}", get(self.at("journal")), before)
+
+    def first_start(self):
+        put(self.at("plan"), PLAN)
+        self.held("a first start", self.node(is_new=True), (0, READY % 0, FIRST))
+        text = get(self.at("journal"))
+        self.held("its journal", text, first_journal())
+        self.held("no JOURNAL.new", sorted(os.listdir(self.folder)), ["journal", "journal.lock", "plan"])
+        self.held("a second start", (self.node(), get(self.at("journal"))), ((0, READY % 0, FIRST), text))
+        put(self.at("again.new"), b"left by another start")
+        self.held("a JOURNAL.new that was left", self.node(journal="again", is_new=True), (0, READY % 0, FIRST))
+        self.held("its journal", get(self.at("again")), text)
+        os.mkdir(self.at("deep"))
+        self.held("a journal in a folder", self.node(journal="deep/journal", is_new=True), (0, READY % 0, FIRST))
+
+    def journals(self):
+        self.refused("--new, and a journal is there", 1, b"gridfs: journal: a journal\n", is_new=True)
+        self.held("no journal", self.node(journal="other"), (1, b"gridfs: other: no journal\n", b""))
+        self.held("a folder that is not there", self.node(journal="none/journal", is_new=True), (1, b"gridfs: none/journal: write fault\n", b""))
+        self.refused("another number", 1, OTHER, number=1)
+        self.refused("no such server", 1, b"gridfs: node 4: of 4\n", number=4)
+
+    def plans(self):
+        for text, fault in PLANS:
+            put(self.at("wrong"), text)
+            self.refused(f"the plan {text[-40:]}", 1, b"gridfs: wrong: %s\n" % fault.encode(), plan="wrong")
+        self.refused("no plan file", 1, b"gridfs: none: read fault\n", plan="none")
+        put(self.at("wrong"), PLAN.replace(b"grid", b"crid"))
+        self.refused("a plan's fault before all others", 1, b"gridfs: wrong: line 1: form\n", plan="wrong", number=9, is_new=True)
+        self.refused("the number before the journal", 1, b"gridfs: node 9: of 4\n", number=9, is_new=True)
+
+    def plans_that_go_on(self):
+        text = get(self.at("journal"))
+        for name, plan in NOT_BEHIND.items():
+            put(self.at("next"), plan)
+            self.refused(name, 1, OTHER, plan="next")
+        for name, plan in BEHIND.items():
+            put(self.at("journal"), text)
+            put(self.at("next"), plan)
+            self.held(name, self.node(plan="next"), (0, READY % 0, FIRST))
+            canonical = b"node 0 of 2 by 2\n" + (plan if plan.endswith(b"\n") else plan + b"\n")
+            is_same = canonical == b"node 0 of 2 by 2\n" + PLAN
+            found, ends = batches(get(self.at("journal")))
+            self.held(f"the journal behind {name}", (found[1:], ends[-1]), ([] if is_same else [canonical], len(get(self.at("journal")))))
+            self.held(f"{name}, again", self.node(plan="next"), (0, READY % 0, FIRST))
+        put(self.at("next"), BEHIND["a tenant more"])
+        self.node(plan="next")
+        self.refused("the plan before", 1, OTHER)
+        put(self.at("journal"), text)
+
+    def words(self):
+        for words in NO_REQUESTS:
+            status, told, wrote = ended([self.program, *words.split()], cwd=self.folder)
+            self.held(f"the words {words}", (status, told != b"", wrote), (2, True, b""))
+        words = [self.program, "node", "--journal", "journal", "--plan", "plan", "0"]
+        self.held("the words in another order", ended(words, cwd=self.folder), (0, READY % 0, FIRST))
+        status, told, wrote = ended([self.program, "node", "--help"])
+        self.held("--help", (status, told, b"--journal" in wrote), (0, b"", True))
+
+    def by_shell(self, name, status, told, redirected):
+        """A start with standard streams that a shell has redirected or closed. (What is closed is told before a file is opened.)"""
+        put(self.at("journal"), text := first_journal())
+        line = f'exec "$0" node 0 --plan plan --journal journal {redirected}'
+        seen = ended(["sh", "-c", line, self.program], cwd=self.folder)
+        self.held(name, (seen[0], seen[1]), (status, told))
+        self.held(f"the journal behind {name}", get(self.at("journal")), text)
+
+    def streams(self):
+        self.by_shell("a full output", 1, READY % 0 + b"gridfs: write fault\n", ">/dev/full")
+        self.by_shell("an input that can't be read", 1, READY % 0 + b"gridfs: read fault\n", "<.")
+        self.by_shell("a closed input", 1, b"gridfs: read fault\n", "<&-")
+        self.by_shell("a closed output", 1, b"gridfs: write fault\n", ">&-")
+        self.by_shell("a closed input and output", 1, b"gridfs: read fault\n", "<&- >&-")
+        self.by_shell("a closed standard error", 1, b"", "2>&-")
+        put(self.at("journal"), first_journal())
+        reader, writer = os.pipe()
+        os.close(reader)
+        run = subprocess.run(words_of(self.program, 0, "plan", "journal"), stdin=subprocess.DEVNULL, stdout=writer, stderr=subprocess.PIPE, cwd=self.folder, timeout=SECONDS)
+        os.close(writer)
+        self.held("an output that nobody reads", (run.returncode, run.stderr), (1, READY % 0 + b"gridfs: write fault\n"))
+
+    def limit_of_a_file(self):
+        """A journal that must not grow (as where the disk is full): nothing that rests on the fact is written."""
+        size = len(get(self.at("journal"))) + 20
+
+        def limited():
+            signal.signal(signal.SIGXFSZ, signal.SIG_IGN)
+            resource.setrlimit(resource.RLIMIT_FSIZE, (size, size))
+
+        told = READY % 0 + b"gridfs: journal: write fault\n"
+        self.held("a journal that must not grow", self.node(b"0 ann read 1 1 0 0\n", preexec_fn=limited), (1, told, FIRST))
+        status, told, wrote = self.node(b"0 ann abandon 1 9\n")
+        cut = b"gridfs: journal: cut at byte %d\n" % (size - 20)
+        self.held("a start behind it", (status, told, wrote), (0, cut + READY % 0, FIRST + b"ann 0 refused early 1 9 0\n"))
+
+    def two_processes(self):
+        first = subprocess.Popen(words_of(self.program, 0, "plan", "journal"), stdin=subprocess.PIPE, stdout=subprocess.PIPE, stderr=subprocess.PIPE, cwd=self.folder)
+        self.held("the first of two", first.stdout.readline(), FIRST)
+        self.refused("a second process", 1, b"gridfs: journal: in use\n")
+        self.refused("a second process, by --new", 1, b"gridfs: journal: in use\n", is_new=True)
+        first.kill()
+        first.communicate()
+        self.held("a start behind a process that was killed", self.node(), (0, READY % 0, FIRST))
+
+
+def tell_faults(program, folder):
+    """How many things were compared, and what is wrong."""
+    faults = Faults(program, folder)
+    faults.first_start()
+    faults.journals()
+    faults.plans()
+    faults.plans_that_go_on()
+    faults.words()
+    faults.streams()
+    faults.two_processes()
+    faults.limit_of_a_file()
+    return faults.tried, faults.wrong

@@ -1,0 +1,97 @@
+"""What examples/grid shows, takes and refuses, and that it leaves nothing behind."""
+
+import os
+import signal
+import subprocess
+import sys
+import time
+
+from processes import SECONDS, room
+
+GRID = os.path.join(os.path.dirname(os.path.abspath(__file__)), "..", "..", "examples", "grid")
+SHOWN = "All 16 files are as they were acknowledged.\n"
+LINES = "ann write 1 0 0 6869\nwait\nann read 2 0 0\nbob list 1 0\nwait\nkill 3\nann write 1 0 1 ff\nwait\nstart 3\nann read 4 0 1\n"
+ANSWERS = [
+    "ann done write 1 2 tag 1 1",
+    "ann done read 2 2 tag 1 1 6869",
+    "bob done list 1 2 0:0.0 0:0.0 0:0.0 0:0.0 0:0.0 0:0.0 0:0.0 0:0.0",
+    "ann done write 1 3 tag 2 1",
+    "ann done read 4 2 tag 2 1 ff",
+]
+# Lines that are refused, and what is told of each.
+BAD = {
+    "ann write 1 0 0": "no request (the line `help` tells the forms)",
+    "ann write 1 0 0 6": "no request (the line `help` tells the forms)",
+    "zed read 1 0 0": "the plan has no session 1 of zed",
+    "ann read 5 0 0": "the plan has no session 5 of ann",
+    "kill 4": "there are nodes 0 to 3",
+    "start 2": "node 2 is up",
+    "ann write 1 0 0 " + "aa" * 2000: "longer than 4000 bytes",
+}
+PLAN_WITH_A_FAULT = "grid 2 2\nblocks 1\ntenant ann 0 1 1\ngo\n"
+
+
+class Grids:
+    def __init__(self, program):
+        self.environment = {**os.environ, "GRIDFS": program}
+        self.tried, self.wrong = 0, []
+
+    def held(self, name, seen, wanted):
+        self.tried += 1
+        if seen != wanted:
+            self.wrong.append(f"{name}: {seen!r}, not {wanted!r}")
+
+    def run(self, *words, given=""):
+        done = subprocess.run([sys.executable, GRID, *words], input=given, stdout=subprocess.PIPE, stderr=subprocess.PIPE, text=True, env=self.environment, timeout=3 * SECONDS)
+        return done.returncode, done.stdout, [line for line in done.stderr.splitlines() if line.startswith("grid: ")]
+
+    def shows(self):
+        status, shown, _ = self.run("try")
+        self.held("examples/grid try", (status, shown.splitlines(keepends=True)[-1:]), (0, [SHOWN]))
+
+    def takes_lines(self, folder):
+        status, answers, _ = self.run(folder, given=LINES)
+        self.held("lines from a pipe", (status, sorted(answers.splitlines())), (0, sorted(ANSWERS)))
+        status, answers, _ = self.run(folder, given="ann read 3 0 0")
+        words = answers.split()
+        self.held("a second start in the folder", (status, words[:3], words[-1:]), (0, ["ann", "done", "read"], ["6869"]))
+        status, answers, told = self.run(folder, given="".join(f"{line}\n" for line in BAD))
+        self.held("bad lines", (status, answers, told[1:]), (1, "", [f"grid: line {at}: {text}" for at, text in enumerate(BAD.values(), 1)]))
+
+    def refuses(self, folder):
+        self.held("no words", self.run()[0], 2)
+        self.held("an option that is not there", self.run("--fast", folder)[0], 2)
+        status, shown, _ = self.run("--help")
+        self.held("--help", (status, "examples/grid" in shown), (0, True))
+        self.held("a program that is not there", self.run("--program", "/none", folder)[::2], (1, ["grid: /none: No such file or directory"]))
+        self.held("a plan that is not there", self.run("--plan", "/none", folder + ".none")[::2], (1, ["grid: /none: No such file or directory"]))
+        with open(folder + ".plan", "w", encoding="ascii") as out:
+            out.write(PLAN_WITH_A_FAULT)
+        wanted = 1, ["grid: node 0 has ended with status 1", "grid: node 0 did not start"]
+        self.held("a plan with a fault", self.run("--plan", folder + ".plan", folder + ".fault")[::2], wanted)
+
+    def is_interrupted(self, folder, number):
+        """A signal ends it, and with it its nodes: another grid starts in the folder at once."""
+        grid = subprocess.Popen([sys.executable, GRID, folder], stdin=subprocess.PIPE, stdout=subprocess.PIPE, stderr=subprocess.PIPE, text=True, env=self.environment)
+        while "nodes are up" not in (line := grid.stderr.readline()) and line:
+            pass
+        grid.stdin.write("ann write 1 0 0 aa\n" * 100)
+        grid.stdin.flush()
+        time.sleep(0.05)
+        grid.send_signal(number)
+        grid.communicate(timeout=SECONDS)
+        self.held(f"signal {number}", grid.returncode in (130, -number), True)
+        self.held(f"a start behind signal {number}", self.run(folder, given="ann read 2 0 0\n")[0], 0)
+
+
+def tell_grid(program):
+    """How many things were compared, and what is wrong."""
+    grids = Grids(program)
+    grids.shows()
+    with room() as folder:
+        folder = os.path.join(folder, "grid")
+        grids.takes_lines(folder)
+        grids.refuses(folder)
+        for number in (signal.SIGINT, signal.SIGTERM, signal.SIGKILL):
+            grids.is_interrupted(folder, number)
+    return grids.tried, grids.wrong

@@ -1,0 +1,137 @@
+"""Nodes as processes: run to the end of their input, or led step by step; and what a loss of power leaves of their files."""
+
+import contextlib
+import os
+import select
+import shutil
+import signal
+import subprocess
+import tempfile
+import time
+
+SECONDS = 20  # that a process may take for what is asked of it
+READ = 1 << 16
+# The last tenant of each plan, which has no more to do than to mark the end of a step: a line of it is answered at once.
+MARKER = "tenant mark 1 1 1\n"
+MARK, MARKED = b"%d mark abandon 99 1\n", b"mark %d refused nosession 99 1\n"
+
+
+class Wrong(Exception):
+    """Something is not as it has to be."""
+
+
+class Silent(Wrong):
+    """A process has not answered for some seconds."""
+
+
+@contextlib.contextmanager
+def room():
+    """A folder for some nodes, where syncs cost nothing if there is such a place."""
+    memory = "/dev/shm" if os.access("/dev/shm", os.W_OK) else None
+    folder = tempfile.mkdtemp(prefix="gridfs-nodes-", dir=memory)
+    try:
+        yield folder
+    finally:
+        shutil.rmtree(folder)
+
+
+def put(path, text):
+    with open(path, "wb") as out:
+        out.write(text)
+
+
+def get(path):
+    with open(path, "rb") as file:
+        return file.read()
+
+
+def words_of(program, number, plan, journal, is_new=False):
+    return [program, "node", str(number), "--plan", plan, "--journal", journal] + ["--new"] * is_new
+
+
+def disk(library, **how):
+    """The environment of a process with disk.c before the C library."""
+    return {**os.environ, "LD_PRELOAD": library, **{name: str(value) for name, value in how.items()}}
+
+
+def ended(words, given=b"", **more):
+    """Runs a process to its end: its status, what it told, and what it wrote."""
+    try:
+        done = subprocess.run(words, input=given, stdout=subprocess.PIPE, stderr=subprocess.PIPE, timeout=SECONDS, **more)
+    except subprocess.TimeoutExpired as error:
+        raise Silent(f"{' '.join(words)} has not ended after {SECONDS} seconds") from error
+    return done.returncode, done.stderr, done.stdout
+
+
+class Stepped:
+    """A node's process that is given lines, of at most 65,000 bytes in all, and has done with them before it is given more. So what it
+    does depends on these lines alone, also where disk.c stops it."""
+
+    def __init__(self, words, number, folder, environment=None):
+        self.number, self.words = number, words
+        self.end = MARKED % number
+        self.told = open(os.path.join(folder, f"told{number}"), "ab")
+        self.child = subprocess.Popen(words, stdin=subprocess.PIPE, stdout=subprocess.PIPE, stderr=self.told, bufsize=0, cwd=folder, env=environment)
+        self.out, self.given = self.child.stdout.fileno(), self.child.stdin.fileno()
+
+    def step(self, lines):
+        """What the node writes for these lines, and whether it lives: where it does not, its last line may be torn."""
+        try:
+            os.write(self.given, lines + MARK % self.number)
+        except BrokenPipeError:
+            pass
+        wrote, last = [], b""
+        while True:
+            if not select.select([self.out], [], [], SECONDS)[0]:
+                raise Silent(f"node {self.number} has not answered for {SECONDS} seconds")
+            read = os.read(self.out, READ)
+            wrote.append(read)
+            last = (last + read)[-len(self.end) :]
+            if last == self.end:
+                return b"".join(wrote)[: -len(self.end)], True
+            if not read:
+                return b"".join(wrote), False
+
+    def step_and_kill(self, lines, seconds):
+        """Gives the node lines, and kills it so long behind that: what it wrote until then, of which the last line may be torn."""
+        os.write(self.given, lines)
+        time.sleep(seconds)
+        self.child.send_signal(signal.SIGKILL)
+        return b"".join(iter(lambda: os.read(self.out, READ), b""))
+
+    def kill(self):
+        """Ends the process now (kill -9); its status, if it has ended before."""
+        self.child.send_signal(signal.SIGKILL)
+        status = self.child.wait()
+        for file in (self.child.stdin, self.child.stdout, self.told):
+            file.close()
+        return status
+
+
+def lose_power(journal, draw):
+    """Leaves of a dead node's files what a loss of power may leave: what was synced, any beginning of what was written behind it or
+    something else in its place; and a rename whose folder was not synced may not have been."""
+    before, fresh = journal + ".before", journal + ".fresh"
+    if draw.random() < 0.5 and (os.path.exists(before) or os.path.exists(fresh)):
+        os.replace(journal, journal + ".new")
+        if os.path.exists(journal + ".synced"):
+            os.replace(journal + ".synced", journal + ".new.synced")
+        if os.path.exists(before):
+            os.replace(before, journal)
+            if os.path.exists(before + ".synced"):
+                os.replace(before + ".synced", journal + ".synced")
+    for path in (before, before + ".synced", fresh):
+        with contextlib.suppress(FileNotFoundError):
+            os.unlink(path)
+    for path in (journal, journal + ".new"):
+        if os.path.exists(path):
+            lose_end(path, draw)
+
+
+def lose_end(path, draw):
+    text = get(path)
+    synced = int(get(path + ".synced")) if os.path.exists(path + ".synced") else 0
+    synced = min(synced, len(text))
+    kept = draw.randint(synced, len(text))
+    other = draw.choice([b"", b"", bytes(len(text) - kept), draw.randbytes(len(text) - kept)])
+    put(path, text[:kept] + other)

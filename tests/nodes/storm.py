@@ -1,0 +1,344 @@
+"""Grids of nodes in a storm: a carrier that loses, repeats, delays and reorders lines, ticks at any time, nodes that die and start again,
+clients that begin anew, and a tenant that sends nonsense; all drawn from a seed. What each session was told of a file is kept as a
+history, and what each node was given and wrote, life by life.
+
+Nodes are led step by step (processes.Stepped), one after another, so that a seed makes the same storm again.
+"""
+
+import os
+import random
+import sys
+
+HERE = os.path.dirname(os.path.abspath(__file__))
+sys.path.insert(0, os.path.join(HERE, "..", "linearizable"))
+sys.path.insert(0, os.path.join(HERE, "..", "..", "examples", "nodes"))
+from checker import is_linearizable
+from processes import MARKER, Stepped, Wrong, disk, get, lose_power, words_of
+from spoiling import written
+from tenant import Session, homes
+
+BOUND = 100_000
+NAMES = ["ann", "bob", "cid", "dan"]
+TURN = 0.02  # seconds of the clients' clock
+MOST = 400  # lines on their way to a node: what is more is lost
+BATCH = 24  # lines of one step, at most
+SILENCE = 6_000  # turns in which all has to be answered once nothing is lost any more
+LONGEST_BATCH = 60_000
+MOST_SECONDS = 0.001  # that a node has for lines amid which it is killed
+
+
+class Weather:
+    """How bad it is: what a node's life ends by, and how often."""
+
+    def __init__(self, kills=0.004, amid=0, stops=False, powers=False, lies=False, lost=0.04, repeated=0.06, nonsense=0.1):
+        self.kills, self.amid, self.stops, self.powers, self.lies = kills, amid, stops, powers, lies
+        self.lost, self.repeated, self.nonsense = lost, repeated, nonsense
+
+
+# Nodes are killed when they have done with their lines; in the midst of them, by the clock, which no seed repeats; at a call of the disk, by
+# which most power is lost too; and on a disk that does not sync.
+KILLS = Weather()
+AMID = Weather(amid=0.05)
+STOPS = Weather(kills=0.002, stops=True, powers=True)
+LIES = Weather(kills=0.002, stops=True, powers=True, lies=True)
+CALM = Weather(kills=0, lost=0, repeated=0, nonsense=0)
+
+
+def a_plan(draw):
+    """A plan of one to nine servers and one to four tenants, with their volumes."""
+    rows, cols = draw.choice([(1, 1), (1, 2), (2, 1), (2, 2), (2, 2), (2, 2), (2, 3), (3, 2), (3, 3)])
+    tenants, opened, volumes = "", [], {}
+    for name in NAMES[: draw.randint(1, len(NAMES))]:
+        volumes[name] = [(draw.randint(1, 4), draw.randint(1, 2)) for _ in range(draw.randint(1, 2))]
+        tenants += f"tenant {name} {sum(files * most for files, most in volumes[name])} {draw.randint(1, 5)} 1\n"
+        opened += [f"{name} open {files} {most}\n" for files, most in volumes[name]]
+    return f"grid {rows} {cols}\nblocks 64\n{tenants}{MARKER}go\n{''.join(opened)}", volumes
+
+
+class Client:
+    """A session's client: one request after another, each drawn, and what was told of them."""
+
+    def __init__(self, storm, name, session, home):
+        self.storm, self.name, self.session, self.home = storm, name, session, home
+        self.going, self.is_done = None, False
+        self.begin_anew()
+
+    def begin_anew(self):
+        """Another client in the place of this one. What it asked for last may still take effect."""
+        self.end_history("info")
+        self.sender = Session(self.name, self.session, self.home, self.storm.draw)
+
+    def ask(self):
+        """Asks for something, if nothing is under way; the beginning is noted on each file that it is of."""
+        if self.sender.going or self.sender.waiting or self.is_done:
+            return
+        draw, volumes = self.storm.draw, self.storm.volumes[self.name]
+        volume = draw.randrange(len(volumes))
+        file, kind = draw.randrange(volumes[volume][0]), draw.choice(["write", "write", "read", "read", "read", "list"])
+        content = b""
+        if kind == "write":
+            content = draw.randbytes(draw.choice([0, 2, 3, 3, 64])).hex().encode() or b"-"
+        self.begin(kind, volume, range(volumes[volume][0]) if kind == "list" else [file], content)
+
+    def begin(self, kind, volume, files, content=b""):
+        words = [b"%d" % volume] + [b"%d" % files[0]] * (kind != "list") + [content] * (kind == "write")
+        self.storm.processes += 1
+        self.going = kind, volume, files, content, self.storm.processes
+        self.note("invoke", [content] * len(files) if kind == "write" else None)
+        self.sender.ask(kind.encode(), words, self.told)
+
+    def note(self, stage, values):
+        kind, volume, files, _, process = self.going
+        function = "length" if kind == "list" else kind
+        for file, value in zip(files, values or [None] * len(files)):
+            shown = value if value is None or kind == "list" else b'"%s"' % value.replace(b"-", b"")
+            self.storm.events.setdefault((self.name, volume, file), []).append((0, stage, process, function, shown.decode() if shown is not None else "nil"))
+
+    def end_history(self, stage, values=None):
+        if self.going:
+            if stage == "ok":
+                self.note(stage, values)
+            self.going = None
+
+    def told(self, body):
+        words = body.split(b" ")
+        kind = self.going[0].encode()
+        if words[0] == b"gone":
+            self.storm.gone += 1
+            return self.end_history("info")
+        if words[:2] != [b"done", kind]:
+            raise Wrong(f"{self.name} asks for {self.going} and is told {body!r}")
+        self.storm.done += 1
+        if kind == b"list":
+            values = [row.partition(b":")[0] for row in words[4:]]
+        else:
+            self.storm.see_tag(self, tuple(map(int, words[5:7])), words[7] if kind == b"read" else self.going[3])
+            values = [words[7] if kind == b"read" else self.going[3]]
+        return self.end_history("ok", values)
+
+
+class Life:
+    """One life of a node: what it was given, and what it wrote."""
+
+    def __init__(self, stepped):
+        self.stepped, self.given, self.wrote = stepped, [], []
+
+
+class Storm:
+    """A grid in a storm, from its first start on."""
+
+    def __init__(self, program, folder, seed, weather, library=None):
+        self.program, self.folder, self.weather, self.library = program, folder, weather, library
+        self.draw = random.Random(seed)
+        self.plan, self.volumes = a_plan(self.draw)
+        with open(os.path.join(folder, "plan"), "w", encoding="ascii") as out:
+            out.write(self.plan)
+        self.count, self.homes = homes(self.plan)
+        self.turn = self.given = self.done = self.gone = self.deaths = self.processes = 0
+        self.events, self.tags = {}, {}
+        self.lives = [[] for _ in range(self.count)]
+        self.ways = [[] for _ in range(self.count)]
+        self.clients = {}
+        for (name, session), home in self.homes.items():
+            if name in self.volumes:
+                self.clients[name, session] = Client(self, name, session, home)
+        self.by_name = {}
+        for (name, session), client in self.clients.items():
+            self.by_name.setdefault(name.encode(), []).append(client)
+        self.stale = []
+
+    # ---- nodes
+
+    def journal(self, number):
+        return os.path.join(self.folder, f"journal{number}")
+
+    def start(self, number):
+        """Starts a node, whose disk may stop at some call."""
+        words = words_of(self.program, number, "plan", self.journal(number), not os.path.exists(self.journal(number)))
+        environment = None
+        if self.library:
+            how = {}
+            if self.weather.stops and self.draw.random() < 0.7:
+                how["STOP"] = f"{1 + int(self.draw.expovariate(1 / 60))}{self.draw.choice(['', '/', '+', '+'])}"
+            if self.weather.lies:
+                how["LIES"] = 1
+            environment = disk(self.library, **how)
+        self.lives[number].append(Life(Stepped(words, number, self.folder, environment)))
+
+    def alive(self, number):
+        lives = self.lives[number]
+        return lives[-1] if lives and lives[-1].stepped else None
+
+    def kill(self, number):
+        """Ends the node, and with some weather its machine."""
+        life = self.lives[number][-1]
+        status = life.stepped.kill()
+        life.stepped = None
+        self.deaths += 1
+        if status != -9:
+            raise Wrong(f"node {number} has ended with status {status}: {get(os.path.join(self.folder, f'told{number}'))[-200:]!r}")
+        if self.weather.powers and self.draw.random() < 0.7:
+            lose_power(self.journal(number), self.draw)
+
+    # ---- lines
+
+    def send(self, line):
+        """Takes a line on its way, if it is not lost."""
+        to = line.partition(b" ")[0]
+        way = self.ways[int(to)]
+        if len(way) < MOST and self.draw.random() >= self.weather.lost:
+            way.append(line)
+
+    def nonsense(self):
+        """A line of a tenant that is almost a request. It is none of a session that has a client: a session has one."""
+        draw = self.draw
+        name, to = draw.choice(list(self.by_name)), draw.randrange(self.count)
+        numbers = [draw.choice([b"0", b"1", b"2", b"7", b"255", b"4294967295", b"4294967296", b"01", b""]) for _ in range(4)]
+        kind = draw.choice([b"write", b"read", b"list", b"abandon", b"plan", b"done", b"%d ask" % to, b"?", name + b" 1 1 1 0 0 ask"])
+        words = [kind, *numbers[: draw.randint(0, 4)]] + [draw.choice([b"aa", b"-", b"a", b"AB", b"aa" * 200])] * draw.randint(0, 1)
+        if kind in (b"write", b"read", b"list", b"abandon") and words[1:2] in ([b"1"], [b"2"], [b"7"]):
+            words[2:3] = [b"0"]  # (this number is old)
+        return b"%d %s %s" % (to, name, b" ".join(words))
+
+    def batch(self, number):
+        """The lines of the next step of a node: some of those on their way to it, in some order, some of which may come again; ticks; nonsense."""
+        draw, way, lines = self.draw, self.ways[number], []
+        for _ in range(min(len(way), draw.randint(1, BATCH))):
+            place = int(draw.random() * min(len(way), 3 * BATCH))
+            lines.append(way[place] if draw.random() < self.weather.repeated else way.pop(place))
+        if draw.random() < 0.15:
+            lines.append(b"%d %d tick" % (number, number))
+        if draw.random() < self.weather.nonsense:
+            lines.append(draw.choice([b"", b"x", b"%d" % number, b"%d 0" % number, b"9 9 tick", b"%d 99 tick" % number, b"\x00\xff"]))
+        given = b"\n".join(lines) + b"\n" if lines else b""
+        return given if len(given) < LONGEST_BATCH else b""
+
+    def step(self, number):
+        """One step of a node that is up; one that is down starts, now and then."""
+        life = self.alive(number)
+        if life is None:
+            if self.draw.random() < 0.03 or not self.weather.kills:
+                self.start(number)
+            return
+        given = self.batch(number)
+        self.given += given.count(b"\n")
+        life.given.append(given)
+        if self.draw.random() < self.weather.amid:
+            wrote, lives = life.stepped.step_and_kill(given, self.draw.random() * MOST_SECONDS), False
+        else:
+            wrote, lives = life.stepped.step(given)
+        life.wrote.append(wrote)
+        *lines, torn = wrote.split(b"\n")
+        for line in lines:
+            if line[:1].isdigit():
+                self.send(line)
+            elif line[:1] != b" ":
+                self.hear(line)
+        if not lives or self.draw.random() < self.weather.kills:
+            self.kill(number)
+
+    def hear(self, line):
+        """A line to a tenant, which may be lost, or come again later."""
+        draw = self.draw.random()
+        if draw < self.weather.lost:
+            return
+        if draw < 2 * self.weather.lost + self.weather.repeated:
+            self.stale.append(line)
+        name, _, body = line.split(b" ", 2)
+        for client in self.by_name.get(name, []):
+            client.sender.hear(body)
+
+    def blow(self, lines):
+        """Goes on until the nodes were given so many lines more."""
+        until, draw = self.given + lines, self.draw
+        while self.given < until:
+            self.turn += 1
+            if self.turn > 40 * (until + 1000):
+                raise Wrong(f"after {self.turn} turns nodes were given {self.given} lines alone")
+            for client in self.clients.values():
+                client.ask()
+                if draw.random() < 0.0005 and self.weather.lost:
+                    client.begin_anew()
+                if draw.random() < 0.002:
+                    client.sender.give_up()
+            self.deliver()
+            if self.weather.nonsense and draw.random() < self.weather.nonsense:
+                self.send(self.nonsense())
+            self.step(draw.randrange(self.count))
+
+    def deliver(self):
+        """What clients send now, and a line to a tenant that was late."""
+        for client in self.clients.values():
+            for line in client.sender.due(self.turn * TURN):
+                self.send(line)
+        if self.stale and self.draw.random() < 0.05:
+            line = self.stale.pop(self.draw.randrange(len(self.stale)))
+            name, _, body = line.split(b" ", 2)
+            for client in self.by_name.get(name, []):
+                client.sender.hear(body)
+
+    # ---- the end
+
+    def settle(self):
+        """Kills all nodes and starts them again; then nothing is lost any more, and each session is answered. Then each file is read."""
+        for number in range(self.count):
+            if self.alive(number):
+                self.kill(number)
+        self.weather = CALM
+        self.answer_all()
+        for name, volumes in self.volumes.items():
+            clients = self.by_name[name.encode()]
+            for volume, (files, _) in enumerate(volumes):
+                for file in range(files):
+                    self.answer_all()
+                    self.draw.choice(clients).begin("read", volume, [file])
+        self.answer_all()
+        for lives in self.lives:
+            lives[-1].stepped.kill()
+            lives[-1].stepped = None
+
+    def answer_all(self):
+        until = self.turn + SILENCE
+        while any(client.sender.going or client.sender.waiting for client in self.clients.values()):
+            self.turn += 1
+            if self.turn > until:
+                raise Wrong(f"not answered in {SILENCE} turns: {[key for key, client in self.clients.items() if client.sender.going]}")
+            self.deliver()
+            for number in range(self.count):
+                self.step(number)
+
+    def see_tag(self, client, tag, content):
+        """A tag of a file has one content."""
+        kind, volume, files, _, _ = client.going
+        place = client.name, volume, files[0], tag
+        if self.tags.setdefault(place, content) != content:
+            raise Wrong(f"the tag {tag} of file {volume} {files[0]} of {client.name} has two contents: {self.tags[place]!r} and {content!r}")
+        if tag == (0, 0) and content != b"-":
+            raise Wrong(f"a file that was not written has the content {content!r}")
+
+    def histories(self):
+        """The history of each file, as tests/linearizable judges it."""
+        return {place: written(events) for place, events in self.events.items()}
+
+    def judge(self):
+        """How many histories were judged, and how many were given up."""
+        given_up, histories = 0, self.histories()
+        for place, history in histories.items():
+            verdict = is_linearizable(history, BOUND)
+            given_up += verdict is None
+            if verdict is False:
+                raise Wrong(f"the history of {place} is not linearizable: {history}")
+        return len(histories), given_up
+
+
+def stormed(program, folder, seed, lines, weather, library=None):
+    """A whole storm, which is judged. What it had."""
+    storm = Storm(program, folder, seed, weather, library)
+    try:
+        storm.blow(lines)
+        storm.settle()
+    finally:
+        for lives in storm.lives:
+            if lives and lives[-1].stepped:
+                lives[-1].stepped.kill()
+    return storm
