@@ -6,7 +6,7 @@ ghost use Rattle.std.specs.Option.{option_to_list};
 ghost use Rattle.gq_tag.specs.Tag.{own_message};
 ghost use Rattle.gq_desk.specs.CheckedPlan.{row_at};
 ghost use Rattle.gq_journal.specs.Batches.{lines_text};
-ghost use Rattle.gq_node.specs.Inputs.{Asked, Brought, Ticked};
+ghost use Rattle.gq_node.specs.Inputs.{Asked, AskedPlan, Brought, Ticked};
 ghost use Rattle.gq_node.specs.Recalling.{tenant_of};
 ghost use Rattle.gq_node.specs.Tables.{AllStand};
 ghost use Rattle.gq_wire.specs.Incoming.{FitsPlan};
@@ -176,6 +176,18 @@ impl NodeMachine {
         }
     }
 
+    // The tenant asks what it has.
+    fn question(&mut self, tenant: u8, facts: &mut Vec<u8>, told: &mut Vec<u8>) -> Result<(), Fault>
+        requires { tenant < length self.old.node.tables.plan.rows }
+        ensures { OnOk result (TookOf self.old.node.tables tenant (AskedPlan ∷ []) facts.old.items facts.new.items told.old.items told.new.items self.new.node.tables) }
+    {
+        self.goes()?;
+        match self.node.holding(tenant) {
+            Ok(out) => Ok(self.put(tenant, &Line::Bad, &out, facts, told)?),
+            Err(ended) => Err(no_memory(ended)),
+        }
+    }
+
     // A letter comes.
     fn letter(
         &mut self,
@@ -255,6 +267,7 @@ impl NodeMachine {
     {
         match incoming {
             Incoming::Request { tenant, op, line } => self.request(*tenant, *op, line, facts, told),
+            Incoming::Plan { tenant } => self.question(*tenant, facts, told),
             Incoming::Bad { tenant } => self.request(*tenant, 0, &Line::Bad, facts, told),
             Incoming::Letter { from, message } => self.letter(*from, message, facts, told),
             Incoming::Tick => self.tick(facts, told),

@@ -7,7 +7,7 @@ use Rattle.gq_desk.specs.CheckedPlan.{CheckedPlan}
 use Rattle.gq_desk.specs.declared.volumes.VolumeRow.{VolumeRow}
 use Rattle.gq_text.specs.Canonical.{IsPlan}
 use Rattle.gq_cluster.specs.Cluster.{Setting}
-use Rattle.gq_node.specs.Inputs.{Input, Asked, Brought, Ticked, does, after_all}
+use Rattle.gq_node.specs.Inputs.{Input, Asked, AskedPlan, Brought, Ticked, does, after_all}
 use Rattle.gq_node.specs.Local.{Local, Doing, new_local}
 use Rattle.gq_node.specs.Nodes.{Nodes, Event, Started, site_in, new_nodes, after_doing, after_event, nodes_after, started, fact_list}
 use Rattle.gq_node.specs.Resting.{recall_all, those_of}
@@ -33,6 +33,7 @@ record AfterAll (s : Setting) (n : ℕ) (nodes after : Nodes) (inputs : List Inp
 
 one_event : (s : Setting) (nodes : Nodes) (n : ℕ) (a : Input) → after_event s nodes (event_at n a) ≡ after_doing nodes n (does a (site_in s n) (nodes.local n))
 one_event s nodes n (Asked op line) = refl
+one_event s nodes n AskedPlan = refl
 one_event s nodes n (Brought from letter) = refl
 one_event s nodes n (Ticked session) = refl
 

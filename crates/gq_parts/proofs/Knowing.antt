@@ -11,7 +11,7 @@ use Rattle.gq_desk.specs.declared.volumes.VolumeRow.{VolumeRow}
 use Rattle.gq_model.specs.Trace.{limit_at}
 use Rattle.gq_cluster.specs.Cluster.{everyone}
 use Rattle.gq_cluster.specs.Facts.{KeptPart, OwnFact, Begun, Numbered, Kept, kept_of, with_fact}
-use Rattle.gq_node.specs.Inputs.{Input, Asked, Brought, Ticked, does, after_one, after_all}
+use Rattle.gq_node.specs.Inputs.{Input, Asked, AskedPlan, Brought, Ticked, does, after_one, after_all}
 use Rattle.gq_node.specs.Local.{Local, Doing, part_in, state_of, file_fits, fact_fits, file_in, with_resident, recalled, rested}
 use Rattle.gq_node.specs.Resting.{recall_one, recall_all, IsAtRest}
 use Rattle.gq_node.specs.Sites.{Site}
@@ -23,6 +23,7 @@ use Rattle.gq_parts.specs.Texts.{own_facts}
 
 does_volumes : (input : Input) (site : Site) (local : Local) → SameVolumes local (does input site local)
 does_volumes (Asked op line) site local = asks_volumes op line site local
+does_volumes AskedPlan site local = refl
 does_volumes (Brought from letter) site local = receives_volumes from letter site local
 does_volumes (Ticked session) site local = ticks_volumes session site local
 
@@ -32,6 +33,7 @@ all_volumes site local (input ∷ inputs) = all_volumes site (after_one site loc
 
 does_keeps : (input : Input) (site : Site) (local : Local) → Keeps site local (does input site local)
 does_keeps (Asked op line) site local = all_requests_keep op line site local
+does_keeps AskedPlan site local = refl
 does_keeps (Brought from letter) site local = all_letters_keep from letter site local
 does_keeps (Ticked session) site local = all_ticks_keep session site local
 

@@ -3,7 +3,7 @@ use Rattle.std.proofs.Common.{ℕ, zero, suc, ◌<◌, ◌≤◌, List, [], ◌�
 use Rattle.std.specs.Prelude.{All}
 use Rattle.gq_tag.specs.Tag.{OwnMessage, message_of}
 use Rattle.gq_desk.specs.CheckedPlan.{CheckedPlan}
-use Rattle.gq_node.specs.Inputs.{Input, Asked, Brought, Ticked, does}
+use Rattle.gq_node.specs.Inputs.{Input, Asked, AskedPlan, Brought, Ticked, does}
 use Rattle.gq_node.specs.Local.{Local}
 use Rattle.gq_node.specs.Sites.{Site}
 use Rattle.gq_node.proofs.Sending.{Counted, asks_counted, receives_counted, ticks_counted}
@@ -21,5 +21,6 @@ IsCounted _ = Unit {0}
 
 pub does_counted : (input : Input) (site : Site) (local : Local) → IsCounted input → Counted (does input site local).letters
 does_counted (Asked op line) site local one = asks_counted op line site local
+does_counted AskedPlan site local one = tt
 does_counted (Brought from letter) site local one = receives_counted from letter site local
 does_counted (Ticked session) site local one = ticks_counted session site local one

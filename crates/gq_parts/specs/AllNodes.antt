@@ -7,8 +7,8 @@ use Rattle.gq_text.specs.Canonical.{IsPlan}
 use Rattle.gq_keeper.specs.Runs.{Did}
 use Rattle.gq_keeper.specs.Starting.{RecallsAll}
 use Rattle.gq_cluster.specs.Cluster.{Setting, new_cluster}
-use Rattle.gq_node.specs.Inputs.{Input, Asked, Brought, Ticked}
-use Rattle.gq_node.specs.Nodes.{Nodes, Event, LineCame, LetterCame, TickCame, Started, new_nodes, nodes_after, AllCanCome, Follows}
+use Rattle.gq_node.specs.Inputs.{Input, Asked, AskedPlan, Brought, Ticked}
+use Rattle.gq_node.specs.Nodes.{Nodes, Event, LineCame, PlanCame, LetterCame, TickCame, Started, new_nodes, nodes_after, AllCanCome, Follows}
 use Rattle.gq_node.specs.Resting.{those_of}
 use Rattle.gq_node.specs.Sites.{home_of}
 use Rattle.gq_node.specs.Tables.{Tables, Agrees}
@@ -74,6 +74,7 @@ setting_at plan volumes t = record { grid = plan.grid; row = row_at plan t; home
 -- its inputs at a node are events there
 abbrev pub event_at : ℕ → Input → Event
 event_at n (Asked op line) = LineCame n op line
+event_at n AskedPlan = PlanCame n
 event_at n (Brought from letter) = LetterCame n from letter
 event_at n (Ticked session) = TickCame n session
 

@@ -5,9 +5,9 @@ use Rattle.gq_tag.specs.Tag.{own_message}
 use Rattle.gq_desk.specs.CheckedPlan.{CheckedPlan, row_at}
 use Rattle.gq_model.specs.declared.events.Line.{Line}
 use Rattle.gq_model.specs.declared.events.Line.TheVariants.{Bad as NoLine}
-use Rattle.gq_node.specs.Inputs.{Input, Asked, Brought, Ticked}
+use Rattle.gq_node.specs.Inputs.{Input, Asked, AskedPlan, Brought, Ticked}
 use Rattle.gq_wire.specs.declared.incoming.Incoming.{Incoming}
-use Rattle.gq_wire.specs.declared.incoming.Incoming.TheVariants.{Request, Bad, Letter, Tick, Nothing}
+use Rattle.gq_wire.specs.declared.incoming.Incoming.TheVariants.{Request, Plan, Bad, Letter, Tick, Nothing}
 use Rattle.gq_wire.specs.Incoming.{incoming_of}
 
 -- one input of that tenant, and none of any other
@@ -21,6 +21,7 @@ ticks_of plan t = map (λ session. Ticked session) (range_with_len 1 (row_at pla
 -- the inputs of the tenant at place t; a line without form is a request that none is
 abbrev pub inputs_of : CheckedPlan → Incoming → ℕ → List Input
 inputs_of plan (Request tenant op line) t = alone tenant (Asked op line) t
+inputs_of plan (Plan tenant) t = alone tenant AskedPlan t
 inputs_of plan (Bad tenant) t = alone tenant (Asked 0 NoLine) t
 inputs_of plan (Letter from m) t = alone m.tenant (Brought from (own_message m)) t
 inputs_of plan Tick t = ticks_of plan t

@@ -2,7 +2,7 @@
 use Rattle.std.proofs.Common.{◌<◌, ◌∷◌, [], length, sym, subst}
 use Rattle.gq_tag.specs.Tag.{own_message}
 use Rattle.gq_model.specs.declared.events.Line.TheVariants.{Bad as NoLine}
-use Rattle.gq_node.specs.Inputs.{Asked, Brought}
+use Rattle.gq_node.specs.Inputs.{Asked, AskedPlan, Brought}
 use Rattle.gq_wire.specs.Incoming.{FitsPlan}
 use Rattle.gq_wire.specs.declared.incoming.Incoming.{Incoming}
 use Rattle.gq_wire.specs.declared.incoming.Incoming.TheVariants.{Letter}
@@ -17,6 +17,13 @@ returns-in-Request c =
     let within : c.in-Request.tenant < length w.plan.rows = subst (λ (i : Incoming). FitsPlan w.plan i) c.in-Request.is c.requires in
     let P : Incoming → Type 0 = λ i. TookAll w (inputs_of w.plan i) c.args.facts.now.items c.request.new.facts.items c.args.told.now.items c.request.new.told.items c.request.new.self.node.tables in
     on_ok c.request.result (λ one. subst P (sym c.in-Request.is) (took_alone w c.request.new.self.node.tables c.in-Request.tenant (Asked c.in-Request.op c.in-Request.line ∷ []) _ _ _ _ within one)) c.request.ensures
+
+pub returns-in-Plan : goal.returns-in-Plan
+returns-in-Plan c =
+    let w = c.args.self.now.node.tables in
+    let within : c.in-Plan.tenant < length w.plan.rows = subst (λ (i : Incoming). FitsPlan w.plan i) c.in-Plan.is c.requires in
+    let P : Incoming → Type 0 = λ i. TookAll w (inputs_of w.plan i) c.args.facts.now.items c.question.new.facts.items c.args.told.now.items c.question.new.told.items c.question.new.self.node.tables in
+    on_ok c.question.result (λ one. subst P (sym c.in-Plan.is) (took_alone w c.question.new.self.node.tables c.in-Plan.tenant (AskedPlan ∷ []) _ _ _ _ within one)) c.question.ensures
 
 pub returns-in-Bad : goal.returns-in-Bad
 returns-in-Bad c =
