@@ -17,6 +17,7 @@ ghost use Rattle.gq_model.specs.Lone.{first_cause};
 ghost use Rattle.gq_cluster.specs.Facts.{replaced_in};
 ghost use Rattle.gq_node.specs.declared.output.Admission.TheVariants.{Goes};
 ghost use Rattle.gq_node.specs.Local.{asks, asker, begins, refused_with, holding, tells_holding, serves, hears, receives, ticks, recalls, goes_between, letter_fits, copy_fits, file_fits, has_above};
+ghost use Rattle.gq_node.specs.Bounds.{IsBounded};
 ghost use Rattle.gq_node.specs.Needing.{copy_facts, IsReadable, IsRefusedOf};
 ghost use Rattle.gq_node.specs.Recalling.{tenant_of, own_fact};
 ghost use Rattle.gq_node.specs.Shape.{FewSessions};
@@ -218,6 +219,13 @@ impl Core {
         ensures { result.now ≡ self.now.plan }
     {
         &self.plan
+    }
+
+    // No more is held than the plan has room for.
+    pub(crate) fn bounded(&self)
+        ensures { IsBounded self.now }
+    {
+        let _server = self.server;
     }
 
     // The number of the server.
