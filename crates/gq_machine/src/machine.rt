@@ -177,12 +177,7 @@ impl NodeMachine {
     }
 
     // The tenant asks what it has.
-    fn question(
-        &mut self,
-        tenant: u8,
-        facts: &mut Vec<u8>,
-        told: &mut Vec<u8>,
-    ) -> Result<(), Fault>
+    fn question(&mut self, tenant: u8, facts: &mut Vec<u8>, told: &mut Vec<u8>) -> Result<(), Fault>
         requires { tenant < length self.old.node.tables.plan.rows }
         ensures { OnOk result (TookOf self.old.node.tables tenant (AskedPlan ∷ []) facts.old.items facts.new.items told.old.items told.new.items self.new.node.tables) }
     {

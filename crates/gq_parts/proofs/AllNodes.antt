@@ -1,7 +1,5 @@
 -- Each tenant's parts of all nodes are those of the law of nodes.
 use Rattle.std.proofs.Common.{◌≡◌, ◌≢◌, ◌∙◌, ℕ, ◌<◌, List, [], ◌∷◌, ◌++◌, length, map, refl, sym, ap, subst, inl, inr, append_assoc, append-nil, Some, None}
-use Rattle.std.specs.Prelude.{fold, ◌==◌, if◌then◌else◌}
-use Rattle.std.specs.List.{flat_map}
 use Rattle.std.specs.Option.{option_to_list}
 use Rattle.std.proofs.lemmas.Bool.{cases_eq, eq-eqb, ne_eqb}
 use Rattle.std.proofs.lemmas.Grind.{flat_map-append}
@@ -9,20 +7,19 @@ use Rattle.gq_desk.specs.CheckedPlan.{CheckedPlan}
 use Rattle.gq_desk.specs.declared.volumes.VolumeRow.{VolumeRow}
 use Rattle.gq_text.specs.Canonical.{IsPlan}
 use Rattle.gq_cluster.specs.Cluster.{Setting}
-use Rattle.gq_keeper.specs.Runs.{Did}
 use Rattle.gq_node.specs.Inputs.{Input, Asked, AskedPlan, Brought, Ticked, does, after_all}
 use Rattle.gq_node.specs.Local.{Local, Doing, new_local}
-use Rattle.gq_node.specs.Nodes.{Nodes, Event, LineCame, LetterCame, TickCame, Started, site_in, new_nodes, after_doing, after_event, nodes_after, started, fact_list}
+use Rattle.gq_node.specs.Nodes.{Nodes, Event, Started, site_in, new_nodes, after_doing, after_event, nodes_after, started, fact_list}
 use Rattle.gq_node.specs.Resting.{recall_all, those_of}
 use Rattle.gq_node.specs.Sites.{site_of}
-use Rattle.gq_node.specs.Tables.{Tables, Agrees}
+use Rattle.gq_node.specs.Tables.{Agrees}
 use Rattle.gq_node.proofs.Following.{all_nodes_follow}
 use Rattle.gq_parts.specs.Inputs.{line_inputs}
-use Rattle.gq_parts.specs.Texts.{own_facts, written_by, facts_by, parts_after}
+use Rattle.gq_parts.specs.Texts.{own_facts, facts_by}
 use Rattle.gq_parts.specs.Recalls.{facts_said}
 use Rattle.gq_parts.specs.Resting.{IsNodeOf}
 use Rattle.gq_parts.specs.Steps.{AllAgree}
-use Rattle.gq_parts.specs.AllNodes.{AllNodes, node_count, Happening, Took, Restarted, node_in, StartsBy, Happens, AllHappen, AllNew, setting_at, event_at, events_of, all_events, nodes_at, AreNodes, TellsAt, TellsAll, IsByLaw, AllByLaw}
+use Rattle.gq_parts.specs.AllNodes.{AllNodes, node_count, Happening, Took, Restarted, StartsBy, Happens, AllHappen, setting_at, event_at, events_of, all_events, nodes_at, AreNodes, TellsAt, TellsAll, AllByLaw}
 use Rattle.gq_parts.proofs.Apart.{StepByParts, step_by_parts}
 use Rattle.gq_parts.proofs.Reading.{those-append, said-append, said_back, those-by, same_node, all_recalled}
 

@@ -12,7 +12,7 @@ use Rattle.gq_parts.specs.Inputs.{line_inputs, lines_inputs}
 use Rattle.gq_parts.specs.Texts.{written_for, written_by, facts_by, parts_after}
 use Rattle.gq_parts.specs.Steps.{AllAgree, fact_lines, TakesAll, StepsTo}
 use Rattle.gq_parts.specs.Resting.{IsNodeOf}
-use Rattle.gq_parts.specs.Laws.{text_for, TellsEach, GoesByParts, AllRunsByParts, AllTextsByParts, AllTenantsApart}
+use Rattle.gq_parts.specs.Laws.{GoesByParts, AllRunsByParts, AllTextsByParts, AllTenantsApart}
 use Rattle.gq_parts.proofs.Taking.{after_more, written_more}
 
 -- one step, of a node of this plan and number

@@ -1,16 +1,15 @@
 -- A start that reads the facts of a part's steps is the part at rest.
 use Rattle.std.proofs.Common.{◌≡◌, ◌∙◌, ℕ, Bool, true, false, List, [], ◌∷◌, ◌++◌, Option, Some, None, refl, sym, ap, subst, inl, inr}
-use Rattle.std.specs.Prelude.{fold, ◌==◌, if◌then◌else◌}
+use Rattle.std.specs.Prelude.{◌==◌, if◌then◌else◌}
 use Rattle.std.specs.Option.{option_to_list}
 use Rattle.std.proofs.lemmas.Bool.{cases_Bool}
 use Rattle.gq_tag.specs.declared.StoredCopy.{StoredCopy}
 use Rattle.gq_tag.specs.declared.Body.TheVariants.{Store}
 use Rattle.gq_tag.specs.Tag.{File, is_less, is_file}
-use Rattle.gq_desk.specs.Plans.{is_in}
 use Rattle.gq_desk.specs.declared.plans.TenantRow.{TenantRow}
 use Rattle.gq_desk.specs.declared.volumes.VolumeRow.{VolumeRow}
 use Rattle.gq_model.specs.Trace.{limit_at}
-use Rattle.gq_cluster.specs.Cluster.{everyone, copy_in}
+use Rattle.gq_cluster.specs.Cluster.{everyone}
 use Rattle.gq_cluster.specs.Facts.{KeptPart, OwnFact, Begun, Numbered, Kept, kept_of, with_fact}
 use Rattle.gq_node.specs.Inputs.{Input, Asked, AskedPlan, Brought, Ticked, does, after_one, after_all}
 use Rattle.gq_node.specs.Local.{Local, Doing, part_in, state_of, file_fits, fact_fits, file_in, with_resident, recalled, rested}

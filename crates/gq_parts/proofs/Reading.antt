@@ -1,6 +1,6 @@
 -- The facts of one tenant among those of all, and the lines that say them.
 use Rattle.std.proofs.Common.{◌≡◌, ◌≢◌, ◌∙◌, ℕ, zero, suc, ◌+◌, ◌<◌, ◌≤◌, false, true, List, [], ◌∷◌, ◌++◌, length, map, Option, Some, None, refl, sym, ap, subst, arith, inl, inr, append-nil}
-use Rattle.std.specs.Prelude.{◌==◌, All, if◌then◌else◌}
+use Rattle.std.specs.Prelude.{◌==◌, All}
 use Rattle.std.specs.List.{flat_map, range_with_len}
 use Rattle.std.specs.Option.{option_to_list}
 use Rattle.std.proofs.lemmas.Bool.{cases_eq, cases_Bool, eq-eqb, ne_eqb}
@@ -10,16 +10,16 @@ use Rattle.gq_text.specs.AnswerText.{spaced}
 use Rattle.gq_text.specs.Canonical.{IsPlan}
 use Rattle.gq_cluster.specs.Facts.{OwnFact, Begun, Numbered, Kept}
 use Rattle.gq_keeper.specs.Plans.{is_head, are_facts}
-use Rattle.gq_keeper.specs.Runs.{Did, lines_of, facts_of}
+use Rattle.gq_keeper.specs.Runs.{lines_of, facts_of}
 use Rattle.gq_keeper.specs.Starting.{RecallsAll}
 use Rattle.gq_node.specs.declared.output.Fact.{Fact}
 use Rattle.gq_node.specs.Inputs.{Input, after_all}
 use Rattle.gq_node.specs.Local.{Local, recalls}
 use Rattle.gq_node.specs.Recalling.{tenant_of, own_fact}
 use Rattle.gq_node.specs.Resting.{recall_one, recall_all, those_of}
-use Rattle.gq_node.specs.Sites.{Site, site_of}
+use Rattle.gq_node.specs.Sites.{site_of}
 use Rattle.gq_node.specs.Tables.{Tables, Agrees, fact_of}
-use Rattle.gq_facts.specs.Facts.{verb_of, fact_words, fact_line, fact_of_line}
+use Rattle.gq_facts.specs.Facts.{verb_of, fact_words, fact_of_line}
 use Rattle.gq_facts.specs.Laws.{FitsFact}
 use Rattle.gq_facts.proofs.FactsBack.{facts_read_back, facts_stand_in_batches}
 use Rattle.gq_parts.specs.Inputs.{line_inputs, lines_inputs}
@@ -27,7 +27,7 @@ use Rattle.gq_parts.specs.Texts.{own_facts, facts_for, facts_by, parts_after}
 use Rattle.gq_parts.specs.Steps.{fact_lines, StepsTo}
 use Rattle.gq_parts.specs.Recalls.{RecallsFact, RecallsTo, facts_said}
 use Rattle.gq_parts.specs.Resting.{IsNodeOf}
-use Rattle.gq_parts.specs.Laws.{TellsEach, AllStartsByParts, AllFactsByParts}
+use Rattle.gq_parts.specs.Laws.{AllStartsByParts, AllFactsByParts}
 use Rattle.gq_parts.proofs.Knowing.{recall_more}
 use Rattle.gq_parts.proofs.Taking.{its_tenant, own_more}
 

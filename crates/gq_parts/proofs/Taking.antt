@@ -1,6 +1,6 @@
 -- What a node's calls give is what its tenants' parts give, one input after another.
 use Rattle.std.proofs.Common.{◌≡◌, ◌≢◌, ◌∙◌, ℕ, zero, suc, ◌+◌, ◌<◌, ◌≤◌, true, false, List, [], ◌∷◌, ◌++◌, length, map, Option, Some, None, refl, sym, ap, subst, arith, inl, inr, append_assoc, append-nil}
-use Rattle.std.specs.Prelude.{Result, Ok, Err, OnOk, slice_index_or, option_map, nat_lt, ◌==◌, All, IfSome, if◌then◌else◌}
+use Rattle.std.specs.Prelude.{Result, Ok, Err, OnOk, option_map, nat_lt, ◌==◌, All, IfSome, if◌then◌else◌}
 use Rattle.std.specs.List.{flat_map, range_with_len}
 use Rattle.std.specs.Option.{option_to_list}
 use Rattle.std.proofs.lemmas.Bool.{cases_eq, cases_Bool, eq-eqb, ne_eqb, lt-ltb, ltb-true}
@@ -8,7 +8,6 @@ use Rattle.std.proofs.lemmas.Grind.{flat_map-append}
 use Rattle.std.proofs.lemmas.List.{map-append}
 use Rattle.std.proofs.lemmas.List.Elements.{All-append, All-nil}
 use Rattle.gq_tag.specs.declared.Message.{Message}
-use Rattle.gq_tag.specs.Tag.{message_of}
 use Rattle.gq_desk.specs.CheckedPlan.{CheckedPlan}
 use Rattle.gq_text.specs.Canonical.{IsPlan}
 use Rattle.gq_text.specs.AnswerText.{spaced}
@@ -17,7 +16,7 @@ use Rattle.gq_journal.specs.Batches.{ended_line, lines_text, are_batch_lines}
 use Rattle.gq_keeper.specs.Runs.{Takes}
 use Rattle.gq_node.specs.declared.output.Output.{Output}
 use Rattle.gq_node.specs.declared.output.Fact.{Fact}
-use Rattle.gq_node.specs.Inputs.{Input, does, after_one, after_all, doings}
+use Rattle.gq_node.specs.Inputs.{Input, does, after_one, after_all}
 use Rattle.gq_node.specs.Local.{Local, Doing}
 use Rattle.gq_node.specs.Recalling.{tenant_of, own_fact}
 use Rattle.gq_node.specs.Resting.{AllOfPlan}

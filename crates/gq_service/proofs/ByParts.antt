@@ -1,5 +1,5 @@
 -- What a node's process writes, by its tenants' parts.
-use Rattle.std.proofs.Common.{◌<◌, ◌∙◌, ℕ, List, [], ◌∷◌, length, ap, subst}
+use Rattle.std.proofs.Common.{◌<◌, ◌∙◌, List, [], ◌∷◌, length, ap, subst}
 use Rattle.gq_desk.specs.CheckedPlan.{CheckedPlan}
 use Rattle.gq_keeper.specs.Runs.{Did, Runs}
 use Rattle.gq_keeper.specs.Starting.{RecallsAll, facts_read}

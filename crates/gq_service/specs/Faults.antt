@@ -2,8 +2,7 @@
 use Rattle.std.specs.Prelude.{ℕ}
 use Rattle.gq_keeper.specs.declared.fault.Fault.{Fault}
 use Rattle.gq_keeper.specs.declared.fault.Fault.TheVariants.{Memory as NoMemory, Read as ReadFault, Write as WriteFault, JournalRead as JournalReadFault, JournalWrite as JournalWriteFault, Full}
-use Rattle.gq_setup.specs.declared.openings.SetupFault.{SetupFault}
-use Rattle.gq_setup.specs.declared.openings.SetupFault.TheVariants.{Plan as InPlan, Live, Open, Memory as NoMemoryForSetup}
+use Rattle.gq_setup.specs.declared.openings.SetupFault.TheVariants.{Memory as NoMemoryForSetup}
 use Rattle.gq_service.specs.declared.fault.NodeFault.{NodeFault}
 use Rattle.gq_service.specs.declared.fault.NodeFault.TheVariants.{Memory, Plan, Damaged, JournalRead, JournalWrite, Read, Write}
 

@@ -16,8 +16,8 @@ mod this_node;
 
 pub use console::{Console, Standard};
 pub use fault::{NodeFault, Told};
-pub use promise::Durable;
 pub use gq_words::NodeRequest;
+pub use promise::Durable;
 pub use running::run_node;
 pub use serving::serve_node;
 pub use this_node::ThisNode;

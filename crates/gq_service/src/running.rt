@@ -1,6 +1,6 @@
 //! A node as it is asked for.
 
-ghost use Rattle.std.specs.Prelude.{◌++◌, ℕ, List, IfErr, OnOk};
+ghost use Rattle.std.specs.Prelude.{◌++◌, ℕ, List, OnOk};
 ghost use Rattle.gq_wire.specs.Texts.{first_text};
 ghost use Rattle.gq_service.specs.Serving.{IsDurable, ServesSomehow};
 

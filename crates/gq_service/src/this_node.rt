@@ -1,6 +1,6 @@
 //! Which node a process is.
 
-ghost use Rattle.std.specs.Prelude.{◌≡◌, ◌*◌, ◌<◌, ◌≤◌, IfOk, IfErr};
+ghost use Rattle.std.specs.Prelude.{◌≡◌, ◌*◌, ◌<◌, IfOk, IfErr};
 ghost use Rattle.gq_keeper.specs.Plans.{IsPlan};
 ghost use Rattle.gq_setup.specs.Texts.{node_text};
 ghost use Rattle.gq_service.specs.Serving.{TellsNoServer};

@@ -1,6 +1,5 @@
-use Rattle.std.proofs.Common.{ℕ, ◌<◌, List, length, sym, subst}
+use Rattle.std.proofs.Common.{◌<◌, length, sym, subst}
 use Rattle.std.specs.Prelude.{All, IfSome}
-use Rattle.gq_tag.specs.declared.Message.{Message}
 use Rattle.gq_desk.specs.CheckedPlan.{CheckedPlan}
 use Rattle.gq_node.specs.Inputs.{Asked}
 use Rattle.gq_node.specs.Recalling.{tenant_of}

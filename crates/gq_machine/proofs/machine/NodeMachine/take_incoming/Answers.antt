@@ -1,5 +1,5 @@
 -- One arm for each thing that a line may bring.
-use Rattle.std.proofs.Common.{◌<◌, ◌∷◌, [], List, length, ℕ, sym, subst}
+use Rattle.std.proofs.Common.{◌<◌, ◌∷◌, [], length, sym, subst}
 use Rattle.gq_tag.specs.Tag.{own_message}
 use Rattle.gq_model.specs.declared.events.Line.TheVariants.{Bad as NoLine}
 use Rattle.gq_node.specs.Inputs.{Asked, AskedPlan, Brought}

@@ -1,5 +1,5 @@
 -- What was taken is what the line brings.
-use Rattle.std.proofs.Common.{◌≡◌, ◌∙◌, sym, subst, ap}
+use Rattle.std.proofs.Common.{◌≡◌, ◌∙◌, subst, ap}
 use Rattle.gq_desk.specs.CheckedPlan.{CheckedPlan}
 use Rattle.gq_text.specs.Canonical.{IsPlan}
 use Rattle.gq_wire.specs.Incoming.{incoming_of}
