@@ -126,6 +126,14 @@ fn a_write_line_by_line(rt: HostRuntime) -> Result<(), Fail> {
         &rt,
         alloc,
         m,
+        b"0 ann plan",
+        b"",
+        b"ann 0 plan 1 0 2 8 16 2.1\n",
+    );
+    step(
+        &rt,
+        alloc,
+        m,
         b"0 ann read 2 1 0 7",
         b"",
         b"ann 0 refused nofile 2 1 0 7\n",
