@@ -175,9 +175,11 @@ def tell_memory(program, unsynced):
         load, done, begun, told = Load(program, folder, 2, 2), 0, time.perf_counter(), []
         try:
             for most in COUNTS:
-                measure = load.run(SESSIONS[-1], MOST_SECONDS - (time.perf_counter() - begun), most - done)
-                done += measure.done
-                told.append((done, max(load.memory()), max(load.journals()), measure.letter()))
+                left = MOST_SECONDS - (time.perf_counter() - begun)
+                if left > 0:
+                    measure = load.run(SESSIONS[-1], left, most - done)
+                    done += measure.done
+                    told.append((done, max(load.memory()), max(load.journals()), measure.letter()))
         finally:
             load.end()
     for done, memory, journal, letter in told:

@@ -23,8 +23,8 @@ def simulated(job):
         names = [name.encode() for name in storm.volumes]
         name = random.Random(f"alone {seed}").choice(names)
         for number, lives in enumerate(storm.lives):
-            check_same(program, storm.plan.encode(), number, lives)
-            counts["lines compared alone"] += check_alone(program, storm.plan.encode(), number, lives, names, name)
+            check_same(program, number, lives)
+            counts["lines compared alone"] += check_alone(program, number, lives, names, name)
     except Wrong as fault:
         return counts, f"seed {seed}: {fault}"
     return counts, None
