@@ -165,7 +165,9 @@ def compare(program, synced, unsynced, turns):
             ours, free = (max(each, key=lambda it: it.rate) for each in zip(*pairs))
             print(f"{side} by {side}, {count} sessions, {turns} turns of {SECONDS} seconds with and without syncs")
             for what, it in ("journals on a disk", ours), ("journals in memory", free):
-                print(f"    {what:<20}{it.rate:8.0f} operations/s; median and 99th of 100 in ms: {it.told()}; {it.letter():.1f} us a line, of {it.lines / it.done:.1f} an operation; the carrier {it.own / it.done * 1e6:.0f} us an operation")
+                print(f"    {what:<20}{it.rate:8.0f} operations/s; median and 99th of 100 in ms: {it.told()}")
+                each = f"{it.letter():.1f} us of the processors a line, {it.lines / it.done:.1f} lines an operation"
+                print(f"    {'':<20}{each}; the carrier took {it.own / it.done * 1e6:.0f} us an operation")
             print(f"    {'ratio of the rates':<20}{ours.rate / free.rate:8.2f}", flush=True)
 
 
@@ -175,9 +177,11 @@ def tell_memory(program, unsynced):
         load, done, begun, told = Load(program, folder, 2, 2), 0, time.perf_counter(), []
         try:
             for most in COUNTS:
-                measure = load.run(SESSIONS[-1], MOST_SECONDS - (time.perf_counter() - begun), most - done)
-                done += measure.done
-                told.append((done, max(load.memory()), max(load.journals()), measure.letter()))
+                left = MOST_SECONDS - (time.perf_counter() - begun)
+                if left > 0:
+                    measure = load.run(SESSIONS[-1], left, most - done)
+                    done += measure.done
+                    told.append((done, max(load.memory()), max(load.journals()), measure.letter()))
         finally:
             load.end()
     for done, memory, journal, letter in told:
@@ -188,12 +192,13 @@ def tell_memory(program, unsynced):
 def tell_syncs(program):
     """Prints how many syncs a batch of facts takes."""
     measure, batches, syncs, writes, facts = syncs_of(program, FEW)
-    # (each node has written and synced the plan first)
+    # (each of the four nodes has written and synced the plan first)
     print(f"{measure.done} operations of 16 sessions: {facts} facts in {batches - 4} batches, {syncs - 4} syncs, {writes} writes of lines")
     print(f"    {'syncs a batch':<20}{(syncs - 4) / (batches - 4):8.2f}")
 
 
 def report(program, turns, synced, unsynced):
+    """Prints all of it: so many turns, with journals below the one folder and the other."""
     tell_syncs(program)
     compare(program, synced, unsynced, turns)
     tell_memory(program, unsynced)

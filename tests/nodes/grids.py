@@ -32,6 +32,8 @@ PLAN_WITH_A_FAULT = "grid 2 2\nblocks 1\ntenant ann 0 1 1\ngo\n"
 
 
 class Grids:
+    """Runs of examples/grid, each compared with what it has to do."""
+
     def __init__(self, program):
         self.environment = {**os.environ, "GRIDFS": program}
         self.tried, self.wrong = 0, []
@@ -42,7 +44,8 @@ class Grids:
             self.wrong.append(f"{name}: {seen!r}, not {wanted!r}")
 
     def run(self, *words, given=""):
-        done = subprocess.run([sys.executable, GRID, *words], input=given, stdout=subprocess.PIPE, stderr=subprocess.PIPE, text=True, env=self.environment, timeout=3 * SECONDS)
+        pipes = dict.fromkeys(["stdout", "stderr"], subprocess.PIPE)
+        done = subprocess.run([sys.executable, GRID, *words], input=given, text=True, env=self.environment, timeout=3 * SECONDS, **pipes)
         return done.returncode, done.stdout, [line for line in done.stderr.splitlines() if line.startswith("grid: ")]
 
     def shows(self):
@@ -72,7 +75,8 @@ class Grids:
 
     def is_interrupted(self, folder, number):
         """A signal ends it, and with it its nodes: another grid starts in the folder at once."""
-        grid = subprocess.Popen([sys.executable, GRID, folder], stdin=subprocess.PIPE, stdout=subprocess.PIPE, stderr=subprocess.PIPE, text=True, env=self.environment)
+        pipes = dict.fromkeys(["stdin", "stdout", "stderr"], subprocess.PIPE)
+        grid = subprocess.Popen([sys.executable, GRID, folder], text=True, env=self.environment, **pipes)
         while "nodes are up" not in (line := grid.stderr.readline()) and line:
             pass
         grid.stdin.write("ann write 1 0 0 aa\n" * 100)

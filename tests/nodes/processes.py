@@ -11,7 +11,7 @@ import time
 
 SECONDS = 20  # that a process may take for what is asked of it
 READ = 1 << 16
-# The last tenant of each plan, which has no more to do than to mark the end of a step: a line of it is answered at once.
+# A tenant of each plan, which has no more to do than to mark the end of a step: a line of it is answered at once.
 MARKER = "tenant mark 1 1 1\n"
 MARK, MARKED = b"%d mark abandon 99 1\n", b"mark %d refused nosession 99 1\n"
 
