@@ -3,7 +3,7 @@ use Rattle.std.specs.Prelude.{◌≡◌, List, ℕ, true}
 use Rattle.gq_keeper.specs.Plans.{are_facts}
 use Rattle.gq_keeper.specs.Starting.{RecallsAll}
 use Rattle.gq_node.specs.Tables.{Tables}
-use Rattle.gq_parts.specs.Recalls.{RecallsTo, KnowsLine}
+use Rattle.gq_parts.specs.Recalls.{RecallsTo}
 use Rattle.gq_parts.specs.Resting.{IsBlank, Rests}
 use Rattle.gq_parts.specs.Steps.{StepsTo}
 use Rattle.gq_parts.proofs.Reading.{on_tables, gives_facts as tables_give_facts}
@@ -19,7 +19,7 @@ abbrev pub MachineSteps : NodeMachine → List ℕ → List (List ℕ) → List 
 MachineSteps old line facts told new = StepsTo (tables_of old) line facts told (tables_of new)
 
 abbrev pub MachineRecalls : NodeMachine → List ℕ → NodeMachine → Type 0
-MachineRecalls old line new = RecallsTo (tables_of old) line (tables_of new) × KnowsLine (tables_of old) line old.is_strange new.is_strange
+MachineRecalls old line new = RecallsTo (tables_of old) line (tables_of new)
 
 -- the other is that of the same node, never started; the other is that of the same node, at rest
 abbrev pub MachineIsBlank : NodeMachine → NodeMachine → Type 0
@@ -31,7 +31,7 @@ MachineRests machine again = Rests (tables_of machine) (tables_of again)
 -- ---- what a machine that lasts owes
 
 pub reads : (lines : List (List ℕ)) (a b : NodeMachine) → RecallsAll MachineRecalls a lines b → RecallsAll RecallsTo (tables_of a) lines (tables_of b)
-reads lines a b r = on_tables tables_of MachineRecalls (λ x y line recalled. recalled.0) lines a b r
+reads lines a b r = on_tables tables_of MachineRecalls (λ x y line recalled. recalled) lines a b r
 
 pub gives_facts : (old : NodeMachine) (line : List ℕ) (facts : List (List ℕ)) (told : List ℕ) (new : NodeMachine) → MachineSteps old line facts told new → are_facts facts ≡ true
 gives_facts old line facts told new step = tables_give_facts (tables_of old) line facts told (tables_of new) step

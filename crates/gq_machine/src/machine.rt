@@ -34,7 +34,7 @@ pub struct NodeMachine {
     node: Node,
     /// How many lines of a journal it read.
     pub facts: u64,
-    /// Whether one of them says no fact of this node's plan and volumes.
+    /// Whether one of them was strange: it says no fact of this node's plan and volumes. Such a line is not read.
     pub is_strange: bool,
 }
 
@@ -287,13 +287,17 @@ impl Machine for NodeMachine {
         self.facts = self.facts.saturating_add(1);
         match read_fact(self.alloc, line, self.node.plan())? {
             Some(fact) => {
-                if !self.node.recall(&fact) {
-                    self.is_strange = true;
+                if self.node.recall(&fact) {
+                    return Ok(());
                 }
+                self.is_strange = true;
+                Err(Fault::JournalRead)
             }
-            None => self.is_strange = true,
+            None => {
+                self.is_strange = true;
+                Err(Fault::JournalRead)
+            }
         }
-        Ok(())
     }
 
     fn take(&mut self, line: &[u8], facts: &mut Vec<u8>, told: &mut Vec<u8>) -> Result<(), Fault> {

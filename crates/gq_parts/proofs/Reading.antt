@@ -128,10 +128,7 @@ pub record Recalled (plan : CheckedPlan) (here t : ℕ) (start : Local) (facts :
 
 one_recalled : (plan : CheckedPlan) (here t : ℕ) (start : Local) (fact : Option Fact) (old new : Tables) → IsNodeOf plan here old → Agrees old t start →
     RecallsFact old fact new → Recalled plan here t start (option_to_list fact) new
-one_recalled plan here t start None old new node agrees same = record {
-  node = subst (IsNodeOf plan here) (sym same) node;
-  agrees = subst (λ (w : Tables). Agrees w t start) (sym same) agrees;
-}
+one_recalled plan here t start None old new node agrees never = absurd never
 one_recalled plan here t start (Some fact) old new node agrees leads = record {
   node = record { plan_is = leads.plan ∙ node.plan_is; server_is = leads.server ∙ node.server_is };
   agrees = elim (cases_eq (tenant_of fact) t) [
@@ -181,7 +178,7 @@ same_node (line ∷ lines) old new reads =
     record { plan_is = more.plan_is ∙ one.plan_is; server_is = more.server_is ∙ one.server_is }
   where
     by : (fact : Option Fact) (a b : Tables) → RecallsFact a fact b → IsNodeOf a.plan a.server b
-    by None a b same = record { plan_is = ap (λ (w : Tables). w.plan) same; server_is = ap (λ (w : Tables). w.server) same }
+    by None a b never = absurd never
     by (Some fact) a b leads = record { plan_is = leads.plan; server_is = leads.server }
 
 -- a machine that has tables reads lines as they do

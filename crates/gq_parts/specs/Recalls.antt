@@ -1,5 +1,5 @@
 -- What a line of a journal does to a node that starts.
-use Rattle.std.specs.Prelude.{◌≡◌, ℕ, List, Bool, true, false, Option, Some, None, is_some}
+use Rattle.std.specs.Prelude.{ℕ, List, Option, Some, None}
 use Rattle.std.specs.List.{flat_map}
 use Rattle.std.specs.Option.{option_to_list}
 use Rattle.gq_desk.specs.CheckedPlan.{CheckedPlan}
@@ -9,17 +9,13 @@ use Rattle.gq_node.specs.Recalling.{tenant_of, own_fact}
 use Rattle.gq_node.specs.Tables.{Tables, Leads}
 use Rattle.gq_facts.specs.Facts.{fact_of_line}
 
--- a fact does to the node what a start makes of it; where the line says none, all stays
+-- a fact does to the node what a start makes of it; a line that says none of a tenant of the plan is not read
 abbrev pub RecallsFact : Tables → Option Fact → Tables → Type 0
-RecallsFact old None new = new ≡ old
+RecallsFact old None new = ⊥
 RecallsFact old (Some fact) new = Leads old (tenant_of fact) (recalls (own_fact fact)) new
 
 abbrev pub RecallsTo : Tables → List ℕ → Tables → Type 0
 RecallsTo old line new = RecallsFact old (fact_of_line old.plan line) new
-
--- Whether a line was strange is kept: where none was afterwards, none was before, and this line says a fact of a tenant of the plan.
-abbrev pub KnowsLine : Tables → List ℕ → (before after : Bool) → Type 0
-KnowsLine old line before after = after ≡ false → (before ≡ false) × (is_some (fact_of_line old.plan line) ≡ true)
 
 -- the facts that lines say
 abbrev pub facts_said : CheckedPlan → List (List ℕ) → List Fact

@@ -1,19 +1,20 @@
 //! A node over its journal, from its start to the end of its input.
 
-ghost use Rattle.std.specs.Prelude.{◌≡◌, ◌++◌, ℕ, List, true, false, IfOk, IfErr, OnOk};
+ghost use Rattle.std.specs.Prelude.{◌≡◌, ◌++◌, ℕ, List, true, false, IfOk, IfErr, OnOk, if◌then◌else◌};
 ghost use Rattle.gq_journal.specs.Batches.{whole_lines, has_right_batch};
 ghost use Rattle.gq_wire.specs.Texts.{first_text};
 ghost use Rattle.gq_keeper.specs.Durable.{AllSealed};
 ghost use Rattle.gq_keeper.specs.Restarting.{Restarts};
 ghost use Rattle.gq_keeper.specs.Starting.{RecallsAll, behind, facts_read};
 ghost use Rattle.gq_machine.specs.Machines.{tables_of, MachineRecalls, MachineIsBlank, MachineRests};
+ghost use Rattle.gq_service.specs.Faults.{as_fault};
 ghost use Rattle.gq_service.specs.Serving.{IsNewFor, IsStarted, IsDurable, ServesInput, TellsDamage, TellsAnother, LeavesJournal, journal_found, is_its_journal};
 
 use crate::console::Console;
 use crate::fault::NodeFault;
 use crate::new_node::new_node;
 use crate::this_node::ThisNode;
-use gq_keeper::{Disk, Output, Plan, Started, renew, serve, start};
+use gq_keeper::{Disk, Fault, Output, Plan, Started, renew, serve, start};
 use gq_machine::NodeMachine;
 use std::alloc::Global;
 use std::io::Read;
@@ -32,6 +33,16 @@ fn begin<D: Disk>(
     Ok(renew(alloc, machine, node.plan.text(), disk)?)
 }
 
+// Why a start failed: a strange line is one of another node or plan.
+fn start_fault(machine: &NodeMachine, fault: Fault) -> NodeFault
+    ensures fault { result ≡ (if machine.now.is_strange then NodeFault.Another else as_fault fault) }
+{
+    if machine.is_strange {
+        return NodeFault::Another;
+    }
+    NodeFault::from(fault)
+}
+
 // Reads the journal that is there. Answers the number of the next batch.
 fn go_on<D: Disk, C: Console>(
     alloc: Global,
@@ -44,23 +55,20 @@ fn go_on<D: Disk, C: Console>(
     ensures sealed { IfOk result (λ next. AllSealed (D.seen disk.new) (D.synced disk.new) next) }
     ensures restarts { OnOk result (Restarts MachineRecalls MachineIsBlank MachineRests (whole_lines node.now.plan.text.items) machine.new (D.synced disk.new)) }
     ensures recalled { OnOk result (RecallsAll MachineRecalls machine.old (facts_read (D.seen disk.old)) machine.new) }
-    ensures known { OnOk result (machine.new.is_strange ≡ false) }
     ensures its { OnOk result (is_its_journal node.now.plan.setup node.now.number (D.seen disk.old) ≡ true) }
     ensures whole { OnOk result (has_right_batch (behind (D.seen disk.old)) ≡ false) }
     ensures damaged { IfErr result (TellsDamage (D.seen disk.old)) }
     ensures another { IfErr result (TellsAnother node.now.plan.setup node.now.number (D.seen disk.old) machine.new.is_strange) }
     ensures same { IfErr result (LeavesJournal machine.new.is_strange (D.seen disk.new ≡ D.seen disk.old)) }
 {
-    match start(alloc, machine, disk, &node.plan)? {
-        Started::Ready(recovered) => {
-            if machine.is_strange {
-                return Err(NodeFault::Another);
-            }
+    match start(alloc, machine, disk, &node.plan) {
+        Ok(Started::Ready(recovered)) => {
             tell_cut(console, recovered.cut);
             Ok(recovered.number)
         }
-        Started::Damaged(at) => Err(NodeFault::Damaged(at)),
-        Started::Another => Err(NodeFault::Another),
+        Ok(Started::Damaged(at)) => Err(NodeFault::Damaged(at)),
+        Ok(Started::Another) => Err(NodeFault::Another),
+        Err(fault) => Err(start_fault(machine, fault)),
     }
 }
 

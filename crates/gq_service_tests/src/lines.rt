@@ -179,7 +179,7 @@ fn a_start(rt: HostRuntime) -> Result<(), Fail> {
         b"",
         b"0 0 ann 2 1 1 0 0 copy 1 1 ab\n",
     );
-    assert!(rt; m.recall(b"began eve 1 1").is_ok());
+    assert!(rt; m.recall(b"began eve 1 1").is_err());
     assert!(rt; m.is_strange);
     Ok(())
 }

@@ -17,6 +17,14 @@ const JOURNAL: &str =
     "node 0 of 1 by 1\ngrid 1 1\nblocks 16\ntenant ann 8 2 100\ngo\nann open 2 1\nsync 1 71 9b33ab045e011a53\n\
 began ann 1 1\nnumbered ann 1 1\nkept ann 0 0 1 1 ab\nsync 2 51 3bb937959064ff28\n";
 
+// A journal of the same node, in which a right batch has a line of nobody.
+const STRANGE: &str =
+    "node 0 of 1 by 1\ngrid 1 1\nblocks 16\ntenant ann 8 2 100\ngo\nann open 2 1\nsync 1 71 9b33ab045e011a53\nbegan eve 1 1\nsync 2 14 1a54f0dcb410367a\n";
+
+// A plan that goes on from that one.
+const LONGER: &str =
+    "grid 1 1\nblocks 16\ntenant ann 8 2 100\ntenant bob 4 1 100\ngo\nann open 2 1\n";
+
 const WRITE: &[u8] =
     b"0 ann write 1 1 0 0 ab\n0 0 ann 1 1 1 0 0 copy 0 0 -\n0 0 ann 1 1 2 0 0 store 1 1 ab\n0 0 ann 1 1 2 0 0 stored\n";
 
@@ -193,5 +201,24 @@ fn tells_each_fault(rt: HostRuntime) -> Result<(), Fail> {
         4,
     )?;
     assert_eq!(&rt; watch.facts.get(), None);
+    Ok(())
+}
+
+#[test]
+fn leaves_a_strange_journal(rt: HostRuntime) -> Result<(), Fail> {
+    fs::write(&rt, "longer", LONGER)?;
+    fs::write(&rt, "strange", STRANGE)?;
+    let watch = Watch::new();
+    let mut asked = node("strange", false);
+    asked.plan = "longer";
+    is_refused(
+        &rt,
+        rt.alloc(),
+        &asked,
+        &watch,
+        "strange: of another node or plan",
+        1,
+    )?;
+    assert_eq!(&rt; fs::read_to_string(&rt, "strange")?.as_str(), STRANGE);
     Ok(())
 }
