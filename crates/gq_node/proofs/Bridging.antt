@@ -23,7 +23,7 @@ use Rattle.gq_node.specs.declared.output.Admission.{Admission}
 use Rattle.gq_node.specs.declared.output.Admission.TheVariants.{Tells, Passes, Goes}
 use Rattle.gq_node.specs.Local.{Local, Resident, Doing, part_in, state_of, state_for, aim_at, tries_next, answer_of, asker, begins, admission_in, asks, asked_by, goes_on, with_resident, tells, nothing, receives, serves, hears, brings, ticks, waits_on, outcome_after, waits_after, letter_fits, goes_between, has_above, of_round}
 use Rattle.gq_node.specs.Sites.{Site}
-use Rattle.gq_node.specs.Bridge.{setting_in, AtHome, request_act, request_answer, letter_act, waited_act, tick_act, Bridges, AllRequestsAct, AllLettersAct, AllTicksAct}
+use Rattle.gq_node.specs.Bridge.{setting_in, AtHome, request_act, request_answer, letter_act, waited_act, tick_act, Bridges, AllRequestsAct, AllQuestionsTell, AllLettersAct, AllTicksAct}
 use Rattle.gq_node.proofs.Asking.{goes_home}
 use Rattle.gq_node.proofs.Ticking.{busy_is}
 use Rattle.gq_node.proofs.Receiving.{Parts, parts, its_server, to_a_session}
@@ -341,6 +341,11 @@ all_letters_act from m site local home = elim (cases_Bool (letter_fits site (lim
     its_home site from m goes is =
         let h : (site.home m.session == site.here && m.server == from) ≡ true = rw goes at is in
         eqb-true (site.home m.session) site.here (and_parts (site.home m.session == site.here) (m.server == from) h).0
+
+-- ---- what a tenant has
+
+pub all_questions_tell : AllQuestionsTell
+all_questions_tell site local home = record { does = record { part = refl; letters = refl; told = refl }; volumes = refl; home = home }
 
 -- ---- a tick
 

@@ -27,11 +27,11 @@ use Rattle.gq_cluster.specs.Laws.{setting_of}
 use Rattle.gq_cluster.proofs.Clusters.{all_clusters_serve}
 use Rattle.gq_node.specs.Bridge.{setting_in, AtHome, Bridges, request_act, letter_act, waited_act, tick_act}
 use Rattle.gq_cluster.specs.Facts.{OwnFact, Begun, Numbered, Kept}
-use Rattle.gq_node.specs.Local.{Local, Doing, new_local, part_in, nothing, state_of, state_for, admission_in, asks, receives, ticks, recalls, recalled, fact_fits, file_fits, file_in, letter_fits, has_above, of_round}
-use Rattle.gq_node.specs.Nodes.{Nodes, site_in, recalls_one, started, new_nodes, Event, LineCame, LetterCame, TickCame, Started, fact_list, after_doing, after_event, nodes_after, CanCome, AllCanCome, act_steps, act_of, steps_of, all_steps, SessionAlike, PartAlike, IsAlike, answer_in, own_answer, doing_of, SaidBy, Follows, AllNodesFollow, AllNodesServe}
+use Rattle.gq_node.specs.Local.{Local, Doing, new_local, part_in, nothing, state_of, state_for, admission_in, asks, tells_holding, receives, ticks, recalls, recalled, fact_fits, file_fits, file_in, letter_fits, has_above, of_round}
+use Rattle.gq_node.specs.Nodes.{Nodes, site_in, recalls_one, started, new_nodes, Event, LineCame, PlanCame, LetterCame, TickCame, Started, fact_list, after_doing, after_event, nodes_after, CanCome, AllCanCome, act_steps, act_of, steps_of, all_steps, SessionAlike, PartAlike, IsAlike, answer_in, own_answer, doing_of, SaidBy, Follows, AllNodesFollow, AllNodesServe}
 use Rattle.gq_node.specs.Sites.{Site}
 use Rattle.gq_node.proofs.AlikeParts.{IsAct, session_refl, idle_alike, step_alike, part_alike}
-use Rattle.gq_node.proofs.Bridging.{all_requests_act, all_letters_act, all_ticks_act, tick_waits}
+use Rattle.gq_node.proofs.Bridging.{all_requests_act, all_questions_tell, all_letters_act, all_ticks_act, tick_waits}
 use Rattle.gq_node.proofs.Journal.{FactIn, KeepsBy, Keeps, all_requests_keep, all_letters_keep, all_ticks_keep, recall_keeps}
 use Rattle.gq_node.proofs.Recalling.{recalls_fits, recalls_not}
 
@@ -286,6 +286,9 @@ one_event : (s : Setting) (nodes : Nodes) (c : Cluster) (event : Event) → Soun
 one_event s nodes c (LineCame n op line) sound alike can =
     does_follow s nodes c n (request_act op line (site_in s n) (nodes.local n)) (own_answer s nodes (LineCame n op line)) (answer_in nodes (LineCame n op line)) (asks op line (site_in s n) (nodes.local n)) sound alike
     (all_requests_act op line (site_in s n) (nodes.local n) (sound.home n)) (all_requests_keep op line (site_in s n) (nodes.local n)) (request_can c op line (site_in s n) (nodes.local n))
+one_event s nodes c (PlanCame n) sound alike can =
+    does_follow s nodes c n None (own_answer s nodes (PlanCame n)) (λ told. None) (tells_holding (site_in s n) (nodes.local n)) sound alike
+    (all_questions_tell (site_in s n) (nodes.local n) (sound.home n)) refl tt
 one_event s nodes c (LetterCame n from letter) sound alike can =
     does_follow s nodes c n (letter_act from letter (site_in s n) (nodes.local n)) None (answer_in nodes (LetterCame n from letter)) (receives from letter (site_in s n) (nodes.local n)) sound alike
     (all_letters_act from letter (site_in s n) (nodes.local n) (sound.home n)) (all_letters_keep from letter (site_in s n) (nodes.local n))
@@ -344,6 +347,7 @@ one_at_most (Some act) = omega arith
 
 one_step : (s : Setting) (nodes : Nodes) (event : Event) → length (steps_of s nodes event) ≤ 1
 one_step s nodes (LineCame n op line) = one_at_most (act_of s nodes (LineCame n op line))
+one_step s nodes (PlanCame n) = omega arith
 one_step s nodes (LetterCame n from letter) = one_at_most (act_of s nodes (LetterCame n from letter))
 one_step s nodes (TickCame n k) = one_at_most (act_of s nodes (TickCame n k))
 one_step s nodes (Started n) = omega arith

@@ -20,11 +20,13 @@ use Rattle.gq_model.specs.Trace.{files_of, limit_at}
 use Rattle.gq_cluster.specs.Cluster.{everyone}
 use Rattle.gq_laws.proofs.Holding.{greatest-push}
 use Rattle.gq_node.specs.declared.output.Fact.{Fact}
+use Rattle.gq_node.specs.declared.output.NeedRefused.{NeedRefused}
+use Rattle.gq_node.specs.declared.output.NeedRefused.TheVariants.{Memory, Unreadable}
 use Rattle.gq_cluster.specs.Facts.{OwnFact, Begun, Numbered, Kept}
 use Rattle.gq_node.specs.Local.{Local, new_local, state_of, recalled, fact_fits, file_fits, file_in}
 use Rattle.gq_node.specs.Recalling.{tenant_of, own_fact}
 use Rattle.gq_node.specs.Resting.{recall_one, recall_all, those_of, IsAtRest, AllOfPlan, Needed}
-use Rattle.gq_node.specs.Needing.{begun_facts, number_facts, numbers_facts, seat_facts, copy_facts, place_of, place_facts, files_in, volume_facts, volumes_facts, tenant_facts, all_facts, IsReadable, PlaceReadable, AllReadable}
+use Rattle.gq_node.specs.Needing.{begun_facts, number_facts, numbers_facts, seat_facts, copy_facts, place_of, place_facts, files_in, volume_facts, volumes_facts, tenant_facts, all_facts, IsReadable, PlaceReadable, AllReadable, IsRefusedOf, IsRefusedIn}
 use Rattle.gq_node.specs.Seats.{last_in}
 use Rattle.gq_node.specs.Shape.{IsShaped}
 use Rattle.gq_node.specs.Sites.{Site, site_of}
@@ -407,6 +409,23 @@ absent_copy : (w : Tables) (t : ℕ) (f : File) → IsShaped w → limit_of w.de
 absent_copy w t f shaped none =
     let volumes : (account_at w.desk t).volumes ≡ map volume_size (tenant_in w.store.tenants t).volumes = ap (λ (desk : List Account). (account_at desk t).volumes) (sym shaped.accounts) ∙ ap (λ (a : Account). a.volumes) (account_is w.store.tenants t) in
     absent_in (tenant_in w.store.tenants t).volumes f.volume f.place (ap (λ (vs : List VolumeRow). option_and_then (limit_in f.place) (slice_get vs f.volume)) (sym volumes) ∙ none)
+
+-- so a start needs nothing of it
+pub absent_facts : (w : Tables) (t v p : ℕ) → IsShaped w → limit_of w.desk (file_of t (place_of v p)) ≡ None → place_facts w t v p ≡ []
+absent_facts w t v p shaped none = ap (copy_facts (place_of v p)) (absent_copy w t (place_of v p) shaped none)
+
+-- a copy that is refused is one of the tables
+pub refused_in : (w : Tables) (t v p limit : ℕ) (copy : StoredCopy) (e : NeedRefused) → t < length w.plan.rows → limit_of w.desk (file_of t (place_of v p)) ≡ Some limit → copy ≡ copy_at w.store (file_of t (place_of v p)) →
+    IsRefusedOf limit copy e → IsRefusedIn w e
+refused_in w t v p limit copy (Memory wanting) within there is refused = tt
+refused_in w t v p limit copy Unreadable within there is refused = record {
+  tenant = t;
+  within = within;
+  file = place_of v p;
+  limit = limit;
+  there = there;
+  unreadable = λ readable. refused (subst (IsReadable limit) (sym is) readable);
+}
 
 -- ---- all facts of a tenant
 

@@ -18,7 +18,7 @@ use Rattle.gq_model.specs.Lone.{Step, is_refusal, asked_step, session_causes, se
 use Rattle.gq_cluster.specs.Cluster.{Part, everyone}
 use Rattle.gq_node.specs.declared.output.Admission.{Admission}
 use Rattle.gq_node.specs.declared.output.Admission.TheVariants.{Tells, Passes, Goes}
-use Rattle.gq_node.specs.Inputs.{Input, Asked, Brought, Ticked, does, after_one, after_all, doings}
+use Rattle.gq_node.specs.Inputs.{Input, Asked, AskedPlan, Brought, Ticked, does, after_one, after_all, doings}
 use Rattle.gq_cluster.specs.Facts.{OwnFact, Begun, Numbered, Kept, replaced_in}
 use Rattle.gq_node.specs.Local.{Local, Doing, part_in, state_of, state_for, asker, begins, admission_in, asks, asks_in, asked_by, own_admission, session_fact, receives, hears, ticks, waits_on, letter_fits, has_above, of_round}
 use Rattle.gq_node.specs.Once.{comes_again, LeavesAll, AllAgainLeave, TakesOnce, AllTakeOnce, begun_by, with_number, numbers_begun, AllBeginOnce}
@@ -53,6 +53,7 @@ again_leaves site local op line (Some k) is again =
 
 pub again_leave : AllAgainLeave
 again_leave site local (Asked op line) again = again_leaves site local op line (asker line) refl again
+again_leave site local AskedPlan again = absurd (cc)
 again_leave site local (Brought from letter) again = absurd (cc)
 again_leave site local (Ticked session) again = absurd (cc)
 
@@ -178,11 +179,13 @@ ticked_next k site local = elim (cases_Bool (is_some (local.residents k).session
 
 does_next : (input : Input) (site : Site) (local : Local) → NextIn local (does input site local).fact
 does_next (Asked op line) site local = asked_next site local op line (asker line) refl
+does_next AskedPlan site local = tt
 does_next (Brought from letter) site local = received_next from letter site local
 does_next (Ticked session) site local = ticked_next session site local
 
 does_keep : (input : Input) (site : Site) (local : Local) → Keeps site local (does input site local)
 does_keep (Asked op line) site local = all_requests_keep op line site local
+does_keep AskedPlan site local = refl
 does_keep (Brought from letter) site local = all_letters_keep from letter site local
 does_keep (Ticked session) site local = all_ticks_keep session site local
 

@@ -1,10 +1,10 @@
 -- A volume is opened.
-use Rattle.std.proofs.Common.{◌≡◌, ◌≢◌, ◌∙◌, ℕ, ◌<◌, ◌≤◌, List, length, refl, sym, ap, None, arith, inl, inr}
+use Rattle.std.proofs.Common.{◌≡◌, ◌≢◌, ◌∙◌, ℕ, ◌<◌, ◌≤◌, List, [], ◌∷◌, length, refl, sym, ap, subst, None, arith, inl, inr}
 use Rattle.std.specs.Prelude.{slice_set, nat_lt, nat_le}
-use Rattle.std.proofs.lemmas.Bool.{cases_Bool}
+use Rattle.std.proofs.lemmas.Bool.{cases_Bool, cases_eq}
 use Rattle.std.proofs.lemmas.Bool.Decides.{nat_tests}
 use Rattle.std.proofs.lemmas.Option.{unwrap_or-slice_get}
-use Rattle.std.proofs.lemmas.List.{get_or-set_same, get_or-set_other, length-set}
+use Rattle.std.proofs.lemmas.List.{get_or-set_same, get_or-set_other, length-set, length-append}
 use Rattle.gq_tag.specs.declared.FileId.{FileId}
 use Rattle.gq_tag.specs.Tag.{file_of}
 use Rattle.gq_desk.specs.declared.volumes.VolumeRow.{VolumeRow}
@@ -56,13 +56,35 @@ fits_free a v is = elim (cases_Bool (is_sized v)) [
   ])
 ]
 
-pub opened_shaped : (w : Tables) (t : ℕ) (row : VolumeRow) (store : StoreCopies) → IsShaped w →
+-- the tenant has not all volumes that it may have
+few_volumes : (a : Account) (v : VolumeRow) → open_fault a v ≡ None → length a.volumes < MOST_VOLUMES
+few_volumes a v is = elim (cases_Bool (is_sized v)) [
+  | inr not_sized ↦ (let h = rw not_sized at is in absurd (cc))
+  | inl sized ↦ (elim (cases_Bool (nat_le MOST_VOLUMES (length a.volumes))) [
+    | inl many ↦ (let h = rw (sized, many) at is in absurd (cc))
+    | inr few ↦ (grind (arith, nat_tests))
+  ])
+]
+
+-- and no more than these with the volume
+opened_few : (desk : List Account) (t : ℕ) (row : VolumeRow) → t < length desk → open_fault (account_at desk t) row ≡ None → ((u : ℕ) → length (account_at desk u).volumes ≤ MOST_VOLUMES) →
+    (u : ℕ) → length (account_at (slice_set desk t (with_volume row (account_at desk t))) u).volumes ≤ MOST_VOLUMES
+opened_few desk t row within sound few u = elim (cases_eq u t) [
+  | inr other ↦ (subst (λ (a : Account). length a.volumes ≤ MOST_VOLUMES) (sym (set_there desk t u (with_volume row (account_at desk t)) other)) (few u))
+  | inl same ↦ (
+      let here : length (with_volume row (account_at desk t)).volumes ≤ MOST_VOLUMES = omega (arith, length-append (account_at desk t).volumes (row ∷ []), few_volumes (account_at desk t) row sound) in
+      let there : length (account_at (slice_set desk t (with_volume row (account_at desk t))) t).volumes ≤ MOST_VOLUMES = subst (λ (a : Account). length a.volumes ≤ MOST_VOLUMES) (sym (set_here desk t (with_volume row (account_at desk t)) within)) here in
+      subst (λ x. length (account_at (slice_set desk t (with_volume row (account_at desk t))) x).volumes ≤ MOST_VOLUMES) (sym same) there)
+]
+
+pub opened_shaped : (w : Tables) (t : ℕ) (row : VolumeRow) (store : StoreCopies) → IsShaped w → t < length w.desk → open_fault (account_at w.desk t) row ≡ None →
     store_accounts store ≡ slice_set (store_accounts w.store) t (with_volume row (tenant_account w.store t)) → IsShaped (opened_tables w t row store)
-opened_shaped w t row store h added = record {
+opened_shaped w t row store h within sound added = record {
   server = h.server;
   grid = h.grid;
   desk = length-set w.desk t (with_volume row (account_at w.desk t)) ∙ h.desk;
   accounts = added ∙ ap (λ accounts. slice_set accounts t (with_volume row (account_at accounts t))) h.accounts;
+  volumes = opened_few w.desk t row within sound h.volumes;
   tenants = h.tenants;
   seats = h.seats;
   sessions = h.sessions;

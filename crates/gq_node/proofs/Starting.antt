@@ -8,6 +8,7 @@ use Rattle.std.proofs.lemmas.List.{get_or-replicate, length-map, length-replicat
 use Rattle.gq_grid.specs.declared.TheConstants.{MOST_SERVERS}
 use Rattle.gq_tag.specs.Tag.{File, file_of, first_copy}
 use Rattle.gq_desk.specs.declared.plans.TenantRow.{TenantRow}
+use Rattle.gq_desk.specs.declared.limits.TheConstants.{MOST_VOLUMES}
 use Rattle.gq_desk.specs.CheckedPlan.{CheckedPlan, nobody, row_at}
 use Rattle.gq_desk.specs.declared.volumes.VolumeRow.{VolumeRow}
 use Rattle.gq_desk.specs.Volumes.{Account, no_account, account_at}
@@ -67,6 +68,8 @@ first_shaped plan server w first few inside small =
       grid = h.1;
       desk = h.2;
       accounts = ap store_accounts first.store ∙ accounts_first plan.rows ∙ sym first.desk;
+      volumes = λ t. let none : (account_at w.desk t).volumes ≡ [] = ap (λ desk. (account_at desk t).volumes) first.desk ∙ ap (λ (a : Account). a.volumes) (fresh_at plan.rows t) in
+          subst (λ (vs : List VolumeRow). length vs ≤ MOST_VOLUMES) (sym none) (omega arith);
       tenants = h.3;
       seats = h.4;
       sessions = h.5;

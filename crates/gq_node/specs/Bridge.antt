@@ -9,10 +9,10 @@ use Rattle.gq_model.specs.Told.{Told}
 use Rattle.gq_model.specs.Trace.{operation, limit_at}
 use Rattle.gq_cluster.specs.Cluster.{Setting, Act, Asks, Comes, everyone, node_of, step_of, part_after, asker as session_of}
 use Rattle.gq_node.specs.declared.output.Answer.{Answer}
-use Rattle.gq_node.specs.declared.output.Answer.TheVariants.{Bad as IsBad}
+use Rattle.gq_node.specs.declared.output.Answer.TheVariants.{Has, Bad as IsBad}
 use Rattle.gq_node.specs.declared.output.Admission.{Admission}
 use Rattle.gq_node.specs.declared.output.Admission.TheVariants.{Tells, Passes, Goes}
-use Rattle.gq_node.specs.Local.{Local, Doing, part_in, state_of, state_for, aim_at, tries_next, answer_of, asker, begins, admission_in, asks, receives, ticks, letter_fits, has_above, of_round}
+use Rattle.gq_node.specs.Local.{Local, Doing, part_in, state_of, state_for, aim_at, tries_next, answer_of, asker, begins, admission_in, asks, holding, tells_holding, receives, ticks, letter_fits, has_above, of_round}
 use Rattle.gq_node.specs.Sites.{Site}
 
 -- the tenant's run, as the law has it
@@ -103,10 +103,13 @@ pub record Bridges (site : Site) (local : Local) (act : Option Act) (answer : Op
   pub volumes : doing.local.volumes ≡ local.volumes
   pub home : AtHome site doing.local
 
--- each line, letter and tick is an act or nothing
+-- each line, letter and tick is an act or nothing; that a tenant asks what it has is none
 abbrev pub AllRequestsAct : Type 0
 AllRequestsAct = (op : ℕ) (line : Line) (site : Site) (local : Local) → AtHome site local →
     Bridges site local (request_act op line site local) (request_answer op line site local) (answer_of (session_of line) op (local.residents (session_of line)).session.op) (asks op line site local)
+
+abbrev pub AllQuestionsTell : Type 0
+AllQuestionsTell = (site : Site) (local : Local) → AtHome site local → Bridges site local None (Some (Has (holding site local.volumes))) (λ told. None) (tells_holding site local)
 
 abbrev pub AllLettersAct : Type 0
 AllLettersAct = (from : ℕ) (m : OwnMessage) (site : Site) (local : Local) → AtHome site local →

@@ -2,12 +2,14 @@
 use Rattle.std.specs.Prelude.{ℕ, List, [], ◌∷◌, fold}
 use Rattle.gq_tag.specs.Tag.{OwnMessage}
 use Rattle.gq_model.specs.declared.events.Line.{Line}
-use Rattle.gq_node.specs.Local.{Local, Doing, asks, receives, ticks}
+use Rattle.gq_node.specs.Local.{Local, Doing, asks, tells_holding, receives, ticks}
 use Rattle.gq_node.specs.Sites.{Site}
 
 pub data Input : Type 0 where
   -- a line of the tenant, with the number that its operation is to have
   Asked : (op : ℕ) (line : Line) → Input
+  -- the tenant asks what it has
+  AskedPlan : Input
   -- a letter from that node
   Brought : (from : ℕ) (letter : OwnMessage) → Input
   -- a tick for this session
@@ -16,6 +18,7 @@ pub data Input : Type 0 where
 -- what the part does by it
 abbrev pub does : Input → Site → Local → Doing
 does (Asked op line) site local = asks op line site local
+does AskedPlan site local = tells_holding site local
 does (Brought from letter) site local = receives from letter site local
 does (Ticked session) site local = ticks session site local
 

@@ -10,6 +10,7 @@ use Rattle.gq_phase.specs.declared.Outcome.{Outcome}
 use Rattle.gq_phase.specs.Phase.{Operation, is_collect, round_file, heard_servers}
 use Rattle.gq_desk.specs.Plans.{is_in}
 use Rattle.gq_desk.specs.declared.volumes.VolumeRow.{VolumeRow}
+use Rattle.gq_desk.specs.declared.limits.TheConstants.{MOST_FILE_BLOCKS}
 use Rattle.gq_model.specs.declared.events.Line.{Line}
 use Rattle.gq_model.specs.declared.events.Line.TheVariants.{Write, Read, List as ListFiles, Deliver, Abandon}
 use Rattle.gq_model.specs.declared.events.Refusal.{Refusal}
@@ -18,7 +19,8 @@ use Rattle.gq_model.specs.Told.{Told, Began, Noted, Round, Done, Abandoned, Refu
 use Rattle.gq_model.specs.Trace.{Own, Entry, State, Session, new_session, changed, held, operation, limit_at}
 use Rattle.gq_model.specs.Lone.{Step, entry_of, is_refusal, asked_step, serve_step, hear_step, retry_step}
 use Rattle.gq_node.specs.declared.output.Answer.{Answer}
-use Rattle.gq_node.specs.declared.output.Answer.TheVariants.{Done as IsDone, Gone, Refused as IsRefused, Old, Early, Busy as IsBusy, Away, Bad as IsBad}
+use Rattle.gq_node.specs.declared.output.Answer.TheVariants.{Done as IsDone, Gone, Refused as IsRefused, Old, Early, Busy as IsBusy, Away, Has, Bad as IsBad}
+use Rattle.gq_node.specs.declared.output.Holding.{Holding}
 use Rattle.gq_node.specs.declared.output.Admission.{Admission}
 use Rattle.gq_node.specs.declared.output.Admission.TheVariants.{Tells, Passes, Goes}
 use Rattle.gq_cluster.specs.Cluster.{Part, everyone, state_of as state_of_part}
@@ -204,6 +206,24 @@ asks op line site local = by (asker line)
     by : Option ℕ → Doing
     by None = tells local IsBad
     by (Some k) = asks_in site local op line k
+
+-- ---- what a tenant has
+
+-- a tenant with these volumes has so many servers, a home for its session 1, the sessions and the share of its row, and files of at
+-- most so many blocks
+abbrev pub holding : Site → List VolumeRow → Holding
+holding site volumes = record {
+  servers = site.grid.rows * site.grid.cols;
+  home = site.home 1;
+  sessions = site.row.sessions;
+  share = site.row.share;
+  most_blocks = MOST_FILE_BLOCKS;
+  volumes = volumes;
+}
+
+-- the tenant asks what it has: it is told, and nothing else is done
+abbrev pub tells_holding : Site → Local → Doing
+tells_holding site local = tells local (Has (holding site local.volumes))
 
 -- ---- a letter
 

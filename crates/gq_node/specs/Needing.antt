@@ -1,5 +1,5 @@
 -- The facts that a start needs, one by one.
-use Rattle.std.specs.Prelude.{◌≡◌, ℕ, List, [], ◌∷◌, ◌++◌, true, false, ◌==◌, Some, length, map, if◌then◌else◌}
+use Rattle.std.specs.Prelude.{◌≡◌, ℕ, ◌<◌, List, [], ◌∷◌, ◌++◌, true, false, ◌==◌, Some, length, map, if◌then◌else◌}
 use Rattle.std.specs.List.{flat_map, range_with_len}
 use Rattle.gq_tag.specs.declared.StoredCopy.{StoredCopy}
 use Rattle.gq_tag.specs.Tag.{File, file_of, is_less, first_tag, first_copy}
@@ -8,6 +8,8 @@ use Rattle.gq_desk.specs.Volumes.{account_at, limit_of}
 use Rattle.gq_model.specs.Trace.{files_of}
 use Rattle.gq_store.specs.Copies.{copy_at}
 use Rattle.gq_node.specs.declared.output.Fact.{Fact}
+use Rattle.gq_node.specs.declared.output.NeedRefused.{NeedRefused}
+use Rattle.gq_node.specs.declared.output.NeedRefused.TheVariants.{Memory, Unreadable}
 use Rattle.gq_cluster.specs.Facts.{OwnFact, Begun, Numbered, Kept}
 use Rattle.gq_node.specs.Local.{copy_fits}
 use Rattle.gq_node.specs.Seats.{last_in}
@@ -70,3 +72,24 @@ PlaceReadable w t volume place = (limit : ℕ) → limit_of w.desk (file_of t (p
 -- so is each copy of the tenant's files
 abbrev pub AllReadable : Tables → ℕ → Type 0
 AllReadable w t = (file : File) (limit : ℕ) → limit_of w.desk (file_of t file) ≡ Some limit → IsReadable limit (copy_at w.store (file_of t file))
+
+-- ---- why it can't be told what a start needs
+
+-- of one copy: memory was wanting, or a start would not take it again
+abbrev pub IsRefusedOf : (limit : ℕ) → StoredCopy → NeedRefused → Type 0
+IsRefusedOf limit copy (Memory refused) = Unit {0}
+IsRefusedOf limit copy Unreadable = IsReadable limit copy → ⊥
+
+-- a file of a tenant of the plan has a copy that a start would not take again
+pub record HasUnreadable (w : Tables) : Type 0 where
+  pub tenant : ℕ
+  pub within : tenant < length w.plan.rows
+  pub file : File
+  pub limit : ℕ
+  pub there : limit_of w.desk (file_of tenant file) ≡ Some limit
+  pub unreadable : IsReadable limit (copy_at w.store (file_of tenant file)) → ⊥
+
+-- of all copies
+abbrev pub IsRefusedIn : Tables → NeedRefused → Type 0
+IsRefusedIn w (Memory refused) = Unit {0}
+IsRefusedIn w Unreadable = HasUnreadable w

@@ -12,9 +12,10 @@ use Rattle.gq_cluster.specs.Cluster.{Setting, Part, Act, NodeStep, Acts, Restart
 use Rattle.gq_cluster.specs.Facts.{kept_of}
 use Rattle.gq_cluster.specs.Laws.{IsServed, setting_of}
 use Rattle.gq_node.specs.declared.output.Answer.{Answer}
+use Rattle.gq_node.specs.declared.output.Answer.TheVariants.{Has}
 use Rattle.gq_node.specs.Bridge.{request_act, request_answer, letter_act, tick_act}
 use Rattle.gq_cluster.specs.Facts.{OwnFact}
-use Rattle.gq_node.specs.Local.{Local, Doing, new_local, part_in, nothing, answer_of, asks, receives, ticks, recalls}
+use Rattle.gq_node.specs.Local.{Local, Doing, new_local, part_in, nothing, answer_of, asks, holding, tells_holding, receives, ticks, recalls}
 use Rattle.gq_node.specs.Sites.{Site}
 
 -- what each node has of the tenant, the facts that it gave, and the letters that all wrote, in order
@@ -42,6 +43,8 @@ new_nodes s = record { local = λ n. new_local s.grid n s.volumes; facts = λ n.
 pub data Event : Type 0 where
   -- a line of the tenant with this number
   LineCame : (node op : ℕ) (line : Line) → Event
+  -- the tenant asks what it has
+  PlanCame : (node : ℕ) → Event
   -- a letter from that node
   LetterCame : (node from : ℕ) (letter : OwnMessage) → Event
   -- a tick for this session
@@ -52,6 +55,7 @@ pub data Event : Type 0 where
 -- the node
 abbrev pub node_in : Event → ℕ
 node_in (LineCame n op line) = n
+node_in (PlanCame n) = n
 node_in (LetterCame n from letter) = n
 node_in (TickCame n k) = n
 node_in (Started n) = n
@@ -71,6 +75,7 @@ after_doing nodes n doing = record {
 -- what the node does by it; at a start it tells and sends nothing
 abbrev pub doing_of : Setting → Nodes → Event → Doing
 doing_of s nodes (LineCame n op line) = asks op line (site_in s n) (nodes.local n)
+doing_of s nodes (PlanCame n) = tells_holding (site_in s n) (nodes.local n)
 doing_of s nodes (LetterCame n from letter) = receives from letter (site_in s n) (nodes.local n)
 doing_of s nodes (TickCame n k) = ticks k (site_in s n) (nodes.local n)
 doing_of s nodes (Started n) = nothing (started s n (nodes.facts n))
@@ -100,6 +105,7 @@ act_steps (Some act) = Acts act ∷ []
 -- the act of an event, if it is one
 abbrev pub act_of : Setting → Nodes → Event → Option Act
 act_of s nodes (LineCame n op line) = request_act op line (site_in s n) (nodes.local n)
+act_of s nodes (PlanCame n) = None
 act_of s nodes (LetterCame n from letter) = letter_act from letter (site_in s n) (nodes.local n)
 act_of s nodes (TickCame n k) = tick_act k (site_in s n) (nodes.local n)
 act_of s nodes (Started n) = None
@@ -135,13 +141,15 @@ pub record IsAlike (s : Setting) (nodes : Nodes) (c : Cluster) : Type 0 where
 -- what the tenant is told where the law tells its session this, by a line with a number
 abbrev pub answer_in : Nodes → Event → Told → Option Answer
 answer_in nodes (LineCame n op line) told = answer_of (session_of line) op ((nodes.local n).residents (session_of line)).session.op told
+answer_in nodes (PlanCame n) told = None
 answer_in nodes (LetterCame n from m) told = answer_of m.session ((nodes.local n).residents m.session).session.op ((nodes.local n).residents m.session).session.op told
 answer_in nodes (TickCame n k) told = None
 answer_in nodes (Started n) told = None
 
--- what it is told by the number alone, where the event is no act
+-- what it is told where the event is no act: by the number alone, or what it has
 abbrev pub own_answer : Setting → Nodes → Event → Option Answer
 own_answer s nodes (LineCame n op line) = request_answer op line (site_in s n) (nodes.local n)
+own_answer s nodes (PlanCame n) = Some (Has (holding (site_in s n) (nodes.local n).volumes))
 own_answer s nodes _ = None
 
 -- what is told and sent is what the law tells and sends by the act

@@ -4,21 +4,22 @@ ghost use Rattle.gq_node.specs.Apart.{AllCallsByParts, AllTenantsApart};
 ghost use Rattle.gq_node.specs.Once.{AllAgainLeave, AllTakeOnce, AllBeginOnce};
 ghost use Rattle.gq_node.specs.Progress.{AllRowsAreTried, AllColumnsAreTried};
 ghost use Rattle.gq_node.specs.Aims.{AllAimsHaveQuorums, AllRequestsHaveQuorums};
-ghost use Rattle.gq_node.specs.Bridge.{AllRequestsAct, AllLettersAct, AllTicksAct};
+ghost use Rattle.gq_node.specs.Bridge.{AllRequestsAct, AllQuestionsTell, AllLettersAct, AllTicksAct};
 ghost use Rattle.gq_node.specs.Nodes.{AllNodesFollow, AllNodesServe, AllVolumesOpen};
 
 /// What a node does by a line, a letter or a tick is, in the tenant's part of it, an act of the law of clusters
 /// (`gq_cluster::laws::clusters`) or nothing. It is an act of the law where a request begins an operation, gives it up or is
 /// refused by the model, where a letter is served or heard, and where a tick sends a round's message again; what is told and
-/// sent is then what the law says of the act.
+/// sent is then what the law says of the act. That a tenant asks what it has is no act: it is told, and nothing changes.
 pub fn acts()
     ensures requests { AllRequestsAct }
+    ensures questions { AllQuestionsTell }
     ensures letters { AllLettersAct }
     ensures ticks { AllTicksAct }
 {}
 
-/// Whatever comes to the nodes of a tenant that were never started, of which each letter was written before: lines, letters,
-/// ticks, and starts, at which a node reads the facts that it gave. All this is a list of steps of the law of clusters, which
+/// Whatever comes to the nodes of a tenant that were never started, of which each letter was written before: lines, questions what
+/// the tenant has, letters, ticks, and starts, at which a node reads the facts that it gave. All this is a list of steps of the law of clusters, which
 /// may follow one another; what they tell and send is what the nodes do; and in the end each server's copies are the same, and
 /// each session is as its home has it. And a node that starts knows its copies again, how many operations each of its sessions
 /// began, and each session's own last number; what was going on is gone.

@@ -13,4 +13,4 @@ mod tables;
 
 pub use gq_model::{Line, Refusal};
 pub use node::{Ended, Node};
-pub use output::{Answer, Fact, NeedRefused, Output};
+pub use output::{Answer, Fact, Holding, NeedRefused, Output};

@@ -5,8 +5,9 @@ ghost use Rattle.gq_tag.specs.Tag.{own_message};
 ghost use Rattle.gq_desk.specs.CheckedPlan.{row_at};
 ghost use Rattle.gq_desk.specs.Volumes.{IsRefusedFor, open_fault, account_at};
 ghost use Rattle.gq_node.specs.Sites.{address_of};
-ghost use Rattle.gq_node.specs.Local.{new_local, asks, receives, ticks, recalls};
+ghost use Rattle.gq_node.specs.Local.{new_local, asks, tells_holding, receives, ticks, recalls};
 ghost use Rattle.gq_node.specs.Recalling.{tenant_of, own_fact};
+ghost use Rattle.gq_node.specs.Needing.{IsRefusedIn};
 ghost use Rattle.gq_node.specs.Resting.{Needed};
 ghost use Rattle.gq_node.specs.Opening.{Opens};
 ghost use Rattle.gq_node.specs.Tables.{Acts, Leads, Agrees, AllStand};
@@ -100,9 +101,11 @@ impl Node {
         }
     }
 
-    /// The facts that a start needs to know what this node knows, its sessions' operations gone.
+    /// The facts that a start needs to know what this node knows, its sessions' operations gone. `Unreadable` comes only where a file has a
+    /// copy that a start would not take again.
     pub fn needed(&self) -> Result<Vec<Fact>, NeedRefused>
-        ensures { IfOk result (λ facts. Needed self.now.tables facts.items) }
+        ensures needed { IfOk result (λ facts. Needed self.now.tables facts.items) }
+        ensures refused { IfErr result (IsRefusedIn self.now.tables) }
     {
         self.tables.needed()
     }
@@ -144,6 +147,28 @@ impl Node {
             return Err(Ended(refused.again()));
         }
         match self.tables.request(tenant, op, line) {
+            Ok(out) => Ok(out),
+            Err(refused) => {
+                self.ended = Some(refused.again());
+                Err(Ended(refused))
+            }
+        }
+    }
+
+    /// Takes the question of a tenant what it has. It is told, and nothing changes.
+    pub fn holding(&mut self, tenant: u8) -> Result<Output, Ended>
+        requires { tenant < length self.old.tables.plan.rows }
+        ensures acts { IfOk result (λ out. Acts self.old.tables tenant tells_holding out self.new.tables) }
+        ensures same { self.new.tables ≡ self.old.tables }
+        ensures ended { OnErr result (self.new.ended ≡ true) }
+        ensures after { self.old.ended ≡ true → IsErr result }
+        ensures still { self.old.ended ≡ true → self.new ≡ self.old }
+        ensures goes { OnOk result (self.new.ended ≡ false) }
+    {
+        if let Some(refused) = &self.ended {
+            return Err(Ended(refused.again()));
+        }
+        match self.tables.tell_holding(tenant) {
             Ok(out) => Ok(out),
             Err(refused) => {
                 self.ended = Some(refused.again());

@@ -6,13 +6,31 @@ ghost use Rattle.gq_node.specs.Tables.{fact_of};
 ghost use Rattle.gq_node.specs.Heard.{HeardGives};
 ghost use Rattle.gq_node.specs.Local.{ended, refused_with};
 
+use gq_desk::VolumeRows;
 use gq_memory::{GrowVec, OutOfMemory};
 use gq_model::Refusal;
 use gq_phase::{Heard, Messages, Outcome};
 use gq_tag::{FileId, Message, StoredCopy};
 use std::alloc::Global;
 
-/// What a node tells a tenant. Each answer names the session and the number of the operation that it is of.
+/// What a tenant has.
+#[derive(Debug, Drop)]
+pub struct Holding {
+    /// How many servers the grid has.
+    pub servers: u8,
+    /// The node that is the home of its session 1.
+    pub home: u8,
+    /// How many sessions it has.
+    pub sessions: u32,
+    /// How many blocks of each server its volumes may take.
+    pub share: u32,
+    /// The most blocks of a file.
+    pub most_blocks: u32,
+    /// Its open volumes in order.
+    pub volumes: VolumeRows,
+}
+
+/// What a node tells a tenant. Each answer to a request names the session and the number of the operation that it is of.
 #[derive(Debug, Drop)]
 pub enum Answer {
     /// An operation is done.
@@ -52,6 +70,8 @@ pub enum Answer {
         op: u32,
         home: u8,
     },
+    /// What the tenant has.
+    Has(Holding),
     /// The line is no request.
     Bad,
 }

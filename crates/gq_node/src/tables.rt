@@ -1,6 +1,6 @@
 //! A node's tables, and what a line does to them.
 
-ghost use Rattle.std.specs.Prelude.{◌≡◌, ◌<◌, ◌≤◌, ◌+◌, ◌*◌, ◌-◌, ◌∷◌, ◌++◌, [], ℕ, length, map, replicate, not, nat_lt, slice_set, true, false, Some, None, IfOk, IfErr, IsErrOf, IsSome, IfNone, OnOk, OnErr, IsTrue, option_map, unwrap_or};
+ghost use Rattle.std.specs.Prelude.{◌≡◌, ◌↔◌, ◌<◌, ◌≤◌, ◌+◌, ◌*◌, ◌-◌, ◌∷◌, ◌++◌, [], ℕ, length, map, replicate, not, nat_lt, slice_set, true, false, Some, None, IfOk, IfErr, IsErrOf, IsSome, IfNone, OnOk, OnErr, IsTrue, option_map, unwrap_or};
 ghost use Rattle.gq_grid.specs.Sets.{servers};
 ghost use Rattle.gq_grid.specs.declared.TheConstants.{MOST_SERVERS};
 ghost use Rattle.gq_tag.specs.Tag.{file_place, first_copy, first_tag, is_less, own_message, to_server};
@@ -8,6 +8,7 @@ ghost use Rattle.gq_tag.specs.declared.TheConstants.{MOST_FILES};
 ghost use Rattle.gq_desk.specs.CheckedPlan.{row_at};
 ghost use Rattle.gq_desk.specs.Plans.{is_in};
 ghost use Rattle.gq_desk.specs.Volumes.{IsRefusedFor, open_fault, account_at, limit_of};
+ghost use Rattle.gq_desk.specs.declared.limits.TheConstants.{MOST_VOLUMES};
 ghost use Rattle.gq_store.specs.Copies.{copy_at, file_limit};
 ghost use Rattle.gq_phase.specs.Best.{copied_number};
 ghost use Rattle.gq_model.specs.declared.events.Line.{Line};
@@ -15,8 +16,8 @@ ghost use Rattle.gq_model.specs.Trace.{files_of};
 ghost use Rattle.gq_model.specs.Lone.{first_cause};
 ghost use Rattle.gq_cluster.specs.Facts.{replaced_in};
 ghost use Rattle.gq_node.specs.declared.output.Admission.TheVariants.{Goes};
-ghost use Rattle.gq_node.specs.Local.{asks, asker, begins, refused_with, serves, hears, receives, ticks, recalls, goes_between, letter_fits, copy_fits, file_fits, has_above};
-ghost use Rattle.gq_node.specs.Needing.{copy_facts, IsReadable};
+ghost use Rattle.gq_node.specs.Local.{asks, asker, begins, refused_with, holding, tells_holding, serves, hears, receives, ticks, recalls, goes_between, letter_fits, copy_fits, file_fits, has_above};
+ghost use Rattle.gq_node.specs.Needing.{copy_facts, IsReadable, IsRefusedOf};
 ghost use Rattle.gq_node.specs.Recalling.{tenant_of, own_fact};
 ghost use Rattle.gq_node.specs.Shape.{FewSessions};
 ghost use Rattle.gq_node.specs.Sites.{site_of, home_of, address_of};
@@ -25,13 +26,14 @@ ghost use Rattle.gq_node.specs.Tables.{first_seat, fact_of};
 use crate::aims::aim;
 use crate::homes::home;
 use crate::output::{
-    Admission, Answer, Fact, NeedRefused, Output, letters_of, put_begun, put_number, refused_answer,
+    Admission, Answer, Fact, Holding, NeedRefused, Output, letters_of, put_begun, put_number,
+    refused_answer,
 };
 use crate::seats::Seats;
 use bytes::Bytes;
-use gq_desk::{Desk, MOST_VOLUMES, OpenRefused, Plan};
+use gq_desk::{Desk, MOST_FILE_BLOCKS, OpenRefused, Plan, VolumeRows};
 use gq_grid::ServerSet;
-use gq_memory::{GrowVec, OutOfMemory, bytes_of};
+use gq_memory::{GrowVec, OutOfMemory, bytes_of, slice_copied};
 use gq_model::{Line, Refusal};
 use gq_phase::{BeginRefused, Messages, Operation, Who};
 use gq_store::{ServeRefused, ServerStore};
@@ -118,7 +120,7 @@ fn file_fits(limit: Option<u32>, body: &Body) -> bool
 
 // Whether the copy is that with which a file begins.
 fn is_first(copy: &StoredCopy) -> bool
-    ensures { result ≡ true → copy.now ≡ first_copy }
+    ensures { IsTrue result ↔ (copy.now ≡ first_copy) }
 {
     copy.tag.number == 0 && copy.tag.session == 0 && copy.bytes.is_empty()
 }
@@ -139,6 +141,7 @@ fn put_copy(
 ) -> Result<(), NeedRefused>
     ensures facts { OnOk result (facts.new.items ≡ facts.old.items ++ map (fact_of file.tenant) (copy_facts (file_place file) copy)) }
     ensures readable { OnOk result (IsReadable limit copy) }
+    ensures refused { IfErr result (IsRefusedOf limit copy) }
 {
     if !is_above_first(&copy) {
         if !is_first(&copy) {
@@ -155,7 +158,7 @@ fn put_copy(
 
 impl Core {
     ghost use Rattle.std.specs.List.{flat_map, range_with_len};
-    ghost use Rattle.gq_node.specs.Needing.{seat_facts, place_facts, files_facts, files_in, volumes_facts, tenant_facts, PlaceReadable, AllReadable};
+    ghost use Rattle.gq_node.specs.Needing.{seat_facts, place_facts, files_facts, files_in, volumes_facts, tenant_facts, PlaceReadable, AllReadable, IsRefusedIn};
     ghost use Rattle.gq_node.specs.Resting.{Needed};
     ghost use Rattle.gq_node.specs.Tables.{Acts, Leads, Stands, seats_at, seat_in, seat_at, with_seat};
     ghost use Rattle.gq_node.specs.Shape.{IsFirst};
@@ -581,6 +584,34 @@ impl Core {
         }
     }
 
+    // ---- what a tenant has
+
+    // What the tenant has.
+    fn holding(&self, tenant: u8) -> Result<Holding, OutOfMemory>
+        requires { tenant < length self.now.plan.rows }
+        ensures { IfOk result (λ has. has ≡ holding (site_of self.now.plan self.now.server tenant) (account_at self.now.desk tenant).volumes) }
+    {
+        let row = self.plan.row(tenant);
+        let items = slice_copied(self.alloc, self.desk.volumes(tenant))?;
+        Ok(Holding {
+            servers: self.plan.grid().servers() as u8,
+            home: home(&self.plan, tenant, 1),
+            sessions: row.sessions,
+            share: row.share,
+            most_blocks: MOST_FILE_BLOCKS,
+            volumes: VolumeRows { items },
+        })
+    }
+
+    // The tenant asks what it has.
+    pub(crate) fn tell_holding(&self, tenant: u8) -> Result<Output, OutOfMemory>
+        requires { tenant < length self.now.plan.rows }
+        ensures acts { IfOk result (λ out. Acts self.now tenant tells_holding out self.now) }
+    {
+        let holding = self.holding(tenant)?;
+        Ok(Output::told(self.alloc, Answer::Has(holding)))
+    }
+
     // ---- letters
 
     // Whether a letter that came from there goes from a session's home to a server, or back.
@@ -803,23 +834,17 @@ impl Core {
         Ok(())
     }
 
-    // The copy of the file, and how many bytes it may have.
-    fn copy_of(&self, file: FileId) -> Result<(u32, StoredCopy), NeedRefused>
-        ensures limit { IfOk result (λ x. limit_of self.now.desk file ≡ Some x.0) }
-        ensures copy { IfOk result (λ x. x.1 ≡ copy_at self.now.store file) }
+    // The copy of the file.
+    fn copy_of(&self, file: FileId) -> Result<StoredCopy, OutOfMemory>
+        requires { IsSome (limit_of self.now.desk file) }
+        ensures { IfOk result (λ copy. copy ≡ copy_at self.now.store file) }
     {
-        let Some(limit) = self.desk.limit(file) else {
-            return Err(NeedRefused::Unreadable);
-        };
         let mut bytes = Vec::new(self.alloc);
         let tag = self.store.read(file, &mut bytes)?;
-        Ok((
-            limit,
-            StoredCopy {
-                tag,
-                bytes: bytes_of(bytes)?,
-            },
-        ))
+        Ok(StoredCopy {
+            tag,
+            bytes: bytes_of(bytes)?,
+        })
     }
 
     // Appends the copy of the file, where a start needs it.
@@ -830,15 +855,20 @@ impl Core {
         place: u32,
         facts: &mut Vec<Fact>,
     ) -> Result<(), NeedRefused>
+        requires { tenant < length self.now.plan.rows }
         ensures facts { OnOk result (facts.new.items ≡ facts.old.items ++ map (fact_of tenant) (place_facts self.now tenant volume place)) }
         ensures readable { OnOk result (PlaceReadable self.now tenant volume place) }
+        ensures refused { IfErr result (IsRefusedIn self.now) }
     {
         let file = FileId {
             tenant,
             volume,
             file: place,
         };
-        let (limit, copy) = self.copy_of(file)?;
+        let Some(limit) = self.desk.limit(file) else {
+            return Ok(());
+        };
+        let copy = self.copy_of(file)?;
         put_copy(limit, file, copy, facts)
     }
 
@@ -850,8 +880,10 @@ impl Core {
         files: u32,
         facts: &mut Vec<Fact>,
     ) -> Result<(), NeedRefused>
+        requires { tenant < length self.now.plan.rows }
         ensures facts { OnOk result (facts.new.items ≡ facts.old.items ++ map (fact_of tenant) (files_facts self.now tenant volume files)) }
         ensures readable { OnOk result ((place : ℕ) → place < files → PlaceReadable self.now tenant volume place) }
+        ensures refused { IfErr result (IsRefusedIn self.now) }
     {
         for place in 0..files {
             self.put_place(tenant, volume, place, facts)?;
@@ -862,7 +894,8 @@ impl Core {
     // How many volumes the tenant has.
     fn count_volumes(&self, tenant: u8) -> usize
         requires { tenant < length self.now.plan.rows }
-        ensures { result ≡ length (account_at self.now.desk tenant).volumes }
+        ensures count { result ≡ length (account_at self.now.desk tenant).volumes }
+        ensures few { result ≤ MOST_VOLUMES }
     {
         self.desk.volumes(tenant).len()
     }
@@ -872,11 +905,9 @@ impl Core {
         requires { tenant < length self.now.plan.rows }
         ensures facts { OnOk result (facts.new.items ≡ facts.old.items ++ map (fact_of tenant) (volumes_facts self.now tenant)) }
         ensures readable { OnOk result ((volume : ℕ) → volume < length (account_at self.now.desk tenant).volumes → (place : ℕ) → place < files_in self.now tenant volume → PlaceReadable self.now tenant volume place) }
+        ensures refused { IfErr result (IsRefusedIn self.now) }
     {
         let count = self.count_volumes(tenant);
-        if count > MOST_VOLUMES {
-            return Err(NeedRefused::Unreadable);
-        }
         for volume in 0..count {
             let files = self.files(tenant, volume as u32);
             self.put_files(tenant, volume as u32, files, facts)?;
@@ -889,6 +920,7 @@ impl Core {
         requires { tenant < length self.now.plan.rows }
         ensures facts { OnOk result (facts.new.items ≡ facts.old.items ++ map (fact_of tenant) (tenant_facts self.now tenant)) }
         ensures readable { OnOk result (AllReadable self.now tenant) }
+        ensures refused { IfErr result (IsRefusedIn self.now) }
     {
         self.put_seats(tenant, facts)?;
         self.put_volumes(tenant, facts)
@@ -896,7 +928,8 @@ impl Core {
 
     // What a start needs.
     pub(crate) fn needed(&self) -> Result<Vec<Fact>, NeedRefused>
-        ensures { IfOk result (λ facts. Needed self.now facts.items) }
+        ensures needed { IfOk result (λ facts. Needed self.now facts.items) }
+        ensures refused { IfErr result (IsRefusedIn self.now) }
     {
         let mut facts = Vec::new(self.alloc);
         let tenants = self.plan.tenants();

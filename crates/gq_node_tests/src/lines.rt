@@ -1,10 +1,10 @@
 //! Each form of a line between two of a grid of 2 by 2, by hand.
 
 use bytes::Bytes;
-use gq_desk::{Name, Plan, TenantRow};
+use gq_desk::{Name, Plan, TenantRow, VolumeRow, VolumeRows};
 use gq_grid::Grid;
 use gq_memory::{GrowCopies, GrowVec};
-use gq_node::{Answer, Line, Refusal};
+use gq_node::{Answer, Holding, Line, Refusal};
 use gq_phase::{Outcome, Row, Rows};
 use gq_tag::{Body, FileId, Message, StoredCopy, Tag};
 use gq_wire::{Incoming, MOST_LINE, put_first, put_letter, put_told, read_incoming};
@@ -85,6 +85,14 @@ fn reads_requests(rt: HostRuntime) -> Result<(), Fail> {
     Ok(())
 }
 
+// Whether node 2 reads that this tenant asks what it has.
+fn asks_plan(rt: &impl Abort, alloc: Global, text: &[u8], of: u8) -> bool {
+    match incoming(rt, alloc, text) {
+        Incoming::Plan { tenant } => tenant == of,
+        _ => false,
+    }
+}
+
 fn is_bad(rt: &impl Abort, alloc: Global, line: &[u8]) -> bool {
     matches!(incoming(rt, alloc, line), Incoming::Bad { tenant: 0 })
 }
@@ -122,6 +130,21 @@ fn reads_no_other_line(rt: HostRuntime) -> Result<(), Fail> {
         )
     );
     assert!(rt; is_nothing(&rt, alloc, b"2 1 ann 1 5 3 0 3 copy 1 1 ab ?"));
+    Ok(())
+}
+
+#[test]
+fn reads_the_question_what_a_tenant_has(rt: HostRuntime) -> Result<(), Fail> {
+    let alloc = rt.alloc();
+    assert!(rt; asks_plan(&rt, alloc, b"2 ann plan", 0));
+    assert!(rt; asks_plan(&rt, alloc, b"2 tick plan", 1));
+    assert!(rt; is_bad(&rt, alloc, b"2 ann plan 1"));
+    assert!(rt; is_bad(&rt, alloc, b"2 ann plan "));
+    assert!(rt; is_bad(&rt, alloc, b"2 ann  plan"));
+    assert!(rt; is_bad(&rt, alloc, b"2 ann plans"));
+    assert!(rt; is_nothing(&rt, alloc, b"1 ann plan"));
+    assert!(rt; is_nothing(&rt, alloc, b"2 bob plan"));
+    assert!(rt; is_nothing(&rt, alloc, b"2 1 plan"));
     Ok(())
 }
 
@@ -274,6 +297,50 @@ fn writes_how_operations_end(rt: HostRuntime) -> Result<(), Fail> {
             b"ann 2 gone 1 5\n"
         )
     );
+    Ok(())
+}
+
+#[test]
+fn writes_what_a_tenant_has(rt: HostRuntime) -> Result<(), Fail> {
+    let alloc = rt.alloc();
+    let none = Line::Bad;
+    let mut items = Vec::new(alloc);
+    items.grow(VolumeRow {
+        files: 2,
+        blocks: 1,
+    })?;
+    items.grow(VolumeRow {
+        files: 30,
+        blocks: 16,
+    })?;
+    let has = Answer::Has(Holding {
+        servers: 4,
+        home: 3,
+        sessions: 2,
+        share: 512,
+        most_blocks: 16,
+        volumes: VolumeRows { items },
+    });
+    assert!(rt;
+        tells(
+            &rt,
+            alloc,
+            &none,
+            &has,
+            b"ann 2 plan 4 3 2 512 16 2.1 30.16\n"
+        )
+    );
+    let nothing = Answer::Has(Holding {
+        servers: 64,
+        home: 0,
+        sessions: 16,
+        share: 4096,
+        most_blocks: 16,
+        volumes: VolumeRows {
+            items: Vec::new(alloc),
+        },
+    });
+    assert!(rt; tells(&rt, alloc, &none, &nothing, b"ann 2 plan 64 0 16 4096 16\n"));
     Ok(())
 }
 

@@ -15,10 +15,10 @@ use Rattle.gq_text.proofs.Plain.{are_plain, decimal_plain, content_plain}
 use Rattle.gq_text.proofs.LinesBack.{words_back}
 use Rattle.gq_text.proofs.EventsBack.{line_of-words}
 use Rattle.gq_wire.specs.declared.incoming.TheConstants.{MOST_LINE}
-use Rattle.gq_wire.specs.declared.incoming.Incoming.TheVariants.{Request}
+use Rattle.gq_wire.specs.declared.incoming.Incoming.TheVariants.{Request, Plan}
 use Rattle.gq_wire.specs.Requests.{request_of, request_words}
-use Rattle.gq_wire.specs.Incoming.{incoming_of_words}
-use Rattle.gq_wire.specs.Laws.{FitsRequest, request_text, RequestsReadBack}
+use Rattle.gq_wire.specs.Incoming.{is_only, incoming_of_words}
+use Rattle.gq_wire.specs.Laws.{FitsRequest, request_text, plan_text, RequestsReadBack, PlansReadBack}
 use Rattle.gq_wire.proofs.ValuesBack.{name_at, name_is_plain, place_back}
 use Rattle.gq_wire.proofs.Lengths.{short_number, short_name, content_length-le, one_more}
 
@@ -62,6 +62,13 @@ words_back_as op (Read k v f) fits = rw (numbers_read_back op fits.0, line_of-wo
 words_back_as op (ListFiles k v) fits = rw (numbers_read_back op fits.0, line_of-words (ListFiles k v) (fits.1, fits.2)) refl
 words_back_as op (Abandon k) fits = rw (numbers_read_back op fits.0, line_of-words (Abandon k) fits.1) refl
 words_back_as op line fits = absurd fits
+
+no_plan : (op : ℕ) (line : Line) → FitsRequest op line → is_only (codes "plan") (request_words op line) ≡ false
+no_plan op (Write k v f bytes) fits = refl
+no_plan op (Read k v f) fits = refl
+no_plan op (ListFiles k v) fits = refl
+no_plan op (Abandon k) fits = refl
+no_plan op line fits = absurd fits
 
 number_more : (n : ℕ) (words : List Word) (k : ℕ) → IsNumber n → length (spaced words) ≤ k → length (spaced (decimal n ∷ words)) ≤ 11 + k
 number_more n words k fits rest = omega (arith, one_more (decimal n) words 10 k (short_number n fits) rest)
@@ -115,6 +122,7 @@ line_back plan to t op line is to_fits within fits =
       eq-eqb to to refl,
       name_is_no_number (row_at plan t).name (name_at plan t is within),
       place_back plan t is within,
+      no_plan op line fits,
       words_back_as op line fits,
     ) refl
 
@@ -123,3 +131,26 @@ requests_read_back plan to t op line is to_fits within fits =
     let short : nat_lt MOST_LINE (length (request_text plan to t op line)) ≡ false = le-ltb MOST_LINE (length (request_text plan to t op line)) (text_short plan to t op line is to_fits within fits) in
     let others : are_plain ((row_at plan t).name ∷ request_words op line) ≡ true = rw (name_is_plain plan t is within) (words_plain op line fits) in
     rw short (ap (incoming_of_words plan to) (words_back (decimal to) ((row_at plan t).name ∷ request_words op line) (decimal_plain to to_fits) others) ∙ line_back plan to t op line is to_fits within fits)
+
+-- ---- the question what a tenant has
+
+plan_short : (plan : CheckedPlan) (to t : ℕ) → IsPlan plan → IsNumber to → t < length plan.rows → length (plan_text plan to t) ≤ MOST_LINE
+plan_short plan to t is to_fits within =
+    let name = one_more (row_at plan t).name (codes "plan" ∷ []) 16 5 (short_name (row_at plan t).name (name_at plan t is within)) (omega arith) in
+    omega (arith, length-append (decimal to) (spaced ((row_at plan t).name ∷ codes "plan" ∷ [])), short_number to to_fits, name)
+
+plan_back : (plan : CheckedPlan) (to t : ℕ) → IsPlan plan → IsNumber to → t < length plan.rows → incoming_of_words plan to (decimal to ∷ (row_at plan t).name ∷ codes "plan" ∷ []) ≡ Plan t
+unfolding incoming_of_words
+plan_back plan to t is to_fits within =
+    rw (
+      numbers_read_back to to_fits,
+      eq-eqb to to refl,
+      name_is_no_number (row_at plan t).name (name_at plan t is within),
+      place_back plan t is within,
+    ) refl
+
+pub plans_read_back : PlansReadBack
+plans_read_back plan to t is to_fits within =
+    let short : nat_lt MOST_LINE (length (plan_text plan to t)) ≡ false = le-ltb MOST_LINE (length (plan_text plan to t)) (plan_short plan to t is to_fits within) in
+    let others : are_plain ((row_at plan t).name ∷ codes "plan" ∷ []) ≡ true = rw (name_is_plain plan t is within) refl in
+    rw short (ap (incoming_of_words plan to) (words_back (decimal to) ((row_at plan t).name ∷ codes "plan" ∷ []) (decimal_plain to to_fits) others) ∙ plan_back plan to t is to_fits within)

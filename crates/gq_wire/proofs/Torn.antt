@@ -18,7 +18,7 @@ use Rattle.gq_wire.specs.declared.incoming.Incoming.TheVariants.{Tick, Nothing}
 use Rattle.gq_wire.specs.Values.{number_then, within_byte, byte_then, long_then, last_content, copy_of, alone}
 use Rattle.gq_wire.specs.Requests.{write_by, read_by, list_by, line_by, request_by, request_of}
 use Rattle.gq_wire.specs.Letters.{body_of_words, heading_then, message_from, in_round, letter_of_words}
-use Rattle.gq_wire.specs.Incoming.{from_tenant, is_tick, incoming_from, is_to, incoming_of_words}
+use Rattle.gq_wire.specs.Incoming.{from_tenant, is_only, incoming_from, is_to, incoming_of_words}
 use Rattle.gq_wire.specs.Laws.{is_formless, TornLinesHaveNoForm}
 use Rattle.gq_wire.proofs.Reading.{same_request}
 
@@ -164,14 +164,14 @@ request_fails words = sym (same_request (marked words)) ∙ by_words_fails words
 
 -- ---- the line
 
-tick_fails : (words : List Word) → is_tick (marked words) ≡ false
-tick_fails [] = refl
-tick_fails (w ∷ []) = refl
-tick_fails (w ∷ v ∷ words) = refl
+only_fails : (word : Word) → bytes_eq (63 ∷ []) word ≡ false → (words : List Word) → is_only word (marked words) ≡ false
+only_fails word other [] = other
+only_fails word other (w ∷ []) = refl
+only_fails word other (w ∷ v ∷ words) = refl
 
-tenant_formless : (o : Option ℕ) (words : List Word) → request_of words ≡ None → is_formless (from_tenant o words) ≡ true
-tenant_formless None words fails = refl
-tenant_formless (Some t) words fails = rw fails refl
+tenant_formless : (o : Option ℕ) (words : List Word) → is_only (codes "plan") words ≡ false → request_of words ≡ None → is_formless (from_tenant o words) ≡ true
+tenant_formless None words no_plan fails = refl
+tenant_formless (Some t) words no_plan fails = rw (no_plan, fails) refl
 
 -- a choice of two of which one is that nothing is done
 chosen : (b : Bool) (x : Incoming) → is_formless x ≡ true → (is_formless (cond b x Nothing) ≡ true) × (is_formless (cond b Nothing x) ≡ true)
@@ -183,14 +183,14 @@ no_tick true = refl
 no_tick false = refl
 
 from_formless : (plan : CheckedPlan) (here : ℕ) (from : Option ℕ) (word : Word) (words : List Word) → is_formless (incoming_from plan here from word (marked words)) ≡ true
-from_formless plan here None word words = tenant_formless (place_named plan word) (marked words) (request_fails words)
+from_formless plan here None word words = tenant_formless (place_named plan word) (marked words) (only_fails (codes "plan") refl words) (request_fails words)
 from_formless plan here (Some n) word words =
-    rw (tick_fails words, letter_fails plan here n words) (chosen (nat_lt n (plan.grid.rows * plan.grid.cols)) (cond (n == here && false) Tick Nothing) (no_tick (n == here))).0
+    rw (only_fails (codes "tick") refl words, letter_fails plan here n words) (chosen (nat_lt n (plan.grid.rows * plan.grid.cols)) (cond (n == here && false) Tick Nothing) (no_tick (n == here))).0
 
 words_formless : (plan : CheckedPlan) (here : ℕ) (words : List Word) → is_formless (incoming_of_words plan here (marked words)) ≡ true
 unfolding incoming_of_words number_up_to request_of
 words_formless plan here [] = refl
-words_formless plan here (to ∷ []) = (chosen (is_to here (number_of to)) (from_tenant (place_named plan (63 ∷ [])) []) (tenant_formless (place_named plan (63 ∷ [])) [] refl)).0
+words_formless plan here (to ∷ []) = (chosen (is_to here (number_of to)) (from_tenant (place_named plan (63 ∷ [])) []) (tenant_formless (place_named plan (63 ∷ [])) [] refl refl)).0
 words_formless plan here (to ∷ from ∷ words) = (chosen (is_to here (number_of to)) (incoming_from plan here (number_of from) from (marked words)) (from_formless plan here (number_of from) from words)).0
 
 pub torn_lines_have_no_form : TornLinesHaveNoForm

@@ -8,7 +8,7 @@ use Rattle.gq_text.specs.Words.{Word, words_of, number_of}
 use Rattle.gq_text.specs.Input.{place_named}
 use Rattle.gq_wire.specs.declared.incoming.TheConstants.{MOST_LINE}
 use Rattle.gq_wire.specs.declared.incoming.Incoming.{Incoming}
-use Rattle.gq_wire.specs.declared.incoming.Incoming.TheVariants.{Request, Bad, Letter, Tick, Nothing}
+use Rattle.gq_wire.specs.declared.incoming.Incoming.TheVariants.{Request, Plan, Bad, Letter, Tick, Nothing}
 use Rattle.gq_wire.specs.Requests.{request_of}
 use Rattle.gq_wire.specs.Letters.{letter_of_words}
 
@@ -18,9 +18,14 @@ abbrev pub request_or_bad : ℕ → Option (ℕ × Line) → Incoming
 request_or_bad t (Some request) = Request t request.0 request.1
 request_or_bad t None = Bad t
 
+-- the words are this one, and no more
+abbrev pub is_only : Word → List Word → Bool
+is_only word (w ∷ []) = bytes_eq w word
+is_only word _ = false
+
 -- from the tenant at that place of the plan; nobody else is one
 abbrev pub from_tenant : Option ℕ → List Word → Incoming
-from_tenant (Some t) body = request_or_bad t (request_of body)
+from_tenant (Some t) body = if is_only (codes "plan") body then Plan t else request_or_bad t (request_of body)
 from_tenant None body = Nothing
 
 -- ---- from a node
@@ -30,8 +35,7 @@ letter_or_nothing from (Some message) = Letter from message
 letter_or_nothing from None = Nothing
 
 abbrev pub is_tick : List Word → Bool
-is_tick (w ∷ []) = bytes_eq w (codes "tick")
-is_tick _ = false
+is_tick body = is_only (codes "tick") body
 
 -- from the node of that number, if the grid has one; a node's tick is from itself
 abbrev pub from_node : CheckedPlan → (here from : ℕ) → List Word → Incoming
@@ -64,6 +68,7 @@ incoming_of plan here line = if nat_lt MOST_LINE (length line) then Nothing else
 -- a line that is acted on names a tenant of the plan, and a letter a node of the grid
 abbrev pub FitsPlan : CheckedPlan → Incoming → Type 0
 FitsPlan plan (Request tenant op line) = tenant < length plan.rows
+FitsPlan plan (Plan tenant) = tenant < length plan.rows
 FitsPlan plan (Bad tenant) = tenant < length plan.rows
 FitsPlan plan (Letter from m) = (from < plan.grid.rows * plan.grid.cols) × (m.tenant < length plan.rows) × (m.file.tenant ≡ m.tenant)
 FitsPlan plan Tick = Unit {0}

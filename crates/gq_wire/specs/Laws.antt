@@ -16,7 +16,7 @@ use Rattle.gq_text.specs.Words.{Word}
 use Rattle.gq_text.specs.AnswerText.{spaced}
 use Rattle.gq_text.specs.Canonical.{IsPlan, IsNumber}
 use Rattle.gq_wire.specs.declared.incoming.Incoming.{Incoming}
-use Rattle.gq_wire.specs.declared.incoming.Incoming.TheVariants.{Request, Bad, Letter, Nothing}
+use Rattle.gq_wire.specs.declared.incoming.Incoming.TheVariants.{Request, Plan, Bad, Letter, Nothing}
 use Rattle.gq_wire.specs.Requests.{request_words}
 use Rattle.gq_wire.specs.Letters.{is_of_round}
 use Rattle.gq_wire.specs.Incoming.{incoming_of}
@@ -93,6 +93,17 @@ RequestsReadBack =
     (plan : CheckedPlan) (to tenant op : ℕ) (line : Line) → IsPlan plan → IsNumber to → tenant < length plan.rows → FitsRequest op line →
     incoming_of plan to (request_text plan to tenant op line) ≡ Request tenant op line
 
+-- ---- the question what a tenant has
+
+-- the line of a tenant's question to that node, without its newline
+abbrev pub plan_text : CheckedPlan → (to tenant : ℕ) → List ℕ
+plan_text plan to tenant = decimal to ++ spaced ((row_at plan tenant).name ∷ codes "plan" ∷ [])
+
+-- the question that a tenant writes is read as that question
+abbrev pub PlansReadBack : Type 0
+PlansReadBack =
+    (plan : CheckedPlan) (to tenant : ℕ) → IsPlan plan → IsNumber to → tenant < length plan.rows → incoming_of plan to (plan_text plan to tenant) ≡ Plan tenant
+
 -- ---- lines that are not for the node
 
 -- a line that begins with a tenant's name is nothing to a node, and so is a letter to another node: of what nodes write, a node acts on
@@ -103,7 +114,7 @@ pub record PassesOver : Type 0 where
 
 -- ---- torn lines
 
--- the line is no request, no letter and no tick
+-- the line is no request, no question, no letter and no tick
 abbrev pub is_formless : Incoming → Bool
 is_formless (Bad tenant) = true
 is_formless Nothing = true

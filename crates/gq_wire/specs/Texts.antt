@@ -1,9 +1,10 @@
 -- The lines that a node writes.
-use Rattle.std.specs.Prelude.{ℕ, List, [], ◌∷◌, codes, decimal, length, slice_index_or}
+use Rattle.std.specs.Prelude.{ℕ, List, [], ◌∷◌, ◌++◌, codes, decimal, length, map, slice_index_or}
 use Rattle.gq_tag.specs.declared.StoredCopy.{StoredCopy}
 use Rattle.gq_tag.specs.declared.Body.{Body}
 use Rattle.gq_tag.specs.declared.Body.TheVariants.{Ask, Copy, Store, Stored}
 use Rattle.gq_tag.specs.declared.Message.{Message}
+use Rattle.gq_desk.specs.declared.volumes.VolumeRow.{VolumeRow}
 use Rattle.gq_desk.specs.CheckedPlan.{CheckedPlan, row_at}
 use Rattle.gq_model.specs.declared.events.Line.{Line}
 use Rattle.gq_model.specs.declared.events.Line.TheVariants.{Write, Read, List as ListFiles}
@@ -12,7 +13,8 @@ use Rattle.gq_model.specs.declared.events.Refusal.TheVariants.{NoVolume, NoFile,
 use Rattle.gq_text.specs.Words.{Word}
 use Rattle.gq_text.specs.AnswerText.{content_word, outcome_words, refusal_words, line_text}
 use Rattle.gq_node.specs.declared.output.Answer.{Answer}
-use Rattle.gq_node.specs.declared.output.Answer.TheVariants.{Done, Gone, Refused, Old, Early, Busy, Away, Bad}
+use Rattle.gq_node.specs.declared.output.Holding.{Holding}
+use Rattle.gq_node.specs.declared.output.Answer.TheVariants.{Done, Gone, Refused, Old, Early, Busy, Away, Has, Bad}
 
 -- the first line that a node writes
 abbrev pub first_text : List ℕ
@@ -76,9 +78,19 @@ refusal_words_of session op refusal asked = word_of refusal ∷ decimal session 
 abbrev pub last_words : (session op last : ℕ) → List Word
 last_words session op last = decimal session ∷ decimal op ∷ decimal last ∷ []
 
+-- ---- what a tenant has
+
+-- a volume: its files, and the blocks of a file
+abbrev pub volume_word : VolumeRow → Word
+volume_word volume = decimal volume.files ++ codes "." ++ decimal volume.blocks
+
+abbrev pub holding_words : Holding → List Word
+holding_words has =
+    decimal has.servers ∷ decimal has.home ∷ decimal has.sessions ∷ decimal has.share ∷ decimal has.most_blocks ∷ map volume_word has.volumes
+
 -- ---- what a tenant is told
 
--- the words of an answer to the request `asked`
+-- the words of an answer to the request `asked`, or to the question what the tenant has
 abbrev pub told_words : Line → Answer → List Word
 told_words asked (Done outcome) = codes "done" ∷ outcome_words outcome
 told_words asked (Gone session op) = codes "gone" ∷ decimal session ∷ decimal op ∷ []
@@ -87,6 +99,7 @@ told_words asked (Old session op last) = codes "refused" ∷ codes "old" ∷ las
 told_words asked (Early session op last) = codes "refused" ∷ codes "early" ∷ last_words session op last
 told_words asked (Busy session op last) = codes "refused" ∷ codes "busy" ∷ last_words session op last
 told_words asked (Away session op home) = codes "refused" ∷ codes "home" ∷ decimal home ∷ decimal session ∷ decimal op ∷ []
+told_words asked (Has has) = codes "plan" ∷ holding_words has
 told_words asked Bad = codes "refused" ∷ codes "bad" ∷ []
 
 -- the line of it, from that node

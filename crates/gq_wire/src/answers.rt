@@ -1,16 +1,16 @@
 //! The lines by which a node tells a tenant.
 
-ghost use Rattle.std.specs.Prelude.{◌≡◌, [], ◌∷◌, ◌++◌, ◌<◌, length, codes, decimal, OnOk, OnErr};
+ghost use Rattle.std.specs.Prelude.{◌≡◌, [], ◌∷◌, ◌++◌, ◌<◌, length, map, codes, decimal, OnOk, OnErr};
 ghost use Rattle.std.specs.List.{flat_map};
 ghost use Rattle.gq_desk.specs.CheckedPlan.{row_at};
-ghost use Rattle.gq_text.specs.AnswerText.{line_text, outcome_words};
+ghost use Rattle.gq_text.specs.AnswerText.{line_text, spaced, ended, outcome_words};
 ghost use Rattle.gq_text.specs.Pieces.{words_in, Extends};
-ghost use Rattle.gq_wire.specs.Texts.{volume_in, file_in, length_in, word_of, refusal_words_of, told_words, told_line};
+ghost use Rattle.gq_wire.specs.Texts.{volume_in, file_in, length_in, word_of, refusal_words_of, volume_word, holding_words, told_words, told_line};
 
-use gq_desk::Plan;
+use gq_desk::{Plan, VolumeRow};
 use gq_memory::{GrowCopies, GrowVec, OutOfMemory};
 use gq_model::{Line, Refusal};
-use gq_node::Answer;
+use gq_node::{Answer, Holding};
 use gq_phase::Outcome;
 use gq_text::{Piece, put_done, put_number, put_words};
 
@@ -206,8 +206,84 @@ fn put_last(
     )
 }
 
+// Appends a volume.
+fn put_volume(out: &mut Vec<u8>, volume: &VolumeRow) -> Result<(), OutOfMemory>
+    ensures ok { OnOk result (out.new.items ≡ out.old.items ++ 32 ∷ volume_word volume.now) }
+    ensures err { OnErr result (Extends out.old.items out.new.items) }
+{
+    out.grow(b' ')?;
+    put_number(out, u64::from(volume.files))?;
+    out.grow(b'.')?;
+    put_number(out, u64::from(volume.blocks))
+}
+
+// Appends volumes.
+fn put_volumes(out: &mut Vec<u8>, volumes: &[VolumeRow]) -> Result<(), OutOfMemory>
+    ensures ok { OnOk result (out.new.items ≡ out.old.items ++ spaced (map volume_word volumes.now)) }
+    ensures err { OnErr result (Extends out.old.items out.new.items) }
+{
+    for volume in volumes {
+        put_volume(out, volume)?;
+    }
+    Ok(())
+}
+
+// Appends a number after a space.
+fn put_spaced(out: &mut Vec<u8>, n: u64) -> Result<(), OutOfMemory>
+    ensures ok { OnOk result (out.new.items ≡ out.old.items ++ 32 ∷ decimal n) }
+    ensures err { OnErr result (Extends out.old.items out.new.items) }
+{
+    out.grow(b' ')?;
+    put_number(out, n)
+}
+
+// Appends numbers, each after a space.
+fn put_numbers(out: &mut Vec<u8>, numbers: &[u64]) -> Result<(), OutOfMemory>
+    ensures ok { OnOk result (out.new.items ≡ out.old.items ++ spaced (map decimal numbers.now)) }
+    ensures err { OnErr result (Extends out.old.items out.new.items) }
+{
+    for number in numbers {
+        put_spaced(out, *number)?;
+    }
+    Ok(())
+}
+
+// Appends what a tenant has.
+fn put_holding(out: &mut Vec<u8>, holding: &Holding) -> Result<(), OutOfMemory>
+    ensures ok { OnOk result (out.new.items ≡ out.old.items ++ ended (codes "plan" ∷ holding_words holding.now)) }
+    ensures err { OnErr result (Extends out.old.items out.new.items) }
+{
+    out.grow_by(b" plan")?;
+    let numbers = [
+        u64::from(holding.servers),
+        u64::from(holding.home),
+        u64::from(holding.sessions),
+        u64::from(holding.share),
+        u64::from(holding.most_blocks),
+    ];
+    put_numbers(out, &numbers)?;
+    put_volumes(out, holding.volumes.items.as_slice())?;
+    out.grow(b'\n')
+}
+
+// Appends the line of what a tenant has.
+fn put_has(
+    out: &mut Vec<u8>,
+    plan: &Plan,
+    from: u8,
+    tenant: u8,
+    holding: &Holding,
+) -> Result<(), OutOfMemory>
+    requires { tenant < length plan.now.rows }
+    ensures ok { OnOk result (out.new.items ≡ out.old.items ++ line_text (row_at plan.now tenant).name (decimal from ∷ codes "plan" ∷ holding_words holding.now)) }
+    ensures err { OnErr result (Extends out.old.items out.new.items) }
+{
+    put_head(out, plan, from, tenant)?;
+    put_holding(out, holding)
+}
+
 /// Appends the line by which the node of that number tells the tenant this, or a part of it where memory is refused. `asked` is
-/// the request that is answered; where an operation is done by a letter it is not looked at.
+/// the request that is answered; where an operation is done by a letter, and where the tenant is told what it has, it is not looked at.
 pub fn put_told(
     out: &mut Vec<u8>,
     plan: &Plan,
@@ -259,6 +335,7 @@ pub fn put_told(
                 Piece::Number(u64::from(*op)),
             ],
         ),
+        Answer::Has(holding) => put_has(out, plan, from, tenant, holding),
         Answer::Bad => put_line(out, plan, from, tenant, &[Piece::Text(b"refused bad")]),
     }
 }

@@ -3,7 +3,7 @@
 ghost use Rattle.std.specs.Prelude.{◌≡◌, ◌*◌, ◌<◌, length, IfOk};
 ghost use Rattle.gq_text.specs.Words.{words_of, words_after, number_of};
 ghost use Rattle.gq_text.specs.Input.{place_named};
-ghost use Rattle.gq_wire.specs.Incoming.{is_tick, from_node, from_tenant, incoming_from, incoming_of_words, incoming_of, FitsPlan};
+ghost use Rattle.gq_wire.specs.Incoming.{is_only, is_tick, from_node, from_tenant, incoming_from, incoming_of_words, incoming_of, FitsPlan};
 
 use crate::letters::letter;
 use crate::requests::request;
@@ -22,6 +22,8 @@ pub const MOST_LINE: usize = 4095;
 pub enum Incoming {
     /// What the tenant at this place in the plan asks, and the number that its operation is to have.
     Request { tenant: u8, op: u32, line: Line },
+    /// That tenant asks what it has.
+    Plan { tenant: u8 },
     /// A line of that tenant whose body has no form.
     Bad { tenant: u8 },
     /// A letter from the node of this number.
@@ -32,12 +34,12 @@ pub enum Incoming {
     Nothing,
 }
 
-// The words are that of a tick, and no more.
-fn is_tick(text: &[u8]) -> bool
-    ensures { result ≡ is_tick (words_after text.now) }
+// The words are this one, and no more.
+fn is_only(text: &[u8], only: &[u8]) -> bool
+    ensures { result ≡ is_only only.now (words_after text.now) }
 {
     match next_word(text) {
-        Some((word, rest)) => word == b"tick".as_slice() && is_end(rest),
+        Some((word, rest)) => word == only && is_end(rest),
         None => false,
     }
 }
@@ -57,7 +59,7 @@ fn from_node(
         return Ok(Incoming::Nothing);
     }
     let from = from as u8;
-    if from == here && is_tick(text) {
+    if from == here && is_only(text, b"tick") {
         return Ok(Incoming::Tick);
     }
     match letter(alloc, text, plan, here, from)? {
@@ -79,6 +81,9 @@ fn from_tenant(
     let Some(tenant) = plan.find_word(name) else {
         return Ok(Incoming::Nothing);
     };
+    if is_only(text, b"plan") {
+        return Ok(Incoming::Plan { tenant });
+    }
     match request(alloc, text)? {
         Some((op, line)) => Ok(Incoming::Request { tenant, op, line }),
         None => Ok(Incoming::Bad { tenant }),

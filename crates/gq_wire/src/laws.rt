@@ -1,15 +1,17 @@
 //! What is read of the lines that are written.
 
-ghost use Rattle.gq_wire.specs.Laws.{LettersReadBack, PassesOver, RequestsReadBack, TornLinesHaveNoForm};
+ghost use Rattle.gq_wire.specs.Laws.{LettersReadBack, PassesOver, PlansReadBack, RequestsReadBack, TornLinesHaveNoForm};
 
 /// The line of a letter, up to its newline, is read by the node that it is to as that letter.
 pub fn letters_read_back()
     ensures { LettersReadBack }
 {}
 
-/// The line of a request is read by the node that it is to as that request, with the number of its operation.
+/// The line of a request is read by the node that it is to as that request, with the number of its operation; and that by which a tenant
+/// asks what it has, as this question.
 pub fn requests_read_back()
-    ensures { RequestsReadBack }
+    ensures requests { RequestsReadBack }
+    ensures plans { PlansReadBack }
 {}
 
 /// A node passes over what nodes write to tenants, and letters to other nodes.
@@ -17,7 +19,7 @@ pub fn passes_over()
     ensures { PassesOver }
 {}
 
-/// The first line that a node writes, with what a kill tore before it, is no request, no letter and no tick.
+/// The first line that a node writes, with what a kill tore before it, is no request, no question, no letter and no tick.
 pub fn torn_lines_have_no_form()
     ensures { TornLinesHaveNoForm }
 {}

@@ -4,7 +4,7 @@ use Rattle.gq_node.proofs.tables.put_copy.Goals as goal
 pub returns-then-not-is_above_first-clause-readable : goal.returns-then-not-is_above_first-clause-readable
 returns-then-not-is_above_first-clause-readable c = record {
   above = λ e. absurd (let f : true ≡ false = sym e ∙ sym c.is_above_first.ensures ∙ c.if-not-is_above_first.true in cc);
-  first = λ e. c.is_first.ensures c.if-not-is_first.false;
+  first = λ e. c.is_first.ensures.0 c.if-not-is_first.false;
 }
 
 pub returns-clause-readable : goal.returns-clause-readable

@@ -19,8 +19,8 @@ loop-place-preserved c =
       ]),
     )
 
-pub returns : goal.returns
-returns c =
+pub returns-clause-needed : goal.returns-clause-needed
+returns-clause-needed c =
     let w = c.args.self.now in
     let end : c.loop-place.place ≡ c.tenants-tenants.result = omega arith in
     let rows : c.loop-place.place ≡ length w.plan.rows = end ∙ c.tenants-tenants.ensures.value ∙ ap (λ (x : Tables). length x.plan.rows) c.self.view_is in

@@ -27,9 +27,9 @@ returns-clause-facts c =
     let w = c.args.self.now in
     let t = c.args.tenant in
     let end : c.loop-volume.volume ≡ c.count_volumes-count.result = omega arith in
-    subst (λ n. c.loop-volume.facts.items ≡ c.args.facts.now.items ++ map (fact_of t) (flat_map (volume_facts w t) (range_with_len 0 n))) (end ∙ c.count_volumes-count.ensures) c.loop-volume.invariant.0
+    subst (λ n. c.loop-volume.facts.items ≡ c.args.facts.now.items ++ map (fact_of t) (flat_map (volume_facts w t) (range_with_len 0 n))) (end ∙ c.count_volumes-count.ensures.count) c.loop-volume.invariant.0
 
 pub returns-clause-readable : goal.returns-clause-readable
 returns-clause-readable c =
     let end : c.loop-volume.volume ≡ c.count_volumes-count.result = omega arith in
-    λ volume low. c.loop-volume.invariant.1 volume (subst (λ n. volume < n) (sym (end ∙ c.count_volumes-count.ensures)) low)
+    λ volume low. c.loop-volume.invariant.1 volume (subst (λ n. volume < n) (sym (end ∙ c.count_volumes-count.ensures.count)) low)
