@@ -9,7 +9,9 @@ import time
 
 HERE = os.path.dirname(os.path.abspath(__file__))
 sys.path.insert(0, os.path.join(HERE, "..", "examples", "nodes"))
+sys.path.insert(0, os.path.join(HERE, "..", "tests", "nodes"))
 from carrier import Carrier, Node, journal_of
+from processes import built_disk, disk
 from tenant import homes
 
 TENANTS = ["ann", "bob", "cid", "dan"]
@@ -207,10 +209,8 @@ def report(program, turns, synced, unsynced):
 def syncs_of(program, operations):
     """The calls of the disk in a load of 16 sessions on 2 by 2: writes of batches, syncs, writes of lines; and how many facts there are."""
     with tempfile.TemporaryDirectory(prefix="gridfs-bench-") as folder:
-        library = os.path.join(folder, "disk.so")
-        subprocess.run([os.environ.get("CC", "cc"), "-O2", "-shared", "-fPIC", "-o", library, os.path.join(HERE, "..", "tests", "nodes", "disk.c")], check=True)
         calls = os.path.join(folder, "calls")
-        load = Load(program, folder, 2, 2, env={**os.environ, "LD_PRELOAD": library, "CALLS": calls})
+        load = Load(program, folder, 2, 2, env=disk(built_disk(folder), CALLS=calls))
         try:
             measure = load.run(16, SECONDS_TO_END, operations)
         finally:

@@ -19,9 +19,9 @@ from tenant import Session, homes
 
 BOUND = 100_000
 NAMES, LATER = ["ann", "bob", "cid", "dan"], "eve"
-TURN = 0.02  # seconds of the clients' clock
+TURN = 0.04  # seconds of the clients' clock
 MOST = 400  # lines on their way to a node: what is more is lost
-BATCH = 24  # lines of one step, at most
+BATCH = 32  # lines of one step, at most
 SILENCE = 6_000  # turns in which all has to be answered once nothing is lost any more
 LONGEST_BATCH = 60_000
 MOST_SECONDS = 0.001  # that a node has for lines amid which it is killed
@@ -241,22 +241,31 @@ class Storm:
         given = b"\n".join(lines) + b"\n" if lines else b""
         return given if len(given) < LONGEST_BATCH else b""
 
-    def step(self, number):
-        """One step of a node that is up; one that is down starts, now and then."""
-        life = self.alive(number)
-        if life is None:
-            if self.draw.random() < 0.03 or not self.weather.kills:
+    def step(self, numbers):
+        """A step of each of these nodes, side by side; one that is down starts, now and then."""
+        stepped = [number for number in numbers if self.alive(number)]
+        for number in numbers:
+            if number not in stepped and (self.draw.random() < 0.05 or not self.weather.kills):
                 self.start(number)
-            return
-        given = self.batch(number)
-        self.given += given.count(b"\n")
-        life.given.append(given)
-        if self.draw.random() < self.weather.amid:
-            wrote, lives = life.stepped.step_and_kill(given, self.draw.random() * MOST_SECONDS), False
-        else:
-            wrote, lives = life.stepped.step(given)
-        life.wrote.append(wrote)
-        *lines, torn = wrote.split(b"\n")
+        amid = {number for number in stepped if self.draw.random() < self.weather.amid}
+        for number in stepped:
+            life, given = self.alive(number), self.batch(number)
+            self.given += given.count(b"\n")
+            life.given.append(given)
+            if number not in amid:
+                life.stepped.give(given)
+        for number in stepped:
+            life = self.alive(number)
+            if number in amid:
+                seconds = self.draw.random() * MOST_SECONDS
+                self.take(number, life.stepped.step_and_kill(life.given[-1], seconds), False)
+            else:
+                self.take(number, *life.stepped.take())
+
+    def take(self, number, wrote, lives):
+        """Takes on what a node wrote; its machine may fail now."""
+        self.alive(number).wrote.append(wrote)
+        lines = wrote.split(b"\n")[:-1]  # (the last one is torn, or empty)
         for line in lines:
             if line[:1].isdigit():
                 if b" store " in line or b" copy " in line:
@@ -299,7 +308,7 @@ class Storm:
             self.deliver()
             if self.weather.nonsense and draw.random() < self.weather.nonsense:
                 self.send(self.nonsense())
-            self.step(draw.randrange(self.count))
+            self.step([number for number in range(self.count) if draw.random() < 0.6])
 
     def deliver(self):
         """What clients send now, and a line to a tenant that was late."""
@@ -340,8 +349,7 @@ class Storm:
             if self.turn > until:
                 raise Wrong(f"not answered in {SILENCE} turns: {[key for key, client in self.clients.items() if client.sender.going]}")
             self.deliver()
-            for number in range(self.count):
-                self.step(number)
+            self.step(range(self.count))
 
     def see_tag(self, name, volume, file, number, session, content):
         """A tag of a file has one content, whoever tells it: no session uses a number twice."""
