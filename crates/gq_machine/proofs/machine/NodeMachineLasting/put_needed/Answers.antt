@@ -20,14 +20,14 @@ pub put_facts-requires : goal.put_facts-requires
 put_facts-requires c =
     let w = c.args.self.now.node.tables in
     let P : List Fact → Type 0 = λ facts. All (λ fact. tenant_of fact < length w.plan.rows) facts in
-    subst P (sym c.as_slice.ensures.value) (all_of_plan w c.in-Ok.needed.items c.in-Ok.ensures.within)
+    subst P (sym c.as_slice.ensures.value) (all_of_plan w c.in-Ok.needed.items c.in-Ok.ensures.needed.within)
 
 pub returns-in_ok-put_facts-in-Ok : goal.returns-in_ok-put_facts-in-Ok
 returns-in_ok-put_facts-in-Ok c =
     let w : Tables = c.args.self.now.node.tables in
     let facts : List Fact = c.in-Ok.needed.items in
     let old : List ℕ = c.args.facts.now.items in
-    let needed : Needed w facts = c.in-Ok.ensures in
+    let needed : Needed w facts = c.in-Ok.ensures.needed in
     let is : IsPlan w.plan = subst IsPlan c.plan.ensures c.plan_is_sound.ensures in
     let fit : All (FitsFact w.plan) facts = subst (All (FitsFact w.plan)) c.as_slice.ensures.value c.in_ok-put_facts-in-Ok.ensures.fit in
     record {
