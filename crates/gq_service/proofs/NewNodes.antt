@@ -1,6 +1,6 @@
 -- A node that was never started, with volumes that are opened one after another.
 use Rattle.std.proofs.Common.{◌≡◌, ◌≢◌, ◌∙◌, ℕ, zero, suc, ◌+◌, ◌<◌, ◌≤◌, List, [], ◌∷◌, ◌++◌, length, take, Bool, true, false, refl, sym, ap, subst, arith, inl, inr, get_or, append_assoc, append-nil, None}
-use Rattle.std.specs.Prelude.{◌==◌, map, slice_set}
+use Rattle.std.specs.Prelude.{◌==◌, map, slice_set, Option, Some, IfSome}
 use Rattle.std.proofs.lemmas.Bool.{cases_Bool, cases_eq, eq-eqb, ne_eqb, eqb-true}
 use Rattle.std.proofs.lemmas.List.{take_more, take_all, length-set, get_or-map, get_or-set_same, get_or-set_other}
 use Rattle.std.proofs.lemmas.Option.{unwrap_or-slice_get}
@@ -20,13 +20,13 @@ use Rattle.gq_service.specs.Serving.{volumes_in, IsNewFor}
 
 other_account : (accounts : List Account) (place t : ℕ) (a : Account) → place ≢ t → account_at (slice_set accounts place a) t ≡ account_at accounts t
 other_account accounts place t a other =
-    unwrap_or-slice_get (slice_set accounts place a) t no_account ∙ get_or-set_other accounts place t a no_account other ∙ sym (unwrap_or-slice_get accounts t no_account)
+    unwrap_or-slice_get (slice_set accounts place a) t no_account ∙ get_or-set_other accounts place t a no_account (λ e. other (sym e)) ∙ sym (unwrap_or-slice_get accounts t no_account)
 
 its_account : (accounts : List Account) (t : ℕ) (a : Account) → t < length accounts → account_at (slice_set accounts t a) t ≡ a
 its_account accounts t a within = unwrap_or-slice_get (slice_set accounts t a) t no_account ∙ get_or-set_same accounts t a no_account within
 
 differ : (b : Bool) → b ≡ true → b ≡ false → ⊥
-differ b yes no = (cc)
+differ b holds fails = (cc)
 
 accounts_after : (openings : List Opening) (accounts : List Account) (t share : ℕ) (volumes : List VolumeRow) → t < length accounts → account_at accounts t ≡ record { share = share; volumes = volumes } →
     account_at (after_openings accounts openings) t ≡ record { share = share; volumes = volumes ++ volumes_in t openings }
@@ -149,3 +149,6 @@ next_can plan here openings all i d w are within has can =
 
 pub all_open : (setup : Setup) (here : ℕ) (openings : List Opening) (i : ℕ) (w : Tables) → openings ≡ setup.openings → length openings ≤ i → HasOpen setup.plan here (take i setup.openings) w → IsNewFor setup here w
 all_open setup here openings i w are past has = subst (λ xs. HasOpen setup.plan here xs w) (take_all i setup.openings (subst (λ xs. length xs ≤ i) are past)) has
+
+pub some_of : {A : Type 0} (o : Option A) (x : A) (P : A → Type 0) → o ≡ Some x → IfSome o P → P x
+some_of o x P is holds = subst (λ m. IfSome m P) is holds
