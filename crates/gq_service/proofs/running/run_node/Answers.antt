@@ -5,5 +5,6 @@ use Rattle.gq_service.specs.Serving.{IsDurable}
 use Rattle.gq_service.proofs.running.run_node.Goals as goal
 
 pub serve_node-ended-requires : goal.serve_node-ended-requires
-serve_node-ended-requires g c = λ synced shown durable.
-    c.requires synced shown (subst (λ (n : ℕ). IsDurable n (g.O.Output.shown c.args.out.now ++ first_text) synced shown) c.in_ok-node.ensures.number durable)
+serve_node-ended-requires g c = record {
+  durable = λ synced shown durable. c.requires.durable synced shown (subst (λ (n : ℕ). IsDurable n (g.O.Output.shown c.args.out.now ++ first_text) synced shown) c.in_ok-node.ensures.number durable);
+}
