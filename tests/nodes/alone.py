@@ -37,7 +37,8 @@ def check_same(program, number, lives):
     with room() as folder:
         wrote = lives_of(program, folder, number, lives, lambda given: given)
         for place, (life, out) in enumerate(zip(lives, wrote)):
-            if out != b"".join(life.wrote):
+            # (a node that was killed before its first step may have written nothing)
+            if life.given and out != b"".join(life.wrote):
                 raise Wrong(f"node {number} writes other bytes for the same lines in its life {place}")
 
 

@@ -21,6 +21,10 @@ class Wrong(Exception):
     """Something is not as it has to be."""
 
 
+# What comes about where a node does not keep to its forms.
+WRONG = (Wrong, OSError, ValueError, LookupError, subprocess.TimeoutExpired)
+
+
 class Silent(Wrong):
     """A process has not answered for some seconds."""
 

@@ -4,7 +4,7 @@ import random
 import sys
 
 from alone import check_alone, check_same
-from processes import Wrong, room
+from processes import WRONG, room
 from storm import KILLS, stormed
 
 COUNTED = ["lines", "operations", "gone", "deaths", "histories", "given up", "lines compared alone"]
@@ -25,8 +25,8 @@ def simulated(job):
         for number, lives in enumerate(storm.lives):
             check_same(program, number, lives)
             counts["lines compared alone"] += check_alone(program, number, lives, names, name)
-    except Wrong as fault:
-        return counts, f"seed {seed}: {fault}"
+    except WRONG as fault:
+        return counts, f"seed {seed}: {fault!r}"
     return counts, None
 
 

@@ -30,7 +30,7 @@ MOST_SECONDS = 0.001  # that a node has for lines amid which it is killed
 class Weather:
     """How bad it is: what a node's life ends by, and how often."""
 
-    def __init__(self, kills=0.004, amid=0, stops=False, powers=False, lies=False, lost=0.04, repeated=0.06, nonsense=0.1):
+    def __init__(self, kills=0.004, amid=0, stops=False, powers=False, lies=False, lost=0.04, repeated=0.15, nonsense=0.1):
         self.kills, self.amid, self.stops, self.powers, self.lies = kills, amid, stops, powers, lies
         self.lost, self.repeated, self.nonsense = lost, repeated, nonsense
 
@@ -49,7 +49,7 @@ def a_plan(draw):
     rows, cols = draw.choice([(1, 1), (1, 2), (2, 1), (2, 2), (2, 2), (2, 2), (2, 3), (3, 2), (3, 3)])
     tenants, opened, volumes = "", [], {}
     for name in NAMES[: draw.randint(1, len(NAMES))]:
-        volumes[name] = [(draw.randint(1, 4), draw.randint(1, 2)) for _ in range(draw.randint(1, 2))]
+        volumes[name] = [(draw.choice([1, 1, 2, 3]), draw.randint(1, 2)) for _ in range(draw.randint(1, 2))]
         tenants += f"tenant {name} {sum(files * most for files, most in volumes[name])} {draw.randint(1, 5)} 1\n"
         opened += [f"{name} open {files} {most}\n" for files, most in volumes[name]]
     return f"grid {rows} {cols}\nblocks 128\n{tenants}{MARKER}go\n{''.join(opened)}", volumes
@@ -301,9 +301,9 @@ class Storm:
                 raise Wrong(f"after {self.turn} turns nodes were given {self.given} lines alone")
             for client in self.clients.values():
                 client.ask()
-                if draw.random() < 0.0005 and self.weather.lost:
+                if draw.random() < 0.001 and self.weather.lost:
                     client.begin_anew()
-                if draw.random() < 0.002:
+                if draw.random() < 0.006:
                     client.sender.give_up()
             self.deliver()
             if self.weather.nonsense and draw.random() < self.weather.nonsense:
