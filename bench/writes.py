@@ -50,11 +50,13 @@ class Tenant:
 
 class Lines:
     """An iterator with no end. `lost`, `changed` and `listed`: how often a message is lost, a server goes down or comes up,
-    and an operation is a listing. Each tenant has one volume of so many files and blocks."""
+    and an operation is a listing; with `every`, not by chance but every so many-th message is lost. Each tenant has one volume of
+    so many files and blocks."""
 
-    def __init__(self, draw, names, sessions, lost=0.001, changed=0.0003, listed=0.01, rows=4, cols=4, files=FILES, blocks=BLOCKS):
+    def __init__(self, draw, names, sessions, lost=0.001, changed=0.0003, listed=0.01, rows=4, cols=4, files=FILES, blocks=BLOCKS, every=None):
         self.draw, self.lost, self.changed, self.listed = draw, lost, changed, listed
         self.files, self.most_bytes = files, 64 * blocks
+        self.every, self.carried = every, 0
         self.tenants = [Tenant(name, sessions) for name in names]
         self.grid = Grid(rows, cols)
         self.up = sum(self.grid.rows)
@@ -88,9 +90,14 @@ class Lines:
             return self.abandon(session)
         if chance < 0.001 or not session.under_way:
             return self.retry(session)
-        if self.draw.random() < self.lost:
+        if self.loses():
             return f"lose {self.take(session)[0]}"
         return self.deliver(session)
+
+    def loses(self):
+        """Whether the next message is lost."""
+        self.carried += 1
+        return self.carried % self.every == 0 if self.every else self.draw.random() < self.lost
 
     def send(self, session, servers):
         tenant, tag = session.tenant, None if session.round % 2 else session.tag

@@ -3,6 +3,7 @@ pub mod AlikeParts
 pub mod Apart
 pub mod Asking
 pub mod Attending
+pub mod Bounds
 pub mod Bridging
 pub mod Following
 pub mod Journal

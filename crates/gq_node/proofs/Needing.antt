@@ -392,6 +392,10 @@ account_is [] t = refl
 account_is (x ∷ xs) zero = refl
 account_is (x ∷ xs) (suc t) = account_is xs t
 
+-- the desk and the store have the same volumes
+pub volumes_are : (w : Tables) (t : ℕ) → IsShaped w → (account_at w.desk t).volumes ≡ map volume_size (tenant_in w.store.tenants t).volumes
+volumes_are w t shaped = ap (λ (desk : List Account). (account_at desk t).volumes) (sym shaped.accounts) ∙ ap (λ (a : Account). a.volumes) (account_is w.store.tenants t)
+
 -- a file that is not there has its first copy
 absent_in : (volumes : List VolumeCopies) (v p : ℕ) → option_and_then (limit_in p) (slice_get (map volume_size volumes) v) ≡ None → volume_copy (slice_index_or volumes v empty_volume) p ≡ first_copy
 absent_in volumes v p none = elim (cases_lt v (length volumes)) [
@@ -407,8 +411,7 @@ absent_in volumes v p none = elim (cases_lt v (length volumes)) [
 
 absent_copy : (w : Tables) (t : ℕ) (f : File) → IsShaped w → limit_of w.desk (file_of t f) ≡ None → copy_at w.store (file_of t f) ≡ first_copy
 absent_copy w t f shaped none =
-    let volumes : (account_at w.desk t).volumes ≡ map volume_size (tenant_in w.store.tenants t).volumes = ap (λ (desk : List Account). (account_at desk t).volumes) (sym shaped.accounts) ∙ ap (λ (a : Account). a.volumes) (account_is w.store.tenants t) in
-    absent_in (tenant_in w.store.tenants t).volumes f.volume f.place (ap (λ (vs : List VolumeRow). option_and_then (limit_in f.place) (slice_get vs f.volume)) (sym volumes) ∙ none)
+    absent_in (tenant_in w.store.tenants t).volumes f.volume f.place (ap (λ (vs : List VolumeRow). option_and_then (limit_in f.place) (slice_get vs f.volume)) (sym (volumes_are w t shaped)) ∙ none)
 
 -- so a start needs nothing of it
 pub absent_facts : (w : Tables) (t v p : ℕ) → IsShaped w → limit_of w.desk (file_of t (place_of v p)) ≡ None → place_facts w t v p ≡ []

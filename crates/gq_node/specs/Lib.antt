@@ -1,6 +1,7 @@
 pub mod Aims
 pub mod Apart
 pub mod Asking
+pub mod Bounds
 pub mod Bridge
 pub mod Heard
 pub mod Inputs

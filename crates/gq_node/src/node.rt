@@ -4,6 +4,7 @@ ghost use Rattle.std.specs.Prelude.{◌≡◌, ◌*◌, ◌<◌, ◌≤◌, ℕ,
 ghost use Rattle.gq_tag.specs.Tag.{own_message};
 ghost use Rattle.gq_desk.specs.CheckedPlan.{row_at};
 ghost use Rattle.gq_desk.specs.Volumes.{IsRefusedFor, open_fault, account_at};
+ghost use Rattle.gq_node.specs.Bounds.{IsBounded};
 ghost use Rattle.gq_node.specs.Sites.{address_of};
 ghost use Rattle.gq_node.specs.Local.{new_local, asks, tells_holding, receives, ticks, recalls};
 ghost use Rattle.gq_node.specs.Recalling.{tenant_of, own_fact};
@@ -108,6 +109,13 @@ impl Node {
         ensures refused { IfErr result (IsRefusedIn self.now.tables) }
     {
         self.tables.needed()
+    }
+
+    /// A call that does nothing: its clause says that the node holds no more than the plan has room for, whatever came to it.
+    pub fn bounded(&self)
+        ensures { IsBounded self.now.tables }
+    {
+        self.tables.bounded();
     }
 
     /// The plan.

@@ -5,6 +5,7 @@ use gq_cli::{LiveRunFault, MOST_INPUT, Watched, live_run, read_programs};
 use gq_desk::Plan;
 use gq_inspect::{Mismatch, inspect};
 use gq_live::{CellEntry, Entries, Gate, Journal, LiveFault, OpenGate, Records, Said, fits, live};
+use gq_memory::GrowVec;
 use gq_tag::{Body, Tag};
 use std::alloc::Global;
 use std::process::Abort;
@@ -218,6 +219,31 @@ fn refused_at<R: Abort + Threads + Wait + Sync>(
         Err(LiveFault::Volume(told)) => Some(told),
         _ => None,
     }
+}
+
+// A share of one block has room for one volume of one file.
+#[test]
+fn tells_that_the_second_volume_is_refused(rt: HostRuntime) {
+    let alloc = rt.alloc();
+    let text: &[u8] =
+        b"grid 1 1\nblocks 1\ntenant ann 1 1 1000000\ngo\nann open 1 1\nann read 1 0 0\n";
+    assert!(rt; text.len() <= MOST_INPUT);
+    let Ok((plan, mut programs)) = read_programs(alloc, text) else {
+        panic!(rt; "no programs");
+    };
+    let Some(volume) = programs.volumes.first().copied() else {
+        panic!(rt; "no volume");
+    };
+    assert!(rt; programs.volumes.grow(volume).is_ok());
+    let Ok(true) = fits(alloc, &plan, &programs) else {
+        panic!(rt; "the programs do not fit the plan");
+    };
+    assert!(rt;
+        matches!(
+            live(&rt, alloc, &plan, &programs, &OpenGate),
+            Err(LiveFault::Volume(1))
+        )
+    );
 }
 
 #[test]

@@ -1,11 +1,13 @@
 //! Where each public type, call and fault stands. A caller finds it in the crate that is named here; one that moves away from there is
 //! missed by the compiler. (A method moves with its type.)
 
+pub(crate) use gq_cli::CommandLine;
 pub(crate) use gq_cli::Gate;
 pub(crate) use gq_cli::GaveUp;
 pub(crate) use gq_cli::LiveFault as CalledLiveFault;
 pub(crate) use gq_cli::LiveRunFault;
 pub(crate) use gq_cli::NoNotice;
+pub(crate) use gq_cli::NodeRequest;
 pub(crate) use gq_cli::Notice;
 pub(crate) use gq_cli::OpenGate;
 pub(crate) use gq_cli::OrderFault;

@@ -1,4 +1,4 @@
--- Only words that ask to run, to step, for an order, a history, a picture, a completion or a live run have nothing wrong with them.
+-- Only words that begin with the name of a subcommand have nothing wrong with them, and behind `live` none come.
 use Rattle.std.proofs.Common.{refl, codes, true, false, Bool, ℕ, suc, List, Option, Some, None, ◌≡◌, ◌≢◌, [], ◌∷◌, sym, ap, ap₂, ◌∙◌, inl, inr, ◌⊎◌, ◌++◌}
 use Rattle.std.proofs.lemmas.List.{append-nil, append_assoc}
 use Rattle.std.proofs.lemmas.Slice.Eq.{bytes_eq-Decides}
@@ -12,7 +12,7 @@ use Rattle.clap.specs.Simple.{Shape, built, names_of}
 use Rattle.clap.specs.Walk.{Held, Outcome, Rule, Text, Walk, Names, arg_by_long, arg_by_short, bundle_met, after_flag, idle, long_or_other, nothing_held, plain, reacted, short_or_plain, subcommand_met, takes_values, value, walk, walk_from, walked}
 use Rattle.clap.specs.declared.error.kind.ErrorKind.TheVariants.{DisplayHelp, InvalidSubcommand, MissingSubcommand, TooManyValues}
 use Rattle.clap.proofs.OnLiterals.{clap_on_literals}
-use Rattle.gq_words.specs.Words.{faults_in, gridfs}
+use Rattle.gq_words.specs.Words.{IsOther, faults_in, gridfs}
 
 both : (a b : Kinds) → or_else a b ≡ [] → (a ≡ []) × (b ≡ [])
 both [] b none = (refl, none)
@@ -173,37 +173,21 @@ live_is_met : (word : Text) → bytes_eq (codes "run") word ≡ false → bytes_
 unfolding walked
 live_is_met word run order finish is = rw (run, order, finish, is) refl
 
--- or `run`
-pub run_is_met : walked top.rules names start (codes "run") ≡ record start { stopped = Some (codes "run", []) }
-unfolding walked
-run_is_met = refl
+-- the walk stops at a word that is the name of a subcommand
+abbrev pub Meets : Text → Type 0
+Meets name = walked top.rules names start name ≡ record start { stopped = Some (name, []) }
 
--- or `order`
-pub order_is_met : walked top.rules names start (codes "order") ≡ record start { stopped = Some (codes "order", []) }
+pub other_is_met : (name : Text) → IsOther name → Meets name
 unfolding walked
-order_is_met = refl
+other_is_met name (inl is) = rw is refl
+other_is_met name (inr (inl is)) = rw is refl
+other_is_met name (inr (inr (inl is))) = rw is refl
+other_is_met name (inr (inr (inr (inl is)))) = rw is refl
+other_is_met name (inr (inr (inr (inr (inl is))))) = rw is refl
+other_is_met name (inr (inr (inr (inr (inr (inl is)))))) = rw is refl
+other_is_met name (inr (inr (inr (inr (inr (inr is)))))) = rw is refl
 
--- or `finish`
-pub finish_is_met : walked top.rules names start (codes "finish") ≡ record start { stopped = Some (codes "finish", []) }
-unfolding walked
-finish_is_met = refl
-
--- or `step`
-pub step_is_met : walked top.rules names start (codes "step") ≡ record start { stopped = Some (codes "step", []) }
-unfolding walked
-step_is_met = refl
-
--- or `history`
-pub history_is_met : walked top.rules names start (codes "history") ≡ record start { stopped = Some (codes "history", []) }
-unfolding walked
-history_is_met = refl
-
--- or `picture`
-pub picture_is_met : walked top.rules names start (codes "picture") ≡ record start { stopped = Some (codes "picture", []) }
-unfolding walked
-picture_is_met = refl
-
--- the words behind a subcommand are its own
+-- words behind it are its own
 pub rest_is_kept : (words : List Text) (name : Text) (own : List Text) (w : Walk) → (fold (walked top.rules names) (record w { stopped = Some (name, own) }) words).stopped ≡ Some (name, own ++ words)
 unfolding walked
 rest_is_kept [] name own w = ap (λ ws. Some (name, ws)) (sym (append-nil own))
@@ -217,9 +201,9 @@ at_level s subs h words is_entered under none = let parts = both _ _ none in (pa
 stopped_at : (stop : Option (Text × List Text)) (words : List Text) → stop ≡ Some (codes "live", words) → entered_fault (built gridfs) stop ≡ level_fault live_built [] nothing_held words false []
 stopped_at stop words is = rw is refl
 
-dashes_alone : (word : Text) → bytes_eq (codes "run") word ≡ false → bytes_eq (codes "order") word ≡ false → bytes_eq (codes "finish") word ≡ false → bytes_eq (codes "live") word ≡ false → bytes_eq (codes "step") word ≡ false → bytes_eq (codes "history") word ≡ false → bytes_eq (codes "picture") word ≡ false → bytes_eq (codes "help") word ≡ false → bytes_eq word (codes "--") ≡ true → built_fault (built gridfs) nothing_held (word ∷ []) ≡ MissingSubcommand ∷ []
+dashes_alone : (word : Text) → bytes_eq (codes "run") word ≡ false → bytes_eq (codes "order") word ≡ false → bytes_eq (codes "finish") word ≡ false → bytes_eq (codes "live") word ≡ false → bytes_eq (codes "step") word ≡ false → bytes_eq (codes "history") word ≡ false → bytes_eq (codes "picture") word ≡ false → bytes_eq (codes "node") word ≡ false → bytes_eq (codes "help") word ≡ false → bytes_eq word (codes "--") ≡ true → built_fault (built gridfs) nothing_held (word ∷ []) ≡ MissingSubcommand ∷ []
 unfolding clap_on_literals
-dashes_alone word run order finish live step history picture help dashes = rw (run, order, finish, live, step, history, picture, help, dashes) refl
+dashes_alone word run order finish live step history picture node help dashes = rw (run, order, finish, live, step, history, picture, node, help, dashes) refl
 
 -- the words are that word, behind which `--` may stand
 abbrev pub Alone : Text → List Text → Type 0
@@ -231,7 +215,11 @@ Behind word words = (own : List Text) × (words ≡ word ∷ own)
 
 -- what the words ask for, that come behind the program's name
 abbrev pub Asks : List Text → Type 0
-Asks words = Behind (codes "run") words ⊎ (Alone (codes "live") words ⊎ (Behind (codes "order") words ⊎ (Behind (codes "finish") words ⊎ (Behind (codes "step") words ⊎ (Behind (codes "history") words ⊎ Behind (codes "picture") words)))))
+Asks words = Alone (codes "live") words ⊎ ((name : Text) × IsOther name × Behind name words)
+
+-- words of which the first is that name
+begins : (name word : Text) (words : List Text) → IsOther name → bytes_eq name word ≡ true → Asks (word ∷ words)
+begins name word words other is = inr (name, other, (words, ap (λ (w : Text). w ∷ words) (sym (same_bytes name word is))))
 
 -- behind the word `live`
 alone_by : (word : Text) (words : List Text) → built_fault (built gridfs) nothing_held (word ∷ words) ≡ [] → bytes_eq (codes "live") word ≡ true → walked top.rules names start word ≡ record start { stopped = Some (codes "live", []) } → Alone (codes "live") (word ∷ words)
@@ -245,32 +233,36 @@ alone_by word words none same met =
       | inr dashed ↦ inr (ap₂ (λ w ws. w ∷ ws) named dashed)
     ]
 
-asks_by : (word : Text) (words : List Text) → built_fault (built gridfs) nothing_held (word ∷ words) ≡ [] → (is_run is_order is_finish is_live is_step is_history is_picture is_help is_dashes : Bool) → bytes_eq (codes "run") word ≡ is_run → bytes_eq (codes "order") word ≡ is_order
-    → bytes_eq (codes "finish") word ≡ is_finish → bytes_eq (codes "live") word ≡ is_live → bytes_eq (codes "step") word ≡ is_step → bytes_eq (codes "history") word ≡ is_history → bytes_eq (codes "picture") word ≡ is_picture → bytes_eq (codes "help") word ≡ is_help → bytes_eq word (codes "--") ≡ is_dashes → Asks (word ∷ words)
-asks_by word words none true is_order is_finish is_live is_step is_history is_picture is_help is_dashes run order finish live step history picture help dashes =
-    inl (words, ap (λ (w : Text). w ∷ words) (sym (same_bytes (codes "run") word run)))
-asks_by word words none false true is_finish is_live is_step is_history is_picture is_help is_dashes run order finish live step history picture help dashes =
-    inr (inr (inl (words, ap (λ (w : Text). w ∷ words) (sym (same_bytes (codes "order") word order)))))
-asks_by word words none false false true is_live is_step is_history is_picture is_help is_dashes run order finish live step history picture help dashes =
-    inr (inr (inr (inl (words, ap (λ (w : Text). w ∷ words) (sym (same_bytes (codes "finish") word finish))))))
-asks_by word words none false false false true is_step is_history is_picture is_help is_dashes run order finish live step history picture help dashes =
-    inr (inl (alone_by word words none live (live_is_met word run order finish live)))
-asks_by word words none false false false false true is_history is_picture is_help is_dashes run order finish live step history picture help dashes =
-    inr (inr (inr (inr (inl (words, ap (λ (w : Text). w ∷ words) (sym (same_bytes (codes "step") word step)))))))
-asks_by word words none false false false false false true is_picture is_help is_dashes run order finish live step history picture help dashes =
-    inr (inr (inr (inr (inr (inl (words, ap (λ (w : Text). w ∷ words) (sym (same_bytes (codes "history") word history))))))))
-asks_by word words none false false false false false false true is_help is_dashes run order finish live step history picture help dashes =
-    inr (inr (inr (inr (inr (inr (words, ap (λ (w : Text). w ∷ words) (sym (same_bytes (codes "picture") word picture))))))))
-asks_by word words none false false false false false false false true is_dashes run order finish live step history picture help dashes =
-    let told : turn_fault top names start word ≡ DisplayHelp ∷ InvalidSubcommand ∷ [] = rw (run, order, finish, live, step, history, picture, help) refl in
+asks_by : (word : Text) (words : List Text) → built_fault (built gridfs) nothing_held (word ∷ words) ≡ [] → (is_run is_order is_finish is_live is_step is_history is_picture is_node is_help is_dashes : Bool)
+    → bytes_eq (codes "run") word ≡ is_run → bytes_eq (codes "order") word ≡ is_order → bytes_eq (codes "finish") word ≡ is_finish
+    → bytes_eq (codes "live") word ≡ is_live → bytes_eq (codes "step") word ≡ is_step → bytes_eq (codes "history") word ≡ is_history
+    → bytes_eq (codes "picture") word ≡ is_picture → bytes_eq (codes "node") word ≡ is_node → bytes_eq (codes "help") word ≡ is_help → bytes_eq word (codes "--") ≡ is_dashes → Asks (word ∷ words)
+asks_by word words none true is_order is_finish is_live is_step is_history is_picture is_node is_help is_dashes run order finish live step history picture node help dashes =
+    begins (codes "run") word words (inl refl) run
+asks_by word words none false true is_finish is_live is_step is_history is_picture is_node is_help is_dashes run order finish live step history picture node help dashes =
+    begins (codes "order") word words (inr (inl refl)) order
+asks_by word words none false false true is_live is_step is_history is_picture is_node is_help is_dashes run order finish live step history picture node help dashes =
+    begins (codes "finish") word words (inr (inr (inl refl))) finish
+asks_by word words none false false false true is_step is_history is_picture is_node is_help is_dashes run order finish live step history picture node help dashes =
+    inl (alone_by word words none live (live_is_met word run order finish live))
+asks_by word words none false false false false true is_history is_picture is_node is_help is_dashes run order finish live step history picture node help dashes =
+    begins (codes "step") word words (inr (inr (inr (inl refl)))) step
+asks_by word words none false false false false false true is_picture is_node is_help is_dashes run order finish live step history picture node help dashes =
+    begins (codes "history") word words (inr (inr (inr (inr (inl refl))))) history
+asks_by word words none false false false false false false true is_node is_help is_dashes run order finish live step history picture node help dashes =
+    begins (codes "picture") word words (inr (inr (inr (inr (inr (inl refl)))))) picture
+asks_by word words none false false false false false false false true is_help is_dashes run order finish live step history picture node help dashes =
+    begins (codes "node") word words (inr (inr (inr (inr (inr (inr refl)))))) node
+asks_by word words none false false false false false false false false true is_dashes run order finish live step history picture node help dashes =
+    let told : turn_fault top names start word ≡ DisplayHelp ∷ InvalidSubcommand ∷ [] = rw (run, order, finish, live, step, history, picture, node, help) refl in
     let nothing = sym told ∙ (turns top names start word words (at_level _ _ _ _ _ _ none).0).0 in
     absurd (cc)
-asks_by word words none false false false false false false false false false run order finish live step history picture help dashes =
-    absurd (other_is_wrong false names word (rw (run, order, finish, live, step, history, picture, help) refl) dashes (turns top names start word words (at_level _ _ _ _ _ _ none).0).0)
-asks_by word [] none false false false false false false false false true run order finish live step history picture help dashes = let nothing = sym (dashes_alone word run order finish live step history picture help dashes) ∙ none in absurd (cc)
-asks_by word (x ∷ words) none false false false false false false false false true run order finish live step history picture help dashes =
+asks_by word words none false false false false false false false false false false run order finish live step history picture node help dashes =
+    absurd (other_is_wrong false names word (rw (run, order, finish, live, step, history, picture, node, help) refl) dashes (turns top names start word words (at_level _ _ _ _ _ _ none).0).0)
+asks_by word [] none false false false false false false false false false true run order finish live step history picture node help dashes = let nothing = sym (dashes_alone word run order finish live step history picture node help dashes) ∙ none in absurd (cc)
+asks_by word (x ∷ words) none false false false false false false false false false true run order finish live step history picture node help dashes =
     let trail = turns top names start word (x ∷ words) (at_level _ _ _ _ _ _ none).0 in
-    let nothing : x ∷ words ≡ [] = nothing_trails false names (x ∷ words) (ap (λ (w : Walk). walk_fault top names w (x ∷ words)) (sym (dashes_trail false names word (rw (run, order, finish, live, step, history, picture, help) refl) dashes)) ∙ trail.1) in
+    let nothing : x ∷ words ≡ [] = nothing_trails false names (x ∷ words) (ap (λ (w : Walk). walk_fault top names w (x ∷ words)) (sym (dashes_trail false names word (rw (run, order, finish, live, step, history, picture, node, help) refl) dashes)) ∙ trail.1) in
     absurd (cc)
 
 -- with no words there is no subcommand
@@ -283,4 +275,4 @@ asks words none = by (drop 1 words) none
   where
     by : (args : List Text) → built_fault (built gridfs) nothing_held args ≡ [] → Asks args
     by [] wrong = let nothing = sym nothing_is_wrong ∙ wrong in absurd (cc)
-    by (word ∷ args) right = asks_by word args right (bytes_eq (codes "run") word) (bytes_eq (codes "order") word) (bytes_eq (codes "finish") word) (bytes_eq (codes "live") word) (bytes_eq (codes "step") word) (bytes_eq (codes "history") word) (bytes_eq (codes "picture") word) (bytes_eq (codes "help") word) (bytes_eq word (codes "--")) refl refl refl refl refl refl refl refl refl
+    by (word ∷ args) right = asks_by word args right (bytes_eq (codes "run") word) (bytes_eq (codes "order") word) (bytes_eq (codes "finish") word) (bytes_eq (codes "live") word) (bytes_eq (codes "step") word) (bytes_eq (codes "history") word) (bytes_eq (codes "picture") word) (bytes_eq (codes "node") word) (bytes_eq (codes "help") word) (bytes_eq word (codes "--")) refl refl refl refl refl refl refl refl refl refl

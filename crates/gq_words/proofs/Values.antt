@@ -1,5 +1,5 @@
 -- What is read of the matches is what stands in their rows.
-use Rattle.std.proofs.Common.{◌≡◌, ◌∙◌, ℕ, List, [], ◌∷◌, Bool, true, false, cond, Option, Some, None, Result, option_map, map, refl, sym, ap, subst}
+use Rattle.std.proofs.Common.{◌≡◌, ◌∙◌, ℕ, List, [], ◌∷◌, codes, Bool, true, false, cond, Option, Some, None, Result, option_map, map, refl, sym, ap, subst}
 use Rattle.std.specs.Prelude.{find, option_and_then, slice_get, unwrap_or}
 use Rattle.std.specs.Borrow.{Bor}
 use Rattle.std.specs.Str.{bytes_eq}
@@ -13,11 +13,9 @@ use Rattle.clap.specs.declared.builder.value_parser.Reading.{Reading}
 use Rattle.clap.specs.Simple.{HasMatchesOf, subcommand_rows_of}
 use Rattle.clap.specs.declared.parser.matches.ArgMatches.{ArgMatches}
 use Rattle.clap.specs.declared.parser.matches.Found.{Found}
-use Rattle.gq_words.specs.declared.words.Request.{Request}
-use Rattle.gq_words.specs.declared.words.Request.TheVariants.{Run, Step, Order, History, Picture, Finish, Live}
-use Rattle.gq_words.specs.Words.{IsAskedBy, IsOf, gridfs}
-use Rattle.gq_words.specs.Given.{HasValues, IsNumberGiven, IsNumberIn, given_by, name_of, rows_behind, text_given}
-use Rattle.gq_words.proofs.Naming.{named, run_is_named}
+use Rattle.gq_words.specs.declared.words.CommandLine.{CommandLine}
+use Rattle.gq_words.specs.Words.{gridfs}
+use Rattle.gq_words.specs.Given.{HasValues, IsFlagGiven, IsFlagIn, IsNumberGiven, IsNumberIn, given_by, rows_behind, text_given}
 
 first_text : (values : List (Bor Text)) → slice_get (texts values) 0 ≡ option_map (λ s. s.now) (slice_get values 0)
 first_text [] = refl
@@ -72,8 +70,8 @@ Gives bs r = ParsesUnsigned 32 10 bs r × ExplainsUnsignedError 10 bs r × HasUn
 number_in : (text : Option Text) (read : Option ℕ) (otherwise : ℕ) → (text ≡ None → read ≡ None) → ((t : List ℕ) → text ≡ Some t → ReadsOne Gives t read)
     → IsNumberIn text otherwise (unwrap_or read otherwise)
 number_in None read otherwise none value = rw (none refl) refl
-number_in (Some text) None otherwise none value = λ is. absurd ((value text refl).1.0 is)
-number_in (Some text) (Some number) otherwise none value = λ is. sym (value text refl).0.1
+number_in (Some text) None otherwise none value = ((λ is. absurd ((value text refl).1.0 is)), (λ no. refl))
+number_in (Some text) (Some number) otherwise none value = ((λ is. sym (value text refl).0.1), (λ no. absurd (no (value text refl).0.0)))
 
 pub number_read : (f : Found) (id : Text) (read : Option ℕ) (otherwise : ℕ) → (one_text f id ≡ None → read ≡ None) → ((t : List ℕ) → one_text f id ≡ Some t → ReadsOne Gives t read)
     → IsNumberGiven (rows_of f) id otherwise (unwrap_or read otherwise)
@@ -81,18 +79,18 @@ number_read f id read otherwise none value =
     let P : Option Text → Type 0 = λ text. IsNumberIn text otherwise (unwrap_or read otherwise) in
     subst P (sym (one_in_rows f id)) (number_in (one_text f id) read otherwise none value)
 
--- which subcommand was named where that was asked for
-pub name_is : (words : List Text) (name : Option Text) (request : Request) → name ≡ named words → IsOf name request → IsAskedBy words request → name ≡ Some (name_of request)
-name_is words name (Run jobs) is of asked = is ∙ run_is_named words asked
-name_is words name Step is of asked = of
-name_is words name (Order tenant volume file) is of asked = of
-name_is words name (History tenant volume file) is of asked = of
-name_is words name (Picture tenant volume file) is of asked = of
-name_is words name (Finish tenant session) is of asked = of
-name_is words name Live is of asked = of
-
 -- what was found is what the words give
-pub given_is : (words : List Text) (m : ArgMatches) (request : Request) → HasMatchesOf gridfs words m → HasValues (rows_behind (subcommand_rows_of m)) request → HasValues (given_by words) request
-given_is words m request has values =
-    let P : Option (Text × List Row) → Type 0 = λ found. HasValues (rows_behind found) request in
+pub given_is : (words : List Text) (m : ArgMatches) (asked : CommandLine) → HasMatchesOf gridfs words m → HasValues (rows_behind (subcommand_rows_of m)) asked → HasValues (given_by words) asked
+given_is words m asked has values =
+    let P : Option (Text × List Row) → Type 0 = λ found. HasValues (rows_behind found) asked in
     subst P (has refl).1 values
+
+pub flag_read : (f : Found) (id : Text) (flag : Bool) → (one_text f id ≡ None → flag ≡ false) → (one_text f id ≡ Some (codes "true") → flag ≡ true) → (one_text f id ≡ Some (codes "false") → flag ≡ false)
+    → IsFlagGiven (rows_of f) id flag
+flag_read f id flag none set unset =
+    let P : Option Text → Type 0 = λ text. IsFlagIn text flag in
+    subst P (sym (one_in_rows f id)) (by (one_text f id) refl)
+  where
+    by : (text : Option Text) → one_text f id ≡ text → IsFlagIn text flag
+    by None is = none is
+    by (Some text) is = ((λ same. set (is ∙ ap Some same)), (λ same. unset (is ∙ ap Some same)))

@@ -1,8 +1,11 @@
 -- The values that the words of a command line give, by the rules that clap states for its commands.
-use Rattle.std.specs.Prelude.{◌≡◌, ◌<◌, ◌^◌, ℕ, List, [], Option, Some, None, unwrap_or, option_map, codes}
+use Rattle.std.specs.Prelude.{◌≡◌, ◌<◌, ◌^◌, ℕ, Bool, true, false, List, [], Option, Some, None, unwrap_or, option_map, codes}
 use Rattle.std.specs.Str.Parse.{IsNumeral, digits_value, without_leading_plus}
 use Rattle.clap.specs.Simple.{subcommand_of}
 use Rattle.clap.specs.Walk.{Row, Text, first_of, one_of}
+use Rattle.gq_words.specs.declared.words.CommandLine.{CommandLine}
+use Rattle.gq_words.specs.declared.words.CommandLine.TheVariants.{Streams, Node}
+use Rattle.gq_words.specs.declared.words.NodeRequest.{NodeRequest}
 use Rattle.gq_words.specs.declared.words.Request.{Request}
 use Rattle.gq_words.specs.declared.words.Request.TheVariants.{Run, Step, Order, History, Picture, Finish, Live}
 use Rattle.gq_words.specs.Words.{gridfs}
@@ -27,36 +30,46 @@ Writes text number = digits_value 10 (without_leading_plus text) ≡ number
 abbrev pub IsNumber : Text → Type 0
 IsNumber text = IsNumeral 10 (without_leading_plus text) × (digits_value 10 (without_leading_plus text) < 2 ^ 32)
 
--- the number is that of the text, or where there is none the other one
+-- the number is that of the text, or where there is none, or one of no number, the other one
 abbrev pub IsNumberIn : Option Text → ℕ → ℕ → Type 0
 IsNumberIn None otherwise number = number ≡ otherwise
-IsNumberIn (Some text) otherwise number = IsNumber text → Writes text number
+IsNumberIn (Some text) otherwise number = (IsNumber text → Writes text number) × ((IsNumber text → ⊥) → number ≡ otherwise)
 
 -- the number is the one that is given for the id, or where none is given the other one
 abbrev pub IsNumberGiven : List Row → Text → ℕ → ℕ → Type 0
 IsNumberGiven rows id otherwise number = IsNumberIn (one_of id rows) otherwise number
 
--- the name of the subcommand by which it is asked for
-abbrev pub name_of : Request → Text
-name_of (Run jobs) = codes "run"
-name_of Step = codes "step"
-name_of (Order name volume file) = codes "order"
-name_of (History name volume file) = codes "history"
-name_of (Picture name volume file) = codes "picture"
-name_of (Finish name session) = codes "finish"
-name_of Live = codes "live"
+-- the flag is what is given for the id, or where nothing is given not set
+abbrev pub IsFlagIn : Option Text → Bool → Type 0
+IsFlagIn None flag = flag ≡ false
+IsFlagIn (Some text) flag = (text ≡ codes "true" → flag ≡ true) × (text ≡ codes "false" → flag ≡ false)
+
+abbrev pub IsFlagGiven : List Row → Text → Bool → Type 0
+IsFlagGiven rows id flag = IsFlagIn (one_of id rows) flag
 
 -- the name, the volume and the file are those that are given
 abbrev pub HasFile : List Row → Text → ℕ → ℕ → Type 0
 HasFile rows name volume file =
     (name ≡ text_given rows (codes "NAME")) × IsNumberGiven rows (codes "VOLUME") 0 volume × IsNumberGiven rows (codes "FILE") 0 file
 
--- the request has the values that are given
-abbrev pub HasValues : List Row → Request → Type 0
-HasValues rows (Run jobs) = IsNumberGiven rows (codes "JOBS") 1 jobs
-HasValues rows Step = Unit {0}
-HasValues rows (Order name volume file) = HasFile rows name.now volume file
-HasValues rows (History name volume file) = HasFile rows name.now volume file
-HasValues rows (Picture name volume file) = HasFile rows name.now volume file
-HasValues rows (Finish name session) = (name.now ≡ text_given rows (codes "NAME")) × IsNumberGiven rows (codes "SESSION") 0 session
-HasValues rows Live = Unit {0}
+abbrev pub HasRequestValues : List Row → Request → Type 0
+HasRequestValues rows (Run jobs) = IsNumberGiven rows (codes "JOBS") 1 jobs
+HasRequestValues rows Step = Unit {0}
+HasRequestValues rows (Order name volume file) = HasFile rows name.now volume file
+HasRequestValues rows (History name volume file) = HasFile rows name.now volume file
+HasRequestValues rows (Picture name volume file) = HasFile rows name.now volume file
+HasRequestValues rows (Finish name session) = (name.now ≡ text_given rows (codes "NAME")) × IsNumberGiven rows (codes "SESSION") 0 session
+HasRequestValues rows Live = Unit {0}
+
+-- the number, the two paths and the flag are those that are given
+abbrev pub HasNodeValues : List Row → NodeRequest → Type 0
+HasNodeValues rows node =
+    IsNumberGiven rows (codes "NUMBER") 0 node.number
+    × (node.plan.now ≡ text_given rows (codes "PLAN"))
+    × (node.journal.now ≡ text_given rows (codes "JOURNAL"))
+    × IsFlagGiven rows (codes "NEW") node.is_new
+
+-- what is asked for has the values that are given
+abbrev pub HasValues : List Row → CommandLine → Type 0
+HasValues rows (Streams request) = HasRequestValues rows request
+HasValues rows (Node node) = HasNodeValues rows node

@@ -1,13 +1,15 @@
 -- What the words of a command line ask for, by the rules that clap states for its commands.
-use Rattle.std.specs.Prelude.{◌≡◌, ◌≢◌, ◌⊎◌, ◌∷◌, ⊤, List, [], Option, Some, true, pos, codes, drop}
+use Rattle.std.specs.Prelude.{◌≡◌, ◌⊎◌, ◌∷◌, ⊤, List, [], Option, Some, None, true, pos, codes, drop}
 use Rattle.clap.specs.Faults.{fault_of}
 use Rattle.clap.specs.Kinds.{IsAmong, Kinds}
 use Rattle.clap.specs.Simple.{App, Shape, new_app, new_rule, new_shape, on_top, with_subcommand}
 use Rattle.clap.specs.Values.{kind_of}
 use Rattle.clap.specs.Walk.{Rule, Text}
-use Rattle.clap.specs.declared.builder.action.ArgAction.TheVariants.{Set}
+use Rattle.clap.specs.declared.builder.action.ArgAction.TheVariants.{Set, SetTrue}
 use Rattle.clap.specs.declared.builder.value_parser.ValueParser.TheVariants.{Signed}
 use Rattle.clap.specs.declared.error.kind.ErrorKind.{ErrorKind}
+use Rattle.gq_words.specs.declared.words.CommandLine.{CommandLine}
+use Rattle.gq_words.specs.declared.words.CommandLine.TheVariants.{Streams, Node}
 use Rattle.gq_words.specs.declared.words.Request.{Request}
 use Rattle.gq_words.specs.declared.words.Request.TheVariants.{Run, Step, Order, History, Picture, Finish, Live}
 use Rattle.gq_words.specs.declared.words.Usage.{Usage}
@@ -51,6 +53,18 @@ live_shape = new_shape (codes "live")
 abbrev pub step_shape : Shape
 step_shape = new_shape (codes "step")
 
+-- the subcommand `node`, which takes a number below 2^32 and two files, each of which has to be given, and may be told to begin the journal
+abbrev pub file_rule : Text → Text → Rule
+file_rule id long = record (new_rule id) { long = Some long; required = true; action = Some Set; value_names = 1 }
+
+abbrev pub begin_rule : Rule
+begin_rule = record (new_rule (codes "NEW")) { long = Some (codes "new"); action = Some SetTrue }
+
+abbrev pub node_shape : Shape
+node_shape = record (new_shape (codes "node")) {
+  rules = number_rule (codes "NUMBER") ∷ file_rule (codes "PLAN") (codes "plan") ∷ file_rule (codes "JOURNAL") (codes "journal") ∷ begin_rule ∷ [];
+}
+
 -- the command line without its subcommands: `gridfs`, which has a version and wants one of them
 abbrev pub bare_gridfs : App
 bare_gridfs = on_top (λ top. record top { has_version = true; subcommand_required = true }) (new_app (codes "gridfs"))
@@ -60,7 +74,8 @@ abbrev pub gridfs : App
 gridfs =
     let to_order = with_subcommand (with_subcommand bare_gridfs run_shape) order_shape in
     let to_live = with_subcommand (with_subcommand to_order finish_shape) live_shape in
-    with_subcommand (with_subcommand (with_subcommand to_live step_shape) history_shape) picture_shape
+    let to_picture = with_subcommand (with_subcommand (with_subcommand to_live step_shape) history_shape) picture_shape in
+    with_subcommand to_picture node_shape
 
 -- what is wrong with the words, the program's name first; a call for help or for the version counts
 abbrev pub faults_in : List Text → Kinds
@@ -70,53 +85,46 @@ faults_in words = fault_of gridfs words
 abbrev pub IsAlone : Text → List Text → Type 0
 IsAlone word words = (drop 1 words ≡ word ∷ []) ⊎ (drop 1 words ≡ word ∷ codes "--" ∷ [])
 
--- they ask to run: `run`, behind which come its own words
-abbrev pub AsksToRun : List Text → Type 0
-AsksToRun words = (own : List Text) × (drop 1 words ≡ codes "run" ∷ own)
+-- they begin with that word, behind which come words of its own
+abbrev pub IsFirst : Text → List Text → Type 0
+IsFirst word words = (own : List Text) × (drop 1 words ≡ word ∷ own)
 
--- they ask for a live run
+-- they ask for a live run, which has no words of its own
 abbrev pub AsksForLive : List Text → Type 0
 AsksForLive words = IsAlone (codes "live") words
 
--- they ask for each line to be answered as it comes: `step`, which has no words of its own
-abbrev pub AsksToStep : List Text → Type 0
-AsksToStep words = (own : List Text) × (drop 1 words ≡ codes "step" ∷ own)
+-- the name of the subcommand by which a request is asked for
+abbrev pub name_of : Request → Text
+name_of (Run jobs) = codes "run"
+name_of Step = codes "step"
+name_of (Order name volume file) = codes "order"
+name_of (History name volume file) = codes "history"
+name_of (Picture name volume file) = codes "picture"
+name_of (Finish name session) = codes "finish"
+name_of Live = codes "live"
 
--- they ask for the order of a file's operations: `order`, behind which come its own words
-abbrev pub AsksToOrder : List Text → Type 0
-AsksToOrder words = (own : List Text) × (drop 1 words ≡ codes "order" ∷ own)
+abbrev pub command_name : CommandLine → Text
+command_name (Streams request) = name_of request
+command_name (Node node) = codes "node"
 
--- they ask for the history of a file's operations: `history`, behind which come its own words
-abbrev pub AsksForHistory : List Text → Type 0
-AsksForHistory words = (own : List Text) × (drop 1 words ≡ codes "history" ∷ own)
+-- the words ask for it: the first is its name
+abbrev pub IsAskedBy : List Text → CommandLine → Type 0
+IsAskedBy words (Streams Live) = AsksForLive words
+IsAskedBy words asked = IsFirst (command_name asked) words
 
--- they ask for the picture of a file's operations: `picture`, behind which come its own words
-abbrev pub AsksForPicture : List Text → Type 0
-AsksForPicture words = (own : List Text) × (drop 1 words ≡ codes "picture" ∷ own)
+-- the name is that of a subcommand: `live`, or one of the others
+abbrev pub IsOther : Text → Type 0
+IsOther name =
+    (name ≡ codes "run") ⊎ ((name ≡ codes "order") ⊎ ((name ≡ codes "finish") ⊎ ((name ≡ codes "step")
+    ⊎ ((name ≡ codes "history") ⊎ ((name ≡ codes "picture") ⊎ (name ≡ codes "node"))))))
 
--- they ask for the lines that complete an operation: `finish`, behind which come its own words
-abbrev pub AsksToFinish : List Text → Type 0
-AsksToFinish words = (own : List Text) × (drop 1 words ≡ codes "finish" ∷ own)
+abbrev pub IsCommand : Text → Type 0
+IsCommand name = (name ≡ codes "live") ⊎ IsOther name
 
--- the words name the subcommand by which it was asked for
-abbrev pub IsAskedBy : List Text → Request → Type 0
-IsAskedBy words (Run jobs) = AsksToRun words
-IsAskedBy words Step = AsksToStep words
-IsAskedBy words (Order name volume file) = AsksToOrder words
-IsAskedBy words (History name volume file) = AsksForHistory words
-IsAskedBy words (Picture name volume file) = AsksForPicture words
-IsAskedBy words (Finish name session) = AsksToFinish words
-IsAskedBy words Live = AsksForLive words
-
--- what is asked for is that of the subcommand of this name
-abbrev pub IsOf : Option Text → Request → Type 0
-IsOf name (Run jobs) = (name ≢ Some (codes "order")) × (name ≢ Some (codes "finish")) × (name ≢ Some (codes "live")) × (name ≢ Some (codes "step")) × (name ≢ Some (codes "history")) × (name ≢ Some (codes "picture"))
-IsOf name Step = name ≡ Some (codes "step")
-IsOf name (Order tenant volume file) = name ≡ Some (codes "order")
-IsOf name (History tenant volume file) = name ≡ Some (codes "history")
-IsOf name (Picture tenant volume file) = name ≡ Some (codes "picture")
-IsOf name (Finish tenant session) = name ≡ Some (codes "finish")
-IsOf name Live = name ≡ Some (codes "live")
+-- some name is that of a subcommand
+abbrev pub NamesCommand : Option Text → Type 0
+NamesCommand None = ⊥
+NamesCommand (Some name) = IsCommand name
 
 -- the text shown is about what is wrong with the words
 abbrev pub ShownFor : List Text → Usage → Type 0

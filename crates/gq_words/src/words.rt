@@ -7,14 +7,36 @@ ghost use Rattle.clap.specs.Walk.{rows_of, rule_of};
 ghost use Rattle.clap.specs.declared.builder.command.Command.TheViews.{out-Command as fields_of};
 ghost use Rattle.clap.specs.Walk.{Text, texts};
 ghost use Rattle.clap.specs.declared.error.kind.ErrorKind.TheVariants.{DisplayHelp, DisplayVersion};
-ghost use Rattle.gq_words.specs.Words.{AsksForLive, IsAlone, IsAskedBy, IsMemory, IsOf, ShownFor, Shows, bare_gridfs, finish_shape, file_shape, gridfs, name_rule, number_rule, jobs_rule, run_shape, step_shape};
-ghost use Rattle.gq_words.specs.Given.{HasValues, IsNumberGiven, given_by, name_of, rows_behind, text_given};
+ghost use Rattle.gq_words.specs.Words.{AsksForLive, IsAlone, IsAskedBy, IsMemory, NamesCommand, ShownFor, Shows, bare_gridfs, begin_rule, command_name, finish_shape, file_rule, file_shape, gridfs, name_rule, node_shape, number_rule, jobs_rule, run_shape, step_shape};
+ghost use Rattle.gq_words.specs.Given.{HasValues, IsFlagGiven, IsNumberGiven, given_by, rows_behind, text_given};
 
 use clap::error::ErrorKind;
 use clap::{Arg, ArgAction, ArgMatches, Command, Error};
 use std::alloc::{AllocError, Global};
 
 /// What a command line asks for.
+#[derive(Clone, Copy, Debug, PartialEq, Eq)]
+pub enum CommandLine<'a> {
+    /// To read standard input to its end, and to write what is asked for to standard output.
+    Streams(Request<'a>),
+    /// To be one server of a grid.
+    Node(NodeRequest<'a>),
+}
+
+/// Which server of a grid a process is asked to be.
+#[derive(Clone, Copy, Debug, PartialEq, Eq)]
+pub struct NodeRequest<'a> {
+    /// The number of the server, from 0.
+    pub number: u32,
+    /// The path of the plan's file.
+    pub plan: &'a str,
+    /// The path of the node's journal.
+    pub journal: &'a str,
+    /// Whether the journal is to be begun: there is none yet.
+    pub is_new: bool,
+}
+
+/// What is asked for between standard input and standard output.
 #[derive(Clone, Copy, Debug, PartialEq, Eq)]
 pub enum Request<'a> {
     /// Answer the lines of a script, by so many threads; 0 is as many as there are cores.
@@ -186,6 +208,26 @@ Where the operation can't be completed, that is told by one line on standard err
 the session has none, `no row up`, `no column up` or `no row and no column up` where its round needs one, `too few steps` where
 the tenant has not so many steps left.";
 
+const NODE: &str = "\
+Lines come in on standard input and go out on standard output, each `TO FROM BODY`, where TO and FROM are a server's number or a
+tenant's name. Whatever carries lines may carry them, and may lose them, repeat them and change their order. A tenant's request
+goes to the home of its session, under the number that its operation is to have:
+
+    0 ann write 1 1 0 0 6869            ann writes `hi` in session 1, operation 1, to file 0 of volume 0
+    ann 0 done write 1 1 tag 1 1        what she is told once a column of servers keeps it on disk
+
+A request may be sent again until it is answered, and takes effect once. `N N tick` has node N ask other servers where an
+operation waits. docs/FORMATS.md has all forms.
+
+The plan is that of `gridfs run`, and behind `go` it has lines `NAME open FILES BLOCKS` alone, which open the volumes at each
+start. What must not be forgotten is in the journal, and on disk, before anything that rests on it is written. `--new` begins the
+journal, at the grid's first start; a node whose journal is lost can't come back.
+
+    gridfs node 0 --plan plan --journal node0.journal --new < lines
+
+On standard error the node says when it is ready. It ends with status 0 at the end of its input, 1 where the plan, the number, a
+file or a stream is at fault, 3 where memory is wanting, 4 where the journal is damaged.";
+
 // A whole number that has to be given.
 fn number<'a>(alloc: Global, id: &'a str, help: &'a str) -> Arg<'a>
     ensures rule { rule_of result ≡ number_rule id.entry.now }
@@ -220,6 +262,30 @@ fn name<'a>(alloc: Global) -> Arg<'a>
         .required(true)
         .action(ArgAction::Set)
         .help("The tenant's name")
+}
+
+// A file that has to be named, by an option.
+fn file_option<'a>(alloc: Global, id: &'a str, long: &'a str, help: &'a str) -> Arg<'a>
+    ensures rule { rule_of result ≡ file_rule id.entry.now long.entry.now }
+    ensures local { result.global ≡ false }
+{
+    Arg::new(alloc, id)
+        .long(long)
+        .required(true)
+        .action(ArgAction::Set)
+        .value_name("FILE")
+        .help(help)
+}
+
+// Whether the journal is to be begun.
+fn begin<'a>(alloc: Global) -> Arg<'a>
+    ensures rule { rule_of result ≡ begin_rule }
+    ensures local { result.global ≡ false }
+{
+    Arg::new(alloc, "NEW")
+        .long("new")
+        .action(ArgAction::SetTrue)
+        .help("Begin the journal: there must be none")
 }
 
 // A subcommand, without words of its own.
@@ -280,6 +346,29 @@ fn finish<'a>(alloc: Global) -> Result<Command<'a>, AllocError>
         "The number of the tenant's session, from 1",
     ))?;
     Ok(finish)
+}
+
+// The subcommand `node`.
+fn node<'a>(alloc: Global) -> Result<Command<'a>, AllocError>
+    ensures shape { IfOk result (λ c. (app_of c).top ≡ node_shape) }
+    ensures local { IfOk result (λ c. (fields_of c).has_globals ≡ false) }
+{
+    let node = subcommand(
+        alloc,
+        "node",
+        "Be one server of a grid: take lines from standard input to its end, over a journal on disk",
+        NODE,
+    )
+    .arg(number(alloc, "NUMBER", "The number of the server, from 0"))?
+    .arg(file_option(
+        alloc,
+        "PLAN",
+        "plan",
+        "The plan of the grid, with the volumes that are open",
+    ))?
+    .arg(file_option(alloc, "JOURNAL", "journal", "The node's journal"))?
+    .arg(begin(alloc))?;
+    Ok(node)
 }
 
 // The command line without its subcommands.
@@ -351,7 +440,7 @@ fn command<'a>(alloc: Global) -> Result<Command<'a>, AllocError>
             HISTORY,
         ),
     );
-    with(
+    let to_picture = with(
         to_history,
         of_file(
             alloc,
@@ -359,7 +448,8 @@ fn command<'a>(alloc: Global) -> Result<Command<'a>, AllocError>
             "Draw the operations on a file of the tenant",
             PICTURE,
         ),
-    )
+    );
+    with(to_picture, node(alloc))
 }
 
 // The text given for this id, the empty one where none is.
@@ -376,56 +466,72 @@ fn number_of(matches: &ArgMatches<'_>, id: &str, otherwise: u32) -> u32
     matches.get_one::<u32>(id).unwrap_or(otherwise)
 }
 
-// What a parse of the words found. clap has refused words of `order` and of `finish` that leave one out, or that give a number
-// in another form.
-fn request_of<'a>(matches: &ArgMatches<'a>) -> Request<'a>
-    ensures subcommand { IsOf (subcommand_name_of matches.now) result }
-    ensures values { subcommand_name_of matches.now ≡ Some (name_of result) → HasValues (rows_behind (subcommand_rows_of matches.now)) result }
+// Whether the flag is given for this id.
+fn flag_of(matches: &ArgMatches<'_>, id: &str) -> bool
+    ensures { IsFlagGiven (rows_of (found_of matches.now)) id.now result }
+{
+    matches.get_flag(id)
+}
+
+// What a parse of the words found. clap has refused words that leave out what has to be given, or that give a number in
+// another form.
+fn command_of<'a>(matches: &ArgMatches<'a>) -> CommandLine<'a>
+    requires known { NamesCommand (subcommand_name_of matches.now) }
+    ensures name { subcommand_name_of matches.now ≡ Some (command_name result) }
+    ensures values { HasValues (rows_behind (subcommand_rows_of matches.now)) result }
 {
     if matches.subcommand_matches("live").is_some() {
-        return Request::Live;
+        return CommandLine::Streams(Request::Live);
     }
     if matches.subcommand_matches("step").is_some() {
-        return Request::Step;
+        return CommandLine::Streams(Request::Step);
     }
     if let Some(finish) = matches.subcommand_matches("finish") {
-        return Request::Finish {
+        return CommandLine::Streams(Request::Finish {
             name: text_of(finish, "NAME"),
             session: number_of(finish, "SESSION", 0),
-        };
+        });
     }
     if let Some(order) = matches.subcommand_matches("order") {
-        return Request::Order {
+        return CommandLine::Streams(Request::Order {
             name: text_of(order, "NAME"),
             volume: number_of(order, "VOLUME", 0),
             file: number_of(order, "FILE", 0),
-        };
+        });
     }
     if let Some(history) = matches.subcommand_matches("history") {
-        return Request::History {
+        return CommandLine::Streams(Request::History {
             name: text_of(history, "NAME"),
             volume: number_of(history, "VOLUME", 0),
             file: number_of(history, "FILE", 0),
-        };
+        });
     }
     if let Some(picture) = matches.subcommand_matches("picture") {
-        return Request::Picture {
+        return CommandLine::Streams(Request::Picture {
             name: text_of(picture, "NAME"),
             volume: number_of(picture, "VOLUME", 0),
             file: number_of(picture, "FILE", 0),
-        };
+        });
+    }
+    if let Some(node) = matches.subcommand_matches("node") {
+        return CommandLine::Node(NodeRequest {
+            number: number_of(node, "NUMBER", 0),
+            plan: text_of(node, "PLAN"),
+            journal: text_of(node, "JOURNAL"),
+            is_new: flag_of(node, "NEW"),
+        });
     }
     let jobs = match matches.subcommand_matches("run") {
         Some(run) => number_of(run, "JOBS", 1),
-        None => 1,
+        None => unreachable!(),
     };
-    Request::Run { jobs }
+    CommandLine::Streams(Request::Run { jobs })
 }
 
 /// Reads the words of a command line, of which the first is the program's name. Words that ask for help or for the version,
 /// or that are no request, give the text to show, whose exit status is its own (0 where it was asked for, else 2); where
 /// memory is wanting, that is told before any text. Behind `live` no word may come but `--`, by which clap ends the options.
-pub fn read_words<'a>(alloc: Global, words: &'a [&'a str]) -> Result<Request<'a>, Usage>
+pub fn read_words<'a>(alloc: Global, words: &'a [&'a str]) -> Result<CommandLine<'a>, Usage>
     ensures request { IfOk result (IsAskedBy (texts words.entry.now)) }
     ensures values { IfOk result (HasValues (given_by (texts words.entry.now))) }
     ensures run { IsAlone (codes "run") (texts words.entry.now) → IfErr result IsMemory }
@@ -438,7 +544,7 @@ pub fn read_words<'a>(alloc: Global, words: &'a [&'a str]) -> Result<Request<'a>
         return Err(Usage::Memory);
     };
     match command.try_get_matches_from(words) {
-        Ok(matches) => Ok(request_of(&matches)),
+        Ok(matches) => Ok(command_of(&matches)),
         Err(error) => {
             if error.kind() == ErrorKind::OutOfMemory {
                 Err(Usage::Memory)

@@ -1,7 +1,10 @@
 //! The program: the words, the standard streams and the runtime go down, and a status comes back.
 #![tactic(auto)]
 
-use gq_cli::{Notice, Request, Usage, Watched, carry_out, read_words};
+use gq_cli::{
+    CommandLine, Durable, NodeRequest, Notice, Request, Standard, Stream, Told, Usage, Watched,
+    carry_out, read_words, run_node,
+};
 use std::alloc::Global;
 use std::fmt::Display;
 use std::io::IsTerminal;
@@ -65,6 +68,27 @@ fn answered<R: Input + Print + Eprint + Threads + Wait + Sync>(
     }
 }
 
+// Is the node that was asked for, on the standard streams, to the end of standard input.
+fn serves(rt: &HostRuntime, alloc: Global, asked: &NodeRequest<'_>) -> ExitCode {
+    let console = Standard::new(rt.stdin(), rt.stdout(), rt.stderr(), asked.journal);
+    let mut input = rt.stdin();
+    let mut out: Stream<_, Durable> = Stream::new(io::writer(rt));
+    match run_node(rt, alloc, asked, &console, &mut input, &mut out) {
+        Ok(()) => ExitCode::SUCCESS,
+        Err(fault) => {
+            let status = fault.status();
+            told(
+                rt,
+                &Told {
+                    fault: &fault,
+                    asked,
+                },
+                status,
+            )
+        }
+    }
+}
+
 fn main(rt: HostRuntime) -> ExitCode {
     let alloc = rt.alloc();
     let given = match env::args(&rt) {
@@ -82,7 +106,10 @@ fn main(rt: HostRuntime) -> ExitCode {
         return told(&rt, &NO_MEMORY, MEMORY);
     };
     match read_words(alloc, words.as_slice()) {
-        Ok(request) => answered(&rt, alloc, rt.stdin().is_terminal(), request),
+        Ok(CommandLine::Streams(request)) => {
+            answered(&rt, alloc, rt.stdin().is_terminal(), request)
+        }
+        Ok(CommandLine::Node(asked)) => serves(&rt, alloc, &asked),
         Err(Usage::Shown(error)) => {
             let _ = error.print(&rt);
             ExitCode::from(error.exit_code() as u8)

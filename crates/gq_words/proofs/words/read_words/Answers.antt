@@ -7,8 +7,8 @@ use Rattle.clap.specs.Walk.{texts}
 use Rattle.clap.specs.declared.error.kind.ErrorKind.TheVariants.{OutOfMemory}
 use Rattle.gq_words.specs.Words.{faults_in, gridfs}
 use Rattle.gq_words.proofs.Asking.{asks}
-use Rattle.gq_words.proofs.Naming.{asked_by, found_is_named, rules_are_exact}
-use Rattle.gq_words.proofs.Values.{given_is, name_is}
+use Rattle.gq_words.proofs.Naming.{asked_by, found_is_named, names_command, rules_are_exact}
+use Rattle.gq_words.proofs.Values.{given_is}
 use Rattle.gq_words.proofs.Faults.{asked_is_right, help_is_shown, live_is_right, version_is_shown}
 use Rattle.gq_words.proofs.words.read_words.Goals as goal
 
@@ -18,21 +18,28 @@ right c =
     let is = c.in-Ok.ensures.app in
     subst (λ (a : App). fault_of a (texts c.args.words.now) ≡ []) is (c.in-Ok-try_get_matches_from.ensures.kinds (ap is_simple_and_free is ∙ rules_are_exact))
 
+-- clap found what the words name
+found : (c : goal.Joined-matches) → HasMatchesOf gridfs (texts c.args.words.now) c.in-Ok-try_get_matches_from.matches
+found c = subst (λ (a : App). HasMatchesOf a (texts c.args.words.now) c.in-Ok-try_get_matches_from.matches) c.in-Ok.ensures.app c.in-Ok-try_get_matches_from.ensures.matches
+
+pub command_of-requires : goal.command_of-requires
+command_of-requires c =
+    let words = texts c.args.words.now in
+    let is = c.in-Ok.ensures.app in
+    let none : faults_in words ≡ [] = subst (λ (a : App). fault_of a words ≡ []) is (c.in-Ok-try_get_matches_from.ensures.kinds (ap is_simple_and_free is ∙ rules_are_exact)) in
+    let has : HasMatchesOf gridfs words c.in-Ok-try_get_matches_from.matches = subst (λ (a : App). HasMatchesOf a words c.in-Ok-try_get_matches_from.matches) is c.in-Ok-try_get_matches_from.ensures.matches in
+    record { known = names_command words _ (asks words none) (found_is_named words _ has) }
+
 pub returns-in-Ok-try_get_matches_from-clause-request :
     goal.returns-in-Ok-try_get_matches_from-clause-request
 returns-in-Ok-try_get_matches_from-clause-request c =
     let words = texts c.args.words.now in
-    asked_by words _ c.request_of.result (asks words (right c))
-    (found_is_named words _ (subst (λ (a : App). HasMatchesOf a words c.in-Ok-try_get_matches_from.matches) c.in-Ok.ensures.app c.in-Ok-try_get_matches_from.ensures.matches)) c.request_of.ensures.subcommand
+    asked_by words c.command_of.result (asks words (right c)) (sym (found_is_named words _ (found c)) ∙ c.command_of.ensures.name)
 
 pub returns-in-Ok-try_get_matches_from-clause-values :
     goal.returns-in-Ok-try_get_matches_from-clause-values
 returns-in-Ok-try_get_matches_from-clause-values c =
-    let words = texts c.args.words.now in
-    let has : HasMatchesOf gridfs words c.in-Ok-try_get_matches_from.matches = subst (λ (a : App). HasMatchesOf a words c.in-Ok-try_get_matches_from.matches) c.in-Ok.ensures.app c.in-Ok-try_get_matches_from.ensures.matches in
-    let named = found_is_named words _ has in
-    let asked = asked_by words _ c.request_of.result (asks words (right c)) named c.request_of.ensures.subcommand in
-    given_is words c.in-Ok-try_get_matches_from.matches c.request_of.result has (c.request_of.ensures.values (name_is words _ c.request_of.result named c.request_of.ensures.subcommand asked))
+    given_is (texts c.args.words.now) c.in-Ok-try_get_matches_from.matches c.command_of.result (found c) c.command_of.ensures.values
 
 pub returns-in-Ok-try_get_matches_from-clause-help :
     goal.returns-in-Ok-try_get_matches_from-clause-help

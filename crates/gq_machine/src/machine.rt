@@ -1,0 +1,335 @@
+//! The machine of a node.
+
+ghost use Rattle.std.specs.Prelude.{◌≡◌, ◌<◌, ◌≤◌, ◌++◌, [], ◌∷◌, false, length, OnOk, IfSome, All};
+ghost use Rattle.std.specs.List.{flat_map};
+ghost use Rattle.std.specs.Option.{option_to_list};
+ghost use Rattle.gq_tag.specs.Tag.{own_message};
+ghost use Rattle.gq_desk.specs.CheckedPlan.{row_at};
+ghost use Rattle.gq_journal.specs.Batches.{lines_text};
+ghost use Rattle.gq_node.specs.Inputs.{Asked, AskedPlan, Brought, Ticked};
+ghost use Rattle.gq_node.specs.Recalling.{tenant_of};
+ghost use Rattle.gq_node.specs.Tables.{AllStand};
+ghost use Rattle.gq_wire.specs.Incoming.{FitsPlan};
+ghost use Rattle.gq_facts.specs.Facts.{fact_text};
+ghost use Rattle.gq_facts.specs.Laws.{FitsFact};
+ghost use Rattle.gq_parts.specs.Inputs.{inputs_of, ticks_of};
+ghost use Rattle.gq_parts.specs.Texts.{answer_text, sent_line, step_text};
+ghost use Rattle.gq_parts.specs.Steps.{fact_lines, HasAddress, Appended, TookOf, TookAll};
+
+use crate::ranges::{fact_fits, plan_is_sound};
+use gq_facts::{put_fact, read_fact};
+use gq_keeper::{Fault, Lasting, Machine};
+use gq_memory::OutOfMemory;
+use gq_model::Line;
+use gq_node::{Answer, Ended, Fact, NeedRefused, Node, Output};
+use gq_tag::Message;
+use gq_wire::{Incoming, put_letter, put_told, read_incoming};
+use std::alloc::Global;
+
+/// A node that takes lines. After an `Err` of any call it is given up: a part of what a step gives may have been appended, and where
+/// memory was wanting the node takes no further line.
+#[derive(Drop)]
+pub struct NodeMachine {
+    alloc: Global,
+    node: Node,
+    /// How many lines of a journal it read.
+    pub facts: u64,
+    /// Whether one of them was strange: it says no fact of this node's plan and volumes. Such a line is not read.
+    pub is_strange: bool,
+}
+
+// Memory was wanting for the node.
+fn no_memory(ended: Ended) -> Fault {
+    let Ended(refused) = ended;
+    Fault::Memory(refused)
+}
+
+impl NodeMachine {
+    ghost use Rattle.gq_machine.specs.Machines.{tables_of};
+
+    /// The machine of a node, which read no line yet.
+    pub fn new(alloc: Global, node: Node) -> NodeMachine
+        ensures node { tables_of result ≡ node.tables }
+        ensures facts { result.facts ≡ 0 }
+        ensures known { result.is_strange ≡ false }
+    {
+        NodeMachine {
+            alloc,
+            node,
+            facts: 0,
+            is_strange: false,
+        }
+    }
+
+    // That memory was never wanting: the node has a part for each tenant.
+    fn goes(&self) -> Result<(), Fault>
+        ensures { OnOk result (AllStand self.now.node.tables) }
+    {
+        self.node.goes().map_err(no_memory)
+    }
+
+    // Appends the line to the tenant, if it is told something.
+    fn put_answer(
+        &self,
+        tenant: u8,
+        asked: &Line,
+        answer: &Option<Answer>,
+        told: &mut Vec<u8>,
+    ) -> Result<(), OutOfMemory>
+        requires { tenant < length self.now.node.tables.plan.rows }
+        ensures { OnOk result (told.new.items ≡ told.old.items ++ answer_text self.now.node.tables.plan self.now.node.tables.server tenant asked.now answer.now) }
+    {
+        match answer {
+            Some(answer) => put_told(
+                told,
+                self.node.plan(),
+                self.node.server(),
+                tenant,
+                asked,
+                answer,
+            ),
+            None => Ok(()),
+        }
+    }
+
+    // Appends the lines of the letters.
+    fn put_letters(&self, letters: &[Message], told: &mut Vec<u8>) -> Result<(), OutOfMemory>
+        requires { All (HasAddress self.now.node.tables.plan) letters.now }
+        ensures { OnOk result (told.new.items ≡ told.old.items ++ flat_map (sent_line self.now.node.tables.plan self.now.node.tables.server) letters.now) }
+    {
+        for letter in letters {
+            put_letter(
+                told,
+                self.node.plan(),
+                self.node.address(letter),
+                self.node.server(),
+                letter,
+            )?;
+        }
+        Ok(())
+    }
+
+    // Appends the line of the fact, if there is one.
+    fn put_fact(&self, fact: &Option<Fact>, facts: &mut Vec<u8>) -> Result<(), OutOfMemory>
+        requires { IfSome fact.now (λ fact. tenant_of fact < length self.now.node.tables.plan.rows) }
+        ensures kept { OnOk result (facts.new.items ≡ facts.old.items ++ lines_text (fact_lines self.now.node.tables.plan (option_to_list fact.now))) }
+        ensures fit { OnOk result (All (FitsFact self.now.node.tables.plan) (option_to_list fact.now)) }
+    {
+        match fact {
+            Some(fact) => {
+                fact_fits(fact);
+                put_fact(facts, self.node.plan(), fact)
+            }
+            None => Ok(()),
+        }
+    }
+
+    // Appends the lines of the facts.
+    fn put_facts(&self, needed: &[Fact], facts: &mut Vec<u8>) -> Result<(), OutOfMemory>
+        requires { All (λ fact. tenant_of fact < length self.now.node.tables.plan.rows) needed.now }
+        ensures facts { OnOk result (facts.new.items ≡ facts.old.items ++ flat_map (fact_text self.now.node.tables.plan) needed.now) }
+        ensures fit { OnOk result (All (FitsFact self.now.node.tables.plan) needed.now) }
+    {
+        for fact in needed {
+            fact_fits(fact);
+            put_fact(facts, self.node.plan(), fact)?;
+        }
+        Ok(())
+    }
+
+    // Appends what a step gives for the tenant, whose request, if it is one, was this.
+    fn put(
+        &self,
+        tenant: u8,
+        asked: &Line,
+        out: &Output,
+        facts: &mut Vec<u8>,
+        told: &mut Vec<u8>,
+    ) -> Result<(), OutOfMemory>
+        requires tenant { tenant < length self.now.node.tables.plan.rows }
+        requires fact { IfSome out.now.fact (λ fact. tenant_of fact < length self.now.node.tables.plan.rows) }
+        requires letters { All (HasAddress self.now.node.tables.plan) out.now.letters.items }
+        ensures appended { OnOk result (Appended self.now.node.tables.plan (option_to_list out.now.fact) (step_text self.now.node.tables.plan self.now.node.tables.server tenant asked.now out.now.answer out.now.letters.items) facts.old.items facts.new.items told.old.items told.new.items) }
+        ensures fit { OnOk result (All (FitsFact self.now.node.tables.plan) (option_to_list out.now.fact)) }
+    {
+        self.put_fact(&out.fact, facts)?;
+        self.put_answer(tenant, asked, &out.answer, told)?;
+        self.put_letters(out.letters.as_slice(), told)
+    }
+
+    // A request comes to the tenant.
+    fn request(
+        &mut self,
+        tenant: u8,
+        op: u32,
+        line: &Line,
+        facts: &mut Vec<u8>,
+        told: &mut Vec<u8>,
+    ) -> Result<(), Fault>
+        requires { tenant < length self.old.node.tables.plan.rows }
+        ensures { OnOk result (TookOf self.old.node.tables tenant (Asked op line.now ∷ []) facts.old.items facts.new.items told.old.items told.new.items self.new.node.tables) }
+    {
+        self.goes()?;
+        match self.node.request(tenant, op, line) {
+            Ok(out) => Ok(self.put(tenant, line, &out, facts, told)?),
+            Err(ended) => Err(no_memory(ended)),
+        }
+    }
+
+    // The tenant asks what it has.
+    fn question(&mut self, tenant: u8, facts: &mut Vec<u8>, told: &mut Vec<u8>) -> Result<(), Fault>
+        requires { tenant < length self.old.node.tables.plan.rows }
+        ensures { OnOk result (TookOf self.old.node.tables tenant (AskedPlan ∷ []) facts.old.items facts.new.items told.old.items told.new.items self.new.node.tables) }
+    {
+        self.goes()?;
+        match self.node.holding(tenant) {
+            Ok(out) => Ok(self.put(tenant, &Line::Bad, &out, facts, told)?),
+            Err(ended) => Err(no_memory(ended)),
+        }
+    }
+
+    // A letter comes.
+    fn letter(
+        &mut self,
+        from: u8,
+        message: &Message,
+        facts: &mut Vec<u8>,
+        told: &mut Vec<u8>,
+    ) -> Result<(), Fault>
+        requires tenant { message.now.tenant < length self.old.node.tables.plan.rows }
+        requires own { message.now.file.tenant ≡ message.now.tenant }
+        ensures { OnOk result (TookOf self.old.node.tables message.now.tenant (Brought from (own_message message.now) ∷ []) facts.old.items facts.new.items told.old.items told.new.items self.new.node.tables) }
+    {
+        self.goes()?;
+        match self.node.letter(from, message) {
+            Ok(out) => Ok(self.put(message.tenant, &Line::Bad, &out, facts, told)?),
+            Err(ended) => Err(no_memory(ended)),
+        }
+    }
+
+    // A tick comes to the tenant's session.
+    fn tick_session(
+        &mut self,
+        tenant: u8,
+        session: u32,
+        facts: &mut Vec<u8>,
+        told: &mut Vec<u8>,
+    ) -> Result<(), Fault>
+        requires tenant { tenant < length self.old.node.tables.plan.rows }
+        requires first { 1 ≤ session }
+        requires last { session ≤ (row_at self.old.node.tables.plan tenant).sessions }
+        ensures { OnOk result (TookOf self.old.node.tables tenant (Ticked session ∷ []) facts.old.items facts.new.items told.old.items told.new.items self.new.node.tables) }
+    {
+        self.goes()?;
+        match self.node.tick(tenant, session) {
+            Ok(out) => Ok(self.put(tenant, &Line::Bad, &out, facts, told)?),
+            Err(ended) => Err(no_memory(ended)),
+        }
+    }
+
+    // A tick comes to each session of the tenant, in order.
+    fn tick_tenant(
+        &mut self,
+        tenant: u8,
+        facts: &mut Vec<u8>,
+        told: &mut Vec<u8>,
+    ) -> Result<(), Fault>
+        requires { tenant < length self.old.node.tables.plan.rows }
+        ensures { OnOk result (TookOf self.old.node.tables tenant (ticks_of self.old.node.tables.plan tenant) facts.old.items facts.new.items told.old.items told.new.items self.new.node.tables) }
+    {
+        let sessions = self.node.plan().row(tenant).sessions;
+        for place in 0..sessions {
+            self.tick_session(tenant, place + 1, facts, told)?;
+        }
+        Ok(())
+    }
+
+    // A tick comes to each tenant, in plan order.
+    fn tick(&mut self, facts: &mut Vec<u8>, told: &mut Vec<u8>) -> Result<(), Fault>
+        ensures { OnOk result (TookAll self.old.node.tables (ticks_of self.old.node.tables.plan) facts.old.items facts.new.items told.old.items told.new.items self.new.node.tables) }
+    {
+        let tenants = self.node.plan().tenants();
+        for place in 0..tenants {
+            self.tick_tenant(place as u8, facts, told)?;
+        }
+        Ok(())
+    }
+
+    // Takes what came.
+    fn take_incoming(
+        &mut self,
+        incoming: &Incoming,
+        facts: &mut Vec<u8>,
+        told: &mut Vec<u8>,
+    ) -> Result<(), Fault>
+        requires { FitsPlan self.old.node.tables.plan incoming.now }
+        ensures { OnOk result (TookAll self.old.node.tables (inputs_of self.old.node.tables.plan incoming.now) facts.old.items facts.new.items told.old.items told.new.items self.new.node.tables) }
+    {
+        match incoming {
+            Incoming::Request { tenant, op, line } => self.request(*tenant, *op, line, facts, told),
+            Incoming::Plan { tenant } => self.question(*tenant, facts, told),
+            Incoming::Bad { tenant } => self.request(*tenant, 0, &Line::Bad, facts, told),
+            Incoming::Letter { from, message } => self.letter(*from, message, facts, told),
+            Incoming::Tick => self.tick(facts, told),
+            Incoming::Nothing => Ok(()),
+        }
+    }
+}
+
+impl Machine for NodeMachine {
+    ghost use Rattle.gq_machine.specs.Machines.{MachineSteps, MachineRecalls};
+
+    ghost steps = { MachineSteps };
+
+    ghost recalls = { MachineRecalls };
+
+    fn recall(&mut self, line: &[u8]) -> Result<(), Fault> {
+        self.facts = self.facts.saturating_add(1);
+        match read_fact(self.alloc, line, self.node.plan())? {
+            Some(fact) => {
+                if self.node.recall(&fact) {
+                    return Ok(());
+                }
+                self.is_strange = true;
+                Err(Fault::JournalRead)
+            }
+            None => {
+                self.is_strange = true;
+                Err(Fault::JournalRead)
+            }
+        }
+    }
+
+    fn take(&mut self, line: &[u8], facts: &mut Vec<u8>, told: &mut Vec<u8>) -> Result<(), Fault> {
+        plan_is_sound(self.node.plan());
+        self.goes()?;
+        let incoming = read_incoming(self.alloc, line, self.node.plan(), self.node.server())?;
+        self.take_incoming(&incoming, facts, told)
+    }
+}
+
+impl Lasting for NodeMachine {
+    ghost use Rattle.gq_machine.specs.Machines.{MachineIsBlank, MachineRests, gives_facts, keeps_blank, keeps_rest, starts_again};
+
+    ghost blank = { MachineIsBlank };
+
+    ghost rests = { MachineRests };
+
+    fn put_needed(&self, facts: &mut Vec<u8>) -> Result<(), Fault> {
+        plan_is_sound(self.node.plan());
+        self.goes()?;
+        match self.node.needed() {
+            Ok(needed) => Ok(self.put_facts(needed.as_slice(), facts)?),
+            Err(NeedRefused::Memory(refused)) => Err(Fault::Memory(refused)),
+            Err(NeedRefused::Unreadable) => Err(Fault::JournalWrite),
+        }
+    }
+
+    ghost gives_facts = { gives_facts };
+
+    ghost keeps_blank = { keeps_blank };
+
+    ghost keeps_rest = { keeps_rest };
+
+    ghost starts_again = { starts_again };
+}

@@ -1,0 +1,33 @@
+-- How much a node holds, counted.
+use Rattle.std.specs.Prelude.{◌≡◌, ℕ, ◌<◌, ◌≤◌, is_some, length}
+use Rattle.std.specs.List.{sum_by, count_by}
+use Rattle.gq_desk.specs.CheckedPlan.{row_at}
+use Rattle.gq_desk.specs.declared.limits.TheConstants.{MOST_VOLUMES}
+use Rattle.gq_desk.specs.Volumes.{account_at}
+use Rattle.gq_store.specs.Copies.{VolumeCopies, tenant_in}
+use Rattle.gq_node.specs.declared.seats.Seat.{Seat}
+use Rattle.gq_node.specs.Tables.{Tables, seats_at}
+
+-- of the tenant at place t: the files of its open volumes, and the copies that the server has of them
+abbrev pub files_open : Tables → ℕ → ℕ
+files_open w t = sum_by (λ v. v.files) (account_at w.desk t).volumes
+
+abbrev pub copies_held : Tables → ℕ → ℕ
+copies_held w t = sum_by (λ (v : VolumeCopies). length v.copies) (tenant_in w.store.tenants t).volumes
+
+-- its sessions that have an operation, and those of whose last operation an outcome is known
+abbrev pub operations_held : Tables → ℕ → ℕ
+operations_held w t = count_by (λ (seat : Seat). is_some seat.operation) (seats_at w.seats t)
+
+abbrev pub outcomes_held : Tables → ℕ → ℕ
+outcomes_held w t = count_by (λ (seat : Seat). is_some seat.outcome) (seats_at w.seats t)
+
+-- There are tables for the plan's tenants and no others; for each of them no more volumes than it may have, one copy of each file, and at
+-- most one operation and one outcome for each of its sessions.
+pub record IsBounded (w : Tables) : Type 0 where
+  pub copied : length w.store.tenants ≡ length w.plan.rows
+  pub seated : length w.seats ≡ length w.plan.rows
+  pub volumes : (t : ℕ) → length (account_at w.desk t).volumes ≤ MOST_VOLUMES
+  pub copies : (t : ℕ) → copies_held w t ≡ files_open w t
+  pub operations : (t : ℕ) → t < length w.plan.rows → operations_held w t ≤ (row_at w.plan t).sessions
+  pub outcomes : (t : ℕ) → t < length w.plan.rows → outcomes_held w t ≤ (row_at w.plan t).sessions

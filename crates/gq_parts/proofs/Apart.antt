@@ -1,0 +1,65 @@
+-- A run of a node, by its tenants' parts.
+use Rattle.std.proofs.Common.{◌≡◌, ◌∙◌, ℕ, ◌<◌, List, [], ◌∷◌, ◌++◌, length, refl, sym, ap, subst}
+use Rattle.std.specs.Prelude.{All}
+use Rattle.gq_desk.specs.CheckedPlan.{CheckedPlan}
+use Rattle.gq_keeper.specs.Runs.{lines_of}
+use Rattle.gq_node.specs.Inputs.{Input, after_all}
+use Rattle.gq_node.specs.Local.{Local}
+use Rattle.gq_node.specs.Sites.{site_of}
+use Rattle.gq_node.specs.Tables.{Tables, Agrees}
+use Rattle.gq_facts.specs.Laws.{FitsFact}
+use Rattle.gq_parts.specs.Inputs.{line_inputs, lines_inputs}
+use Rattle.gq_parts.specs.Texts.{written_for, written_by, facts_by, parts_after}
+use Rattle.gq_parts.specs.Steps.{AllAgree, fact_lines, TakesAll, StepsTo}
+use Rattle.gq_parts.specs.Resting.{IsNodeOf}
+use Rattle.gq_parts.specs.Laws.{GoesByParts, AllRunsByParts, AllTextsByParts, AllTenantsApart}
+use Rattle.gq_parts.proofs.Taking.{after_more, written_more}
+
+-- one step, of a node of this plan and number
+pub record StepByParts (plan : CheckedPlan) (here : ℕ) (parts : ℕ → Local) (line : List ℕ) (lines : List (List ℕ)) (told : List ℕ) (new : Tables) : Type 0 where
+  pub node : IsNodeOf plan here new
+  pub told_is : told ≡ written_by plan here parts (line_inputs plan here line)
+  pub lines_are : lines ≡ fact_lines plan (facts_by plan here parts (line_inputs plan here line))
+  pub fit : All (FitsFact plan) (facts_by plan here parts (line_inputs plan here line))
+  pub agree : AllAgree new (parts_after plan here parts (line_inputs plan here line))
+
+pub step_by_parts : (plan : CheckedPlan) (here : ℕ) (old new : Tables) (parts : ℕ → Local) (line : List ℕ) (lines : List (List ℕ)) (told : List ℕ) →
+    IsNodeOf plan here old → AllAgree old parts → StepsTo old line lines told new → StepByParts plan here parts line lines told new
+step_by_parts plan here old new parts line lines told node agree step =
+    let P : CheckedPlan → ℕ → Type 0 = λ p h. StepByParts p h parts line lines told new in
+    let takes : TakesAll old (line_inputs old.plan old.server line) step.facts told new = step.takes in
+    let facts : step.facts ≡ facts_by old.plan old.server parts (line_inputs old.plan old.server line) = takes.gives parts agree in
+    let own : P old.plan old.server = record {
+      node = record { plan_is = takes.plan; server_is = takes.server };
+      told_is = takes.tells parts agree;
+      lines_are = step.lines_are ∙ ap (fact_lines old.plan) facts;
+      fit = subst (All (FitsFact old.plan)) facts takes.fit;
+      agree = λ t within. (let inside : t < length old.plan.rows = subst (λ (p : CheckedPlan). t < length p.rows) takes.plan within in takes.parts t inside (parts t) (agree t inside));
+    } in
+    subst (λ p. P p here) node.plan_is (subst (λ h. P old.plan h) node.server_is own)
+
+pub runs_by_parts : AllRunsByParts
+runs_by_parts plan here first last parts [] node agree runs = record {
+  node = subst (IsNodeOf plan here) runs node;
+  told = tt;
+  ends = λ t within. subst (λ (w : Tables). Agrees w t (parts t)) runs (agree t (subst (λ (p : CheckedPlan). t < length p.rows) (sym node.plan_is) within));
+}
+runs_by_parts plan here first last parts (did ∷ dids) node agree runs =
+    let inputs : ℕ → List Input = line_inputs plan here did.line in
+    let one : StepByParts plan here parts did.line did.facts did.told runs.0 = step_by_parts plan here first runs.0 parts did.line did.facts did.told node agree runs.1 in
+    let rest : GoesByParts plan here (parts_after plan here parts inputs) dids last = runs_by_parts plan here runs.0 last (parts_after plan here parts inputs) dids one.node one.agree runs.2 in
+    record {
+      node = rest.node;
+      told = (one.told_is, one.lines_are, one.fit, rest.told);
+      ends = λ t within. subst (Agrees last t) (sym (after_more (site_of plan here t) (parts t) (inputs t) (lines_inputs plan here (lines_of dids) t))) (rest.ends t within);
+    }
+
+pub texts_by_parts : AllTextsByParts
+texts_by_parts plan here t local [] = refl
+texts_by_parts plan here t local (line ∷ lines) =
+    ap (λ z. written_for plan here t local (line_inputs plan here line t) ++ z) (texts_by_parts plan here t (after_all (site_of plan here t) local (line_inputs plan here line t)) lines)
+    ∙ sym (written_more plan here t local (line_inputs plan here line t) (lines_inputs plan here lines t))
+
+pub tenants_apart : AllTenantsApart
+tenants_apart plan here t local ones twos same =
+    texts_by_parts plan here t local ones ∙ ap (written_for plan here t local) same ∙ sym (texts_by_parts plan here t local twos)

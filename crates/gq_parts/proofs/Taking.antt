@@ -1,0 +1,362 @@
+-- What a node's calls give is what its tenants' parts give, one input after another.
+use Rattle.std.proofs.Common.{◌≡◌, ◌≢◌, ◌∙◌, ℕ, zero, suc, ◌+◌, ◌<◌, ◌≤◌, true, false, List, [], ◌∷◌, ◌++◌, length, map, Option, Some, None, refl, sym, ap, subst, arith, inl, inr, append_assoc, append-nil}
+use Rattle.std.specs.Prelude.{Result, Ok, Err, OnOk, option_map, nat_lt, ◌==◌, All, IfSome, if◌then◌else◌}
+use Rattle.std.specs.List.{flat_map, range_with_len}
+use Rattle.std.specs.Option.{option_to_list}
+use Rattle.std.proofs.lemmas.Bool.{cases_eq, cases_Bool, eq-eqb, ne_eqb, lt-ltb, ltb-true}
+use Rattle.std.proofs.lemmas.Grind.{flat_map-append}
+use Rattle.std.proofs.lemmas.List.{map-append}
+use Rattle.std.proofs.lemmas.List.Elements.{All-append, All-nil}
+use Rattle.gq_tag.specs.declared.Message.{Message}
+use Rattle.gq_desk.specs.CheckedPlan.{CheckedPlan}
+use Rattle.gq_text.specs.Canonical.{IsPlan}
+use Rattle.gq_text.specs.AnswerText.{spaced}
+use Rattle.gq_cluster.specs.Facts.{OwnFact, Begun, Numbered, Kept}
+use Rattle.gq_journal.specs.Batches.{ended_line, lines_text, are_batch_lines}
+use Rattle.gq_keeper.specs.Runs.{Takes}
+use Rattle.gq_node.specs.declared.output.Output.{Output}
+use Rattle.gq_node.specs.declared.output.Fact.{Fact}
+use Rattle.gq_node.specs.Inputs.{Input, does, after_one, after_all}
+use Rattle.gq_node.specs.Local.{Local, Doing}
+use Rattle.gq_node.specs.Recalling.{tenant_of, own_fact}
+use Rattle.gq_node.specs.Resting.{AllOfPlan}
+use Rattle.gq_node.specs.Sites.{Site, site_of}
+use Rattle.gq_node.specs.Tables.{Tables, Agrees, Acts, Gives, Stands, AllStand, fact_of}
+use Rattle.gq_facts.specs.Facts.{verb_of, fact_words, fact_line, fact_text}
+use Rattle.gq_facts.specs.Laws.{FitsFact}
+use Rattle.gq_facts.proofs.FactsBack.{facts_stand_in_batches}
+use Rattle.gq_parts.specs.Inputs.{asked_in, line_inputs, ticks_of}
+use Rattle.gq_parts.specs.Texts.{step_text, doing_text, written_for, own_facts, facts_for, written_by, facts_by}
+use Rattle.gq_parts.specs.Steps.{fact_lines, TakesAll, StepsTo, HasAddress, Appended, TakesOf, TookOf, TookAll}
+use Rattle.gq_parts.proofs.Letters.{IsCounted, counted_have, does_counted}
+
+-- what holds where a call gave Ok leads on
+pub on_ok : {T E : Type 0} (r : Result T E) {P Q : Type 0} → (P → Q) → OnOk r P → OnOk r Q
+on_ok (Ok x) f h = f h
+on_ok (Err e) f h = tt
+
+-- ---- what was appended
+
+-- the line of a fact with its newline
+pub fact_text_is : (plan : CheckedPlan) (fact : Fact) → fact_text plan fact ≡ lines_text (fact_lines plan (fact ∷ []))
+fact_text_is plan fact =
+    sym (append_assoc (verb_of (own_fact fact)) (spaced (fact_words plan fact)) (10 ∷ []))
+    ∙ sym (append-nil (ended_line (fact_line plan fact)))
+
+-- the lines of facts, one by one
+pub texts_are : (plan : CheckedPlan) (facts : List Fact) → flat_map (fact_text plan) facts ≡ lines_text (fact_lines plan facts)
+texts_are plan [] = refl
+texts_are plan (fact ∷ facts) =
+    ap (λ z. fact_text plan fact ++ z) (texts_are plan facts)
+    ∙ ap (λ z. z ++ lines_text (fact_lines plan facts)) (fact_text_is plan fact ∙ append-nil (ended_line (fact_line plan fact)))
+
+appended_more : (plan : CheckedPlan) (a b : List Fact) (x y f0 f1 f2 t0 t1 t2 : List ℕ) → Appended plan a x f0 f1 t0 t1 → Appended plan b y f1 f2 t1 t2 → Appended plan (a ++ b) (x ++ y) f0 f2 t0 t2
+appended_more plan a b x y f0 f1 f2 t0 t1 t2 p q = record {
+  facts_are = q.facts_are ∙ ap (λ z. z ++ lines_text (fact_lines plan b)) p.facts_are ∙ append_assoc f0 (lines_text (fact_lines plan a)) (lines_text (fact_lines plan b))
+      ∙ ap (λ z. f0 ++ z) (sym (flat_map-append ended_line (fact_lines plan a) (fact_lines plan b)) ∙ ap lines_text (sym (map-append (fact_line plan) a b)));
+  told_is = q.told_is ∙ ap (λ z. z ++ y) p.told_is ∙ append_assoc t0 x y;
+}
+
+appended_none : (plan : CheckedPlan) (f t : List ℕ) → Appended plan [] [] f f t t
+appended_none plan f t = record { facts_are = sym (append-nil f); told_is = sym (append-nil t) }
+
+-- ---- more inputs of one part
+
+pub after_more : (site : Site) (local : Local) (xs ys : List Input) → after_all site local (xs ++ ys) ≡ after_all site (after_all site local xs) ys
+after_more site local [] ys = refl
+after_more site local (x ∷ xs) ys = after_more site (after_one site local x) xs ys
+
+pub written_more : (plan : CheckedPlan) (here t : ℕ) (local : Local) (xs ys : List Input) →
+    written_for plan here t local (xs ++ ys) ≡ written_for plan here t local xs ++ written_for plan here t (after_all (site_of plan here t) local xs) ys
+written_more plan here t local [] ys = refl
+written_more plan here t local (x ∷ xs) ys =
+    ap (λ z. doing_text plan here t x (does x (site_of plan here t) local) ++ z) (written_more plan here t (after_one (site_of plan here t) local x) xs ys)
+    ∙ sym (append_assoc (doing_text plan here t x (does x (site_of plan here t) local)) (written_for plan here t (after_one (site_of plan here t) local x) xs) (written_for plan here t (after_all (site_of plan here t) local (x ∷ xs)) ys))
+
+pub own_more : (site : Site) (local : Local) (xs ys : List Input) → own_facts site local (xs ++ ys) ≡ own_facts site local xs ++ own_facts site (after_all site local xs) ys
+own_more site local [] ys = refl
+own_more site local (x ∷ xs) ys =
+    ap (λ z. option_to_list (does x site local).fact ++ z) (own_more site (does x site local).local xs ys)
+    ∙ sym (append_assoc (option_to_list (does x site local).fact) (own_facts site (does x site local).local xs) (own_facts site (after_all site local (x ∷ xs)) ys))
+
+facts_more : (plan : CheckedPlan) (here t : ℕ) (local : Local) (xs ys : List Input) →
+    facts_for plan here t local (xs ++ ys) ≡ facts_for plan here t local xs ++ facts_for plan here t (after_all (site_of plan here t) local xs) ys
+facts_more plan here t local xs ys =
+    ap (map (fact_of t)) (own_more (site_of plan here t) local xs ys)
+    ∙ map-append (fact_of t) (own_facts (site_of plan here t) local xs) (own_facts (site_of plan here t) (after_all (site_of plan here t) local xs) ys)
+
+-- ---- one input
+
+pub its_tenant : (t : ℕ) (fact : OwnFact) → tenant_of (fact_of t fact) ≡ t
+its_tenant t (Begun k op) = refl
+its_tenant t (Numbered k number) = refl
+its_tenant t (Kept file copy) = refl
+
+-- the fact is the tenant's
+pub fact_own : (old : Tables) (t : ℕ) (x : Input) (out : Output) (new : Tables) → AllStand old → t < length old.plan.rows → Acts old t (does x) out new → IfSome out.fact (λ fact. tenant_of fact < length old.plan.rows)
+fact_own old t x out new stand within acts =
+    let s : Stands old t = stand t within in
+    let g : Gives t (does x (site_of old.plan old.server t) s.local) out = acts.gives s.local s.agrees in
+    let P : Option Fact → Type 0 = λ o. IfSome o (λ fact. tenant_of fact < length old.plan.rows) in
+    subst P (sym g.fact) (own (does x (site_of old.plan old.server t) s.local).fact)
+  where
+    own : (o : Option OwnFact) → IfSome (option_map (fact_of t) o) (λ fact. tenant_of fact < length old.plan.rows)
+    own None = tt
+    own (Some fact) = subst (λ n. n < length old.plan.rows) (sym (its_tenant t fact)) within
+
+-- each letter is of a session of the tenant
+pub letters_have : (old : Tables) (t : ℕ) (x : Input) (out : Output) (new : Tables) → AllStand old → t < length old.plan.rows → IsCounted x → Acts old t (does x) out new → All (HasAddress old.plan) out.letters.items
+letters_have old t x out new stand within counted acts =
+    let s : Stands old t = stand t within in
+    let g : Gives t (does x (site_of old.plan old.server t) s.local) out = acts.gives s.local s.agrees in
+    let P : List Message → Type 0 = λ ms. All (HasAddress old.plan) ms in
+    subst P (sym g.letters) (counted_have old.plan t within (does x (site_of old.plan old.server t) s.local).letters (does_counted x (site_of old.plan old.server t) s.local counted))
+
+map_option : {A B : Type 0} (f : A → B) (o : Option A) → option_to_list (option_map f o) ≡ map f (option_to_list o)
+map_option f None = refl
+map_option f (Some x) = refl
+
+one_takes : (old : Tables) (t : ℕ) (x : Input) (out : Output) (new : Tables) → Acts old t (does x) out new → All (FitsFact old.plan) (option_to_list out.fact) →
+    TakesOf old t (x ∷ []) (option_to_list out.fact) (step_text old.plan old.server t (asked_in x) out.answer out.letters.items) new
+one_takes old t x out new acts fit = record {
+  plan = acts.leads.plan;
+  server = acts.leads.server;
+  own = acts.leads.own;
+  others = acts.leads.others;
+  gives = λ local agrees. (let doing : Doing = does x (site_of old.plan old.server t) local in
+      ap option_to_list (acts.gives local agrees).fact ∙ map_option (fact_of t) doing.fact ∙ ap (map (fact_of t)) (sym (append-nil (option_to_list doing.fact))));
+  tells = λ local agrees. (let doing : Doing = does x (site_of old.plan old.server t) local in
+      let g : Gives t doing out = acts.gives local agrees in
+      ap (λ z. step_text old.plan old.server t (asked_in x) z out.letters.items) g.answer
+      ∙ ap (λ z. step_text old.plan old.server t (asked_in x) doing.answer z) g.letters
+      ∙ sym (append-nil (doing_text old.plan old.server t x doing)));
+  fit = fit;
+}
+
+pub one_took : (old : Tables) (t : ℕ) (x : Input) (out : Output) (new : Tables) (f0 f1 t0 t1 : List ℕ) → Acts old t (does x) out new → All (FitsFact new.plan) (option_to_list out.fact) →
+    Appended new.plan (option_to_list out.fact) (step_text new.plan new.server t (asked_in x) out.answer out.letters.items) f0 f1 t0 t1 → TookOf old t (x ∷ []) f0 f1 t0 t1 new
+one_took old t x out new f0 f1 t0 t1 acts fit appended =
+    let P : CheckedPlan → ℕ → Type 0 = λ p s. All (FitsFact p) (option_to_list out.fact) × Appended p (option_to_list out.fact) (step_text p s t (asked_in x) out.answer out.letters.items) f0 f1 t0 t1 in
+    let h : P old.plan old.server = subst (λ p. P p old.server) acts.leads.plan (subst (λ s. P new.plan s) acts.leads.server (fit, appended)) in
+    record {
+      facts = option_to_list out.fact;
+      told = step_text old.plan old.server t (asked_in x) out.answer out.letters.items;
+      takes = one_takes old t x out new acts h.0;
+      appended = h.1;
+    }
+
+-- ---- no input, and more inputs, of one tenant
+
+pub none_took : (w : Tables) (t : ℕ) (f told : List ℕ) → TookOf w t [] f f told told w
+none_took w t f told = record {
+  facts = [];
+  told = [];
+  takes = record { plan = refl; server = refl; own = λ local agrees. agrees; others = λ u other local agrees. agrees; gives = λ local agrees. refl; tells = λ local agrees. refl; fit = All-nil (FitsFact w.plan) };
+  appended = appended_none w.plan f told;
+}
+
+-- what the second of two calls did, by the plan and the number that the first had
+record TakesThen (plan : CheckedPlan) (here : ℕ) (m : Tables) (t : ℕ) (ys : List Input) (b : List Fact) (y : List ℕ) (new : Tables) : Type 0 where
+  own : (local : Local) → Agrees m t local → Agrees new t (after_all (site_of plan here t) local ys)
+  gives : (local : Local) → Agrees m t local → b ≡ facts_for plan here t local ys
+  tells : (local : Local) → Agrees m t local → y ≡ written_for plan here t local ys
+  fit : All (FitsFact plan) b
+
+takes_then : (old m new : Tables) (t : ℕ) (ys : List Input) (b : List Fact) (y : List ℕ) → m.plan ≡ old.plan → m.server ≡ old.server → TakesOf m t ys b y new → TakesThen old.plan old.server m t ys b y new
+takes_then old m new t ys b y plan server q =
+    subst (λ p. TakesThen p old.server m t ys b y new) plan
+    (subst (λ h. TakesThen m.plan h m t ys b y new) server (record { own = q.own; gives = q.gives; tells = q.tells; fit = q.fit }))
+
+takes_more : (old m new : Tables) (t : ℕ) (xs ys : List Input) (a b : List Fact) (x y : List ℕ) → TakesOf old t xs a x m → TakesOf m t ys b y new → TakesOf old t (xs ++ ys) (a ++ b) (x ++ y) new
+takes_more old m new t xs ys a b x y p q =
+    let site : Site = site_of old.plan old.server t in
+    let h : TakesThen old.plan old.server m t ys b y new = takes_then old m new t ys b y p.plan p.server q in
+    record {
+      plan = q.plan ∙ p.plan;
+      server = q.server ∙ p.server;
+      own = λ local agrees. subst (Agrees new t) (sym (after_more site local xs ys)) (h.own (after_all site local xs) (p.own local agrees));
+      others = λ u other local agrees. q.others u other local (p.others u other local agrees);
+      gives = λ local agrees. ap (λ z. z ++ b) (p.gives local agrees) ∙ ap (λ z. facts_for old.plan old.server t local xs ++ z) (h.gives (after_all site local xs) (p.own local agrees)) ∙ sym (facts_more old.plan old.server t local xs ys);
+      tells = λ local agrees. ap (λ z. z ++ y) (p.tells local agrees) ∙ ap (λ z. written_for old.plan old.server t local xs ++ z) (h.tells (after_all site local xs) (p.own local agrees)) ∙ sym (written_more old.plan old.server t local xs ys);
+      fit = All-append (FitsFact old.plan) a b p.fit h.fit;
+    }
+
+pub took_more : (old m new : Tables) (t : ℕ) (xs ys : List Input) (f0 f1 f2 t0 t1 t2 : List ℕ) → TookOf old t xs f0 f1 t0 t1 m → TookOf m t ys f1 f2 t1 t2 new → TookOf old t (xs ++ ys) f0 f2 t0 t2 new
+took_more old m new t xs ys f0 f1 f2 t0 t1 t2 p q = record {
+  facts = p.facts ++ q.facts;
+  told = p.told ++ q.told;
+  takes = takes_more old m new t xs ys p.facts q.facts p.told q.told p.takes q.takes;
+  appended = appended_more old.plan p.facts q.facts p.told q.told f0 f1 f2 t0 t1 t2 p.appended (subst (λ z. Appended z q.facts q.told f1 f2 t1 t2) p.takes.plan q.appended);
+}
+
+-- ---- inputs of all tenants
+
+-- these inputs, and those of the tenant at place t in the place of its own
+abbrev pub with_inputs : (ℕ → List Input) → ℕ → List Input → ℕ → List Input
+with_inputs inputs t xs u = if u == t then xs else inputs u
+
+with_other : (inputs : ℕ → List Input) (t : ℕ) (xs : List Input) (u : ℕ) → u ≢ t → with_inputs inputs t xs u ≡ inputs u
+with_other inputs t xs u other = rw (ne_eqb u t other) refl
+
+with_same : (inputs : ℕ → List Input) (t : ℕ) (xs : List Input) → with_inputs inputs t xs t ≡ xs
+with_same inputs t xs = rw (eq-eqb t t refl) refl
+
+-- nothing from a place on
+none_from : {A : Type 0} (f : ℕ → List A) (a n : ℕ) → ((u : ℕ) → a ≤ u → f u ≡ []) → flat_map f (range_with_len a n) ≡ []
+none_from f a zero none = refl
+none_from f a (suc n) none = ap (λ z. z ++ flat_map f (range_with_len (a + 1) n)) (none a (omega arith)) ∙ none_from f (a + 1) n (λ u above. none u (omega arith))
+
+-- where there is nothing from place t on, one more list of it comes last
+last_place : {A : Type 0} (f g : ℕ → List A) (t a n : ℕ) → a ≤ t → t < a + n → ((u : ℕ) → t ≤ u → f u ≡ []) → ((u : ℕ) → u ≢ t → g u ≡ f u) →
+    flat_map g (range_with_len a n) ≡ flat_map f (range_with_len a n) ++ g t
+last_place f g t a zero low high none same = absurd (omega arith)
+last_place {A} f g t a (suc n) low high none same = elim (cases_eq a t) [
+  | inl here ↦ (
+      let all : (u : ℕ) → a + 1 ≤ u → g u ≡ [] = λ u above. same u (λ e. omega arith) ∙ none u (omega arith) in
+      let left : flat_map g (range_with_len a (suc n)) ≡ g a = ap (λ z. g a ++ z) (none_from g (a + 1) n all) ∙ append-nil (g a) in
+      let right : flat_map f (range_with_len a (suc n)) ≡ [] = none_from f a (suc n) (λ u above. none u (omega arith)) in
+      left ∙ ap g here ∙ ap (λ z. z ++ g t) (sym right))
+  | inr other ↦ (
+      ap (λ z. z ++ flat_map g (range_with_len (a + 1) n)) (same a other)
+      ∙ ap (λ z. f a ++ z) (last_place f g t (a + 1) n (omega arith) (omega arith) none same)
+      ∙ sym (append_assoc (f a) (flat_map f (range_with_len (a + 1) n)) (g t)))
+]
+
+pub none_took_all : (w : Tables) (f told : List ℕ) → TookAll w (λ t. []) f f told told w
+none_took_all w f told = record {
+  facts = [];
+  told = [];
+  takes = record {
+    plan = refl;
+    server = refl;
+    parts = λ t within local agrees. agrees;
+    gives = λ parts agree. sym (none_from (λ (t : ℕ). let z : List Fact = [] in z) 0 (length w.plan.rows) (λ u above. refl));
+    tells = λ parts agree. sym (none_from (λ (t : ℕ). let z : List ℕ = [] in z) 0 (length w.plan.rows) (λ u above. refl));
+    fit = All-nil (FitsFact w.plan);
+  };
+  appended = appended_none w.plan f told;
+}
+
+-- inputs of the tenant at place t, where there were none from there on
+takes_next : (old m new : Tables) (inputs : ℕ → List Input) (t : ℕ) (xs : List Input) (a b : List Fact) (x y : List ℕ) → t < length old.plan.rows → ((u : ℕ) → t ≤ u → inputs u ≡ []) →
+    TakesAll old inputs a x m → TakesOf m t xs b y new → TakesAll old (with_inputs inputs t xs) (a ++ b) (x ++ y) new
+takes_next old m new inputs t xs a b x y within none p q =
+    let h : TakesThen old.plan old.server m t xs b y new = takes_then old m new t xs b y p.plan p.server q in
+    let still : (local : Local) → Agrees old t local → Agrees m t local = λ local agrees. subst (λ z. Agrees m t (after_all (site_of old.plan old.server t) local z)) (none t (omega arith)) (p.parts t within local agrees) in
+    record {
+      plan = q.plan ∙ p.plan;
+      server = q.server ∙ p.server;
+      parts = λ u inside local agrees. elim (cases_eq u t) [
+        | inl same ↦ (
+            let at : Agrees old t local = subst (λ z. Agrees old z local) same agrees in
+            let to : Agrees new t (after_all (site_of old.plan old.server t) local (with_inputs inputs t xs t)) = subst (λ z. Agrees new t (after_all (site_of old.plan old.server t) local z)) (sym (with_same inputs t xs)) (h.own local (still local at)) in
+            subst (λ z. Agrees new z (after_all (site_of old.plan old.server z) local (with_inputs inputs t xs z))) (sym same) to)
+        | inr other ↦ (subst (λ z. Agrees new u (after_all (site_of old.plan old.server u) local z)) (sym (with_other inputs t xs u other)) (q.others u other _ (p.parts u inside local agrees)))
+      ];
+      gives = λ parts agree.
+          ap (λ z. z ++ b) (p.gives parts agree)
+          ∙ ap (λ z. facts_by old.plan old.server parts inputs ++ z) (h.gives (parts t) (still (parts t) (agree t within)) ∙ ap (facts_for old.plan old.server t (parts t)) (sym (with_same inputs t xs)))
+          ∙ sym (last_place (λ u. facts_for old.plan old.server u (parts u) (inputs u)) (λ u. facts_for old.plan old.server u (parts u) (with_inputs inputs t xs u)) t 0 (length old.plan.rows) (omega arith) (omega arith)
+          (λ u above. ap (facts_for old.plan old.server u (parts u)) (none u above)) (λ u other. ap (facts_for old.plan old.server u (parts u)) (with_other inputs t xs u other)));
+      tells = λ parts agree.
+          ap (λ z. z ++ y) (p.tells parts agree)
+          ∙ ap (λ z. written_by old.plan old.server parts inputs ++ z) (h.tells (parts t) (still (parts t) (agree t within)) ∙ ap (written_for old.plan old.server t (parts t)) (sym (with_same inputs t xs)))
+          ∙ sym (last_place (λ u. written_for old.plan old.server u (parts u) (inputs u)) (λ u. written_for old.plan old.server u (parts u) (with_inputs inputs t xs u)) t 0 (length old.plan.rows) (omega arith) (omega arith)
+          (λ u above. ap (written_for old.plan old.server u (parts u)) (none u above)) (λ u other. ap (written_for old.plan old.server u (parts u)) (with_other inputs t xs u other)));
+      fit = All-append (FitsFact old.plan) a b p.fit h.fit;
+    }
+
+pub took_next : (old m new : Tables) (inputs : ℕ → List Input) (t : ℕ) (xs : List Input) (f0 f1 f2 t0 t1 t2 : List ℕ) → t < length old.plan.rows → ((u : ℕ) → t ≤ u → inputs u ≡ []) →
+    TookAll old inputs f0 f1 t0 t1 m → TookOf m t xs f1 f2 t1 t2 new → TookAll old (with_inputs inputs t xs) f0 f2 t0 t2 new
+took_next old m new inputs t xs f0 f1 f2 t0 t1 t2 within none p q = record {
+  facts = p.facts ++ q.facts;
+  told = p.told ++ q.told;
+  takes = takes_next old m new inputs t xs p.facts q.facts p.told q.told within none p.takes q.takes;
+  appended = appended_more old.plan p.facts q.facts p.told q.told f0 f1 f2 t0 t1 t2 p.appended (subst (λ z. Appended z q.facts q.told f1 f2 t1 t2) p.takes.plan q.appended);
+}
+
+-- inputs of one tenant alone
+pub took_alone : (old new : Tables) (t : ℕ) (xs : List Input) (f0 f1 t0 t1 : List ℕ) → t < length old.plan.rows → TookOf old t xs f0 f1 t0 t1 new → TookAll old (with_inputs (λ u. []) t xs) f0 f1 t0 t1 new
+took_alone old new t xs f0 f1 t0 t1 within q = took_next old old new (λ u. []) t xs f0 f0 f1 t0 t0 t1 within (λ u above. refl) (none_took_all old f0 t0) q
+
+-- the same inputs of each tenant
+same_places : {A : Type 0} (f g : ℕ → List A) (a n : ℕ) → ((u : ℕ) → u < a + n → f u ≡ g u) → flat_map f (range_with_len a n) ≡ flat_map g (range_with_len a n)
+same_places f g a zero same = refl
+same_places f g a (suc n) same =
+    ap (λ z. z ++ flat_map f (range_with_len (a + 1) n)) (same a (omega arith)) ∙ ap (λ z. g a ++ z) (same_places f g (a + 1) n (λ u below. same u (omega arith)))
+
+pub took_same : (old new : Tables) (inputs others : ℕ → List Input) (f0 f1 t0 t1 : List ℕ) → ((u : ℕ) → u < length old.plan.rows → inputs u ≡ others u) → TookAll old inputs f0 f1 t0 t1 new → TookAll old others f0 f1 t0 t1 new
+took_same old new inputs others f0 f1 t0 t1 same p = record {
+  facts = p.facts;
+  told = p.told;
+  takes = record {
+    plan = p.takes.plan;
+    server = p.takes.server;
+    parts = λ u inside local agrees. subst (λ z. Agrees new u (after_all (site_of old.plan old.server u) local z)) (same u inside) (p.takes.parts u inside local agrees);
+    gives = λ parts agree. p.takes.gives parts agree
+        ∙ same_places (λ u. facts_for old.plan old.server u (parts u) (inputs u)) (λ u. facts_for old.plan old.server u (parts u) (others u)) 0 (length old.plan.rows) (λ u below. ap (facts_for old.plan old.server u (parts u)) (same u (omega arith)));
+    tells = λ parts agree. p.takes.tells parts agree
+        ∙ same_places (λ u. written_for old.plan old.server u (parts u) (inputs u)) (λ u. written_for old.plan old.server u (parts u) (others u)) 0 (length old.plan.rows) (λ u below. ap (written_for old.plan old.server u (parts u)) (same u (omega arith)));
+    fit = p.takes.fit;
+  };
+  appended = p.appended;
+}
+
+-- ---- a tick of the node
+
+-- the tenants below this place were given their ticks
+abbrev pub ticks_below : CheckedPlan → (n t : ℕ) → List Input
+ticks_below plan n t = if nat_lt t n then ticks_of plan t else []
+
+pub below-none : (plan : CheckedPlan) (n t : ℕ) → n ≤ t → ticks_below plan n t ≡ []
+below-none plan n t above = elim (cases_Bool (nat_lt t n)) [
+  | inl below ↦ (absurd (let h : t < n = ltb-true t n below in omega arith))
+  | inr is ↦ (rw is refl)
+]
+
+pub below-more : (plan : CheckedPlan) (n t : ℕ) → with_inputs (ticks_below plan n) n (ticks_of plan n) t ≡ ticks_below plan (n + 1) t
+below-more plan n t = elim (cases_eq t n) [
+  | inl same ↦ (let one : nat_lt t (n + 1) ≡ true = lt-ltb t (n + 1) (omega arith) in rw (eq-eqb t n same, one) (ap (ticks_of plan) (sym same)))
+  | inr other ↦ (elim (cases_Bool (nat_lt t n)) [
+    | inl below ↦ (let h : t < n = ltb-true t n below in let one : nat_lt t (n + 1) ≡ true = lt-ltb t (n + 1) (omega arith) in rw (ne_eqb t n other, below, one) refl)
+    | inr above ↦ (elim (cases_Bool (nat_lt t (n + 1))) [
+      | inl more ↦ (let h : t < n + 1 = ltb-true t (n + 1) more in let k : t < n = lt_of_ne t n h other in absurd (let e : true ≡ false = sym (lt-ltb t n k) ∙ above in cc))
+      | inr not ↦ (rw (ne_eqb t n other, above, not) refl)
+    ])
+  ])
+]
+  where
+    lt_of_ne : (t n : ℕ) → t < n + 1 → t ≢ n → t < n
+    lt_of_ne t n h other = elim (cases_eq t n) [
+      | inl same ↦ (absurd (other same))
+      | inr not ↦ (omega arith)
+    ]
+
+pub below-all : (plan : CheckedPlan) (n t : ℕ) → t < n → ticks_below plan n t ≡ ticks_of plan t
+below-all plan n t below = rw (lt-ltb t n below) refl
+
+-- ---- the step of a machine that has the tables
+
+lines_stand : (plan : CheckedPlan) → IsPlan plan → (facts : List Fact) → All (FitsFact plan) facts → are_batch_lines (fact_lines plan facts) ≡ true
+lines_stand plan is [] fit = refl
+lines_stand plan is (fact ∷ facts) fit =
+    rw (facts_stand_in_batches plan fact is (fit 0 fact (omega arith)), lines_stand plan is facts (λ i d below. fit (suc i) d (omega arith))) refl
+
+pub takes_line : {M : Type 0} (tables : M → Tables) → (old new : M) (line f0 f1 t0 t1 : List ℕ) → IsPlan (tables old).plan → AllStand (tables old) →
+    TookAll (tables old) (line_inputs (tables old).plan (tables old).server line) f0 f1 t0 t1 (tables new) →
+    Takes (λ a l lines told b. StepsTo (tables a) l lines told (tables b)) old line f0 f1 t0 t1 new
+takes_line tables old new line f0 f1 t0 t1 is stand took = record {
+  lines = fact_lines (tables old).plan took.facts;
+  text = took.told;
+  step = record { sound = is; stand = stand; facts = took.facts; takes = took.takes; lines_are = refl };
+  facts = took.appended.facts_are;
+  told = took.appended.told_is;
+  opened = lines_stand (tables old).plan is took.facts took.takes.fit;
+}
+
+-- ---- the facts that a start needs
+
+pub all_of_plan : (w : Tables) (facts : List Fact) → AllOfPlan w facts → All (λ fact. tenant_of fact < length w.plan.rows) facts
+all_of_plan w [] all i d below = absurd (omega arith)
+all_of_plan w (fact ∷ facts) all zero d below = all.0
+all_of_plan w (fact ∷ facts) all (suc i) d below = all_of_plan w facts all.1 i d (omega arith)

@@ -1,0 +1,7 @@
+pub mod Inputs
+pub mod Texts
+pub mod Steps
+pub mod Recalls
+pub mod Resting
+pub mod Laws
+pub mod AllNodes

@@ -1,0 +1,76 @@
+-- What a line does to a node.
+use Rattle.std.specs.Prelude.{◌≡◌, ◌≢◌, ℕ, ◌<◌, ◌≤◌, List, ◌++◌, length, map, All}
+use Rattle.gq_tag.specs.declared.Message.{Message}
+use Rattle.gq_desk.specs.CheckedPlan.{CheckedPlan}
+use Rattle.gq_text.specs.Canonical.{IsPlan}
+use Rattle.gq_journal.specs.Batches.{lines_text}
+use Rattle.gq_node.specs.declared.output.Fact.{Fact}
+use Rattle.gq_node.specs.Inputs.{Input, after_all}
+use Rattle.gq_node.specs.Local.{Local}
+use Rattle.gq_node.specs.Sites.{site_of}
+use Rattle.gq_node.specs.Tables.{Tables, Agrees, AllStand}
+use Rattle.gq_facts.specs.Facts.{fact_line}
+use Rattle.gq_facts.specs.Laws.{FitsFact}
+use Rattle.gq_parts.specs.Inputs.{line_inputs}
+use Rattle.gq_parts.specs.Texts.{written_for, facts_for, written_by, facts_by}
+
+-- the tables have these parts of the node for the tenants
+abbrev pub AllAgree : Tables → (ℕ → Local) → Type 0
+AllAgree w parts = (t : ℕ) → t < length w.plan.rows → Agrees w t (parts t)
+
+-- the lines of the facts
+abbrev pub fact_lines : CheckedPlan → List Fact → List (List ℕ)
+fact_lines plan facts = map (fact_line plan) facts
+
+-- The node takes these inputs of its tenants. Each tenant's part goes on by its own inputs, and by nothing else; and whatever parts of
+-- the node the tables have, the facts are those that the parts give, and what is told is what is written for them.
+pub record TakesAll (old : Tables) (inputs : ℕ → List Input) (facts : List Fact) (told : List ℕ) (new : Tables) : Type 0 where
+  pub plan : new.plan ≡ old.plan
+  pub server : new.server ≡ old.server
+  pub parts : (t : ℕ) → t < length old.plan.rows → (local : Local) → Agrees old t local → Agrees new t (after_all (site_of old.plan old.server t) local (inputs t))
+  pub gives : (parts : ℕ → Local) → AllAgree old parts → facts ≡ facts_by old.plan old.server parts inputs
+  pub tells : (parts : ℕ → Local) → AllAgree old parts → told ≡ written_by old.plan old.server parts inputs
+  pub fit : All (FitsFact old.plan) facts
+
+-- The step of a node, whose tables are these, on a line without its newline: the lines of its facts, what is told, and the tables
+-- after it. The plan is sound, and the tables have some part of the node for each tenant.
+pub record StepsTo (old : Tables) (line : List ℕ) (lines : List (List ℕ)) (told : List ℕ) (new : Tables) : Type 0 where
+  pub sound : IsPlan old.plan
+  pub stand : AllStand old
+  pub facts : List Fact
+  pub takes : TakesAll old (line_inputs old.plan old.server line) facts told new
+  pub lines_are : lines ≡ fact_lines old.plan facts
+
+-- ---- as the code goes
+
+-- the letter is of a session of a tenant of the plan
+abbrev pub HasAddress : CheckedPlan → Message → Type 0
+HasAddress plan m = (m.tenant < length plan.rows) × (1 ≤ m.session)
+
+-- the lines of the facts were appended, and what was told
+pub record Appended (plan : CheckedPlan) (facts : List Fact) (told facts_before facts_after told_before told_after : List ℕ) : Type 0 where
+  pub facts_are : facts_after ≡ facts_before ++ lines_text (fact_lines plan facts)
+  pub told_is : told_after ≡ told_before ++ told
+
+-- the node takes these inputs of the tenant at place t; the parts of all others stay
+pub record TakesOf (old : Tables) (t : ℕ) (inputs : List Input) (facts : List Fact) (told : List ℕ) (new : Tables) : Type 0 where
+  pub plan : new.plan ≡ old.plan
+  pub server : new.server ≡ old.server
+  pub own : (local : Local) → Agrees old t local → Agrees new t (after_all (site_of old.plan old.server t) local inputs)
+  pub others : (u : ℕ) → u ≢ t → (local : Local) → Agrees old u local → Agrees new u local
+  pub gives : (local : Local) → Agrees old t local → facts ≡ facts_for old.plan old.server t local inputs
+  pub tells : (local : Local) → Agrees old t local → told ≡ written_for old.plan old.server t local inputs
+  pub fit : All (FitsFact old.plan) facts
+
+-- it took them, and appended what that gave: the inputs of one tenant, and those of all
+pub record TookOf (old : Tables) (t : ℕ) (inputs : List Input) (facts_before facts_after told_before told_after : List ℕ) (new : Tables) : Type 0 where
+  pub facts : List Fact
+  pub told : List ℕ
+  pub takes : TakesOf old t inputs facts told new
+  pub appended : Appended old.plan facts told facts_before facts_after told_before told_after
+
+pub record TookAll (old : Tables) (inputs : ℕ → List Input) (facts_before facts_after told_before told_after : List ℕ) (new : Tables) : Type 0 where
+  pub facts : List Fact
+  pub told : List ℕ
+  pub takes : TakesAll old inputs facts told new
+  pub appended : Appended old.plan facts told facts_before facts_after told_before told_after

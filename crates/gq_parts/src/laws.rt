@@ -1,0 +1,28 @@
+//! What a run of a node comes to, and one of all nodes of a plan.
+
+ghost use Rattle.gq_parts.specs.AllNodes.{AllByLaw};
+ghost use Rattle.gq_parts.specs.Laws.{AllFactsByParts, AllRunsByParts, AllStartsByParts, AllTenantsApart, AllTextsByParts};
+
+/// What a node writes for a tenant is what the tenant's part of it writes, line by line, of the requests, letters and ticks that its
+/// lines bring to this tenant. So where two lists of lines bring a tenant the same, the same is written for it, byte for byte,
+/// whatever they bring to others.
+pub fn tenants_apart()
+    ensures runs { AllRunsByParts }
+    ensures texts { AllTextsByParts }
+    ensures apart { AllTenantsApart }
+{}
+
+/// So it is with starts: what a start makes of a tenant's part is what it makes of this tenant's facts, and these are what the part
+/// gave by its own inputs.
+pub fn starts_apart()
+    ensures starts { AllStartsByParts }
+    ensures facts { AllFactsByParts }
+{}
+
+/// Whatever lines come to the nodes of a plan, and whenever one starts again by the facts that it gave: of each tenant each node has
+/// what the law of nodes (`gq_node::laws::nodes`) says of this tenant's requests, letters, ticks and starts, and what is told is what
+/// is written for these parts. And where each letter that came for the tenant was written before, all this is a run of the law of
+/// clusters.
+pub fn all_nodes()
+    ensures { AllByLaw }
+{}

@@ -1,0 +1,2 @@
+pub mod ByParts
+pub mod NewNodes

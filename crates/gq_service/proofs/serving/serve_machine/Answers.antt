@@ -1,0 +1,43 @@
+-- The loop's promise, carried up.
+use Rattle.std.proofs.Common.{◌≡◌, ◌∙◌, ◌++◌, ℕ, List, subst}
+use Rattle.gq_journal.specs.Batches.{whole_lines}
+use Rattle.gq_keeper.specs.Durable.{Durable}
+use Rattle.gq_keeper.specs.Lines.{short_lines}
+use Rattle.gq_machine.specs.declared.machine.NodeMachine.{NodeMachine}
+use Rattle.gq_machine.specs.Machines.{MachineSteps, MachineRecalls, MachineIsBlank, MachineRests}
+use Rattle.gq_setup.specs.Texts.{node_text}
+use Rattle.gq_wire.specs.Texts.{first_text}
+use Rattle.gq_service.specs.Serving.{journal_found}
+use Rattle.gq_service.proofs.serving.serve_machine.Goals as goal
+
+pub serve-requires-clause-may : goal.serve-requires-clause-may
+serve-requires-clause-may g c = λ last lines synced shown d.
+    let first : NodeMachine = c.begin_or_go_on.new.machine in
+    let text : c.text.result.now ≡ node_text c.args.node.now.number c.args.node.now.plan.setup = c.text.ensures ∙ c.args.node.now.text in
+    c.requires.durable synced shown (record {
+      setup = c.args.node.now.plan.setup;
+      journal = journal_found c.args.is_new (g.D.Log.seen c.args.disk.now);
+      lines = lines;
+      serves = record {
+        first = first;
+        last = last;
+        started = c.in_ok-number.ensures.started;
+        durable = subst (λ (t : List ℕ). Durable MachineSteps MachineRecalls MachineIsBlank MachineRests first last (whole_lines t) lines (g.O.Output.shown c.args.out.now ++ first_text) synced shown) text d;
+      };
+    })
+
+pub returns-clause-served : goal.returns-clause-served
+returns-clause-served g c =
+    let first : NodeMachine = c.begin_or_go_on.new.machine in
+    let text : c.text.result.now ≡ node_text c.args.node.now.number c.args.node.now.plan.setup = c.text.ensures ∙ c.args.node.now.text in
+    let d = c.in_ok-serve.ensures.durable in
+    record {
+      bytes = d.0;
+      all = d.1;
+      serves = record {
+        first = first;
+        last = c.serve.new.machine;
+        started = c.in_ok-number.ensures.started;
+        durable = subst (λ (t : List ℕ). Durable MachineSteps MachineRecalls MachineIsBlank MachineRests first c.serve.new.machine (whole_lines t) (short_lines d.0) (g.O.Output.shown c.args.out.now ++ first_text) (g.D.Log.synced c.serve.new.disk) (g.O.Output.shown c.serve.new.out)) text d.2;
+      };
+    }

@@ -1,0 +1,97 @@
+-- What a node's process writes, by the journal that it found and the lines that came.
+use Rattle.std.specs.Prelude.{◌≡◌, ◌⊎◌, ◌≤◌, ℕ, ◌==◌, List, [], ◌∷◌, Bool, true, false, Option, IfSome, if◌then◌else◌}
+use Rattle.gq_desk.specs.declared.volumes.VolumeRow.{VolumeRow}
+use Rattle.gq_journal.specs.Batches.{Line, whole_lines, batches_of}
+use Rattle.gq_keeper.specs.Durable.{Durable}
+use Rattle.gq_keeper.specs.Lines.{short_lines}
+use Rattle.gq_keeper.specs.Plans.{is_of}
+use Rattle.gq_keeper.specs.Starting.{RecallsAll, IsDamaged, facts_read}
+use Rattle.gq_node.specs.Tables.{Tables}
+use Rattle.gq_parts.specs.Resting.{IsNewNode}
+use Rattle.gq_machine.specs.declared.machine.NodeMachine.{NodeMachine}
+use Rattle.gq_machine.specs.Machines.{tables_of, MachineSteps, MachineRecalls, MachineIsBlank, MachineRests}
+use Rattle.gq_setup.specs.declared.openings.Opening.{Opening}
+use Rattle.gq_setup.specs.Setups.{Setup, setup_of, volume_of}
+use Rattle.gq_setup.specs.GoingOn.{goes_on_from_read}
+use Rattle.gq_setup.specs.Texts.{node_text, behind_first}
+use Rattle.gq_service.specs.declared.fault.NodeFault.{NodeFault}
+use Rattle.gq_service.specs.declared.fault.NodeFault.TheVariants.{NoServer, Damaged, Another}
+
+-- ---- a start
+
+-- the volumes that are opened for the tenant at place t, in order
+abbrev pub volumes_in : ℕ → List Opening → List VolumeRow
+volumes_in t [] = []
+volumes_in t (opening ∷ openings) = if opening.tenant == t then volume_of opening ∷ volumes_in t openings else volumes_in t openings
+
+-- the node of this number was never started, and has the volumes of the setup open
+abbrev pub IsNewFor : Setup → (number : ℕ) → Tables → Type 0
+IsNewFor setup number w = IsNewNode setup.plan number (λ t. volumes_in t setup.openings) w
+
+-- the node started from this journal: one that was never started read its facts
+pub record IsStarted (setup : Setup) (number : ℕ) (journal : List ℕ) (m : NodeMachine) : Type 0 where
+  pub new : NodeMachine
+  pub is_new : IsNewFor setup number (tables_of new)
+  pub reads : RecallsAll MachineRecalls new (facts_read journal) m
+
+-- the journal that is found: none, where it is to be begun
+abbrev pub journal_found : (is_new : Bool) → List ℕ → List ℕ
+journal_found true seen = []
+journal_found false seen = seen
+
+-- ---- what it writes
+
+-- From this journal a node started, and its steps took these lines. What is shown behind `base` is what they told; and a start from
+-- what is synced reads the node that they left, the operations of its sessions gone.
+pub record Serves (setup : Setup) (number : ℕ) (journal : List ℕ) (lines : List Line) (base synced shown : List ℕ) : Type 0 where
+  pub first : NodeMachine
+  pub last : NodeMachine
+  pub started : IsStarted setup number journal first
+  pub durable : Durable MachineSteps MachineRecalls MachineIsBlank MachineRests first last (whole_lines (node_text number setup)) lines base synced shown
+
+-- The same of the node of this number by some plan and journal: whatever was shown is told by steps whose facts are synced.
+pub record IsDurable (number : ℕ) (base synced shown : List ℕ) : Type 0 where
+  pub setup : Setup
+  pub journal : List ℕ
+  pub lines : List Line
+  pub serves : Serves setup number journal lines base synced shown
+
+-- what comes of an input, of which this is known: all lines of it are taken
+pub record ServesInput (setup : Setup) (number : ℕ) (journal : List ℕ) (input : Option (List ℕ)) (base synced shown : List ℕ) : Type 0 where
+  pub bytes : List ℕ
+  pub all : IfSome input (λ known. known ≡ bytes)
+  pub serves : Serves setup number journal (short_lines bytes) base synced shown
+
+-- the same, by some plan and journal
+pub record ServesSomehow (number : ℕ) (input : Option (List ℕ)) (base shown : List ℕ) : Type 0 where
+  pub setup : Setup
+  pub journal : List ℕ
+  pub synced : List ℕ
+  pub serves : ServesInput setup number journal input base synced shown
+
+-- ---- faults
+
+-- where it is told that the grid has so many servers, there is none of this number
+abbrev pub TellsNoServer : (number servers : ℕ) → NodeFault → Type 0
+TellsNoServer number servers (NoServer told) = (told ≡ servers) × (servers ≤ number)
+TellsNoServer number servers _ = Unit {0}
+
+-- whether the journal is of the node of this number, and of a plan from which this setup goes on
+abbrev pub is_its_journal : Setup → (number : ℕ) → List ℕ → Bool
+is_its_journal setup number journal = is_of (λ last. goes_on_from_read (setup_of (behind_first last)) setup) (node_text number setup) (batches_of journal)
+
+-- where damage is told, the journal is damaged at that place
+abbrev pub TellsDamage : (journal : List ℕ) → NodeFault → Type 0
+TellsDamage journal (Damaged at) = IsDamaged journal at
+TellsDamage journal _ = Unit {0}
+
+-- where it is told that the journal is of another node or plan, it is, or one of its lines says no fact of this one
+abbrev pub TellsAnother : Setup → (number : ℕ) → (journal : List ℕ) → (strange : Bool) → NodeFault → Type 0
+TellsAnother setup number journal strange Another = (is_its_journal setup number journal ≡ false) ⊎ (strange ≡ true)
+TellsAnother setup number journal strange _ = Unit {0}
+
+-- these two leave the journal as it was
+abbrev pub LeavesJournal : (strange : Bool) → (same : Type 0) → NodeFault → Type 0
+LeavesJournal strange same (Damaged at) = same
+LeavesJournal false same Another = same
+LeavesJournal strange same _ = Unit {0}

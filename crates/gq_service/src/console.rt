@@ -1,0 +1,65 @@
+//! The standard streams of a node's process.
+
+use crate::fault::NodeFault;
+use std::io::Eprint;
+use std::os::fd::AsFd;
+
+/// The standard streams of a node's process, and who watches the last of them.
+pub trait Console {
+    /// Whether all three are open. A file that is opened while one is closed would get its number, and what is written to the stream
+    /// with it: so this is asked before any file is opened. A closed input is a fault of reading, another a fault of writing.
+    fn check(&self) -> Result<(), NodeFault>;
+
+    /// A wrong end of the journal was cut off at this byte.
+    fn is_cut(&self, at: usize);
+
+    /// The node takes lines: it is the server of this number of the grid, and so many facts were read.
+    fn is_ready(&self, number: u8, rows: usize, cols: usize, facts: u64);
+}
+
+/// The standard streams themselves, of a node whose journal has this path.
+#[derive(Drop)]
+pub struct Standard<'x, I: AsFd + Drop, O: AsFd + Drop, E: AsFd + Eprint + Drop> {
+    input: I,
+    output: O,
+    errors: E,
+    journal: &'x str,
+}
+
+// Whether the system knows the stream.
+fn is_open(stream: &impl AsFd) -> bool {
+    stream.as_fd().try_clone_to_owned().is_ok()
+}
+
+impl<'x, I: AsFd + Drop, O: AsFd + Drop, E: AsFd + Eprint + Drop> Standard<'x, I, O, E> {
+    /// These streams, which may be closed.
+    pub fn new(input: I, output: O, errors: E, journal: &'x str) -> Standard<'x, I, O, E> {
+        Standard {
+            input,
+            output,
+            errors,
+            journal,
+        }
+    }
+}
+
+impl<I: AsFd + Drop, O: AsFd + Drop, E: AsFd + Eprint + Drop> Console for Standard<'_, I, O, E> {
+    fn check(&self) -> Result<(), NodeFault> {
+        if !is_open(&self.input) {
+            return Err(NodeFault::Read);
+        }
+        if !is_open(&self.output) || !is_open(&self.errors) {
+            return Err(NodeFault::Write);
+        }
+        Ok(())
+    }
+
+    fn is_cut(&self, at: usize) {
+        let journal = self.journal;
+        let _ = eprintln!(self.errors; "gridfs: {journal}: cut at byte {at}");
+    }
+
+    fn is_ready(&self, number: u8, rows: usize, cols: usize, facts: u64) {
+        let _ = eprintln!(self.errors; "gridfs: node {number} of {rows} by {cols}: {facts} facts");
+    }
+}

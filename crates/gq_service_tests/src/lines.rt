@@ -1,0 +1,282 @@
+//! A grid of one server, line by line.
+
+use gq_desk::{Name, Plan, TenantRow};
+use gq_grid::Grid;
+use gq_keeper::{Lasting, Machine};
+use gq_machine::NodeMachine;
+use gq_node::Node;
+use std::alloc::Global;
+use std::process::Abort;
+use std::test::Fail;
+
+fn row(rt: &impl Abort, name: &[u8]) -> TenantRow {
+    TenantRow {
+        name: Name::new(name).expect(rt, "a name"),
+        share: 8,
+        sessions: 2,
+        steps: 10,
+    }
+}
+
+fn machine(rt: &impl Abort, alloc: Global) -> NodeMachine {
+    let grid = Grid::new(1, 1).expect(rt, "a grid");
+    let rows = [row(rt, b"ann"), row(rt, b"bob")];
+    let plan = Plan::check(alloc, grid, 16, &rows).expect(rt, "a plan");
+    let node = Node::new(alloc, plan, 0).expect(rt, "memory");
+    let node = node.open(0, 2, 1).expect(rt, "a volume");
+    NodeMachine::new(alloc, node)
+}
+
+// The node takes the line, gives the lines of these facts and tells this.
+fn step(
+    rt: &impl Abort,
+    alloc: Global,
+    m: &mut NodeMachine,
+    line: &[u8],
+    kept: &[u8],
+    said: &[u8],
+) {
+    let mut facts = Vec::new(alloc);
+    let mut told = Vec::new(alloc);
+    assert!(rt; m.take(line, &mut facts, &mut told).is_ok());
+    assert_eq!(rt; facts.as_slice(), kept);
+    assert_eq!(rt; told.as_slice(), said);
+}
+
+#[test]
+fn a_write_line_by_line(rt: HostRuntime) -> Result<(), Fail> {
+    let alloc = rt.alloc();
+    let mut m = machine(&rt, alloc);
+    let m = &mut m;
+    step(
+        &rt,
+        alloc,
+        m,
+        b"0 ann write 1 1 0 0 aB",
+        b"began ann 1 1\n",
+        b"0 0 ann 1 1 1 0 0 ask\n",
+    );
+    step(&rt, alloc, m, b"0 ann write 1 1 0 0 aB", b"", b"");
+    step(
+        &rt,
+        alloc,
+        m,
+        b"0 ann write 1 2 0 0 ab",
+        b"",
+        b"ann 0 refused busy 1 2 1\n",
+    );
+    step(
+        &rt,
+        alloc,
+        m,
+        b"0 0 ann 1 1 1 0 0 ask",
+        b"",
+        b"0 0 ann 1 1 1 0 0 copy 0 0 -\n",
+    );
+    step(
+        &rt,
+        alloc,
+        m,
+        b"0 0 ann 1 1 1 0 0 copy 0 0 -",
+        b"numbered ann 1 1\n",
+        b"0 0 ann 1 1 2 0 0 store 1 1 ab\n",
+    );
+    step(&rt, alloc, m, b"0 0 tick", b"", b"");
+    step(
+        &rt,
+        alloc,
+        m,
+        b"0 0 tick",
+        b"",
+        b"0 0 ann 1 1 2 0 0 store 1 1 ab\n",
+    );
+    step(
+        &rt,
+        alloc,
+        m,
+        b"0 0 ann 1 1 2 0 0 store 1 1 ab",
+        b"kept ann 0 0 1 1 ab\n",
+        b"0 0 ann 1 1 2 0 0 stored\n",
+    );
+    step(
+        &rt,
+        alloc,
+        m,
+        b"0 0 ann 1 1 2 0 0 stored",
+        b"",
+        b"ann 0 done write 1 1 tag 1 1\n",
+    );
+    step(
+        &rt,
+        alloc,
+        m,
+        b"0 ann write 1 1 0 0 ab",
+        b"",
+        b"ann 0 done write 1 1 tag 1 1\n",
+    );
+    step(
+        &rt,
+        alloc,
+        m,
+        b"0 ann nonsense",
+        b"",
+        b"ann 0 refused bad\n",
+    );
+    step(
+        &rt,
+        alloc,
+        m,
+        b"0 ann plan",
+        b"",
+        b"ann 0 plan 1 0 2 8 16 2.1\n",
+    );
+    step(
+        &rt,
+        alloc,
+        m,
+        b"0 ann read 2 1 0 7",
+        b"",
+        b"ann 0 refused nofile 2 1 0 7\n",
+    );
+    step(&rt, alloc, m, b"1 ann read 2 1 0 0", b"", b"");
+    step(&rt, alloc, m, b"0 eve read 2 1 0 0", b"", b"");
+    step(&rt, alloc, m, b"", b"", b"");
+    Ok(())
+}
+
+#[test]
+fn a_start(rt: HostRuntime) -> Result<(), Fail> {
+    let alloc = rt.alloc();
+    let mut m = machine(&rt, alloc);
+    let m = &mut m;
+    assert!(rt; m.recall(b"began ann 1 1").is_ok());
+    assert!(rt; m.recall(b"numbered ann 1 1").is_ok());
+    assert!(rt; m.recall(b"kept ann 0 0 1 1 ab").is_ok());
+    assert!(rt; m.recall(b"began bob 2 7").is_ok());
+    assert!(rt; !m.is_strange);
+    assert_eq!(rt; m.facts, 4);
+    step(
+        &rt,
+        alloc,
+        m,
+        b"0 ann write 1 1 0 0 ab",
+        b"",
+        b"ann 0 gone 1 1\n",
+    );
+    step(
+        &rt,
+        alloc,
+        m,
+        b"0 bob abandon 2 7",
+        b"",
+        b"bob 0 gone 2 7\n",
+    );
+    step(
+        &rt,
+        alloc,
+        m,
+        b"0 0 ann 2 1 1 0 0 ask",
+        b"",
+        b"0 0 ann 2 1 1 0 0 copy 1 1 ab\n",
+    );
+    assert!(rt; m.recall(b"began eve 1 1").is_err());
+    assert!(rt; m.is_strange);
+    Ok(())
+}
+
+#[test]
+fn two_tenants_tick(rt: HostRuntime) -> Result<(), Fail> {
+    let alloc = rt.alloc();
+    let mut m = machine(&rt, alloc);
+    let m = &mut m;
+    step(
+        &rt,
+        alloc,
+        m,
+        b"0 ann read 1 1 0 1",
+        b"began ann 1 1\n",
+        b"0 0 ann 1 1 1 0 1 ask\n",
+    );
+    step(
+        &rt,
+        alloc,
+        m,
+        b"0 ann list 2 1 0",
+        b"began ann 2 1\n",
+        b"0 0 ann 2 1 1 0 0 ask\n",
+    );
+    step(
+        &rt,
+        alloc,
+        m,
+        b"0 bob list 2 1 0",
+        b"",
+        b"bob 0 refused novolume 2 1 0\n",
+    );
+    step(&rt, alloc, m, b"0 0 tick", b"", b"");
+    step(
+        &rt,
+        alloc,
+        m,
+        b"0 0 tick",
+        b"",
+        b"0 0 ann 1 1 1 0 1 ask\n0 0 ann 2 1 1 0 0 ask\n",
+    );
+    Ok(())
+}
+
+#[test]
+fn what_a_start_needs(rt: HostRuntime) -> Result<(), Fail> {
+    let alloc = rt.alloc();
+    let mut m = machine(&rt, alloc);
+    let m = &mut m;
+    let mut facts = Vec::new(alloc);
+    assert!(rt; m.put_needed(&mut facts).is_ok());
+    assert_eq!(rt; facts.as_slice(), b"".as_slice());
+    step(
+        &rt,
+        alloc,
+        m,
+        b"0 ann write 1 1 0 1 ab",
+        b"began ann 1 1\n",
+        b"0 0 ann 1 1 1 0 1 ask\n",
+    );
+    step(
+        &rt,
+        alloc,
+        m,
+        b"0 0 ann 1 1 1 0 1 copy 0 0 -",
+        b"numbered ann 1 1\n",
+        b"0 0 ann 1 1 2 0 1 store 1 1 ab\n",
+    );
+    step(
+        &rt,
+        alloc,
+        m,
+        b"0 0 ann 1 1 2 0 1 store 1 1 ab",
+        b"kept ann 0 1 1 1 ab\n",
+        b"0 0 ann 1 1 2 0 1 stored\n",
+    );
+    step(
+        &rt,
+        alloc,
+        m,
+        b"0 0 ann 1 1 2 0 1 stored",
+        b"",
+        b"ann 0 done write 1 1 tag 1 1\n",
+    );
+    step(
+        &rt,
+        alloc,
+        m,
+        b"0 ann list 2 1 0",
+        b"began ann 2 1\n",
+        b"0 0 ann 2 1 1 0 0 ask\n",
+    );
+    assert!(rt; m.put_needed(&mut facts).is_ok());
+    assert_eq!(rt;
+        facts.as_slice(),
+        b"began ann 1 1\nnumbered ann 1 1\nbegan ann 2 1\nkept ann 0 1 1 1 ab\n".as_slice()
+    );
+    Ok(())
+}

@@ -1,0 +1,224 @@
+//! A grid of one node over files.
+
+use crate::run;
+use gq_service::{Console, NodeFault, NodeRequest, Told};
+use std::alloc::Global;
+use std::cell::Cell;
+use std::fs;
+use std::fs::File;
+use std::process::Abort;
+use std::rt::Files;
+use std::test::Fail;
+
+const PLAN: &str = "grid 1 1\nblocks 16\ntenant ann 8 2 100\ngo\nann open 2 1\n";
+
+// The digests are those of `sha256sum`.
+const JOURNAL: &str =
+    "node 0 of 1 by 1\ngrid 1 1\nblocks 16\ntenant ann 8 2 100\ngo\nann open 2 1\nsync 1 71 9b33ab045e011a53\n\
+began ann 1 1\nnumbered ann 1 1\nkept ann 0 0 1 1 ab\nsync 2 51 3bb937959064ff28\n";
+
+// A journal of the same node, in which a right batch has a line of nobody.
+const STRANGE: &str =
+    "node 0 of 1 by 1\ngrid 1 1\nblocks 16\ntenant ann 8 2 100\ngo\nann open 2 1\nsync 1 71 9b33ab045e011a53\nbegan eve 1 1\nsync 2 14 1a54f0dcb410367a\n";
+
+// A plan that goes on from that one.
+const LONGER: &str =
+    "grid 1 1\nblocks 16\ntenant ann 8 2 100\ntenant bob 4 1 100\ngo\nann open 2 1\n";
+
+const WRITE: &[u8] =
+    b"0 ann write 1 1 0 0 ab\n0 0 ann 1 1 1 0 0 copy 0 0 -\n0 0 ann 1 1 2 0 0 store 1 1 ab\n0 0 ann 1 1 2 0 0 stored\n";
+
+const WRITTEN: &str =
+    " ?\n0 0 ann 1 1 1 0 0 ask\n0 0 ann 1 1 2 0 0 store 1 1 ab\n0 0 ann 1 1 2 0 0 stored\nann 0 done write 1 1 tag 1 1\n";
+
+// Who watches a node: what was told of it, and whether its streams are open.
+#[derive(Drop)]
+struct Watch {
+    is_open: bool,
+    cut: Cell<Option<usize>>,
+    facts: Cell<Option<u64>>,
+}
+
+impl Watch {
+    fn new() -> Watch {
+        Watch {
+            is_open: true,
+            cut: Cell::new(None),
+            facts: Cell::new(None),
+        }
+    }
+}
+
+impl Console for Watch {
+    fn check(&self) -> Result<(), NodeFault> {
+        if self.is_open {
+            Ok(())
+        } else {
+            Err(NodeFault::Read)
+        }
+    }
+
+    fn is_cut(&self, at: usize) {
+        self.cut.set(Some(at));
+    }
+
+    fn is_ready(&self, _number: u8, _rows: usize, _cols: usize, facts: u64) {
+        self.facts.set(Some(facts));
+    }
+}
+
+// The node of this journal.
+fn node(journal: &str, is_new: bool) -> NodeRequest<'_> {
+    NodeRequest {
+        number: 0,
+        plan: "plan",
+        journal,
+        is_new,
+    }
+}
+
+// The node takes these lines, and writes this.
+fn writes<R: Files<File = File> + Alloc + Abort + Drop>(
+    rt: &R,
+    alloc: Global,
+    asked: &NodeRequest<'_>,
+    watch: &Watch,
+    lines: &[u8],
+    text: &str,
+) -> Result<(), Fail> {
+    let mut input = lines;
+    let out = File::create(rt, "out")?;
+    let ended = run(rt, alloc, asked, watch, &mut input, out);
+    assert!(rt; ended.is_ok(), "{ended:?}");
+    assert_eq!(rt; fs::read_to_string(rt, "out")?.as_str(), text);
+    Ok(())
+}
+
+// The node does not start; this is told, and the status is this.
+fn is_refused<R: Files<File = File> + Alloc + Abort + Drop>(
+    rt: &R,
+    alloc: Global,
+    asked: &NodeRequest<'_>,
+    watch: &Watch,
+    text: &str,
+    status: u8,
+) -> Result<(), Fail> {
+    let mut input: &[u8] = &[];
+    let out = File::create(rt, "out")?;
+    let Err(fault) = run(rt, alloc, asked, watch, &mut input, out) else {
+        assert!(rt; false, "a start");
+        return Ok(());
+    };
+    let told = Told {
+        fault: &fault,
+        asked,
+    };
+    assert_eq!(rt; format!(in alloc; "{told}")?.as_str(), text);
+    assert_eq!(rt; fault.status(), status);
+    assert_eq!(rt; fs::read_to_string(rt, "out")?.len(), 0);
+    Ok(())
+}
+
+#[test]
+fn starts_again_from_its_journal(rt: HostRuntime) -> Result<(), Fail> {
+    fs::write(&rt, "plan", PLAN)?;
+    let _ = fs::remove_file(&rt, "again");
+    let watch = Watch::new();
+    writes(
+        &rt,
+        rt.alloc(),
+        &node("again", true),
+        &watch,
+        WRITE,
+        WRITTEN,
+    )?;
+    assert_eq!(&rt; watch.facts.get(), Some(0));
+    assert_eq!(&rt; fs::read_to_string(&rt, "again")?.as_str(), JOURNAL);
+    // a torn batch is cut off, and said so
+    let torn = format!(in rt.alloc(); "{JOURNAL}began ann 2 1\n")?;
+    fs::write(&rt, "again", torn.as_str())?;
+    let watch = Watch::new();
+    let lines: &[u8] = b"0 0 ann 2 1 1 0 0 ask\n0 ann write 1 1 0 0 ab\n";
+    let text = " ?\n0 0 ann 2 1 1 0 0 copy 1 1 ab\nann 0 gone 1 1\n";
+    writes(&rt, rt.alloc(), &node("again", false), &watch, lines, text)?;
+    assert_eq!(&rt; watch.facts.get(), Some(3));
+    assert_eq!(&rt; watch.cut.get(), Some(JOURNAL.len()));
+    assert_eq!(&rt; fs::read_to_string(&rt, "again")?.as_str(), JOURNAL);
+    Ok(())
+}
+
+#[test]
+fn tells_each_fault(rt: HostRuntime) -> Result<(), Fail> {
+    fs::write(&rt, "plan", PLAN)?;
+    fs::write(&rt, "bad", "grid 1 1\nblocks 16\ngo\n")?;
+    fs::write(&rt, "there", JOURNAL)?;
+    let damaged = format!(in rt.alloc(); "{}{}", "node 0 of 1 by 1\n", &JOURNAL[18..])?;
+    fs::write(&rt, "damaged", damaged.as_str())?;
+    let _ = fs::remove_file(&rt, "none");
+    let watch = Watch::new();
+    let closed = Watch {
+        is_open: false,
+        cut: Cell::new(None),
+        facts: Cell::new(None),
+    };
+    let mut asked = NodeRequest {
+        number: 1,
+        plan: "no plan",
+        journal: "none",
+        is_new: false,
+    };
+    // each of these has the faults of those behind it too
+    is_refused(&rt, rt.alloc(), &asked, &closed, "read fault", 1)?;
+    is_refused(&rt, rt.alloc(), &asked, &watch, "no plan: read fault", 1)?;
+    asked.plan = "bad";
+    is_refused(&rt, rt.alloc(), &asked, &watch, "bad: line 3: notenant", 1)?;
+    asked.plan = "plan";
+    is_refused(&rt, rt.alloc(), &asked, &watch, "node 1: of 1", 1)?;
+    asked.number = 0;
+    is_refused(&rt, rt.alloc(), &asked, &watch, "none: no journal", 1)?;
+    is_refused(
+        &rt,
+        rt.alloc(),
+        &node("there", true),
+        &watch,
+        "there: a journal",
+        1,
+    )?;
+    is_refused(
+        &rt,
+        rt.alloc(),
+        &node("plan", false),
+        &watch,
+        "plan: of another node or plan",
+        1,
+    )?;
+    is_refused(
+        &rt,
+        rt.alloc(),
+        &node("damaged", false),
+        &watch,
+        "damaged: damaged at byte 0",
+        4,
+    )?;
+    assert_eq!(&rt; watch.facts.get(), None);
+    Ok(())
+}
+
+#[test]
+fn leaves_a_strange_journal(rt: HostRuntime) -> Result<(), Fail> {
+    fs::write(&rt, "longer", LONGER)?;
+    fs::write(&rt, "strange", STRANGE)?;
+    let watch = Watch::new();
+    let mut asked = node("strange", false);
+    asked.plan = "longer";
+    is_refused(
+        &rt,
+        rt.alloc(),
+        &asked,
+        &watch,
+        "strange: of another node or plan",
+        1,
+    )?;
+    assert_eq!(&rt; fs::read_to_string(&rt, "strange")?.as_str(), STRANGE);
+    Ok(())
+}
