@@ -11,8 +11,6 @@ import collections
 AGAIN = 0.5  # seconds until a request is sent again; each time doubled
 LONGEST_AGAIN = 4
 FIRST_TOO_HIGH, LAST_NUMBER = 1 << 31, (1 << 32) - 1
-# The refusals that end a request, and how many of its words they tell. Behind another one the same line may still begin.
-FINAL = {b"novolume": 1, b"nofile": 2, b"toolong": 2}
 
 
 def homes(plan):
@@ -29,6 +27,12 @@ class Request:
     def __init__(self, kind, words, number=None, tell=None):
         self.kind, self.words, self.number, self.tell = kind, words, number, tell
         self.due, self.again, self.is_given_up = 0, AGAIN, False
+
+    def is_refused(self, word, told):
+        """Whether a refusal with this number ends the request. Behind `busy` and `early` the same line may still begin; and one that tells of
+        another volume, file or length is of an earlier request."""
+        length = [b"%d" % (len(it) // 2) for it in self.words[2:3]]
+        return told == {b"novolume": self.words[:1], b"nofile": self.words[:2], b"toolong": self.words[:2] + length}.get(word)
 
 
 class Session:
@@ -77,8 +81,7 @@ class Session:
                 self.last, self.going = int(words[4]), None
                 self.waiting.appendleft(Request(b"read", [b"0", b"0"]))
                 return
-            # (a refusal that tells of another file is of an earlier request with this number)
-            if words[1] not in FINAL or words[4 : 4 + FINAL[words[1]]] != request.words[: FINAL[words[1]]]:
+            if not request.is_refused(words[1], words[4:]):
                 return
         else:
             self.last = request.number
