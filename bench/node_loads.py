@@ -9,7 +9,9 @@ import time
 
 HERE = os.path.dirname(os.path.abspath(__file__))
 sys.path.insert(0, os.path.join(HERE, "..", "examples", "nodes"))
+sys.path.insert(0, os.path.join(HERE, "..", "tests", "nodes"))
 from carrier import Carrier, Node, journal_of
+from processes import built_disk, disk
 from tenant import homes
 
 TENANTS = ["ann", "bob", "cid", "dan"]
@@ -165,7 +167,9 @@ def compare(program, synced, unsynced, turns):
             ours, free = (max(each, key=lambda it: it.rate) for each in zip(*pairs))
             print(f"{side} by {side}, {count} sessions, {turns} turns of {SECONDS} seconds with and without syncs")
             for what, it in ("journals on a disk", ours), ("journals in memory", free):
-                print(f"    {what:<20}{it.rate:8.0f} operations/s; median and 99th of 100 in ms: {it.told()}; {it.letter():.1f} us a line, of {it.lines / it.done:.1f} an operation; the carrier {it.own / it.done * 1e6:.0f} us an operation")
+                print(f"    {what:<20}{it.rate:8.0f} operations/s; median and 99th of 100 in ms: {it.told()}")
+                each = f"{it.letter():.1f} us of the processors a line, {it.lines / it.done:.1f} lines an operation"
+                print(f"    {'':<20}{each}; the carrier took {it.own / it.done * 1e6:.0f} us an operation")
             print(f"    {'ratio of the rates':<20}{ours.rate / free.rate:8.2f}", flush=True)
 
 
@@ -175,9 +179,11 @@ def tell_memory(program, unsynced):
         load, done, begun, told = Load(program, folder, 2, 2), 0, time.perf_counter(), []
         try:
             for most in COUNTS:
-                measure = load.run(SESSIONS[-1], MOST_SECONDS - (time.perf_counter() - begun), most - done)
-                done += measure.done
-                told.append((done, max(load.memory()), max(load.journals()), measure.letter()))
+                left = MOST_SECONDS - (time.perf_counter() - begun)
+                if left > 0:
+                    measure = load.run(SESSIONS[-1], left, most - done)
+                    done += measure.done
+                    told.append((done, max(load.memory()), max(load.journals()), measure.letter()))
         finally:
             load.end()
     for done, memory, journal, letter in told:
@@ -188,12 +194,13 @@ def tell_memory(program, unsynced):
 def tell_syncs(program):
     """Prints how many syncs a batch of facts takes."""
     measure, batches, syncs, writes, facts = syncs_of(program, FEW)
-    # (each node has written and synced the plan first)
+    # (each of the four nodes has written and synced the plan first)
     print(f"{measure.done} operations of 16 sessions: {facts} facts in {batches - 4} batches, {syncs - 4} syncs, {writes} writes of lines")
     print(f"    {'syncs a batch':<20}{(syncs - 4) / (batches - 4):8.2f}")
 
 
 def report(program, turns, synced, unsynced):
+    """Prints all of it: so many turns, with journals below the one folder and the other."""
     tell_syncs(program)
     compare(program, synced, unsynced, turns)
     tell_memory(program, unsynced)
@@ -202,10 +209,8 @@ def report(program, turns, synced, unsynced):
 def syncs_of(program, operations):
     """The calls of the disk in a load of 16 sessions on 2 by 2: writes of batches, syncs, writes of lines; and how many facts there are."""
     with tempfile.TemporaryDirectory(prefix="gridfs-bench-") as folder:
-        library = os.path.join(folder, "disk.so")
-        subprocess.run([os.environ.get("CC", "cc"), "-O2", "-shared", "-fPIC", "-o", library, os.path.join(HERE, "..", "tests", "nodes", "disk.c")], check=True)
         calls = os.path.join(folder, "calls")
-        load = Load(program, folder, 2, 2, env={**os.environ, "LD_PRELOAD": library, "CALLS": calls})
+        load = Load(program, folder, 2, 2, env=disk(built_disk(folder), CALLS=calls))
         try:
             measure = load.run(16, SECONDS_TO_END, operations)
         finally:

@@ -43,8 +43,9 @@ class Session:
         """Has a request wait: `tell` is called with the answer, or with the refusal."""
         self.waiting.append(Request(kind, words, tell=tell))
 
-    def is_idle(self):
-        return not self.waiting and (self.going is None or self.going.tell is None)
+    def unanswered(self):
+        """How many requests that were asked are not answered."""
+        return sum(request.tell is not None for request in [*self.waiting, self.going] if request)
 
     def give_up(self):
         """Has the request that is under way be given up: then it is told to be `gone`, or done where it was."""

@@ -81,7 +81,7 @@ class Trial:
         """Waits until the sessions are answered whose home is up."""
         others = [number for number in range(1, SESSIONS + 1) if self.grid.homes[NAME, number] != DEAD]
         until = time.monotonic() + LONGEST
-        while not all(self.grid.session(NAME, number).is_idle() for number in others) and time.monotonic() < until:
+        while any(self.grid.session(NAME, number).unanswered() for number in others) and time.monotonic() < until:
             self.grid.turn(0.1)
 
     def kill(self, number):

@@ -19,10 +19,12 @@ def is_given(line, names, name):
     return of in (None, name)
 
 
-def lives_of(program, folder, number, lives):
-    """What a new node writes that is given, life by life, these lines."""
+def lives_of(program, folder, number, lives, kept):
+    """What a new node writes that is given, life by life, what is kept of its lines."""
     wrote = []
-    for place, given in enumerate(lives):
+    for place, life in enumerate(lives):
+        put(os.path.join(folder, "plan"), life.plan.encode())
+        given = kept(b"".join(life.given))
         status, told, out = ended(words_of(program, number, "plan", f"journal{number}", place == 0), given, cwd=folder)
         if status != 0:
             raise Wrong(f"node {number}, in its life {place}, ends with status {status} and {told!r}")
@@ -30,29 +32,28 @@ def lives_of(program, folder, number, lives):
     return wrote
 
 
-def check_same(program, plan, number, lives):
+def check_same(program, number, lives):
     """All lines of a node again. The ways in which they were cut into reads are others."""
     with room() as folder:
-        put(os.path.join(folder, "plan"), plan)
-        wrote = lives_of(program, folder, number, [b"".join(life.given) for life in lives])
+        wrote = lives_of(program, folder, number, lives, lambda given: given)
         for place, (life, out) in enumerate(zip(lives, wrote)):
-            if out != b"".join(life.wrote):
+            # (a node that was killed before its first step may have written nothing)
+            if life.given and out != b"".join(life.wrote):
                 raise Wrong(f"node {number} writes other bytes for the same lines in its life {place}")
 
 
-def check_alone(program, plan, number, lives, names, name):
+def check_alone(program, number, lives, names, name):
     """The lines of one tenant, and of none. How many lines were compared."""
     compared = 0
 
     def kept(given):
-        return b"".join(line + b"\n" for line in b"".join(given).split(b"\n")[:-1] if is_given(line, names, name))
+        return b"".join(line + b"\n" for line in given.split(b"\n")[:-1] if is_given(line, names, name))
 
     def told(wrote):
         return [line for line in wrote.split(b"\n") if owner(line, names) == name]
 
     with room() as folder:
-        put(os.path.join(folder, "plan"), plan)
-        wrote = lives_of(program, folder, number, [kept(life.given) for life in lives])
+        wrote = lives_of(program, folder, number, lives, kept)
         for place, (life, out) in enumerate(zip(lives, wrote)):
             seen, wanted = told(out), told(b"".join(life.wrote))
             compared += len(wanted)

@@ -7,12 +7,14 @@ import signal
 import subprocess
 
 from journals import batches, sealed
-from processes import MARKER, SECONDS, Wrong, ended, get, put, words_of
+from processes import MARKER, SECONDS, ended, get, put, words_of
 
 PLAN = f"grid 2 2\nblocks 64\ntenant ann 16 4 1\ntenant bob 16 2 1\n{MARKER}go\nann open 4 2\nbob open 1 1\nann open 1 1\n".encode()
 READY = b"gridfs: node 0 of 2 by 2: %d facts\n"
 OTHER = b"gridfs: journal: of another node or plan\n"
 FIRST = b" ?\n"
+NO_OPENS = [b"ann write 1 0 0 aa", b"server 1 down", b"ann", b"", b"cat open 1 1", b"ann open 1", b"ann open 1 1 "]
+WRONG_OPENS = [b"ann open 65 1", b"ann open 0 1", b"ann open 1 17", b"ann open 8 1", b"ann open 4294967295 1"]
 # A plan's fault, and what is told of it.
 PLANS = [
     (b"", "line 1: end"),
@@ -22,8 +24,8 @@ PLANS = [
     (b"grid 2 2\nblocks 64\ngo\n", "line 3: notenant"),
     (PLAN.replace(b"bob 16", b"bob 0"), "line 4: zeroshare"),
     (PLAN.replace(b"bob 16", b"bob 64"), "line 6: overblocks 81 64"),
-    *((PLAN + line + b"\n", "line 10: live") for line in (b"ann write 1 0 0 aa", b"server 1 down", b"ann", b"", b"cat open 1 1", b"ann open 1", b"ann open 1 1 ")),
-    *((PLAN + line + b"\n", "line 10: open") for line in (b"ann open 65 1", b"ann open 0 1", b"ann open 1 17", b"ann open 8 1", b"ann open 4294967295 1")),
+    *((PLAN + line + b"\n", "line 10: live") for line in NO_OPENS),
+    *((PLAN + line + b"\n", "line 10: open") for line in WRONG_OPENS),
 ]
 # Plans from which the first one does not go on, and plans that go on from the first one.
 NOT_BEHIND = {
@@ -46,7 +48,8 @@ BEHIND = {
     "volumes of tenants mixed otherwise": PLAN.replace(b"bob open 1 1\nann open 1 1\n", b"ann open 1 1\nbob open 1 1\n"),
     "no newline at the end": PLAN[:-1],
 }
-NO_REQUESTS = ["node", "node x --plan plan --journal journal", "node 0 --plan plan", "node 0 --journal journal", "node 0 1 --plan plan --journal journal", "node 0 --plan plan --journal journal --old"]
+BOTH = "--plan plan --journal journal"
+NO_REQUESTS = ["node", f"node x {BOTH}", "node 0 --plan plan", "node 0 --journal journal", f"node 0 1 {BOTH}", f"node 0 {BOTH} --old"]
 
 
 def first_journal():
@@ -151,7 +154,8 @@ class Faults:
         put(self.at("journal"), first_journal())
         reader, writer = os.pipe()
         os.close(reader)
-        run = subprocess.run(words_of(self.program, 0, "plan", "journal"), stdin=subprocess.DEVNULL, stdout=writer, stderr=subprocess.PIPE, cwd=self.folder, timeout=SECONDS)
+        words = words_of(self.program, 0, "plan", "journal")
+        run = subprocess.run(words, stdin=subprocess.DEVNULL, stdout=writer, stderr=subprocess.PIPE, cwd=self.folder, timeout=SECONDS)
         os.close(writer)
         self.held("an output that nobody reads", (run.returncode, run.stderr), (1, READY % 0 + b"gridfs: write fault\n"))
 
@@ -170,7 +174,8 @@ class Faults:
         self.held("a start behind it", (status, told, wrote), (0, cut + READY % 0, FIRST + b"ann 0 refused early 1 9 0\n"))
 
     def two_processes(self):
-        first = subprocess.Popen(words_of(self.program, 0, "plan", "journal"), stdin=subprocess.PIPE, stdout=subprocess.PIPE, stderr=subprocess.PIPE, cwd=self.folder)
+        words, pipes = words_of(self.program, 0, "plan", "journal"), dict.fromkeys(["stdin", "stdout", "stderr"], subprocess.PIPE)
+        first = subprocess.Popen(words, cwd=self.folder, **pipes)
         self.held("the first of two", first.stdout.readline(), FIRST)
         self.refused("a second process", 1, b"gridfs: journal: in use\n")
         self.refused("a second process, by --new", 1, b"gridfs: journal: in use\n", is_new=True)

@@ -10,13 +10,14 @@ from processes import SECONDS, room
 
 GRID = os.path.join(os.path.dirname(os.path.abspath(__file__)), "..", "..", "examples", "grid")
 SHOWN = "All 16 files are as they were acknowledged.\n"
-LINES = "ann write 1 0 0 6869\nwait\nann read 2 0 0\nbob list 1 0\nwait\nkill 3\nann write 1 0 1 ff\nwait\nstart 3\nann read 4 0 1\n"
+LINES = "ann write 1 0 0 6869\nwait\nann read 2 0 0\nbob list 1 0\nwait\nkill 3\nann write 1 0 1 ff\nwait\nstart 3\nann read 4 0 1\nbob plan\n"
 ANSWERS = [
     "ann done write 1 2 tag 1 1",
     "ann done read 2 2 tag 1 1 6869",
     "bob done list 1 2 0:0.0 0:0.0 0:0.0 0:0.0 0:0.0 0:0.0 0:0.0 0:0.0",
     "ann done write 1 3 tag 2 1",
     "ann done read 4 2 tag 2 1 ff",
+    "bob plan 4 0 2 16 16 8.2",
 ]
 # Lines that are refused, and what is told of each.
 BAD = {
@@ -24,6 +25,7 @@ BAD = {
     "ann write 1 0 0 6": "no request (the line `help` tells the forms)",
     "zed read 1 0 0": "the plan has no session 1 of zed",
     "ann read 5 0 0": "the plan has no session 5 of ann",
+    "zed plan": "the plan has no tenant zed",
     "kill 4": "there are nodes 0 to 3",
     "start 2": "node 2 is up",
     "ann write 1 0 0 " + "aa" * 2000: "longer than 4000 bytes",
@@ -32,6 +34,8 @@ PLAN_WITH_A_FAULT = "grid 2 2\nblocks 1\ntenant ann 0 1 1\ngo\n"
 
 
 class Grids:
+    """Runs of examples/grid, each compared with what it has to do."""
+
     def __init__(self, program):
         self.environment = {**os.environ, "GRIDFS": program}
         self.tried, self.wrong = 0, []
@@ -42,7 +46,8 @@ class Grids:
             self.wrong.append(f"{name}: {seen!r}, not {wanted!r}")
 
     def run(self, *words, given=""):
-        done = subprocess.run([sys.executable, GRID, *words], input=given, stdout=subprocess.PIPE, stderr=subprocess.PIPE, text=True, env=self.environment, timeout=3 * SECONDS)
+        pipes = dict.fromkeys(["stdout", "stderr"], subprocess.PIPE)
+        done = subprocess.run([sys.executable, GRID, *words], input=given, text=True, env=self.environment, timeout=3 * SECONDS, **pipes)
         return done.returncode, done.stdout, [line for line in done.stderr.splitlines() if line.startswith("grid: ")]
 
     def shows(self):
@@ -72,7 +77,8 @@ class Grids:
 
     def is_interrupted(self, folder, number):
         """A signal ends it, and with it its nodes: another grid starts in the folder at once."""
-        grid = subprocess.Popen([sys.executable, GRID, folder], stdin=subprocess.PIPE, stdout=subprocess.PIPE, stderr=subprocess.PIPE, text=True, env=self.environment)
+        pipes = dict.fromkeys(["stdin", "stdout", "stderr"], subprocess.PIPE)
+        grid = subprocess.Popen([sys.executable, GRID, folder], text=True, env=self.environment, **pipes)
         while "nodes are up" not in (line := grid.stderr.readline()) and line:
             pass
         grid.stdin.write("ann write 1 0 0 aa\n" * 100)

@@ -36,6 +36,7 @@ LINES = {
     "a line with no body": (b"0 ann\n0 bob \n", BAD + b"bob 0 refused bad\n"),
     "numbers with no form": (b"0 ann read 01 1 0 0\n0 ann read 1 1 0 4294967296\n0 ann read -1 1 0 0\n", 3 * BAD),
     "contents with no form": (WRITE + b"a\n" + WRITE + b"\n" + WRITE + b"ag\n" + WRITE + b"--\n", 4 * BAD),
+    "what a tenant has": (b"0 ann plan\n0 bob plan\n0 ann plan 1\n0 zed plan\n", b"ann 0 plan 4 0 4 16 16 4.2 1.1\nbob 0 plan 4 0 2 16 16 1.1\n" + BAD),
     "refusals": (
         WRITE + b"aa" * 200 + b"\n0 ann list 1 1 5\n0 ann read 1 1 0 7\n0 ann read 9 1 0 0\n0 ann read 2 1 0 0\n0 ann read 1 0 0 0\n0 ann read 1 5 0 0\n0 ann abandon 1 1\n",
         b"ann 0 refused toolong 1 1 0 0 200\nann 0 refused novolume 1 1 5\nann 0 refused nofile 1 1 0 7\nann 0 refused nosession 9 1\n"

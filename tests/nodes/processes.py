@@ -1,6 +1,7 @@
 """Nodes as processes: run to the end of their input, or led step by step; and what a loss of power leaves of their files."""
 
 import contextlib
+import multiprocessing
 import os
 import select
 import shutil
@@ -9,9 +10,9 @@ import subprocess
 import tempfile
 import time
 
-SECONDS = 20  # that a process may take for what is asked of it
+SECONDS = 60  # that a process may take for what is asked of it
 READ = 1 << 16
-# The last tenant of each plan, which has no more to do than to mark the end of a step: a line of it is answered at once.
+# A tenant of each plan, which has no more to do than to mark the end of a step: a line of it is answered at once.
 MARKER = "tenant mark 1 1 1\n"
 MARK, MARKED = b"%d mark abandon 99 1\n", b"mark %d refused nosession 99 1\n"
 
@@ -20,19 +21,50 @@ class Wrong(Exception):
     """Something is not as it has to be."""
 
 
+# What comes about where a node does not keep to its forms.
+WRONG = (Wrong, OSError, ValueError, LookupError, subprocess.TimeoutExpired)
+
+
 class Silent(Wrong):
     """A process has not answered for some seconds."""
 
 
 @contextlib.contextmanager
 def room():
-    """A folder for some nodes, where syncs cost nothing if there is such a place."""
-    memory = "/dev/shm" if os.access("/dev/shm", os.W_OK) else None
-    folder = tempfile.mkdtemp(prefix="gridfs-nodes-", dir=memory)
+    """A folder for some nodes."""
+    folder = tempfile.mkdtemp()
     try:
         yield folder
     finally:
-        shutil.rmtree(folder)
+        shutil.rmtree(folder, ignore_errors=True)
+
+
+def interrupt(*_):
+    """The first signal ends us, and no other one the end."""
+    for it in (signal.SIGINT, signal.SIGTERM):
+        signal.signal(it, signal.SIG_IGN)
+    raise KeyboardInterrupt
+
+
+def as_worker():
+    """A worker ends when it is told to, and not by a signal from the terminal."""
+    signal.signal(signal.SIGTERM, signal.SIG_DFL)
+    signal.signal(signal.SIGINT, signal.SIG_IGN)
+
+
+@contextlib.contextmanager
+def workers():
+    """A process for each core. All rooms are in one folder, where syncs cost nothing if there is such a place; it is removed at the end, also
+    where a signal brings it about."""
+    memory = "/dev/shm" if os.access("/dev/shm", os.W_OK) else None
+    tempfile.tempdir = tempfile.mkdtemp(prefix="gridfs-nodes-", dir=memory)
+    for it in (signal.SIGINT, signal.SIGTERM):
+        signal.signal(it, interrupt)
+    try:
+        with multiprocessing.Pool(len(os.sched_getaffinity(0)), as_worker) as pool:
+            yield pool
+    finally:
+        shutil.rmtree(tempfile.tempdir, ignore_errors=True)
 
 
 def put(path, text):
@@ -47,6 +79,14 @@ def get(path):
 
 def words_of(program, number, plan, journal, is_new=False):
     return [program, "node", str(number), "--plan", plan, "--journal", journal] + ["--new"] * is_new
+
+
+def built_disk(folder):
+    """The library of disk.c, which is built in this folder."""
+    library = os.path.join(folder, "disk.so")
+    source = os.path.join(os.path.dirname(os.path.abspath(__file__)), "disk.c")
+    subprocess.run([os.environ.get("CC", "cc"), "-O2", "-shared", "-fPIC", "-o", library, source], check=True)
+    return library
 
 
 def disk(library, **how):
@@ -76,10 +116,17 @@ class Stepped:
 
     def step(self, lines):
         """What the node writes for these lines, and whether it lives: where it does not, its last line may be torn."""
+        self.give(lines)
+        return self.take()
+
+    def give(self, lines):
+        """The first half of a step. Other nodes may be given lines before the second, which is to be done before this node is given more."""
         try:
             os.write(self.given, lines + MARK % self.number)
         except BrokenPipeError:
             pass
+
+    def take(self):
         wrote, last = [], b""
         while True:
             if not select.select([self.out], [], [], SECONDS)[0]:

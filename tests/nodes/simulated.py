@@ -4,7 +4,7 @@ import random
 import sys
 
 from alone import check_alone, check_same
-from processes import Wrong, room
+from processes import WRONG, room
 from storm import KILLS, stormed
 
 COUNTED = ["lines", "operations", "gone", "deaths", "histories", "given up", "lines compared alone"]
@@ -23,17 +23,19 @@ def simulated(job):
         names = [name.encode() for name in storm.volumes]
         name = random.Random(f"alone {seed}").choice(names)
         for number, lives in enumerate(storm.lives):
-            check_same(program, storm.plan.encode(), number, lives)
-            counts["lines compared alone"] += check_alone(program, storm.plan.encode(), number, lives, names, name)
-    except Wrong as fault:
-        return counts, f"seed {seed}: {fault}"
+            check_same(program, number, lives)
+            counts["lines compared alone"] += check_alone(program, number, lives, names, name)
+    except WRONG as fault:
+        return counts, f"seed {seed}: {fault!r}"
     return counts, None
 
 
-def simulate(pool, program, seeds, lines):
-    """Simulates each seed: the sums of what was counted, and what is wrong."""
+def simulate(pool, program, seeds, lines, shown=None):
+    """Simulates each seed: the sums of what was counted, and what is wrong. It may be shown how far that is."""
     told, wrong = dict.fromkeys(COUNTED, 0), []
-    for counts, fault in pool.imap_unordered(simulated, [(program, seed, lines) for seed in seeds]):
+    for done, (counts, fault) in enumerate(pool.imap_unordered(simulated, [(program, seed, lines) for seed in seeds])):
+        if shown:
+            shown.at_hand(f"{done} of {len(seeds)} seeds", shown.seconds() * (len(seeds) - done) / done if done else None)
         for name, count in counts.items():
             told[name] += count
         if fault:

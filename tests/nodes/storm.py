@@ -1,6 +1,6 @@
 """Grids of nodes in a storm: a carrier that loses, repeats, delays and reorders lines, ticks at any time, nodes that die and start again,
-clients that begin anew, and a tenant that sends nonsense; all drawn from a seed. What each session was told of a file is kept as a
-history, and what each node was given and wrote, life by life.
+clients that begin anew, nonsense, and a plan that gets a tenant more; all drawn from a seed. What each session was told of a
+file is kept as a history, and what each node was given and wrote, life by life.
 
 Nodes are led step by step (processes.Stepped), one after another, so that a seed makes the same storm again.
 """
@@ -13,15 +13,15 @@ HERE = os.path.dirname(os.path.abspath(__file__))
 sys.path.insert(0, os.path.join(HERE, "..", "linearizable"))
 sys.path.insert(0, os.path.join(HERE, "..", "..", "examples", "nodes"))
 from checker import is_linearizable
-from processes import MARKER, Stepped, Wrong, disk, get, lose_power, words_of
+from processes import MARKER, Stepped, Wrong, disk, get, lose_power, put, words_of
 from spoiling import written
 from tenant import Session, homes
 
 BOUND = 100_000
-NAMES = ["ann", "bob", "cid", "dan"]
-TURN = 0.02  # seconds of the clients' clock
+NAMES, LATER = ["ann", "bob", "cid", "dan"], "eve"
+TURN = 0.04  # seconds of the clients' clock
 MOST = 400  # lines on their way to a node: what is more is lost
-BATCH = 24  # lines of one step, at most
+BATCH = 32  # lines of one step, at most
 SILENCE = 6_000  # turns in which all has to be answered once nothing is lost any more
 LONGEST_BATCH = 60_000
 MOST_SECONDS = 0.001  # that a node has for lines amid which it is killed
@@ -30,7 +30,7 @@ MOST_SECONDS = 0.001  # that a node has for lines amid which it is killed
 class Weather:
     """How bad it is: what a node's life ends by, and how often."""
 
-    def __init__(self, kills=0.004, amid=0, stops=False, powers=False, lies=False, lost=0.04, repeated=0.06, nonsense=0.1):
+    def __init__(self, kills=0.004, amid=0, stops=False, powers=False, lies=False, lost=0.04, repeated=0.15, nonsense=0.1):
         self.kills, self.amid, self.stops, self.powers, self.lies = kills, amid, stops, powers, lies
         self.lost, self.repeated, self.nonsense = lost, repeated, nonsense
 
@@ -49,10 +49,17 @@ def a_plan(draw):
     rows, cols = draw.choice([(1, 1), (1, 2), (2, 1), (2, 2), (2, 2), (2, 2), (2, 3), (3, 2), (3, 3)])
     tenants, opened, volumes = "", [], {}
     for name in NAMES[: draw.randint(1, len(NAMES))]:
-        volumes[name] = [(draw.randint(1, 4), draw.randint(1, 2)) for _ in range(draw.randint(1, 2))]
+        volumes[name] = [(draw.choice([1, 1, 2, 3]), draw.randint(1, 2)) for _ in range(draw.randint(1, 2))]
         tenants += f"tenant {name} {sum(files * most for files, most in volumes[name])} {draw.randint(1, 5)} 1\n"
         opened += [f"{name} open {files} {most}\n" for files, most in volumes[name]]
-    return f"grid {rows} {cols}\nblocks 64\n{tenants}{MARKER}go\n{''.join(opened)}", volumes
+    return f"grid {rows} {cols}\nblocks 128\n{tenants}{MARKER}go\n{''.join(opened)}", volumes
+
+
+def a_plan_behind(draw, plan):
+    """A plan that goes on from this one: there is a tenant more. Its volumes."""
+    rows, _, opened = plan.partition("go\n")
+    sessions, files = draw.randint(1, 5), draw.randint(1, 4)
+    return f"{rows}tenant {LATER} {files} {sessions} 1\ngo\n{opened}{LATER} open {files} 1\n", [(files, 1)]
 
 
 class Client:
@@ -112,16 +119,17 @@ class Client:
         if kind == b"list":
             values = [row.partition(b":")[0] for row in words[4:]]
         else:
-            self.storm.see_tag(self, tuple(map(int, words[5:7])), words[7] if kind == b"read" else self.going[3])
-            values = [words[7] if kind == b"read" else self.going[3]]
+            content = words[7] if kind == b"read" else self.going[3]
+            self.storm.see_tag(self.name.encode(), b"%d" % self.going[1], b"%d" % self.going[2][0], *words[5:7], content)
+            values = [content]
         return self.end_history("ok", values)
 
 
 class Life:
-    """One life of a node: what it was given, and what it wrote."""
+    """One life of a node: its plan, what it was given, and what it wrote."""
 
-    def __init__(self, stepped):
-        self.stepped, self.given, self.wrote = stepped, [], []
+    def __init__(self, stepped, plan):
+        self.stepped, self.plan, self.given, self.wrote = stepped, plan, [], []
 
 
 class Storm:
@@ -131,23 +139,43 @@ class Storm:
         self.program, self.folder, self.weather, self.library = program, folder, weather, library
         self.draw = random.Random(seed)
         self.plan, self.volumes = a_plan(self.draw)
-        with open(os.path.join(folder, "plan"), "w", encoding="ascii") as out:
-            out.write(self.plan)
-        self.count, self.homes = homes(self.plan)
+        self.later = a_plan_behind(self.draw, self.plan)
+        self.write_plan()
+        self.count, _ = homes(self.plan)
         self.turn = self.given = self.done = self.gone = self.deaths = self.processes = 0
         self.events, self.tags = {}, {}
         self.lives = [[] for _ in range(self.count)]
         self.ways = [[] for _ in range(self.count)]
-        self.clients = {}
-        for (name, session), home in self.homes.items():
-            if name in self.volumes:
-                self.clients[name, session] = Client(self, name, session, home)
-        self.by_name = {}
-        for (name, session), client in self.clients.items():
-            self.by_name.setdefault(name.encode(), []).append(client)
-        self.stale = []
+        self.stale, self.clients, self.by_name = [], {}, {}
+        self.add_clients()
+
+    def write_plan(self):
+        put(os.path.join(self.folder, "plan"), self.plan.encode())
+
+    def add_clients(self):
+        """Each session of the plan that has no client gets one."""
+        for (name, session), home in homes(self.plan)[1].items():
+            if name in self.volumes and (name, session) not in self.clients:
+                client = self.clients[name, session] = Client(self, name, session, home)
+                self.by_name.setdefault(name.encode(), []).append(client)
 
     # ---- nodes
+
+    def grow(self):
+        """From now on each node that starts has the later plan."""
+        self.plan, volumes = self.later
+        self.later = None
+        self.write_plan()
+        self.volumes[LATER] = volumes
+
+    def restart_one(self):
+        """One node that has the earlier plan is killed; when there is none, the new tenant begins."""
+        earlier = [number for number in range(self.count) if self.lives[number] and self.lives[number][-1].plan != self.plan]
+        for number in earlier[:1]:
+            if self.alive(number):
+                self.kill(number)
+        if not earlier:
+            self.add_clients()
 
     def journal(self, number):
         return os.path.join(self.folder, f"journal{number}")
@@ -163,7 +191,7 @@ class Storm:
             if self.weather.lies:
                 how["LIES"] = 1
             environment = disk(self.library, **how)
-        self.lives[number].append(Life(Stepped(words, number, self.folder, environment)))
+        self.lives[number].append(Life(Stepped(words, number, self.folder, environment), self.plan))
 
     def alive(self, number):
         lives = self.lives[number]
@@ -213,24 +241,36 @@ class Storm:
         given = b"\n".join(lines) + b"\n" if lines else b""
         return given if len(given) < LONGEST_BATCH else b""
 
-    def step(self, number):
-        """One step of a node that is up; one that is down starts, now and then."""
-        life = self.alive(number)
-        if life is None:
-            if self.draw.random() < 0.03 or not self.weather.kills:
+    def step(self, numbers):
+        """A step of each of these nodes, side by side; one that is down starts, now and then."""
+        stepped = [number for number in numbers if self.alive(number)]
+        for number in numbers:
+            if number not in stepped and (self.draw.random() < 0.05 or not self.weather.kills):
                 self.start(number)
-            return
-        given = self.batch(number)
-        self.given += given.count(b"\n")
-        life.given.append(given)
-        if self.draw.random() < self.weather.amid:
-            wrote, lives = life.stepped.step_and_kill(given, self.draw.random() * MOST_SECONDS), False
-        else:
-            wrote, lives = life.stepped.step(given)
-        life.wrote.append(wrote)
-        *lines, torn = wrote.split(b"\n")
+        amid = {number for number in stepped if self.draw.random() < self.weather.amid}
+        for number in stepped:
+            life, given = self.alive(number), self.batch(number)
+            self.given += given.count(b"\n")
+            life.given.append(given)
+            if number not in amid:
+                life.stepped.give(given)
+        for number in stepped:
+            life = self.alive(number)
+            if number in amid:
+                seconds = self.draw.random() * MOST_SECONDS
+                self.take(number, life.stepped.step_and_kill(life.given[-1], seconds), False)
+            else:
+                self.take(number, *life.stepped.take())
+
+    def take(self, number, wrote, lives):
+        """Takes on what a node wrote; its machine may fail now."""
+        self.alive(number).wrote.append(wrote)
+        lines = wrote.split(b"\n")[:-1]  # (the last one is torn, or empty)
         for line in lines:
             if line[:1].isdigit():
+                if b" store " in line or b" copy " in line:
+                    words = line.split(b" ")
+                    self.see_tag(*words[2:3], *words[6:8], *words[9:])
                 self.send(line)
             elif line[:1] != b" ":
                 self.hear(line)
@@ -253,18 +293,22 @@ class Storm:
         until, draw = self.given + lines, self.draw
         while self.given < until:
             self.turn += 1
+            if self.later and self.given > until - lines / 2:
+                self.grow()
+            if not self.later and draw.random() < 0.02:
+                self.restart_one()
             if self.turn > 40 * (until + 1000):
                 raise Wrong(f"after {self.turn} turns nodes were given {self.given} lines alone")
             for client in self.clients.values():
                 client.ask()
-                if draw.random() < 0.0005 and self.weather.lost:
+                if draw.random() < 0.001 and self.weather.lost:
                     client.begin_anew()
-                if draw.random() < 0.002:
+                if draw.random() < 0.006:
                     client.sender.give_up()
             self.deliver()
             if self.weather.nonsense and draw.random() < self.weather.nonsense:
                 self.send(self.nonsense())
-            self.step(draw.randrange(self.count))
+            self.step([number for number in range(self.count) if draw.random() < 0.6])
 
     def deliver(self):
         """What clients send now, and a line to a tenant that was late."""
@@ -285,6 +329,7 @@ class Storm:
             if self.alive(number):
                 self.kill(number)
         self.weather = CALM
+        self.add_clients()
         self.answer_all()
         for name, volumes in self.volumes.items():
             clients = self.by_name[name.encode()]
@@ -304,17 +349,13 @@ class Storm:
             if self.turn > until:
                 raise Wrong(f"not answered in {SILENCE} turns: {[key for key, client in self.clients.items() if client.sender.going]}")
             self.deliver()
-            for number in range(self.count):
-                self.step(number)
+            self.step(range(self.count))
 
-    def see_tag(self, client, tag, content):
-        """A tag of a file has one content."""
-        kind, volume, files, _, _ = client.going
-        place = client.name, volume, files[0], tag
-        if self.tags.setdefault(place, content) != content:
-            raise Wrong(f"the tag {tag} of file {volume} {files[0]} of {client.name} has two contents: {self.tags[place]!r} and {content!r}")
-        if tag == (0, 0) and content != b"-":
-            raise Wrong(f"a file that was not written has the content {content!r}")
+    def see_tag(self, name, volume, file, number, session, content):
+        """A tag of a file has one content, whoever tells it: no session uses a number twice."""
+        tag = name, volume, file, number, session
+        if self.tags.setdefault(tag, b"-" if number == b"0" else content) != content:
+            raise Wrong(f"the tag {tag} has two contents: {self.tags[tag]!r} and {content!r}")
 
     def histories(self):
         """The history of each file, as tests/linearizable judges it."""

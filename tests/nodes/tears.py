@@ -4,7 +4,7 @@ leaves all as it was."""
 import random
 
 from journals import batches, sealed
-from processes import MARKER, Wrong, ended, get, put, words_of
+from processes import MARKER, WRONG, Wrong, ended, get, put, words_of
 
 PLAN = f"grid 2 2\nblocks 64\ntenant ann 16 4 1\ntenant bob 16 2 1\n{MARKER}go\nann open 4 2\nbob open 1 1\n".encode()
 HEAD = b"node 0 of 2 by 2\n" + PLAN
@@ -114,6 +114,6 @@ def torn(program, folder, share, of, seed):
         tried += 1
         try:
             trial(journal, *words)
-        except Wrong as fault:
-            wrong.append(str(fault))
+        except WRONG as fault:
+            wrong.append(repr(fault))
     return tried, wrong

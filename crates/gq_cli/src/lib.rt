@@ -8,6 +8,6 @@ pub use gq_live::{Gate, GaveUp, LiveFault, OpenGate, Programs};
 pub use gq_runs::{
     LiveRunFault, NamedMismatch, ProgramFault, RequestFault, carry_out, live_run, read_programs,
 };
-pub use gq_service::{Console, Durable, NodeFault, Standard, Told, run_node};
 pub use gq_script::{MOST_INPUT, NoNotice, Notice, RunFault, Watched};
+pub use gq_service::{Console, Durable, NodeFault, Standard, Told, run_node};
 pub use gq_words::{CommandLine, NodeRequest, Request, Usage, read_words};

@@ -4,10 +4,13 @@
 #![tactic(auto)]
 
 mod aims;
+mod facts;
 mod homes;
 pub mod laws;
+mod letters;
 mod node;
 mod output;
+mod requests;
 mod seats;
 mod tables;
 

@@ -1,5 +1,5 @@
 use Rattle.std.proofs.Common.{◌≡◌, ◌∙◌, true, false, sym}
-use Rattle.gq_node.proofs.tables.put_copy.Goals as goal
+use Rattle.gq_node.proofs.facts.put_copy.Goals as goal
 
 pub returns-then-not-is_above_first-clause-readable : goal.returns-then-not-is_above_first-clause-readable
 returns-then-not-is_above_first-clause-readable c = record {

@@ -1,0 +1,251 @@
+//! What a start makes of a fact, and the facts that a start needs.
+
+ghost use Rattle.std.specs.Prelude.{◌≡◌, ◌↔◌, ◌<◌, ◌≤◌, ◌++◌, ℕ, length, map, true, false, IfOk, IfErr, IsSome, OnOk, IsTrue, unwrap_or};
+ghost use Rattle.gq_tag.specs.Tag.{file_place, first_copy, first_tag, is_less};
+ghost use Rattle.gq_desk.specs.CheckedPlan.{row_at};
+ghost use Rattle.gq_desk.specs.Plans.{is_in};
+ghost use Rattle.gq_desk.specs.Volumes.{account_at, limit_of};
+ghost use Rattle.gq_desk.specs.declared.limits.TheConstants.{MOST_VOLUMES};
+ghost use Rattle.gq_store.specs.Copies.{copy_at};
+ghost use Rattle.gq_node.specs.Local.{recalls};
+ghost use Rattle.gq_node.specs.Needing.{copy_facts, IsReadable, IsRefusedOf, seat_facts, place_facts, files_facts, files_in, volumes_facts, tenant_facts, PlaceReadable, AllReadable, IsRefusedIn};
+ghost use Rattle.gq_node.specs.Recalling.{tenant_of, own_fact};
+ghost use Rattle.gq_node.specs.Tables.{fact_of, Leads, seat_at, with_seat};
+ghost use Rattle.std.specs.List.{flat_map, range_with_len};
+ghost use Rattle.gq_node.specs.Resting.{Needed};
+ghost use Rattle.gq_node.specs.Seats.{last_in, recalled_seat};
+
+use crate::letters::copy_fits;
+use crate::output::{Fact, NeedRefused, put_begun, put_number};
+use crate::tables::Core;
+use gq_memory::{GrowVec, OutOfMemory, bytes_of};
+use gq_tag::{FileId, StoredCopy};
+
+// Whether the copy is that with which a file begins.
+fn is_first(copy: &StoredCopy) -> bool
+    ensures { IsTrue result ↔ (copy.now ≡ first_copy) }
+{
+    copy.tag.number == 0 && copy.tag.session == 0 && copy.bytes.is_empty()
+}
+
+// Whether the copy's tag is above the first one.
+fn is_above_first(copy: &StoredCopy) -> bool
+    ensures { result ≡ is_less first_tag copy.now.tag }
+{
+    0 < copy.tag.number || 0 == copy.tag.number && 0 < copy.tag.session
+}
+
+// Appends the file's copy, where a start needs it and would take it again.
+fn put_copy(
+    limit: u32,
+    file: FileId,
+    copy: StoredCopy,
+    facts: &mut Vec<Fact>,
+) -> Result<(), NeedRefused>
+    ensures facts { OnOk result (facts.new.items ≡ facts.old.items ++ map (fact_of file.tenant) (copy_facts (file_place file) copy)) }
+    ensures readable { OnOk result (IsReadable limit copy) }
+    ensures refused { IfErr result (IsRefusedOf limit copy) }
+{
+    if !is_above_first(&copy) {
+        if !is_first(&copy) {
+            return Err(NeedRefused::Unreadable);
+        }
+        return Ok(());
+    }
+    if !copy_fits(limit, &copy) {
+        return Err(NeedRefused::Unreadable);
+    }
+    facts.grow(Fact::Kept { file, copy })?;
+    Ok(())
+}
+
+impl Core {
+    // A session of a start has these numbers, where there is the session.
+    fn recall_session(
+        &mut self,
+        tenant: u8,
+        session: u8,
+        op: Option<u32>,
+        number: Option<u64>,
+    ) -> bool
+        requires { tenant < length self.old.plan.rows }
+        ensures fits { result ≡ is_in 1 (row_at self.old.plan tenant).sessions session }
+        ensures none { result ≡ false → self.new ≡ self.old }
+        ensures recalled { result ≡ true → self.new ≡ with_seat self.old tenant session
+            (recalled_seat (seat_at self.old tenant session) (unwrap_or op (seat_at self.old tenant session).op) (unwrap_or number (last_in (seat_at self.old tenant session)))) }
+    {
+        if !self.has(tenant, u32::from(session)) {
+            return false;
+        }
+        self.seats[tenant as usize].recall(session as usize - 1, op, number);
+        true
+    }
+
+    // The server of a start has this copy, where the file is there and has room for it.
+    fn recall_copy(&mut self, file: FileId, copy: &StoredCopy) -> bool
+        requires { file.tenant < length self.old.plan.rows }
+        ensures leads { Leads self.old file.tenant (recalls (own_fact (Fact.Kept file copy.now))) self.new }
+    {
+        let Some(limit) = self.desk.limit(file) else {
+            return false;
+        };
+        if !copy_fits(limit, copy) {
+            return false;
+        }
+        let _put = self.store.put(file, copy.tag, copy.bytes.as_slice());
+        true
+    }
+
+    // Reads a fact at a start. Answers whether it fits.
+    pub(crate) fn recall(&mut self, fact: &Fact) -> bool
+        requires { tenant_of fact.now < length self.old.plan.rows }
+        ensures leads { Leads self.old (tenant_of fact.now) (recalls (own_fact fact.now)) self.new }
+    {
+        let _server = self.server;
+        match fact {
+            Fact::Began {
+                tenant,
+                session,
+                op,
+            } => self.recall_session(*tenant, *session, Some(*op), None),
+            Fact::Numbered {
+                tenant,
+                session,
+                number,
+            } => self.recall_session(*tenant, *session, None, Some(*number)),
+            Fact::Kept { file, copy } => self.recall_copy(*file, copy),
+        }
+    }
+
+    // Appends what a start needs of the session.
+    fn put_seat(&self, tenant: u8, session: u32, facts: &mut Vec<Fact>) -> Result<(), OutOfMemory>
+        requires tenant { tenant < length self.now.plan.rows }
+        requires first { 1 ≤ session }
+        requires last { session ≤ (row_at self.now.plan tenant).sessions }
+        ensures { OnOk result (facts.new.items ≡ facts.old.items ++ map (fact_of tenant) (seat_facts self.now tenant session)) }
+    {
+        if !self.has(tenant, session) {
+            return Ok(());
+        }
+        let seat = &self.seats[tenant as usize].items[session as usize - 1];
+        put_begun(tenant, session as u8, seat.op, facts)?;
+        put_number(tenant, session as u8, seat.last(), facts)
+    }
+
+    // Appends what a start needs of the tenant's sessions.
+    fn put_seats(&self, tenant: u8, facts: &mut Vec<Fact>) -> Result<(), OutOfMemory>
+        requires { tenant < length self.now.plan.rows }
+        ensures { OnOk result (facts.new.items ≡ facts.old.items ++ map (fact_of tenant) (flat_map (seat_facts self.now tenant) (range_with_len 1 (row_at self.now.plan tenant).sessions))) }
+    {
+        let sessions = self.plan.row(tenant).sessions;
+        for place in 0..sessions {
+            self.put_seat(tenant, place + 1, facts)?;
+        }
+        Ok(())
+    }
+
+    // The copy of the file.
+    fn copy_of(&self, file: FileId) -> Result<StoredCopy, OutOfMemory>
+        requires { IsSome (limit_of self.now.desk file) }
+        ensures { IfOk result (λ copy. copy ≡ copy_at self.now.store file) }
+    {
+        let mut bytes = Vec::new(self.alloc);
+        let tag = self.store.read(file, &mut bytes)?;
+        Ok(StoredCopy {
+            tag,
+            bytes: bytes_of(bytes)?,
+        })
+    }
+
+    // Appends the copy of the file, where a start needs it.
+    fn put_place(
+        &self,
+        tenant: u8,
+        volume: u32,
+        place: u32,
+        facts: &mut Vec<Fact>,
+    ) -> Result<(), NeedRefused>
+        requires { tenant < length self.now.plan.rows }
+        ensures facts { OnOk result (facts.new.items ≡ facts.old.items ++ map (fact_of tenant) (place_facts self.now tenant volume place)) }
+        ensures readable { OnOk result (PlaceReadable self.now tenant volume place) }
+        ensures refused { IfErr result (IsRefusedIn self.now) }
+    {
+        let file = FileId {
+            tenant,
+            volume,
+            file: place,
+        };
+        let Some(limit) = self.desk.limit(file) else {
+            return Ok(());
+        };
+        let copy = self.copy_of(file)?;
+        put_copy(limit, file, copy, facts)
+    }
+
+    // Appends the copies of so many files of the volume.
+    fn put_files(
+        &self,
+        tenant: u8,
+        volume: u32,
+        files: u32,
+        facts: &mut Vec<Fact>,
+    ) -> Result<(), NeedRefused>
+        requires { tenant < length self.now.plan.rows }
+        ensures facts { OnOk result (facts.new.items ≡ facts.old.items ++ map (fact_of tenant) (files_facts self.now tenant volume files)) }
+        ensures readable { OnOk result ((place : ℕ) → place < files → PlaceReadable self.now tenant volume place) }
+        ensures refused { IfErr result (IsRefusedIn self.now) }
+    {
+        for place in 0..files {
+            self.put_place(tenant, volume, place, facts)?;
+        }
+        Ok(())
+    }
+
+    // How many volumes the tenant has.
+    fn count_volumes(&self, tenant: u8) -> usize
+        requires { tenant < length self.now.plan.rows }
+        ensures count { result ≡ length (account_at self.now.desk tenant).volumes }
+        ensures few { result ≤ MOST_VOLUMES }
+    {
+        self.desk.volumes(tenant).len()
+    }
+
+    // Appends the copies of the tenant's files.
+    fn put_volumes(&self, tenant: u8, facts: &mut Vec<Fact>) -> Result<(), NeedRefused>
+        requires { tenant < length self.now.plan.rows }
+        ensures facts { OnOk result (facts.new.items ≡ facts.old.items ++ map (fact_of tenant) (volumes_facts self.now tenant)) }
+        ensures readable { OnOk result ((volume : ℕ) → volume < length (account_at self.now.desk tenant).volumes → (place : ℕ) → place < files_in self.now tenant volume → PlaceReadable self.now tenant volume place) }
+        ensures refused { IfErr result (IsRefusedIn self.now) }
+    {
+        let count = self.count_volumes(tenant);
+        for volume in 0..count {
+            let files = self.files(tenant, volume as u32);
+            self.put_files(tenant, volume as u32, files, facts)?;
+        }
+        Ok(())
+    }
+
+    // Appends what a start needs of the tenant.
+    fn put_tenant(&self, tenant: u8, facts: &mut Vec<Fact>) -> Result<(), NeedRefused>
+        requires { tenant < length self.now.plan.rows }
+        ensures facts { OnOk result (facts.new.items ≡ facts.old.items ++ map (fact_of tenant) (tenant_facts self.now tenant)) }
+        ensures readable { OnOk result (AllReadable self.now tenant) }
+        ensures refused { IfErr result (IsRefusedIn self.now) }
+    {
+        self.put_seats(tenant, facts)?;
+        self.put_volumes(tenant, facts)
+    }
+
+    // What a start needs.
+    pub(crate) fn needed(&self) -> Result<Vec<Fact>, NeedRefused>
+        ensures needed { IfOk result (λ facts. Needed self.now facts.items) }
+        ensures refused { IfErr result (IsRefusedIn self.now) }
+    {
+        let mut facts = Vec::new(self.alloc);
+        let tenants = self.plan.tenants();
+        for place in 0..tenants {
+            self.put_tenant(place as u8, &mut facts)?;
+        }
+        Ok(facts)
+    }
+}

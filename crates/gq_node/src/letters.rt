@@ -1,0 +1,174 @@
+//! What a letter and a tick do to the tables.
+
+ghost use Rattle.std.specs.Prelude.{◌≡◌, ◌<◌, ◌≤◌, length, true, false, IfOk, IsSome, option_map};
+ghost use Rattle.gq_grid.specs.declared.TheConstants.{MOST_SERVERS};
+ghost use Rattle.gq_tag.specs.Tag.{file_place, own_message, to_server};
+ghost use Rattle.gq_desk.specs.CheckedPlan.{row_at};
+ghost use Rattle.gq_desk.specs.Volumes.{limit_of};
+ghost use Rattle.gq_store.specs.Copies.{copy_at, file_limit};
+ghost use Rattle.gq_phase.specs.Best.{copied_number};
+ghost use Rattle.gq_cluster.specs.Facts.{replaced_in};
+ghost use Rattle.gq_node.specs.Local.{serves, hears, receives, ticks, goes_between, letter_fits, copy_fits, file_fits};
+ghost use Rattle.gq_node.specs.Sites.{site_of, address_of};
+ghost use Rattle.gq_node.specs.Tables.{fact_of, Acts, Stands};
+
+use crate::homes::home;
+use crate::output::{Fact, Output, letters_of};
+use crate::tables::Core;
+use gq_memory::{GrowVec, OutOfMemory};
+use gq_store::ServeRefused;
+use gq_tag::{Body, Message, StoredCopy};
+
+// Whether the copy is within the limit in bytes, and a number is above that of its tag.
+pub(crate) fn copy_fits(limit: u32, copy: &StoredCopy) -> bool
+    ensures { result ≡ copy_fits limit copy.now }
+{
+    copy.bytes.len() <= limit as usize && copy.tag.number < u64::MAX
+}
+
+// Whether the file is there, and the body fits.
+fn file_fits(limit: Option<u32>, body: &Body) -> bool
+    ensures { result ≡ file_fits limit body.now }
+{
+    let Some(limit) = limit else {
+        return false;
+    };
+    match body {
+        Body::Copy(copy) | Body::Store(copy) => copy_fits(limit, copy),
+        Body::Ask | Body::Stored => true,
+    }
+}
+
+impl Core {
+    // Whether a letter that came from there goes from a session's home to a server, or back.
+    fn goes_between(&self, from: u8, message: &Message) -> bool
+        requires tenant { message.now.tenant < length self.now.plan.rows }
+        requires first { 1 ≤ message.now.session }
+        ensures { result ≡ goes_between (site_of self.now.plan self.now.server message.now.tenant) from (own_message message.now) }
+    {
+        let home = home(&self.plan, message.tenant, u32::from(message.session));
+        if message.to_server() {
+            message.server == self.server && home == from
+        } else {
+            home == self.server && message.server == from
+        }
+    }
+
+    // Whether an honest node from there sends this letter to this one.
+    fn fits(&self, from: u8, message: &Message) -> bool
+        requires { message.now.tenant < length self.now.plan.rows }
+        ensures { result ≡ letter_fits (site_of self.now.plan self.now.server message.now.tenant)
+            (limit_of self.now.desk message.now.file) from (own_message message.now) }
+    {
+        self.has(message.tenant, u32::from(message.session))
+            && (message.server as usize) < self.plan.grid().servers()
+            && self.goes_between(from, message)
+            && file_fits(self.desk.limit(message.file), &message.body)
+    }
+
+    // What is kept of a letter to the server.
+    fn kept(&self, message: &Message) -> Result<Option<Fact>, OutOfMemory>
+        requires { IsSome (file_limit self.now.store message.now.file) }
+        ensures { IfOk result (λ fact. fact ≡ option_map (fact_of message.now.file.tenant)
+            (replaced_in (copy_at self.now.store message.now.file) (file_place message.now.file) message.now.body)) }
+    {
+        let file = message.file;
+        match &message.body {
+            Body::Store(copy) if self.store.tag(file) < copy.tag => Ok(Some(Fact::Kept {
+                file,
+                copy: copy.share()?,
+            })),
+            _ => Ok(None),
+        }
+    }
+
+    // The server serves the letter.
+    fn serve(&mut self, message: &Message) -> Result<Output, OutOfMemory>
+        requires tenant { message.now.tenant < length self.old.plan.rows }
+        requires own { message.now.file.tenant ≡ message.now.tenant }
+        requires goes { to_server message.now.body ≡ true }
+        requires server { message.now.server ≡ self.old.server }
+        requires fits { file_fits (limit_of self.old.desk message.now.file) message.now.body ≡ true }
+        ensures acts { IfOk result (λ out. Acts self.old message.now.tenant (λ site local. serves site local (own_message message.now)) out self.new) }
+    {
+        let fact = self.kept(message)?;
+        let reply = match self.store.serve(message) {
+            Ok(reply) => reply,
+            Err(ServeRefused::Memory(refused)) => return Err(refused),
+            Err(_) => unreachable!(),
+        };
+        let mut letters = Vec::new(self.alloc);
+        letters.grow(reply)?;
+        Ok(Output {
+            answer: None,
+            letters,
+            fact,
+        })
+    }
+
+    // A session hears the letter.
+    fn hear(&mut self, message: &Message) -> Result<Output, OutOfMemory>
+        requires tenant { message.now.tenant < length self.old.plan.rows }
+        requires first { 1 ≤ message.now.session }
+        requires last { message.now.session ≤ (row_at self.old.plan message.now.tenant).sessions }
+        requires goes { to_server message.now.body ≡ false }
+        requires server { message.now.server < MOST_SERVERS }
+        requires number { copied_number message.now.body < u64.MAX }
+        ensures acts { IfOk result (λ out. Acts self.old message.now.tenant (λ site local. hears site local (own_message message.now)) out self.new) }
+    {
+        let alloc = self.alloc;
+        let grid = *self.plan.grid();
+        self.seats[message.tenant as usize].attend(
+            message.session as usize - 1,
+            alloc,
+            &grid,
+            message,
+        )
+    }
+
+    // A letter that came from there.
+    pub(crate) fn letter(&mut self, from: u8, message: &Message) -> Result<Output, OutOfMemory>
+        requires tenant { message.now.tenant < length self.old.plan.rows }
+        requires own { message.now.file.tenant ≡ message.now.tenant }
+        ensures acts { IfOk result (λ out. Acts self.old message.now.tenant (receives from (own_message message.now)) out self.new) }
+    {
+        if !self.fits(from, message) {
+            return Ok(Output::nothing(self.alloc));
+        }
+        if message.to_server() {
+            self.serve(message)
+        } else {
+            self.hear(message)
+        }
+    }
+
+    // The node that the letter goes to.
+    pub(crate) fn address(&self, message: &Message) -> u8
+        requires tenant { message.now.tenant < length self.now.plan.rows }
+        requires first { 1 ≤ message.now.session }
+        ensures { result ≡ address_of self.now.plan message.now }
+    {
+        if message.to_server() {
+            message.server
+        } else {
+            home(&self.plan, message.tenant, u32::from(message.session))
+        }
+    }
+
+    // A tick comes to the session.
+    pub(crate) fn tick(&mut self, tenant: u8, session: u32) -> Result<Output, OutOfMemory>
+        requires tenant { tenant < length self.old.plan.rows }
+        requires first { 1 ≤ session }
+        requires last { session ≤ (row_at self.old.plan tenant).sessions }
+        requires stands { Stands self.old tenant }
+        ensures acts { IfOk result (λ out. Acts self.old tenant (ticks session) out self.new) }
+    {
+        let grid = *self.plan.grid();
+        let messages = self.seats[tenant as usize].tick(session as usize - 1, &grid)?;
+        Ok(Output {
+            answer: None,
+            letters: letters_of(self.alloc, messages)?,
+            fact: None,
+        })
+    }
+}
