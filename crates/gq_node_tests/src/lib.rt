@@ -5,6 +5,4 @@
 #[cfg(test)]
 mod cluster;
 #[cfg(test)]
-mod flood;
-#[cfg(test)]
 mod lines;
