@@ -5,4 +5,6 @@
 #[cfg(test)]
 mod cluster;
 #[cfg(test)]
+mod flood;
+#[cfg(test)]
 mod lines;
