@@ -38,6 +38,12 @@ static void tell(void) {
 
 __attribute__((destructor)) static void at_end(void) { tell(); }
 
+/* (a program that may start threads ends in this way) */
+void _exit(int status) {
+    tell();
+    for (;;) syscall(SYS_exit_group, status);
+}
+
 static void stop(void) {
     tell();
     kill(getpid(), SIGKILL);
