@@ -3,9 +3,9 @@
    The calls by which a node changes its files or writes to standard output are counted from 1: write, fsync, fdatasync, ftruncate and
    rename. With STOP=N in the environment the process is killed before call N, with STOP=N+ behind it, with STOP=N/ when it has done half
    of a write (before any other call). With FAIL=N call N fails; where that is a write it does half, and all writes behind it fail, as on a
-   full disk. With FAIL=N+ all that follow fail too. Calls on standard output don't fail. With LIES=1 a sync does nothing, and says that it did. At the
-   end of the process, also where it is killed here, the calls stand in the file that CALLS names, a letter each: w, s, t, r, S for a sync
-   of a folder, o for a write to standard output.
+   full disk. With FAIL=N+ all that follow fail too. Calls on standard output don't fail. With LIES=1 a sync does nothing, and says that it did.
+   At the end of the process, also where it is killed here or ends by _exit, the calls stand in the file that CALLS names, a letter each:
+   w, s, t, r, S for a sync of a folder, o for a write to standard output.
 
    How much of a file is synced stands in the file of its name with .synced behind. What a rename replaces is kept, as with .before behind,
    until the folder is synced; where it replaces nothing, that is marked, by .fresh. So who starts the node again can take away what a
@@ -38,7 +38,7 @@ static void tell(void) {
 
 __attribute__((destructor)) static void at_end(void) { tell(); }
 
-/* (a program that may start threads ends in this way) */
+/* A process that ends by this runs no destructor. */
 void _exit(int status) {
     tell();
     for (;;) syscall(SYS_exit_group, status);

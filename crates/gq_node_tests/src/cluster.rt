@@ -1,10 +1,10 @@
 //! A grid of 2 by 2, one node for each server, and the letters between them by hand.
 
 use bytes::Bytes;
-use gq_desk::{Name, Plan, TenantRow, VolumeRow};
+use gq_desk::{Name, Plan, TenantRow};
 use gq_grid::Grid;
 use gq_memory::GrowVec;
-use gq_node::{Answer, Fact, Holding, Line, Node, Output};
+use gq_node::{Answer, Fact, Line, Node, Output};
 use gq_phase::Outcome;
 use gq_tag::Message;
 use std::alloc::Global;
@@ -282,61 +282,5 @@ fn a_start_from_facts(rt: HostRuntime) -> Result<(), Fail> {
     let mut cluster = Cluster::new(&rt, rt.alloc());
     let mut fresh = node(&rt, rt.alloc(), 0);
     starts(&rt, &mut cluster, &mut fresh, &write(1, b"one"));
-    Ok(())
-}
-
-// What the node tells the tenant that it has.
-fn holding(rt: &impl Abort, node: &mut Node, tenant: u8) -> Holding {
-    assert!(rt; (tenant as usize) < node.plan().tenants());
-    let out = node.holding(tenant).expect(rt, "memory");
-    assert_eq!(rt; out.letters.len(), 0);
-    assert!(rt; out.fact.is_none());
-    match out.answer {
-        Some(Answer::Has(holding)) => holding,
-        _ => rt.abort(),
-    }
-}
-
-// What it is told but the volumes: the servers, the home of its session 1, its sessions, its share and the most blocks of a file.
-fn row_told(holding: &Holding) -> (u8, u8, u32, u32, u32) {
-    (
-        holding.servers,
-        holding.home,
-        holding.sessions,
-        holding.share,
-        holding.most_blocks,
-    )
-}
-
-fn tells_each_its_own(rt: &impl Abort, node: &mut Node) {
-    let ann = holding(rt, node, 0);
-    assert_eq!(rt; row_told(&ann), (4, 0, 2, 8, 16));
-    let one = VolumeRow {
-        files: 2,
-        blocks: 1,
-    };
-    assert_eq!(rt; ann.volumes.items.as_slice(), [one].as_slice());
-    // the sessions before those of the second tenant are two
-    let bob = holding(rt, node, 1);
-    assert_eq!(rt; row_told(&bob), (4, 2, 2, 8, 16));
-    let first = VolumeRow {
-        files: 1,
-        blocks: 4,
-    };
-    let second = VolumeRow {
-        files: 3,
-        blocks: 1,
-    };
-    assert_eq!(rt; bob.volumes.items.as_slice(), [first, second].as_slice());
-}
-
-#[test]
-fn a_tenant_is_told_what_it_has(rt: HostRuntime) -> Result<(), Fail> {
-    let node = node(&rt, rt.alloc(), 3);
-    assert!(rt; 1 < node.plan().tenants());
-    let node = node.open(1, 1, 4).expect(&rt, "a volume");
-    assert!(rt; 1 < node.plan().tenants());
-    let mut node = node.open(1, 3, 1).expect(&rt, "a volume");
-    tells_each_its_own(&rt, &mut node);
     Ok(())
 }

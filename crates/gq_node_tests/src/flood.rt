@@ -1,6 +1,8 @@
 //! A node at which one tenant, and nobody of the plan, write whatever they like: the other tenant is told the same as without that, and the
 //! node keeps no more than the plan has room for.
 
+ghost use Rattle.std.specs.Prelude.{◌<◌};
+
 use gq_desk::{Name, Plan, TenantRow};
 use gq_grid::Grid;
 use gq_memory::{GrowCopies, GrowVec};

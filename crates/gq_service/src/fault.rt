@@ -102,12 +102,12 @@ impl From<Fault> for NodeFault {
 
 /// A fault as it is told to whoever asked for the node: with the file that it is of.
 #[derive(Drop)]
-pub struct Told<'x> {
+pub struct Told<'x, 'r> {
     pub fault: &'x NodeFault,
-    pub asked: &'x NodeRequest<'x>,
+    pub asked: &'x NodeRequest<'r>,
 }
 
-impl Display for Told<'_> {
+impl Display for Told<'_, '_> {
     fn fmt<W: Write>(&self, f: &mut Formatter<W>) -> fmt::Result {
         let (plan, journal, number) = (self.asked.plan, self.asked.journal, self.asked.number);
         match self.fault {
