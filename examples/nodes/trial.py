@@ -105,7 +105,7 @@ def show(grid):
     before = trial.count("second")
     trial.note(f"kill -9 of {trial.kill(DEAD)}")
     trial.wait_for_the_others()
-    trial.note(f"{before} of {FILES} are done before, {trial.count('second') - before} since: the nodes that are left go on")
+    trial.note(f"done before that: {before} of {FILES}; since then, by the nodes that are left: {trial.count('second') - before}")
     trial.note(f"the sessions whose home is node {DEAD} wait")
 
     trial.say(f"Node {DEAD} starts again from its journal:")
