@@ -1,6 +1,6 @@
 //! The greatest copy heard in a round, and who told its tag.
 
-ghost use Rattle.std.specs.Prelude.{◌≡◌, ◌<◌, None, OnOk, OnErr};
+ghost use Rattle.std.specs.Prelude.{◌≡◌, ◌<◌, None, Some, OnOk, OnErr};
 ghost use Rattle.std.specs.Option.{option_copied};
 ghost use Rattle.gq_grid.specs.declared.TheConstants.{MOST_SERVERS};
 ghost use Rattle.gq_grid.specs.Sets.{servers};
@@ -52,6 +52,7 @@ impl Best {
     }
 
     /// Notes what one more reply says. A copy that is not kept is not cloned.
+    #[inline(always)]
     pub fn note(&mut self, body: BodyView<'_>) -> Result<(), OutOfMemory>
         requires { copied_number (body_of body) < u64.MAX }
         ensures ok { OnOk result (self.new ≡ best_with self.old (body_of body.entry)) }
@@ -59,9 +60,20 @@ impl Best {
     {
         if let BodyView::Copy(copy) = body {
             if self.is_exceeded_by(copy) {
-                self.copy = Some(copy.share()?);
+                return self.keep(copy);
             }
         }
+        Ok(())
+    }
+
+    // Keeps the copy in place of the one that it exceeds. It is a call of its own since few replies have a greater copy.
+    #[inline(never)]
+    fn keep(&mut self, copy: &StoredCopy) -> Result<(), OutOfMemory>
+        requires { copy.now.tag.number < u64.MAX }
+        ensures ok { OnOk result (self.new ≡ Some copy.now) }
+        ensures err { OnErr result (self.new ≡ self.old) }
+    {
+        self.copy = Some(copy.share()?);
         Ok(())
     }
 

@@ -2,13 +2,13 @@
 
 ghost use Rattle.std.specs.Prelude.{◌≡◌, ◌↔◌, ◌+◌, ◌*◌, ◌<◌, ◌≤◌, [], true, false, None, ◌&&◌, nat_lt, IfOk, IfErr, OnOk, OnErr, IsErrOf, unwrap_or, map, option_map};
 ghost use Rattle.gq_grid.specs.declared.TheConstants.{MOST_SERVERS};
-ghost use Rattle.gq_grid.specs.Grid.{no_servers, rising};
+ghost use Rattle.gq_grid.specs.Grid.{Servers, no_servers, rising, with_server};
 ghost use Rattle.gq_grid.specs.Sets.{servers};
 ghost use Rattle.gq_tag.specs.declared.TheConstants.{MOST_FILES};
 ghost use Rattle.gq_tag.specs.Tag.{first_copy, file_place};
 ghost use Rattle.gq_tag.specs.View.{body_of};
 ghost use Rattle.gq_round.specs.Round.{addressed, apart, sent_to};
-ghost use Rattle.gq_phase.specs.Best.{copied_number, best_with};
+ghost use Rattle.gq_phase.specs.Best.{copied_number, best_with, givers_with};
 ghost use Rattle.gq_phase.specs.Quorums.{collect_quorum, store_quorum};
 ghost use Rattle.gq_phase.specs.Phase.{Writing, Reading, Listing, listed_row};
 ghost use Rattle.gq_phase.specs.Standing.{first_ask, rows_with};
@@ -254,6 +254,30 @@ impl Operation {
             self.note(message.body, heard, givers)?;
             return Ok(Heard::Noted);
         }
+        self.hear_last(message, heard, givers, up)
+    }
+
+    // What the operation says to a reply that ends the round: these servers are heard with it, and these told the greatest tag.
+    // It is a call of its own since it makes room for much, and few replies end a round.
+    #[inline(never)]
+    fn hear_last(
+        &mut self,
+        message: &MessageView<'_>,
+        heard: ServerSet,
+        givers: ServerSet,
+        up: ServerSet,
+    ) -> Result<Heard, OutOfMemory>
+        requires number { copied_number message.now.body < u64.MAX }
+        requires floor { floor_of self.old < u64.MAX }
+        requires current { is_current_as self.old message.now ≡ true }
+        requires heard { servers heard ≡ with_server message.now.server (servers self.old.heard) }
+        requires givers { servers givers ≡ givers_with self.old.best (servers self.old.givers) message.now.server message.now.body }
+        requires over { ends_as self.old (servers heard) ≡ true }
+        ensures hears { IfOk result (λ said. HearsAs self.old self.new (servers up) message.now said) }
+        ensures floor { IfOk result (λ said. RaisesFloor self.old self.new said) }
+        ensures ends { IfOk result (λ said. EndsAs self.old self.new said) }
+        ensures err { OnErr result (self.new ≡ self.old) }
+    {
         if self.course.collects() {
             let copy = self.decided(message.body)?;
             if !self.skips(givers) {
@@ -268,6 +292,32 @@ impl Operation {
         } else {
             self.finish()
         }
+    }
+
+    /// Notes a message whose copy is lent, where it is a reply of the round that does not end it, and answers whether it is
+    /// one. That is what [`Operation::hear_view`] does with it, whatever servers are up, but makes less room. To any other
+    /// message, and where memory is wanting, the operation stays as it is.
+    #[inline(always)]
+    pub fn notes(&mut self, message: &MessageView<'_>) -> Result<bool, OutOfMemory>
+        requires server { message.now.server < MOST_SERVERS }
+        requires number { copied_number message.now.body < u64.MAX }
+        ensures hears { IfOk result (λ noted. noted ≡ true → (up : Servers) → HearsAs self.old self.new up message.now Heard.Noted) }
+        ensures stays { IfOk result (λ noted. noted ≡ false → self.new ≡ self.old) }
+        ensures floor { floor_of self.new ≡ floor_of self.old }
+        ensures err { OnErr result (self.new ≡ self.old) }
+    {
+        if !self.is_current(message) {
+            return Ok(false);
+        }
+        let server = message.server as usize;
+        let mut heard = self.heard;
+        heard.insert(server);
+        if self.ends(heard) {
+            return Ok(false);
+        }
+        let givers = self.best.givers_with(self.givers, server, message.body);
+        self.note(message.body, heard, givers)?;
+        Ok(true)
     }
 
     /// Sends the round's message once more, to those servers that were not heard in the round of the least full row of
@@ -340,6 +390,7 @@ impl Operation {
     }
 
     // Notes the reply: these servers are heard now, and these told the greatest tag.
+    #[inline(always)]
     fn note(
         &mut self,
         body: BodyView<'_>,

@@ -3,6 +3,7 @@
 ghost use Rattle.std.specs.Prelude.{◌≡◌, ◌<◌, ◌≤◌, ◌+◌, ◌*◌, ◌++◌, ◌∷◌, [], Some, length, map, slice_get, slice_set, vec_len, vec_capacity, IfSome, IfNone, IfOk, OnOk, OnErr, IsSome};
 ghost use Rattle.gq_grid.specs.Grid.{rising};
 ghost use Rattle.gq_grid.specs.Sets.{servers};
+ghost use Rattle.gq_grid.specs.declared.TheConstants.{MOST_SERVERS};
 ghost use Rattle.gq_round.specs.Round.{apart};
 ghost use Rattle.gq_tag.specs.View.{body_of};
 ghost use Rattle.gq_post.specs.Envelopes.{says_of, says_lost, names_copy, with_body, envelope_of, to_other, answering, lost, envelopes_at, envelope_at};
@@ -10,7 +11,7 @@ ghost use Rattle.gq_post.specs.declared.envelopes.Envelope.{Envelope};
 ghost use Rattle.gq_post.specs.Slips.{heading_of, slip_of, slip_to, opened};
 
 use gq_grid::{Grid, ServerSet};
-use gq_memory::{GrowPlaces, GrowVec, OutOfMemory, RoomInVec};
+use gq_memory::{GrowPlaces, OutOfMemory, RoomInVec};
 use gq_tag::{Body, BodyView, FileId, Message, MessageView};
 use std::alloc::Global;
 use std::marker::Model;
@@ -188,6 +189,7 @@ fn push_slips(
 ) -> usize
     requires { vec_len slips.old + grid.now.rows * grid.now.cols ≤ vec_capacity slips.old }
     ensures count { result ≡ length (rising grid.now (apart (servers to) (servers except))) }
+    ensures few { result ≤ MOST_SERVERS }
     ensures pushed { slips.new.items ≡ slips.old.items ++ map (slip_to slip) (rising grid.now (apart (servers to) (servers except))) }
 {
     let mut count = 0;
@@ -268,12 +270,13 @@ impl Envelopes {
         ensures ok { OnOk result ((asked : Envelope) → slice_get self.old number ≡ Some asked → self.new ≡ self.old ++ answering asked says place ∷ []) }
         ensures err { OnErr result (self.new ≡ self.old) }
     {
+        self.slips.make_room(1)?;
         let asked = self.slips[number as usize];
-        self.slips.grow(Slip {
+        self.slips.push_reserved(Slip {
             place,
             says,
             ..asked
-        })?;
+        });
         Ok(())
     }
 
@@ -286,6 +289,7 @@ impl Envelopes {
         except: ServerSet,
     ) -> Result<usize, OutOfMemory>
         ensures count { IfOk result (λ count. count ≡ length (rising grid.now (apart (servers to) (servers except)))) }
+        ensures few { IfOk result (λ count. count ≤ MOST_SERVERS) }
         ensures ok { OnOk result (self.new ≡ self.old ++ map (to_other envelope) (rising grid.now (apart (servers to) (servers except)))) }
         ensures err { OnErr result (self.new ≡ self.old) }
     {
@@ -341,6 +345,7 @@ pub(crate) fn push_round(
 ) -> Result<usize, OutOfMemory>
     requires { tenant < length lanes.old.items }
     ensures count { IfOk result (λ count. count ≡ length (rising grid.now (apart (servers to) (servers except)))) }
+    ensures few { IfOk result (λ count. count ≤ MOST_SERVERS) }
     ensures ok { OnOk result (lanes.new.items ≡ slice_set lanes.old.items tenant (envelopes_at lanes.old.items tenant ++ map (to_other envelope) (rising grid.now (apart (servers to) (servers except))))) }
     ensures err { OnErr result (lanes.new.items ≡ lanes.old.items) }
 {

@@ -5,4 +5,4 @@ mod copies;
 mod envelopes;
 mod post;
 
-pub use post::{CopySent, Post, Unsent};
+pub use post::{CopySent, Post, RoundSent, Unsent};

@@ -31,6 +31,13 @@ pub struct CopySent {
     pub hint: u32,
 }
 
+/// Messages of a round that were sent: the number of the first, and how many they are.
+#[derive(Clone, Copy)]
+pub struct RoundSent {
+    pub first: u64,
+    pub count: u32,
+}
+
 /// The messages of all tenants: for each tenant a lane of its messages in order of sending, numbered from 0. A message stays
 /// until it is lost; its number is then nobody's. Messages may share a copy, whose place serves the next message of any
 /// tenant once the last of them is lost.
@@ -92,11 +99,12 @@ impl Post {
         Ok(number)
     }
 
-    /// Sends a round's messages of the tenant in order, and answers the number of the first. Their copy is there once.
-    /// Where memory is wanting nothing changes.
-    pub fn send_all(&mut self, tenant: u8, messages: Messages) -> Result<u64, OutOfMemory>
+    /// Sends a round's messages of the tenant in order, and answers the number of the first, and how many they are. Their
+    /// copy is there once. Where memory is wanting nothing changes.
+    pub fn send_all(&mut self, tenant: u8, messages: Messages) -> Result<RoundSent, OutOfMemory>
         requires { tenant < length self.old }
-        ensures first { IfOk result (λ first. first ≡ length (lane_at self.old tenant)) }
+        ensures first { IfOk result (λ sent. sent.first ≡ length (lane_at self.old tenant)) }
+        ensures count { IfOk result (λ sent. sent.count ≡ length messages) }
         ensures sent { OnOk result (self.new ≡ slice_set self.old tenant (lane_at self.old tenant ++ map Some messages)) }
         ensures same { OnErr result (self.new ≡ self.old) }
     {
@@ -128,7 +136,10 @@ impl Post {
         let first = self.lanes[tenant as usize].count();
         let users = envelopes::push_round(&mut self.lanes, tenant, envelope, &grid, to, except)?;
         copies::keep(&mut self.copies, body, users);
-        Ok(first as u64)
+        Ok(RoundSent {
+            first: first as u64,
+            count: users as u32,
+        })
     }
 
     /// Sends the answer `stored` to the tenant's message of this number, in the same round, and answers the number of

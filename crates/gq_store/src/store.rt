@@ -346,6 +346,17 @@ impl ServerStore {
         Ok(reply(message, body))
     }
 
+    /// Forgets all tenants with their volumes: their blocks are free then, and what other memory these took is given back.
+    /// Who lets many stores go clears all of them before the first: the C library joins all blocks that were given back, one by
+    /// one, as soon as something large is given back behind them.
+    pub fn clear(&mut self)
+        ensures { self.new ≡ record { blocks = self.old.blocks; tenants = [] } }
+    {
+        while let Some(tenant) = self.tenants.pop() {
+            tenant.spend(&mut self.pool);
+        }
+    }
+
     /// Gives all memory back, as letting the store go does.
     pub fn close(self) {
         drop(self);

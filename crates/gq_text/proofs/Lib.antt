@@ -10,6 +10,9 @@ pub mod Cutting
 pub mod Marking
 pub mod OneNumber
 pub mod Contents
+pub mod Digits
+pub mod DigitLanes
+pub mod DigitParts
 pub mod Plain
 pub mod LinesBack
 pub mod EventsBack

@@ -1,4 +1,5 @@
 pub mod Words
+pub mod Digits
 pub mod Lines
 pub mod Input
 pub mod PlanText

@@ -1,12 +1,12 @@
 //! Lines of the input after the plan.
 
-ghost use Rattle.std.specs.Prelude.{◌≡◌, ◌∷◌, IfOk};
+ghost use Rattle.std.specs.Prelude.{◌≡◌, ◌∷◌, ◌++◌, codes, IfOk, IfSome};
 ghost use Rattle.gq_model.specs.Events.{IsIn};
 ghost use Rattle.gq_text.specs.Words.{words_after};
-ghost use Rattle.gq_model.specs.declared.events.Line.TheVariants.{Write};
+ghost use Rattle.gq_model.specs.declared.events.Line.TheVariants.{Deliver, Write};
 ghost use Rattle.gq_text.specs.Input.{one_number_of, two_numbers_of, three_numbers_of, file_content_of, line_from, line_of, server_line_of, event_of, event_of_words};
 
-use crate::words::{content, first_word, is_end, next_word, number};
+use crate::words::{content, first_word, is_end, next_long_word, next_word, number};
 use gq_desk::Plan;
 use gq_memory::OutOfMemory;
 use gq_model::{Event, Line, ServerLine};
@@ -66,7 +66,7 @@ fn write_line(alloc: Global, text: &[u8]) -> Result<Line, OutOfMemory>
     let Some((file, rest)) = next_word(rest) else {
         return Ok(Line::Bad);
     };
-    let Some((word, rest)) = next_word(rest) else {
+    let Some((word, rest)) = next_long_word(rest) else {
         return Ok(Line::Bad);
     };
     if !is_end(rest) {
@@ -87,18 +87,44 @@ fn write_line(alloc: Global, text: &[u8]) -> Result<Line, OutOfMemory>
     }
 }
 
+// What stands behind ` deliver `, where the text begins so. (A pattern is compared in place; `strip_prefix` makes a call.)
+#[inline(always)]
+fn behind_deliver(text: &[u8]) -> Option<&[u8]>
+    ensures { IfSome result (λ word. text.now ≡ codes " deliver " ++ word.now) }
+{
+    match text {
+        [
+            b' ',
+            b'd',
+            b'e',
+            b'l',
+            b'i',
+            b'v',
+            b'e',
+            b'r',
+            b' ',
+            word @ ..,
+        ] => Some(word),
+        _ => None,
+    }
+}
+
+// The number of the message that a line delivers, of which this text stands behind the tenant's name; none where the line is
+// another, or what it has for a number is none.
+#[inline(always)]
+fn delivery(text: &[u8]) -> Option<u32>
+    ensures { IfSome result (λ n. line_of (words_after text.now) ≡ Deliver n) }
+{
+    let word = behind_deliver(text)?;
+    number(word)
+}
+
 // The line of the words after a tenant's name. The most frequent kinds are seen without a search for the ends of words.
 #[inline(always)]
 #[tactic(auto, unfolding(crate::specs::Input::line_of))]
 fn line_behind_name(alloc: Global, text: &[u8]) -> Result<Line, OutOfMemory>
     ensures { IfOk result (λ line. line ≡ line_of (words_after text.now)) }
 {
-    if let Some(word) = text.strip_prefix(b" deliver ".as_slice()) {
-        return match number(word) {
-            Some(number) => Ok(Line::Deliver { number }),
-            None => Ok(Line::Bad),
-        };
-    }
     match text {
         b" quorum" => return Ok(Line::Quorum),
         b" volumes" => return Ok(Line::Volumes),
@@ -236,11 +262,18 @@ pub fn read_cut_line(
             line: server_line(rest),
         });
     }
-    match plan.find_word(first) {
-        Some(tenant) => Ok(Event::Tenant {
+    let Some(tenant) = plan.find_word(first) else {
+        return Ok(Event::Stray);
+    };
+    // (the most frequent line first, and as an event at once: as a line alone it would be copied once more)
+    if let Some(number) = delivery(rest) {
+        return Ok(Event::Tenant {
             tenant,
-            line: line_behind_name(alloc, rest)?,
-        }),
-        None => Ok(Event::Stray),
+            line: Line::Deliver { number },
+        });
     }
+    Ok(Event::Tenant {
+        tenant,
+        line: line_behind_name(alloc, rest)?,
+    })
 }

@@ -4,6 +4,7 @@
 
 mod canonical;
 mod first_bytes;
+mod hex_digits;
 mod input;
 pub mod laws;
 mod lines;

@@ -1,6 +1,6 @@
 //! Words straight into a buffer.
 
-ghost use Rattle.std.specs.Prelude.{◌≡◌, ◌+◌, ◌≤◌, ◌∷◌, ◌++◌, length, map, decimal, OnOk, OnErr};
+ghost use Rattle.std.specs.Prelude.{◌≡◌, ◌+◌, ◌%◌, ◌<◌, ◌≤◌, [], ◌∷◌, ◌++◌, length, map, decimal, vec_len, vec_capacity, OnOk, OnErr};
 ghost use Rattle.std.specs.List.{flat_map};
 ghost use Rattle.hex.specs.Hex.{encode_lower};
 ghost use Rattle.gq_grid.specs.Grid.{rising};
@@ -10,7 +10,7 @@ ghost use Rattle.gq_text.specs.Pieces.{words_in, Extends};
 
 use gq_desk::VolumeRow;
 use gq_grid::{Grid, ServerSet};
-use gq_memory::{GrowCopies, GrowVec, OutOfMemory};
+use gq_memory::{GrowCopies, GrowVec, OutOfMemory, RoomInVec};
 use gq_phase::Row;
 use gq_tag::Tag;
 use itoa::Buffer;
@@ -36,18 +36,126 @@ pub enum Piece<'a> {
     Files(&'a [Row]),
 }
 
-/// Appends the decimal digits of a number.
+// Most numbers have at most four digits. These are written straight into the buffer, once it has room for them.
+
+// Appends the last digit of a number.
+#[inline(always)]
+fn push_last(out: &mut Vec<u8>, n: u64)
+    requires { vec_len out.old < vec_capacity out.old }
+    ensures items { out.new.items ≡ out.old.items ++ (48 + n % 10) ∷ [] }
+    ensures len { vec_len out.new ≡ vec_len out.old + 1 }
+    ensures capacity { vec_capacity out.new ≡ vec_capacity out.old }
+{
+    out.push_reserved(b'0' + (n % 10) as u8);
+}
+
+// Appends the digits of a number below 10.
+#[inline(always)]
 #[tactic(auto, using(std::proofs::lemmas::Fmt::decimal_digit))]
+fn push_one(out: &mut Vec<u8>, n: u64)
+    requires number { n < 10 }
+    requires room { vec_len out.old < vec_capacity out.old }
+    ensures items { out.new.items ≡ out.old.items ++ decimal n }
+    ensures len { vec_len out.new ≡ vec_len out.old + 1 }
+    ensures capacity { vec_capacity out.new ≡ vec_capacity out.old }
+{
+    out.push_reserved(b'0' + n as u8);
+}
+
+// Appends the digits of a number that has two.
+#[inline(always)]
+fn push_two(out: &mut Vec<u8>, n: u64)
+    requires number { (10 ≤ n) × (n < 100) }
+    requires room { vec_len out.old + 1 < vec_capacity out.old }
+    ensures items { out.new.items ≡ out.old.items ++ decimal n }
+    ensures len { vec_len out.new ≡ vec_len out.old + 2 }
+    ensures capacity { vec_capacity out.new ≡ vec_capacity out.old }
+{
+    push_one(out, n / 10);
+    push_last(out, n);
+}
+
+// Appends the digits of a number that has three.
+#[inline(always)]
+fn push_three(out: &mut Vec<u8>, n: u64)
+    requires number { (100 ≤ n) × (n < 1000) }
+    requires room { vec_len out.old + 2 < vec_capacity out.old }
+    ensures items { out.new.items ≡ out.old.items ++ decimal n }
+    ensures len { vec_len out.new ≡ vec_len out.old + 3 }
+    ensures capacity { vec_capacity out.new ≡ vec_capacity out.old }
+{
+    push_two(out, n / 10);
+    push_last(out, n);
+}
+
+// Appends the digits of a number that has four.
+#[inline(always)]
+fn push_four(out: &mut Vec<u8>, n: u64)
+    requires number { (1000 ≤ n) × (n < 10000) }
+    requires room { vec_len out.old + 3 < vec_capacity out.old }
+    ensures items { out.new.items ≡ out.old.items ++ decimal n }
+    ensures len { vec_len out.new ≡ vec_len out.old + 4 }
+    ensures capacity { vec_capacity out.new ≡ vec_capacity out.old }
+{
+    push_three(out, n / 10);
+    push_last(out, n);
+}
+
+// Appends the digits of a number that has at most four.
+#[inline(always)]
+fn push_short(out: &mut Vec<u8>, n: u64)
+    requires number { n < 10000 }
+    requires room { vec_len out.old + 4 ≤ vec_capacity out.old }
+    ensures items { out.new.items ≡ out.old.items ++ decimal n }
+    ensures len { vec_len out.new ≤ vec_len out.old + 4 }
+    ensures capacity { vec_capacity out.new ≡ vec_capacity out.old }
+{
+    if n < 10 {
+        push_one(out, n);
+    } else if n < 100 {
+        push_two(out, n);
+    } else if n < 1_000 {
+        push_three(out, n);
+    } else {
+        push_four(out, n);
+    }
+}
+
+// Appends the digits of a number of any size.
+fn put_long_number(out: &mut Vec<u8>, n: u64) -> Result<(), OutOfMemory>
+    ensures ok { OnOk result (out.new.items ≡ out.old.items ++ decimal n) }
+    ensures err { OnErr result (out.new.items ≡ out.old.items) }
+{
+    let mut buffer = Buffer::new();
+    out.grow_by(buffer.format(n).as_bytes())
+}
+
+/// Appends the decimal digits of a number.
 pub fn put_number(out: &mut Vec<u8>, n: u64) -> Result<(), OutOfMemory>
     ensures ok { OnOk result (out.new.items ≡ out.old.items ++ decimal n) }
     ensures err { OnErr result (out.new.items ≡ out.old.items) }
 {
-    if n < 10 {
-        out.grow(b'0' + n as u8)?;
-        return Ok(());
+    if n >= 10_000 {
+        return put_long_number(out, n);
     }
-    let mut buffer = Buffer::new();
-    out.grow_by(buffer.format(n).as_bytes())
+    out.make_room(4)?;
+    push_short(out, n);
+    Ok(())
+}
+
+/// Appends the decimal digits of a number, and a newline. After want of memory the digits may have been appended.
+pub fn put_last_number(out: &mut Vec<u8>, n: u64) -> Result<(), OutOfMemory>
+    ensures ok { OnOk result (out.new.items ≡ out.old.items ++ decimal n ++ 10 ∷ []) }
+    ensures err { OnErr result (Extends out.old.items out.new.items) }
+{
+    if n >= 10_000 {
+        put_long_number(out, n)?;
+        return out.grow(b'\n');
+    }
+    out.make_room(5)?;
+    push_short(out, n);
+    out.push_reserved(b'\n');
+    Ok(())
 }
 
 // Appends a word after a space.

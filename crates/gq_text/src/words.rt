@@ -3,8 +3,10 @@
 ghost use Rattle.std.specs.Prelude.{◌≡◌, ℕ, List, [], ◌∷◌, ◌++◌, IfOk, MatchOption, MatchBool};
 ghost use Rattle.gq_text.specs.Words.{words_of, words_after, number_after, number_of, content_of};
 
+use crate::hex_digits::read_digits;
 use bytes::Bytes;
-use gq_memory::{OutOfMemory, bytes_of, content_of_digits};
+use gq_memory::{OutOfMemory, bytes_of, filled};
+use memchr::memchr;
 use std::alloc::Global;
 
 // The greatest number of 32 bits.
@@ -23,6 +25,17 @@ pub fn first_word(text: &[u8]) -> (&[u8], &[u8])
     (text, &[])
 }
 
+// As [`first_word`], of a word that may be long.
+fn first_long_word(text: &[u8]) -> (&[u8], &[u8])
+    ensures words { words_of text.now ≡ result.0.now ∷ words_after result.1.now }
+    ensures whole { text.now ≡ result.0.now ++ result.1.now }
+{
+    match memchr(b' ', text) {
+        Some(end) => (&text[..end], &text[end..]),
+        None => (text, &[]),
+    }
+}
+
 /// The next word, and the text after it.
 pub fn next_word(text: &[u8]) -> Option<(&[u8], &[u8])>
     ensures { MatchOption result (words_after text.now ≡ [])
@@ -31,6 +44,17 @@ pub fn next_word(text: &[u8]) -> Option<(&[u8], &[u8])>
     match text {
         [] => None,
         [_, text @ ..] => Some(first_word(text)),
+    }
+}
+
+/// As [`next_word`], of a word that may be long.
+pub fn next_long_word(text: &[u8]) -> Option<(&[u8], &[u8])>
+    ensures { MatchOption result (words_after text.now ≡ [])
+        (λ x. words_after text.now ≡ x.0.now ∷ words_after x.1.now) }
+{
+    match text {
+        [] => None,
+        [_, text @ ..] => Some(first_long_word(text)),
     }
 }
 
@@ -79,11 +103,12 @@ pub fn content(alloc: Global, word: &[u8]) -> Result<Option<Bytes>, OutOfMemory>
     if word == b"-".as_slice() {
         return Ok(Some(Bytes::new()));
     }
-    if word.is_empty() {
+    if word.is_empty() || word.len() % 2 != 0 {
         return Ok(None);
     }
-    match content_of_digits(alloc, word)? {
-        Some(bytes) => Ok(Some(bytes_of(bytes)?)),
-        None => Ok(None),
+    let mut bytes = filled(alloc, 0u8, word.len() / 2)?;
+    if !read_digits(word, bytes.as_mut_slice()) {
+        return Ok(None);
     }
+    Ok(Some(bytes_of(bytes)?))
 }

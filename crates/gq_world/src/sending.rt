@@ -27,13 +27,12 @@ pub(crate) fn answer_heard(post: &mut Post, tenant: u8, heard: Heard) -> Result<
             tag,
             messages,
         } => {
-            let count = messages.len() as u32;
-            let first = post.send_all(tenant, messages)?;
+            let sent = post.send_all(tenant, messages)?;
             Ok(Answer::Round {
                 round,
                 tag,
-                first,
-                count,
+                first: sent.first,
+                count: sent.count,
             })
         }
         Heard::Done(outcome) => Ok(Answer::Done(outcome)),

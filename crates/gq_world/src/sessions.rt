@@ -1,6 +1,7 @@
 //! The sessions of a tenant.
 
-ghost use Rattle.std.specs.Prelude.{◌≡◌, ◌≢◌, ℕ, ◌+◌, ◌-◌, ◌<◌, ◌≤◌, replicate, length, slice_set, None, IfOk, IfErr};
+ghost use Rattle.std.specs.Prelude.{◌≡◌, ◌≢◌, ℕ, ◌+◌, ◌-◌, ◌<◌, ◌≤◌, replicate, length, slice_set, true, false, None, IfOk, IfErr};
+ghost use Rattle.gq_grid.specs.Grid.{Servers};
 ghost use Rattle.gq_grid.specs.Sets.{servers};
 ghost use Rattle.gq_grid.specs.declared.TheConstants.{MOST_SERVERS};
 ghost use Rattle.gq_phase.specs.Best.{copied_number};
@@ -93,6 +94,23 @@ impl Seats {
         }
     }
 
+    // Notes a message that comes to its session, where it is a reply of the session's round that does not end it, and answers
+    // whether it is one.
+    #[inline(always)]
+    pub(crate) fn notes(&mut self, message: &MessageView<'_>) -> Result<bool, OutOfMemory>
+        requires first { 1 ≤ message.now.session }
+        requires last { message.now.session ≤ length self.old }
+        requires server { message.now.server < MOST_SERVERS }
+        requires number { copied_number message.now.body < u64.MAX }
+        ensures hears { IfOk result (λ noted. noted ≡ true → (up : Servers) → SeatHears (seat_in self.old (message.now.session - 1)) (seat_in self.new (message.now.session - 1)) up message.now Heard.Noted) }
+        ensures others { (place : ℕ) → place ≢ message.now.session - 1 → seat_in self.new place ≡ seat_in self.old place }
+        ensures count { length self.new ≡ length self.old }
+        ensures stays { IfOk result (λ noted. noted ≡ false → self.new ≡ self.old) }
+    {
+        let seat = &mut self.items[message.session as usize - 1];
+        seat.notes(message)
+    }
+
     // A message comes to its session, where the servers of `up` are up.
     #[inline(always)]
     pub(crate) fn hear(
@@ -116,6 +134,20 @@ impl Seats {
 
 impl Seat {
     ghost use Rattle.gq_world.specs.Seats.{SeatHears, FloorIsBelow};
+
+    // Notes a reply of the session's round that does not end it, and answers whether the message is one.
+    #[inline(always)]
+    fn notes(&mut self, message: &MessageView<'_>) -> Result<bool, OutOfMemory>
+        requires server { message.now.server < MOST_SERVERS }
+        requires number { copied_number message.now.body < u64.MAX }
+        ensures hears { IfOk result (λ noted. noted ≡ true → (up : Servers) → SeatHears self.old self.new up message.now Heard.Noted) }
+        ensures stays { IfOk result (λ noted. noted ≡ false → self.new ≡ self.old) }
+    {
+        match &mut self.operation {
+            Some(operation) => operation.notes(message),
+            None => Ok(false),
+        }
+    }
 
     // A message comes to the session.
     #[inline(always)]

@@ -115,6 +115,32 @@ impl Core {
         })
     }
 
+    // Lets the tables go, the servers' blocks behind all else ([`ServerStore::clear`] says why).
+    pub(crate) fn close(self) {
+        let Core {
+            alloc: _,
+            plan,
+            up,
+            lines,
+            desk,
+            post,
+            mut stores,
+            seats,
+            content,
+        } = self;
+        drop(plan);
+        drop(up);
+        drop(lines);
+        drop(desk);
+        drop(post);
+        drop(seats);
+        drop(content);
+        for server in 0..stores.len() {
+            stores[server].clear();
+        }
+        drop(stores);
+    }
+
     // The plan.
     pub(crate) fn plan(&self) -> &Plan
         ensures { result.now ≡ self.now.plan }
@@ -360,10 +386,13 @@ impl Core {
         ensures begun { OnOk result (self.new ≡ begun_tables self.old tenant place operation messages) }
         ensures plan { self.new.plan ≡ self.old.plan }
     {
-        let count = messages.len() as u32;
-        let first = self.post.send_all(tenant, messages)?;
+        let sent = self.post.send_all(tenant, messages)?;
         let op = self.seats[tenant as usize].begin(place, operation);
-        Ok(Answer::Began { op, first, count })
+        Ok(Answer::Began {
+            op,
+            first: sent.first,
+            count: sent.count,
+        })
     }
 
     // A line that begins a write.
@@ -517,9 +546,11 @@ impl Core {
         }
         match self.seats[tenant as usize].resend(session as usize - 1, self.up.servers()) {
             Ok(messages) => {
-                let count = messages.len() as u32;
-                let first = self.post.send_all(tenant, messages)?;
-                Ok(Answer::Resent { first, count })
+                let sent = self.post.send_all(tenant, messages)?;
+                Ok(Answer::Resent {
+                    first: sent.first,
+                    count: sent.count,
+                })
             }
             Err(ResendRefused::NoQuorum) => Ok(Answer::Refused(Refusal::NoQuorum)),
             Err(ResendRefused::Memory(refused)) => Err(refused),
@@ -555,7 +586,13 @@ impl Core {
             return Ok(Answer::Refused(Refusal::NoMessage));
         };
         if !message.to_server() {
-            let heard = self.seats[tenant as usize].hear(&message, self.up.servers())?;
+            let seats = &mut self.seats[tenant as usize];
+            // (most replies end no round, and are noted with less ado)
+            let noted = seats.notes(&message)?;
+            if noted {
+                return Ok(Answer::Noted);
+            }
+            let heard = seats.hear(&message, self.up.servers())?;
             return answer_heard(&mut self.post, tenant, heard);
         }
         let server = message.server as usize;

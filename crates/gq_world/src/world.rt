@@ -21,10 +21,16 @@ use thiserror::Error;
 
 /// The tenants of a plan and its servers. What it has for a tenant depends on that tenant's lines and the server lines
 /// alone.
-#[derive(Drop)]
 pub struct World {
     tables: Core,
     ended: Option<OutOfMemory>,
+}
+
+impl Drop for World {
+    fn drop(self) {
+        let World { tables, ended: _ } = self;
+        tables.close();
+    }
 }
 
 impl Model for World {

@@ -4,7 +4,7 @@ use Rattle.std.specs.Prelude.{codes}
 use Rattle.std.proofs.lemmas.Bool.Decides.{Decides-eqb}
 use Rattle.std.proofs.lemmas.Slice.Eq.{text_from_reads, strip_prefix_is}
 use Rattle.gq_text.specs.Input.{line_of}
-use Rattle.gq_text.proofs.OneNumber.{delivered, lost}
+use Rattle.gq_text.proofs.OneNumber.{lost}
 use Rattle.gq_text.proofs.input.line_behind_name.Goals as goal
 
 pub returns-in-32-2 : goal.returns-in-32-2
@@ -15,20 +15,10 @@ returns-in-32-2 c =
 
 pub returns-in-Some-number : goal.returns-in-Some-number
 returns-in-Some-number c =
-    let is : c.args.text.now ≡ codes " deliver " ++ c.in-Some.word.now = strip_prefix_is Decides-eqb c.args.text.now c.as_slice.result.now (Some c.in-Some.word) c.in-Some.ensures.cases ∙ ap (λ p. p ++ c.in-Some.word.now) c.as_slice.ensures in
-    delivered c.args.text.now c.in-Some.word.now _ is (sym c.in-Some-number.is ∙ c.number.ensures)
+    let is : c.args.text.now ≡ codes " lose " ++ c.in-Some.word.now = strip_prefix_is Decides-eqb c.args.text.now c.as_slice.result.now (Some c.in-Some.word) c.in-Some.ensures.cases ∙ ap (λ p. p ++ c.in-Some.word.now) c.as_slice.ensures in
+    lost c.args.text.now c.in-Some.word.now _ is (sym c.in-Some-number.is ∙ c.number.ensures)
 
 pub returns-in-None : goal.returns-in-None
 returns-in-None c =
-    let is : c.args.text.now ≡ codes " deliver " ++ c.in-Some.word.now = strip_prefix_is Decides-eqb c.args.text.now c.as_slice.result.now (Some c.in-Some.word) c.in-Some.ensures.cases ∙ ap (λ p. p ++ c.in-Some.word.now) c.as_slice.ensures in
-    delivered c.args.text.now c.in-Some.word.now _ is (sym c.in-None.is ∙ c.number.ensures)
-
-pub returns-in-Some-number-2 : goal.returns-in-Some-number-2
-returns-in-Some-number-2 c =
-    let is : c.args.text.now ≡ codes " lose " ++ c.in-Some-strip_prefix.word.now = strip_prefix_is Decides-eqb c.args.text.now c.as_slice-2.result.now (Some c.in-Some-strip_prefix.word) c.in-Some-strip_prefix.ensures.cases ∙ ap (λ p. p ++ c.in-Some-strip_prefix.word.now) c.as_slice-2.ensures in
-    lost c.args.text.now c.in-Some-strip_prefix.word.now _ is (sym c.in-Some-number-2.is ∙ c.number-in-Some-strip_prefix.ensures)
-
-pub returns-in-None-number : goal.returns-in-None-number
-returns-in-None-number c =
-    let is : c.args.text.now ≡ codes " lose " ++ c.in-Some-strip_prefix.word.now = strip_prefix_is Decides-eqb c.args.text.now c.as_slice-2.result.now (Some c.in-Some-strip_prefix.word) c.in-Some-strip_prefix.ensures.cases ∙ ap (λ p. p ++ c.in-Some-strip_prefix.word.now) c.as_slice-2.ensures in
-    lost c.args.text.now c.in-Some-strip_prefix.word.now _ is (sym c.in-None-number.is ∙ c.number-in-Some-strip_prefix.ensures)
+    let is : c.args.text.now ≡ codes " lose " ++ c.in-Some.word.now = strip_prefix_is Decides-eqb c.args.text.now c.as_slice.result.now (Some c.in-Some.word) c.in-Some.ensures.cases ∙ ap (λ p. p ++ c.in-Some.word.now) c.as_slice.ensures in
+    lost c.args.text.now c.in-Some.word.now _ is (sym c.in-None.is ∙ c.number.ensures)

@@ -1,5 +1,5 @@
 -- The answer with a copy: one that is there already is shared.
-use Rattle.std.proofs.Common.{◌≡◌, ◌∙◌, ◌<◌, ◌+◌, ◌++◌, ◌∷◌, [], Some, None, length, map, set, refl, ap, sym, subst}
+use Rattle.std.proofs.Common.{◌≡◌, ◌∙◌, ◌<◌, ◌+◌, ◌++◌, ◌∷◌, [], Some, length, map, set, refl, ap, sym, subst}
 use Rattle.std.specs.Prelude.{IsSome}
 use Rattle.gq_tag.specs.declared.Body.TheVariants as body
 use Rattle.slab.specs.Slab.{get, Updates}

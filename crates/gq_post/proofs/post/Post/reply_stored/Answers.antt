@@ -1,5 +1,5 @@
 -- The answer `stored` to a message that is there.
-use Rattle.std.proofs.Common.{◌≡◌, ◌∙◌, ◌<◌, ◌++◌, ◌∷◌, [], Some, length, map, set, refl, ap, sym, subst}
+use Rattle.std.proofs.Common.{◌∙◌, ◌<◌, ◌++◌, ◌∷◌, [], Some, length, map, set, refl, ap, sym, subst}
 use Rattle.std.specs.Prelude.{IsSome}
 use Rattle.gq_tag.specs.declared.Body.TheVariants as body
 use Rattle.gq_post.specs.declared.envelopes.Says.TheVariants.{Stored}

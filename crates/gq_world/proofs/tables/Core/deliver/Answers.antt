@@ -1,14 +1,15 @@
 -- The message's conditions follow from what is ready, and the tables go on as the model does.
-use Rattle.std.proofs.Common.{◌≡◌, ◌∙◌, ◌<◌, ℕ, List, ◌∷◌, [], false, None, Some, length, ap, sym, subst, arith, ◌-◌, ◌≤◌}
+use Rattle.std.proofs.Common.{◌≡◌, ◌∙◌, ◌<◌, ℕ, List, ◌∷◌, [], false, None, Some, length, ap, sym, subst, arith, append-nil, ◌-◌, ◌≤◌}
 use Rattle.std.specs.Prelude.{IsSome, slice_set}
 use Rattle.std.proofs.lemmas.Result.{IfOk-weaker, on_ok_weaker}
-use Rattle.std.proofs.lemmas.List.{get_or_default}
+use Rattle.std.proofs.lemmas.List.{get_or_default, set-get_or}
 use Rattle.gq_grid.specs.Sets.{servers}
 use Rattle.gq_grid.specs.declared.TheConstants.{MOST_SERVERS}
 use Rattle.gq_tag.specs.declared.Message.{Message}
 use Rattle.gq_tag.specs.Tag.{to_server, answer_body}
 use Rattle.gq_post.specs.Lanes.{Lane, lane_at, message_at}
 use Rattle.gq_phase.specs.declared.Heard.{Heard}
+use Rattle.gq_phase.specs.declared.Heard.TheVariants.{Noted}
 use Rattle.gq_store.specs.Copies.{StoreCopies, copy_at, file_limit, store_accounts}
 use Rattle.gq_store.specs.Serving.{held_after, serve_fault}
 use Rattle.gq_model.specs.Told.{Replied}
@@ -41,8 +42,9 @@ returns-then-not-to_server-clause-answer c =
     let lanes : t < length w.lanes = rw shaped.lanes c.requires.tenant in
     let tenants : t < length w.seats = rw shaped.tenants c.requires.tenant in
     let seats_now : c.self.inside.seats.items ≡ w.seats = ap (λ (x : Tables). x.seats) c.self.view_is in
-    let seats_is : c.index_mut.result.now ≡ seats_at w.seats t =
-    c.index_mut.ensures.value ∙ get_or_default c.self.inside.seats.items t _ _ (rw seats_now tenants) ∙ ap (λ all. seats_at all t) seats_now in
+    let seats_was : c.index_mut-seats.result.now ≡ seats_at w.seats t =
+    c.index_mut-seats.ensures.value ∙ get_or_default c.self.inside.seats.items t _ _ (rw seats_now tenants) ∙ ap (λ all. seats_at all t) seats_now in
+    let seats_is : c.notes.new.self ≡ seats_at w.seats t = c.in_ok-noted.ensures.stays c.if-noted.false ∙ seats_was in
     let heard : Heard = c.in_ok-heard.heard in
     let P : List Seat → Type 0 = λ seats. SeatHears (seat_in seats (m.session - 1)) (seat_in c.hear.new.self (m.session - 1)) (servers c.servers.result) m heard in
     let hears' : SeatHears (seat_in (seats_at w.seats t) (m.session - 1)) (seat_in c.hear.new.self (m.session - 1)) (servers c.servers.result) m heard = subst P seats_is c.in_ok-heard.ensures.hears in
@@ -81,8 +83,9 @@ returns-then-not-to_server-clause-acts c =
     let lanes : t < length w.lanes = rw shaped.lanes c.requires.tenant in
     let tenants : t < length w.seats = rw shaped.tenants c.requires.tenant in
     let seats_now : c.self.inside.seats.items ≡ w.seats = ap (λ (x : Tables). x.seats) c.self.view_is in
-    let seats_is : c.index_mut.result.now ≡ seats_at w.seats t =
-    c.index_mut.ensures.value ∙ get_or_default c.self.inside.seats.items t _ _ (rw seats_now tenants) ∙ ap (λ all. seats_at all t) seats_now in
+    let seats_was : c.index_mut-seats.result.now ≡ seats_at w.seats t =
+    c.index_mut-seats.ensures.value ∙ get_or_default c.self.inside.seats.items t _ _ (rw seats_now tenants) ∙ ap (λ all. seats_at all t) seats_now in
+    let seats_is : c.notes.new.self ≡ seats_at w.seats t = c.in_ok-noted.ensures.stays c.if-noted.false ∙ seats_was in
     let heard : Heard = c.in_ok-heard.heard in
     let P : List Seat → Type 0 = λ seats. SeatHears (seat_in seats (m.session - 1)) (seat_in c.hear.new.self (m.session - 1)) (servers c.servers.result) m heard in
     let hears' : SeatHears (seat_in (seats_at w.seats t) (m.session - 1)) (seat_in c.hear.new.self (m.session - 1)) (servers c.servers.result) m heard = subst P seats_is c.in_ok-heard.ensures.hears in
@@ -296,8 +299,9 @@ hear-requires-clause-first c =
     sym (c.in-Some.ensures ∙ ap (λ k. message_at (lane_at c.self.inside.post t) k) c.from.ensures ∙ ap (λ (x : Tables). message_at (lane_at x.lanes t) n) c.self.view_is) in
     let tenants : t < length w.seats = rw shaped.tenants c.requires.tenant in
     let seats_now : c.self.inside.seats.items ≡ w.seats = ap (λ (x : Tables). x.seats) c.self.view_is in
-    let seats_is : c.index_mut.result.now ≡ seats_at w.seats t =
-    c.index_mut.ensures.value ∙ get_or_default c.self.inside.seats.items t _ _ (rw seats_now tenants) ∙ ap (λ all. seats_at all t) seats_now in
+    let seats_was : c.index_mut-seats.result.now ≡ seats_at w.seats t =
+    c.index_mut-seats.ensures.value ∙ get_or_default c.self.inside.seats.items t _ _ (rw seats_now tenants) ∙ ap (λ all. seats_at all t) seats_now in
+    let seats_is : c.notes.new.self ≡ seats_at w.seats t = c.in_ok-noted.ensures.stays c.if-noted.false ∙ seats_was in
     (session_within w t n m c.requires.tenant r shaped there).0
 
 pub hear-requires-clause-last : goal.hear-requires-clause-last
@@ -312,8 +316,9 @@ hear-requires-clause-last c =
     sym (c.in-Some.ensures ∙ ap (λ k. message_at (lane_at c.self.inside.post t) k) c.from.ensures ∙ ap (λ (x : Tables). message_at (lane_at x.lanes t) n) c.self.view_is) in
     let tenants : t < length w.seats = rw shaped.tenants c.requires.tenant in
     let seats_now : c.self.inside.seats.items ≡ w.seats = ap (λ (x : Tables). x.seats) c.self.view_is in
-    let seats_is : c.index_mut.result.now ≡ seats_at w.seats t =
-    c.index_mut.ensures.value ∙ get_or_default c.self.inside.seats.items t _ _ (rw seats_now tenants) ∙ ap (λ all. seats_at all t) seats_now in
+    let seats_was : c.index_mut-seats.result.now ≡ seats_at w.seats t =
+    c.index_mut-seats.ensures.value ∙ get_or_default c.self.inside.seats.items t _ _ (rw seats_now tenants) ∙ ap (λ all. seats_at all t) seats_now in
+    let seats_is : c.notes.new.self ≡ seats_at w.seats t = c.in_ok-noted.ensures.stays c.if-noted.false ∙ seats_was in
     subst (λ (seats : List Seat). m.session ≤ length seats) (sym seats_is) (session_within w t n m c.requires.tenant r shaped there).1
 
 pub hear-requires-clause-server : goal.hear-requires-clause-server
@@ -328,8 +333,9 @@ hear-requires-clause-server c =
     sym (c.in-Some.ensures ∙ ap (λ k. message_at (lane_at c.self.inside.post t) k) c.from.ensures ∙ ap (λ (x : Tables). message_at (lane_at x.lanes t) n) c.self.view_is) in
     let tenants : t < length w.seats = rw shaped.tenants c.requires.tenant in
     let seats_now : c.self.inside.seats.items ≡ w.seats = ap (λ (x : Tables). x.seats) c.self.view_is in
-    let seats_is : c.index_mut.result.now ≡ seats_at w.seats t =
-    c.index_mut.ensures.value ∙ get_or_default c.self.inside.seats.items t _ _ (rw seats_now tenants) ∙ ap (λ all. seats_at all t) seats_now in
+    let seats_was : c.index_mut-seats.result.now ≡ seats_at w.seats t =
+    c.index_mut-seats.ensures.value ∙ get_or_default c.self.inside.seats.items t _ _ (rw seats_now tenants) ∙ ap (λ all. seats_at all t) seats_now in
+    let seats_is : c.notes.new.self ≡ seats_at w.seats t = c.in_ok-noted.ensures.stays c.if-noted.false ∙ seats_was in
     server_below w t n m r shaped there
 
 pub hear-requires-clause-number : goal.hear-requires-clause-number
@@ -344,8 +350,9 @@ hear-requires-clause-number c =
     sym (c.in-Some.ensures ∙ ap (λ k. message_at (lane_at c.self.inside.post t) k) c.from.ensures ∙ ap (λ (x : Tables). message_at (lane_at x.lanes t) n) c.self.view_is) in
     let tenants : t < length w.seats = rw shaped.tenants c.requires.tenant in
     let seats_now : c.self.inside.seats.items ≡ w.seats = ap (λ (x : Tables). x.seats) c.self.view_is in
-    let seats_is : c.index_mut.result.now ≡ seats_at w.seats t =
-    c.index_mut.ensures.value ∙ get_or_default c.self.inside.seats.items t _ _ (rw seats_now tenants) ∙ ap (λ all. seats_at all t) seats_now in
+    let seats_was : c.index_mut-seats.result.now ≡ seats_at w.seats t =
+    c.index_mut-seats.ensures.value ∙ get_or_default c.self.inside.seats.items t _ _ (rw seats_now tenants) ∙ ap (λ all. seats_at all t) seats_now in
+    let seats_is : c.notes.new.self ≡ seats_at w.seats t = c.in_ok-noted.ensures.stays c.if-noted.false ∙ seats_was in
     number_below w t n m r there
 
 pub hear-requires-clause-floor : goal.hear-requires-clause-floor
@@ -360,6 +367,138 @@ hear-requires-clause-floor c =
     sym (c.in-Some.ensures ∙ ap (λ k. message_at (lane_at c.self.inside.post t) k) c.from.ensures ∙ ap (λ (x : Tables). message_at (lane_at x.lanes t) n) c.self.view_is) in
     let tenants : t < length w.seats = rw shaped.tenants c.requires.tenant in
     let seats_now : c.self.inside.seats.items ≡ w.seats = ap (λ (x : Tables). x.seats) c.self.view_is in
-    let seats_is : c.index_mut.result.now ≡ seats_at w.seats t =
-    c.index_mut.ensures.value ∙ get_or_default c.self.inside.seats.items t _ _ (rw seats_now tenants) ∙ ap (λ all. seats_at all t) seats_now in
+    let seats_was : c.index_mut-seats.result.now ≡ seats_at w.seats t =
+    c.index_mut-seats.ensures.value ∙ get_or_default c.self.inside.seats.items t _ _ (rw seats_now tenants) ∙ ap (λ all. seats_at all t) seats_now in
+    let seats_is : c.notes.new.self ≡ seats_at w.seats t = c.in_ok-noted.ensures.stays c.if-noted.false ∙ seats_was in
     subst (λ (seats : List Seat). FloorIsBelow (seat_in seats (m.session - 1)).operation) (sym seats_is) (seat_floor_below w t n m r there)
+
+pub notes-requires-clause-first : goal.notes-requires-clause-first
+notes-requires-clause-first c =
+    let w : Tables = c.args.self.now in
+    let t : ℕ = c.args.tenant in
+    let n : ℕ = c.args.number in
+    let m : Message = c.in-Some.message in
+    let r : IsReady w t = c.requires.ready in
+    let shaped : IsShaped w = subst IsShaped c.self.view_is c.self.invariant.1 in
+    let there : message_at (lane_at w.lanes t) n ≡ Some m =
+    sym (c.in-Some.ensures ∙ ap (λ k. message_at (lane_at c.self.inside.post t) k) c.from.ensures ∙ ap (λ (x : Tables). message_at (lane_at x.lanes t) n) c.self.view_is) in
+    let tenants : t < length w.seats = rw shaped.tenants c.requires.tenant in
+    let seats_now : c.self.inside.seats.items ≡ w.seats = ap (λ (x : Tables). x.seats) c.self.view_is in
+    let seats_was : c.index_mut-seats.result.now ≡ seats_at w.seats t =
+    c.index_mut-seats.ensures.value ∙ get_or_default c.self.inside.seats.items t _ _ (rw seats_now tenants) ∙ ap (λ all. seats_at all t) seats_now in
+    (session_within w t n m c.requires.tenant r shaped there).0
+
+pub notes-requires-clause-last : goal.notes-requires-clause-last
+notes-requires-clause-last c =
+    let w : Tables = c.args.self.now in
+    let t : ℕ = c.args.tenant in
+    let n : ℕ = c.args.number in
+    let m : Message = c.in-Some.message in
+    let r : IsReady w t = c.requires.ready in
+    let shaped : IsShaped w = subst IsShaped c.self.view_is c.self.invariant.1 in
+    let there : message_at (lane_at w.lanes t) n ≡ Some m =
+    sym (c.in-Some.ensures ∙ ap (λ k. message_at (lane_at c.self.inside.post t) k) c.from.ensures ∙ ap (λ (x : Tables). message_at (lane_at x.lanes t) n) c.self.view_is) in
+    let tenants : t < length w.seats = rw shaped.tenants c.requires.tenant in
+    let seats_now : c.self.inside.seats.items ≡ w.seats = ap (λ (x : Tables). x.seats) c.self.view_is in
+    let seats_was : c.index_mut-seats.result.now ≡ seats_at w.seats t =
+    c.index_mut-seats.ensures.value ∙ get_or_default c.self.inside.seats.items t _ _ (rw seats_now tenants) ∙ ap (λ all. seats_at all t) seats_now in
+    subst (λ (seats : List Seat). m.session ≤ length seats) (sym seats_was) (session_within w t n m c.requires.tenant r shaped there).1
+
+pub notes-requires-clause-server : goal.notes-requires-clause-server
+notes-requires-clause-server c =
+    let w : Tables = c.args.self.now in
+    let t : ℕ = c.args.tenant in
+    let n : ℕ = c.args.number in
+    let m : Message = c.in-Some.message in
+    let r : IsReady w t = c.requires.ready in
+    let shaped : IsShaped w = subst IsShaped c.self.view_is c.self.invariant.1 in
+    let there : message_at (lane_at w.lanes t) n ≡ Some m =
+    sym (c.in-Some.ensures ∙ ap (λ k. message_at (lane_at c.self.inside.post t) k) c.from.ensures ∙ ap (λ (x : Tables). message_at (lane_at x.lanes t) n) c.self.view_is) in
+    let tenants : t < length w.seats = rw shaped.tenants c.requires.tenant in
+    let seats_now : c.self.inside.seats.items ≡ w.seats = ap (λ (x : Tables). x.seats) c.self.view_is in
+    let seats_was : c.index_mut-seats.result.now ≡ seats_at w.seats t =
+    c.index_mut-seats.ensures.value ∙ get_or_default c.self.inside.seats.items t _ _ (rw seats_now tenants) ∙ ap (λ all. seats_at all t) seats_now in
+    server_below w t n m r shaped there
+
+pub notes-requires-clause-number : goal.notes-requires-clause-number
+notes-requires-clause-number c =
+    let w : Tables = c.args.self.now in
+    let t : ℕ = c.args.tenant in
+    let n : ℕ = c.args.number in
+    let m : Message = c.in-Some.message in
+    let r : IsReady w t = c.requires.ready in
+    let shaped : IsShaped w = subst IsShaped c.self.view_is c.self.invariant.1 in
+    let there : message_at (lane_at w.lanes t) n ≡ Some m =
+    sym (c.in-Some.ensures ∙ ap (λ k. message_at (lane_at c.self.inside.post t) k) c.from.ensures ∙ ap (λ (x : Tables). message_at (lane_at x.lanes t) n) c.self.view_is) in
+    let tenants : t < length w.seats = rw shaped.tenants c.requires.tenant in
+    let seats_now : c.self.inside.seats.items ≡ w.seats = ap (λ (x : Tables). x.seats) c.self.view_is in
+    let seats_was : c.index_mut-seats.result.now ≡ seats_at w.seats t =
+    c.index_mut-seats.ensures.value ∙ get_or_default c.self.inside.seats.items t _ _ (rw seats_now tenants) ∙ ap (λ all. seats_at all t) seats_now in
+    number_below w t n m r there
+
+pub returns-then-noted-clause-answer : goal.returns-then-noted-clause-answer
+returns-then-noted-clause-answer c =
+    let w : Tables = c.args.self.now in
+    let t : ℕ = c.args.tenant in
+    let n : ℕ = c.args.number in
+    let m : Message = c.in-Some.message in
+    let r : IsReady w t = c.requires.ready in
+    let shaped : IsShaped w = subst IsShaped c.self.view_is c.self.invariant.1 in
+    let there : message_at (lane_at w.lanes t) n ≡ Some m =
+    sym (c.in-Some.ensures ∙ ap (λ k. message_at (lane_at c.self.inside.post t) k) c.from.ensures ∙ ap (λ (x : Tables). message_at (lane_at x.lanes t) n) c.self.view_is) in
+    let lanes : t < length w.lanes = rw shaped.lanes c.requires.tenant in
+    let tenants : t < length w.seats = rw shaped.tenants c.requires.tenant in
+    let seats_now : c.self.inside.seats.items ≡ w.seats = ap (λ (x : Tables). x.seats) c.self.view_is in
+    let seats_was : c.index_mut-seats.result.now ≡ seats_at w.seats t =
+    c.index_mut-seats.ensures.value ∙ get_or_default c.self.inside.seats.items t _ _ (rw seats_now tenants) ∙ ap (λ all. seats_at all t) seats_now in
+    let P : List Seat → Type 0 = λ seats. SeatHears (seat_in seats (m.session - 1)) (seat_in c.notes.new.self (m.session - 1)) (servers w.up) m Noted in
+    let hears : SeatHears (seat_in (seats_at w.seats t) (m.session - 1)) (seat_in c.notes.new.self (m.session - 1)) (servers w.up) m Noted = subst P seats_was (c.in_ok-noted.ensures.hears c.if-noted.true (servers w.up)) in
+    let fits = message_fits w t n m r there in
+    let goes : to_server m.body ≡ false = sym c.to_server.ensures ∙ c.if-not-to_server.true in
+    let at : HearsAt w t n m c.notes.new.self Noted = record {
+      there = there;
+      goes = goes;
+      within = c.requires.tenant;
+      lanes = lanes;
+      tenants = tenants;
+      first = fits.first;
+      last = fits.last;
+      hears = hears;
+      others = λ place other. c.notes.ensures.others place other ∙ ap (λ seats. seat_in seats place) seats_was;
+    } in
+    heard_tells w t n m c.notes.new.self Noted at
+
+pub returns-then-noted-clause-acts : goal.returns-then-noted-clause-acts
+returns-then-noted-clause-acts c =
+    let w : Tables = c.args.self.now in
+    let t : ℕ = c.args.tenant in
+    let n : ℕ = c.args.number in
+    let m : Message = c.in-Some.message in
+    let r : IsReady w t = c.requires.ready in
+    let shaped : IsShaped w = subst IsShaped c.self.view_is c.self.invariant.1 in
+    let there : message_at (lane_at w.lanes t) n ≡ Some m =
+    sym (c.in-Some.ensures ∙ ap (λ k. message_at (lane_at c.self.inside.post t) k) c.from.ensures ∙ ap (λ (x : Tables). message_at (lane_at x.lanes t) n) c.self.view_is) in
+    let lanes : t < length w.lanes = rw shaped.lanes c.requires.tenant in
+    let tenants : t < length w.seats = rw shaped.tenants c.requires.tenant in
+    let seats_now : c.self.inside.seats.items ≡ w.seats = ap (λ (x : Tables). x.seats) c.self.view_is in
+    let seats_was : c.index_mut-seats.result.now ≡ seats_at w.seats t =
+    c.index_mut-seats.ensures.value ∙ get_or_default c.self.inside.seats.items t _ _ (rw seats_now tenants) ∙ ap (λ all. seats_at all t) seats_now in
+    let P : List Seat → Type 0 = λ seats. SeatHears (seat_in seats (m.session - 1)) (seat_in c.notes.new.self (m.session - 1)) (servers w.up) m Noted in
+    let hears : SeatHears (seat_in (seats_at w.seats t) (m.session - 1)) (seat_in c.notes.new.self (m.session - 1)) (servers w.up) m Noted = subst P seats_was (c.in_ok-noted.ensures.hears c.if-noted.true (servers w.up)) in
+    let fits = message_fits w t n m r there in
+    let goes : to_server m.body ≡ false = sym c.to_server.ensures ∙ c.if-not-to_server.true in
+    let at : HearsAt w t n m c.notes.new.self Noted = record {
+      there = there;
+      goes = goes;
+      within = c.requires.tenant;
+      lanes = lanes;
+      tenants = tenants;
+      first = fits.first;
+      last = fits.last;
+      hears = hears;
+      others = λ place other. c.notes.ensures.others place other ∙ ap (λ seats. seat_in seats place) seats_was;
+    } in
+    let V : List Lane → Tables = λ lanes. record { plan = c.self.inside.plan; up = c.self.inside.up.up; lines = c.self.inside.lines.items; desk = c.self.inside.desk; lanes = lanes; stores = c.self.inside.stores.items; seats = slice_set c.self.inside.seats.items t c.notes.new.self } in
+    let now = ap (λ (x : Tables). record x { lanes = with_sent x.lanes t []; seats = slice_set x.seats t c.notes.new.self }) (sym c.self.view_is) in
+    let none : with_sent c.self.inside.post t [] ≡ c.self.inside.post = ap (slice_set c.self.inside.post t) (append-nil (lane_at c.self.inside.post t)) ∙ set-get_or c.self.inside.post t [] in
+    subst (Acts w t (Deliver n)) (now ∙ ap V none) (heard_acts w t n m c.notes.new.self Noted at)

@@ -40,8 +40,8 @@ resend-requires-clause-works c =
     c.index_mut.ensures.value ∙ get_or_default c.self.inside.seats.items t _ _ (rw seats_now tenants) ∙ ap (λ all. seats_at all t) seats_now in
     subst (λ (all : List Seat). IsAtWork (seat_in all (k - 1)).operation) (sym seats_is) (works w t k c.requires.ready (sym c.in_default.ensures))
 
-pub returns-in_ok-first-in-Ok-clause-answer : goal.returns-in_ok-first-in-Ok-clause-answer
-returns-in_ok-first-in-Ok-clause-answer c =
+pub returns-in_ok-sent-in-Ok-clause-answer : goal.returns-in_ok-sent-in-Ok-clause-answer
+returns-in_ok-sent-in-Ok-clause-answer c =
     let w : Tables = c.args.self.now in
     let t : ℕ = c.args.tenant in
     let k : ℕ = c.args.session in
@@ -55,12 +55,12 @@ returns-in_ok-first-in-Ok-clause-answer c =
     let S : List Seat → ServerSet → Type 0 = λ all set. SeatResends (seat_in all (k - 1)) (servers set) c.in-Ok.messages in
     let sends : S (seats_at w.seats t) w.up = subst (S (seats_at w.seats t)) up (subst (λ all. S all c.servers.result) seats_is c.in-Ok.ensures.ok) in
     let at : Resends w t k c.in-Ok.messages = record { lanes = lanes; asked = sym c.in_default.ensures; sends = sends } in
-    let first : c.in_ok-first-in-Ok.first ≡ length (lane_at w.lanes t) = c.in_ok-first-in-Ok.ensures.first ∙ ap (λ (x : Tables). length (lane_at x.lanes t)) c.self.view_is in
-    let count : length c.in-Ok.messages ≡ c.len-count.result = sym c.len-count.ensures.len in
-    subst (TellsLine w t (Retry k)) (ap (λ n. Resent n (length c.in-Ok.messages)) (sym first) ∙ ap (Resent c.in_ok-first-in-Ok.first) count) (again_tells w t k c.in-Ok.messages at)
+    let first : c.in_ok-sent-in-Ok.sent.first ≡ length (lane_at w.lanes t) = c.in_ok-sent-in-Ok.ensures.first ∙ ap (λ (x : Tables). length (lane_at x.lanes t)) c.self.view_is in
+    let count : length c.in-Ok.messages ≡ c.in_ok-sent-in-Ok.sent.count = sym c.in_ok-sent-in-Ok.ensures.count in
+    subst (TellsLine w t (Retry k)) (ap (λ n. Resent n (length c.in-Ok.messages)) (sym first) ∙ ap (Resent c.in_ok-sent-in-Ok.sent.first) count) (again_tells w t k c.in-Ok.messages at)
 
-pub returns-in_ok-first-in-Ok-clause-acts : goal.returns-in_ok-first-in-Ok-clause-acts
-returns-in_ok-first-in-Ok-clause-acts c =
+pub returns-in_ok-sent-in-Ok-clause-acts : goal.returns-in_ok-sent-in-Ok-clause-acts
+returns-in_ok-sent-in-Ok-clause-acts c =
     let w : Tables = c.args.self.now in
     let t : ℕ = c.args.tenant in
     let k : ℕ = c.args.session in
@@ -79,7 +79,7 @@ returns-in_ok-first-in-Ok-clause-acts c =
     ap (slice_set c.self.inside.seats.items t) (c.resend.ensures.same ∙ seats_is ∙ ap (λ all. seats_at all t) (sym seats_now)) ∙ set-get_or c.self.inside.seats.items t [] in
     let now : record w { lanes = with_sent w.lanes t c.in-Ok.messages } ≡ V c.send_all.new.self (slice_set c.self.inside.seats.items t c.resend.new.self) =
     ap (λ (x : Tables). record x { lanes = with_sent x.lanes t c.in-Ok.messages }) (sym c.self.view_is)
-    ∙ ap (λ lanes. V lanes c.self.inside.seats.items) (sym c.in_ok-first-in-Ok.ensures.sent) ∙ ap (V c.send_all.new.self) (sym kept) in
+    ∙ ap (λ lanes. V lanes c.self.inside.seats.items) (sym c.in_ok-sent-in-Ok.ensures.sent) ∙ ap (V c.send_all.new.self) (sym kept) in
     subst (Acts w t (Retry k)) now (again_acts w t k c.in-Ok.messages at)
 
 pub returns-in-Err-NoQuorum-clause-answer : goal.returns-in-Err-NoQuorum-clause-answer
