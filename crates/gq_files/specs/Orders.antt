@@ -10,11 +10,13 @@ use Rattle.gq_laws.specs.Orders.{order}
 use Rattle.gq_text.specs.Words.{Word}
 use Rattle.gq_text.specs.Lines.{lines_of, joined}
 use Rattle.gq_text.specs.Input.{place_named}
-use Rattle.gq_text.specs.PlanText.{Reading, plan_of, NamesTenant}
+use Rattle.gq_text.specs.PlanText.{Reading, plan_of, IsFaultOf, NamesTenant}
 use Rattle.gq_text.specs.AnswerText.{content_word, line_text}
 use Rattle.gq_script.specs.Linearizable.{operations_of}
 use Rattle.gq_script.specs.Out.{out, IsPlanFaultOf}
-use Rattle.gq_script.specs.Steps.{IsFaultOfLines}
+use Rattle.gq_script.specs.Faults.{of_plan}
+use Rattle.gq_files.specs.declared.asked_file.AskedFault.{AskedFault}
+use Rattle.gq_files.specs.declared.asked_file.AskedFault.TheVariants.{Plan as AskedPlan, Name as Nobody}
 use Rattle.gq_files.specs.declared.order.OrderFault.{OrderFault}
 use Rattle.gq_files.specs.declared.order.OrderFault.TheVariants.{Run, Name}
 
@@ -67,6 +69,11 @@ IsPlanFault input (Run fault) = IsPlanFaultOf input fault
 IsPlanFault input Name = Unit {0}
 
 -- the fault that the lines of the input tell, want of memory, or that the plan has no tenant of this name
-abbrev pub IsFaultOfOutput : List ℕ → List ℕ → OrderFault → Type 0
-IsFaultOfOutput name input (Run fault) = IsFaultOfLines (lines_of input) fault
-IsFaultOfOutput name input Name = IsOk (plan_of (lines_of input)) × (NamesTenant name input → ⊥)
+abbrev pub IsAskedFault : List ℕ → List ℕ → AskedFault → Type 0
+IsAskedFault name input (AskedPlan fault) = IsFaultOf (plan_of (lines_of input)) fault
+IsAskedFault name input Nobody = IsOk (plan_of (lines_of input)) × (NamesTenant name input → ⊥)
+
+-- how that is told of the order
+abbrev pub of_asking : AskedFault → OrderFault
+of_asking (AskedPlan fault) = Run (of_plan fault)
+of_asking Nobody = Name

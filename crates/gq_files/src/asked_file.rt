@@ -10,16 +10,45 @@ ghost use Rattle.gq_text.specs.Lines.{lines_of, joined};
 ghost use Rattle.gq_script.specs.Out.{output_lines};
 ghost use Rattle.gq_text.specs.PlanText.{plan_of};
 ghost use Rattle.gq_script.specs.Seeing.{seen_events, seen_places};
-ghost use Rattle.gq_files.specs.Orders.{IsFaultOfOutput};
+ghost use Rattle.gq_files.specs.Orders.{IsAskedFault};
 
-use crate::order::OrderFault;
 use gq_desk::Plan;
 use gq_memory::OutOfMemory;
-use gq_script::{Answered, RunFault, answer_lines};
+use gq_script::{Answered, answer_lines};
 use gq_tag::FileId;
 use gq_text::{PlanText, read_plan};
 use gq_world::World;
 use std::alloc::Global;
+
+/// Why an input tells nothing of a file that is asked for.
+#[derive(Drop)]
+pub(crate) enum AskedFault {
+    /// It gives no plan, or memory is wanting.
+    Plan(PlanText),
+    /// The name is no tenant's of the plan.
+    Name,
+}
+
+impl From<PlanText> for AskedFault {
+    ghost use Rattle.gq_files.specs.declared.asked_file.AskedFault.TheVariants.{Plan};
+
+    ghost from_gives = { λ fault e. e ≡ Plan fault };
+
+    fn from(fault: PlanText) -> AskedFault {
+        AskedFault::Plan(fault)
+    }
+}
+
+impl From<OutOfMemory> for AskedFault {
+    ghost use Rattle.gq_text.specs.declared.plan_text.PlanText.TheVariants.{Memory};
+    ghost use Rattle.gq_files.specs.declared.asked_file.AskedFault.TheVariants.{Plan};
+
+    ghost from_gives = { λ refused e. e ≡ Plan (Memory refused) };
+
+    fn from(refused: OutOfMemory) -> AskedFault {
+        AskedFault::Plan(PlanText::Memory(refused))
+    }
+}
 
 /// The plan of an input, where the lines behind it begin, and this file of the tenant of this name. The file need not be
 /// there.
@@ -29,30 +58,23 @@ pub(crate) fn asked_file(
     name: &str,
     volume: u32,
     file: u32,
-) -> Result<(Plan, usize, FileId), OrderFault>
+) -> Result<(Plan, usize, FileId), AskedFault>
     ensures plan { IfOk result (λ asked. plan_of (lines_of input.now) ≡ Ok (asked.0, lines_of (drop asked.1 input.now))) }
     ensures within { IfOk result (λ asked. asked.1 ≤ length input.now) }
     ensures tenant { IfOk result (λ asked. position_from (is_of name.now) 0 asked.0.rows ≡ Some asked.2.tenant) }
     ensures file { IfOk result (λ asked. file_place asked.2 ≡ record { volume = volume; place = file }) }
-    ensures fault { IfErr result (IsFaultOfOutput name.now input.now) }
+    ensures fault { IfErr result (IsAskedFault name.now input.now) }
 {
-    match read_plan(alloc, input) {
-        Ok((plan, place)) => {
-            let Some(tenant) = plan.find_word(name.as_bytes()) else {
-                return Err(OrderFault::Name);
-            };
-            let file = FileId {
-                tenant,
-                volume,
-                file,
-            };
-            Ok((plan, place, file))
-        }
-        Err(PlanText::Fault { line, fault }) => {
-            Err(OrderFault::Run(RunFault::Plan(line, fault)))
-        }
-        Err(PlanText::Memory(refused)) => Err(OrderFault::Run(RunFault::Memory(refused))),
-    }
+    let (plan, place) = read_plan(alloc, input)?;
+    let Some(tenant) = plan.find_word(name.as_bytes()) else {
+        return Err(AskedFault::Name);
+    };
+    let file = FileId {
+        tenant,
+        volume,
+        file,
+    };
+    Ok((plan, place, file))
 }
 
 /// A new world of the plan, and what it answered to the lines of a text after the plan, as one tenant saw it. The text of the

@@ -9,9 +9,9 @@ ghost use Rattle.gq_script.specs.Out.{IsAccepted};
 ghost use Rattle.gq_text.specs.PlanText.{plan_of, NamesTenant};
 ghost use Rattle.gq_script.specs.Watched.{inner_of, has_failed};
 ghost use Rattle.gq_files.specs.Histories.{AppendsHistory, AppendsHistoryPrefix, IsHistoryOf, IsHistoryText, TellsHistory, function_word, line_behind, moment_text, moment_text_in, moments_text, placed, quoted, stage_word, value_word};
-ghost use Rattle.gq_files.specs.Orders.{IsFaultOfOutput, IsPlanFault};
+ghost use Rattle.gq_files.specs.Orders.{IsAskedFault, IsPlanFault};
 
-use crate::asked_file::{answer_by_new_world, asked_file};
+use crate::asked_file::{AskedFault, answer_by_new_world, asked_file};
 use crate::order::OrderFault;
 use gq_desk::Plan;
 use gq_history::{Moment, Stage, history};
@@ -235,19 +235,15 @@ fn output(
     name: &str,
     volume: u32,
     file: u32,
-) -> Result<Vec<u8>, OrderFault>
+) -> Result<Vec<u8>, AskedFault>
     ensures plan { OnOk result (IsOk (plan_of (lines_of input.now))) }
     ensures named { OnOk result (NamesTenant name.now input.now) }
     ensures text { IfOk result (λ text. IsHistoryText input.now name.now (record { volume = volume; place = file }) text.items) }
-    ensures fault { IfErr result (IsFaultOfOutput name.now input.now) }
+    ensures fault { IfErr result (IsAskedFault name.now input.now) }
 {
-    match asked_file(alloc, input, name, volume, file) {
-        Ok((plan, place, file)) => match history_of_lines(alloc, plan, &input[place..], file) {
-            Ok(text) => Ok(text),
-            Err(refused) => Err(OrderFault::Run(RunFault::Memory(refused))),
-        },
-        Err(fault) => Err(fault),
-    }
+    let (plan, place, file) = asked_file(alloc, input, name, volume, file)?;
+    let text = history_of_lines(alloc, plan, &input[place..], file)?;
+    Ok(text)
 }
 
 /// Reads the whole input and answers it as [`gq_script::run`] does, but writes no answers: it writes the history of the
@@ -292,13 +288,8 @@ pub fn history_run<R: Read, W: Write>(
         AppendsHistoryPrefix input name.now (record { volume = volume; place = file })
         (W.contents (inner_of writer.old)) (W.contents (inner_of writer.new))) }
 {
-    let input = match read_whole(alloc, reader) {
-        Ok(input) => input,
-        Err(fault) => return Err(OrderFault::Run(fault)),
-    };
+    let input = read_whole(alloc, reader)?;
     let text = output(alloc, input.as_slice(), name, volume, file)?;
-    match write_whole(writer, text.as_slice()) {
-        Ok(()) => Ok(()),
-        Err(fault) => Err(OrderFault::Run(fault)),
-    }
+    write_whole(writer, text.as_slice())?;
+    Ok(())
 }

@@ -12,15 +12,15 @@ ghost use Rattle.gq_text.specs.PlanText.{plan_of, NamesTenant};
 ghost use Rattle.gq_text.specs.Pieces.{words_in};
 ghost use Rattle.gq_script.specs.Watched.{inner_of, has_failed, AppendsPrefix};
 ghost use Rattle.gq_order.specs.Runs.{IsRun};
-ghost use Rattle.gq_files.specs.Orders.{operation_line_at, op_line, op_lines, ordered, order_out, IsPlanFault, IsFaultOfOutput};
+ghost use Rattle.gq_files.specs.Orders.{operation_line_at, op_line, op_lines, ordered, order_out, IsPlanFault, IsAskedFault};
 
-use crate::asked_file::{answer_by_new_world, asked_file};
+use crate::asked_file::{AskedFault, answer_by_new_world, asked_file};
 use gq_desk::Plan;
 use gq_laws::{Kind, Op};
 use gq_memory::{GrowCopies, OutOfMemory};
 use gq_model::{Answer, Event};
 use gq_order::{FileOrder, OpRef, file_order};
-use gq_script::{MOST_INPUT, RunFault, Watched, read_whole, write_whole};
+use gq_script::{MOST_INPUT, ReadFault, RunFault, Watched, WriteFault, read_whole, write_whole};
 use gq_tag::FileId;
 use gq_text::{Piece, put_words};
 use std::alloc::Global;
@@ -36,6 +36,41 @@ pub enum OrderFault {
     /// The name is no tenant's of the plan.
     #[error("unknown tenant")]
     Name,
+}
+
+impl From<ReadFault> for OrderFault {
+    ghost use Rattle.gq_script.specs.Faults.{of_reading};
+    ghost use Rattle.gq_files.specs.declared.order.OrderFault.TheVariants.{Run};
+
+    ghost from_gives = { λ fault e. e ≡ Run (of_reading fault) };
+
+    fn from(fault: ReadFault) -> OrderFault {
+        OrderFault::Run(RunFault::from(fault))
+    }
+}
+
+impl From<AskedFault> for OrderFault {
+    ghost use Rattle.gq_files.specs.Orders.{of_asking};
+
+    ghost from_gives = { λ fault e. e ≡ of_asking fault };
+
+    fn from(fault: AskedFault) -> OrderFault {
+        match fault {
+            AskedFault::Plan(fault) => OrderFault::Run(RunFault::from(fault)),
+            AskedFault::Name => OrderFault::Name,
+        }
+    }
+}
+
+impl From<WriteFault> for OrderFault {
+    ghost use Rattle.gq_script.specs.declared.script.RunFault.TheVariants.{Write};
+    ghost use Rattle.gq_files.specs.declared.order.OrderFault.TheVariants.{Run};
+
+    ghost from_gives = { λ fault e. e ≡ Run Write };
+
+    fn from(fault: WriteFault) -> OrderFault {
+        OrderFault::Run(RunFault::from(fault))
+    }
 }
 
 // Appends the words behind the kind of an operation: its session, its number, and what it wrote or gave.
@@ -161,19 +196,15 @@ fn output(
     name: &str,
     volume: u32,
     file: u32,
-) -> Result<Vec<u8>, OrderFault>
+) -> Result<Vec<u8>, AskedFault>
     ensures plan { OnOk result (IsOk (plan_of (lines_of input.now))) }
     ensures named { OnOk result (NamesTenant name.now input.now) }
     ensures text { IfOk result (λ text. text.items ≡ order_out input.now name.now (record { volume = volume; place = file })) }
-    ensures fault { IfErr result (IsFaultOfOutput name.now input.now) }
+    ensures fault { IfErr result (IsAskedFault name.now input.now) }
 {
-    match asked_file(alloc, input, name, volume, file) {
-        Ok((plan, place, file)) => match output_of_lines(alloc, plan, &input[place..], file) {
-            Ok(text) => Ok(text),
-            Err(refused) => Err(OrderFault::Run(RunFault::Memory(refused))),
-        },
-        Err(fault) => Err(fault),
-    }
+    let (plan, place, file) = asked_file(alloc, input, name, volume, file)?;
+    let text = output_of_lines(alloc, plan, &input[place..], file)?;
+    Ok(text)
 }
 
 /// Reads the whole input as [`gq_script::run`] does, and writes its output and behind it the order of the operations on
@@ -218,13 +249,8 @@ pub fn order_run<R: Read, W: Write>(
         AppendsPrefix (W.contents (inner_of writer.old)) (W.contents (inner_of writer.new))
         (order_out input name.now (record { volume = volume; place = file }))) }
 {
-    let input = match read_whole(alloc, reader) {
-        Ok(input) => input,
-        Err(fault) => return Err(OrderFault::Run(fault)),
-    };
+    let input = read_whole(alloc, reader)?;
     let text = output(alloc, input.as_slice(), name, volume, file)?;
-    match write_whole(writer, text.as_slice()) {
-        Ok(()) => Ok(()),
-        Err(fault) => Err(OrderFault::Run(fault)),
-    }
+    write_whole(writer, text.as_slice())?;
+    Ok(())
 }

@@ -12,10 +12,10 @@ ghost use Rattle.gq_script.specs.Out.{IsAccepted};
 ghost use Rattle.gq_text.specs.PlanText.{plan_of, NamesTenant};
 ghost use Rattle.gq_script.specs.Watched.{inner_of, has_failed};
 ghost use Rattle.gq_files.specs.Histories.{placed};
-ghost use Rattle.gq_files.specs.Orders.{IsFaultOfOutput, IsPlanFault};
+ghost use Rattle.gq_files.specs.Orders.{IsAskedFault, IsPlanFault};
 ghost use Rattle.gq_files.specs.Pictures.{AppendsPicture, AppendsPicturePrefix, IsPictureOf, IsPictureText, TellsPicture, heading_of, servers_of};
 
-use crate::asked_file::{answer_by_new_world, asked_file};
+use crate::asked_file::{AskedFault, answer_by_new_world, asked_file};
 use crate::history::{line_behind, operations_answered};
 use crate::order::OrderFault;
 use gq_desk::Plan;
@@ -100,21 +100,15 @@ fn output(
     name: &str,
     volume: u32,
     file: u32,
-) -> Result<Vec<u8>, OrderFault>
+) -> Result<Vec<u8>, AskedFault>
     ensures plan { OnOk result (IsOk (plan_of (lines_of input.now))) }
     ensures named { OnOk result (NamesTenant name.now input.now) }
     ensures text { IfOk result (λ text. IsPictureText input.now name.now (record { volume = volume; place = file }) text.items) }
-    ensures fault { IfErr result (IsFaultOfOutput name.now input.now) }
+    ensures fault { IfErr result (IsAskedFault name.now input.now) }
 {
-    match asked_file(alloc, input, name, volume, file) {
-        Ok((plan, place, file)) => {
-            match picture_of_lines(alloc, plan, &input[place..], name.as_bytes(), file) {
-                Ok(text) => Ok(text),
-                Err(refused) => Err(OrderFault::Run(RunFault::Memory(refused))),
-            }
-        }
-        Err(fault) => Err(fault),
-    }
+    let (plan, place, file) = asked_file(alloc, input, name, volume, file)?;
+    let text = picture_of_lines(alloc, plan, &input[place..], name.as_bytes(), file)?;
+    Ok(text)
 }
 
 /// Reads the whole input and answers it as [`gq_script::run`] does, but writes no answers: it writes a picture (SVG) of the
@@ -158,13 +152,8 @@ pub fn picture_run<R: Read, W: Write>(
         AppendsPicturePrefix input name.now (record { volume = volume; place = file })
         (W.contents (inner_of writer.old)) (W.contents (inner_of writer.new))) }
 {
-    let input = match read_whole(alloc, reader) {
-        Ok(input) => input,
-        Err(fault) => return Err(OrderFault::Run(fault)),
-    };
+    let input = read_whole(alloc, reader)?;
     let text = output(alloc, input.as_slice(), name, volume, file)?;
-    match write_whole(writer, text.as_slice()) {
-        Ok(()) => Ok(()),
-        Err(fault) => Err(OrderFault::Run(fault)),
-    }
+    write_whole(writer, text.as_slice())?;
+    Ok(())
 }

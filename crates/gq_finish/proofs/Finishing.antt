@@ -1,12 +1,15 @@
 -- Lines that are answered until an operation of their session is done complete the operation that it had before them.
 use Rattle.std.proofs.Common.{◌≡◌, ◌∙◌, ℕ, ◌<◌, ◌≤◌, Bool, true, false, List, [], ◌∷◌, ◌++◌, Option, Some, None, length, length-drop, take, drop, map, suc, Ok, Err, Result, refl, sym, ap, subst, append_assoc, append-nil, All, arith}
 use Rattle.std.specs.List.{position_from}
-use Rattle.std.specs.Prelude.{cond, not, ◌==◌, ◌&&◌, ◌-◌, min, nat_le, option_map, slice_get, unwrap_or, is_ok, if◌then◌else◌, IfOk, IfErr, OnOk}
+use Rattle.std.specs.Prelude.{cond, not, ◌==◌, ◌&&◌, ◌-◌, min, nat_le, option_map, slice_get, unwrap_or, is_ok, is_some, if◌then◌else◌, IfOk, IfErr, OnOk}
 use Rattle.std.proofs.lemmas.List.{map-append, take_all}
 use Rattle.std.proofs.lemmas.List.Concat.{flat_map-append}
 use Rattle.std.proofs.lemmas.List.Elements.{All-nil, All-cons, All-head, All-tail, All-append}
 use Rattle.std.proofs.lemmas.Bool.{lt-leb, true≢false}
-use Rattle.gq_grid.specs.Grid.{Grid, Servers}
+use Rattle.gq_grid.specs.Grid.{Grid, Servers, has_column, has_row}
+use Rattle.gq_grid.specs.Sets.{servers}
+use Rattle.gq_grid.specs.declared.ServerSet.{ServerSet}
+use Rattle.gq_grid.proofs.Agreeing.{least_column_agree, least_row_agree}
 use Rattle.gq_tag.specs.Tag.{OwnMessage, to_server}
 use Rattle.gq_desk.specs.CheckedPlan.{CheckedPlan, nobody, row_at}
 use Rattle.gq_desk.specs.Plans.{is_in, is_of}
@@ -29,7 +32,8 @@ use Rattle.gq_laws.specs.Tenants.{answers_from}
 use Rattle.gq_laws.specs.Progress.{IsOutcomeOf}
 use Rattle.gq_laws.proofs.Remaining.{LeadsOn, round_leads}
 use Rattle.gq_laws.proofs.Completing.{has_operation}
-use Rattle.gq_world.specs.Tables.{Tables, Stands}
+use Rattle.gq_world.specs.Tables.{Tables, Stands, up_in}
+use Rattle.gq_world.proofs.Lanes.{in_grid}
 use Rattle.gq_text.specs.Words.{Word}
 use Rattle.gq_text.specs.Lines.{lines_of}
 use Rattle.gq_text.specs.Input.{event_of}
@@ -45,7 +49,7 @@ use Rattle.gq_finish.specs.declared.finish.Stop.{Stop}
 use Rattle.gq_finish.specs.declared.finish.Stop.TheVariants.{Idle as NoOperation, Steps}
 use Rattle.gq_script.specs.declared.script.RunFault.{RunFault}
 use Rattle.gq_finish.specs.declared.finish.FinishFault.{FinishFault}
-use Rattle.gq_finish.specs.declared.finish.FinishFault.TheVariants.{Run, Name, Session as NotThere, Idle as NoneThere, Row, Column, Both, Steps as TooFew}
+use Rattle.gq_finish.specs.declared.finish.FinishFault.TheVariants.{Run, Name, Session as NotThere, Idle as NoneThere, Row, Column, Both, Steps as TooFew, NoEnd}
 use Rattle.gq_finish.specs.Finishing.{CauseOf, FinishOf, HasCause, IsOfOutput, finishing, goes_on, operation_left, outcome_session, Ends, Finishes, Finished, IsEnd, RunsOut, StopsFor}
 
 -- ---- the same operation
@@ -437,6 +441,15 @@ pub on_ok_is : {A E : Type 0} (r : Result A E) (new some none text : List ℕ) �
 on_ok_is (Ok x) new some none text is same = is ∙ same
 on_ok_is (Err e) new some none text is same = tt
 
+-- ---- the servers that are up
+
+-- of the set that the tables have, and of what the lines leave, as many rows and columns lie in the one as in the other
+pub row_after : (grid : Grid) (set : ServerSet) (up : Servers) → up_in grid set ≡ up → has_row grid (servers set) ≡ has_row grid up
+row_after grid set up is = ap is_some (least_row_agree grid (servers set) (up_in grid set) (λ s within. sym (in_grid grid set s within))) ∙ ap (has_row grid) is
+
+pub column_after : (grid : Grid) (set : ServerSet) (up : Servers) → up_in grid set ≡ up → has_column grid (servers set) ≡ has_column grid up
+column_after grid set up is = ap is_some (least_column_agree grid (servers set) (up_in grid set) (λ s within. sym (in_grid grid set s within))) ∙ ap (has_column grid) is
+
 -- ---- texts
 
 -- the newline that a text misses, by its last byte
@@ -500,6 +513,7 @@ cause_has name input plan lines t k TooFew small read place cause = record { pla
 cause_has name input plan lines t k Row small read place cause = record { plan = plan; lines = lines; accepts = record { small = small; read = read }; t = t; place = place; holds = cause }
 cause_has name input plan lines t k Column small read place cause = record { plan = plan; lines = lines; accepts = record { small = small; read = read }; t = t; place = place; holds = cause }
 cause_has name input plan lines t k Both small read place cause = record { plan = plan; lines = lines; accepts = record { small = small; read = read }; t = t; place = place; holds = cause }
+cause_has name input plan lines t k NoEnd small read place cause = record { plan = plan; lines = lines; accepts = record { small = small; read = read }; t = t; place = place; holds = cause }
 
 pub cause_is : (plan : CheckedPlan) (events : List Event) (t k : ℕ) (fault : FinishFault) → CauseOf fault plan events t k → IsOfOutput fault
 cause_is plan events t k (Run fault) cause = subst (λ (f : RunFault). IsOfOutput (Run f)) (sym cause) tt

@@ -11,8 +11,9 @@ use Rattle.gq_model.specs.declared.events.Line.{Line}
 use Rattle.gq_model.specs.declared.events.Line.TheVariants.{Deliver, Retry}
 use Rattle.gq_model.specs.declared.events.Refusal.TheVariants.{Spent}
 use Rattle.gq_model.specs.Told.{Told, Replied, Noted, Round, Done, Resent, Refused}
-use Rattle.gq_model.specs.Trace.{questions, operation}
-use Rattle.gq_model.specs.Events.{past_at}
+use Rattle.gq_grid.specs.Grid.{Servers, has_row, has_column}
+use Rattle.gq_model.specs.Trace.{questions, operation, up as up_of}
+use Rattle.gq_model.specs.Events.{past_at, server_past}
 use Rattle.gq_laws.specs.Tenants.{answers_from}
 use Rattle.gq_text.specs.Input.{event_of, place_named}
 use Rattle.gq_script.specs.Alone.{Accepts}
@@ -20,7 +21,7 @@ use Rattle.gq_script.specs.Out.{IsAccepted, IsPlanFaultOf}
 use Rattle.gq_script.specs.Completing.{missing_newline, own_lines, CompletesBy}
 use Rattle.gq_script.specs.declared.script.RunFault.TheVariants.{Read, TooBig, Memory, Write}
 use Rattle.gq_finish.specs.declared.finish.FinishFault.{FinishFault}
-use Rattle.gq_finish.specs.declared.finish.FinishFault.TheVariants.{Run, Name, Session, Idle as NoOperation, Steps as TooFewSteps}
+use Rattle.gq_finish.specs.declared.finish.FinishFault.TheVariants.{Run, Name, Session, Idle as NoOperation, Steps as TooFewSteps, Row as NoRow, Column as NoColumn, Both as Neither, NoEnd}
 use Rattle.gq_finish.specs.declared.finish.Stop.{Stop}
 use Rattle.gq_finish.specs.declared.finish.Stop.TheVariants.{Idle, Steps}
 use Rattle.gq_text.specs.PlanText.{NamesTenant}
@@ -33,6 +34,10 @@ events_of plan lines = map (event_of plan) lines
 -- the operation of session k of the tenant at place t, none where it has none
 abbrev pub operation_left : CheckedPlan → List Event → ℕ → ℕ → Option Operation
 operation_left plan events t k = operation (questions (past_at plan t events).trace) k
+
+-- the servers that are up then
+abbrev pub up_after : CheckedPlan → List Event → Servers
+up_after plan events = up_of (server_past plan events).trace
 
 -- ---- the lines that complete it
 
@@ -121,7 +126,10 @@ CauseOf Name plan events t k = ⊥
 CauseOf Session plan events t k = is_in 1 (row_at plan t).sessions k ≡ false
 CauseOf NoOperation plan events t k = operation_left plan events t k ≡ None
 CauseOf TooFewSteps plan events t k = RunsOut plan events t k
-CauseOf _ plan events t k = Unit {0}
+CauseOf NoRow plan events t k = (has_row plan.grid (up_after plan events) ≡ false) × (has_column plan.grid (up_after plan events) ≡ true)
+CauseOf NoColumn plan events t k = (has_row plan.grid (up_after plan events) ≡ true) × (has_column plan.grid (up_after plan events) ≡ false)
+CauseOf Neither plan events t k = (has_row plan.grid (up_after plan events) ≡ false) × (has_column plan.grid (up_after plan events) ≡ false)
+CauseOf NoEnd plan events t k = (has_row plan.grid (up_after plan events) ≡ true) × (has_column plan.grid (up_after plan events) ≡ true)
 
 -- it is none of reading or writing
 abbrev pub IsOfOutput : FinishFault → Type 0

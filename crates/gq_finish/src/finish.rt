@@ -11,7 +11,7 @@ ghost use Rattle.gq_model.specs.Events.{answer_to};
 ghost use Rattle.gq_model.specs.Shown.{shown};
 ghost use Rattle.gq_model.specs.Told.{Done, Refused as IsRefused};
 ghost use Rattle.gq_model.specs.declared.events.Refusal.TheVariants.{Spent, Idle as NoOperation};
-ghost use Rattle.gq_world.specs.Tables.{Stands};
+ghost use Rattle.gq_world.specs.Tables.{Stands, up_in};
 ghost use Rattle.gq_text.specs.Lines.{lines_of};
 ghost use Rattle.gq_text.specs.AnswerText.{line_text};
 ghost use Rattle.gq_text.specs.Canonical.{line_words};
@@ -19,14 +19,14 @@ ghost use Rattle.gq_script.specs.Completing.{missing_newline};
 ghost use Rattle.gq_script.specs.Out.{IsAccepted};
 ghost use Rattle.gq_script.specs.Watched.{inner_of, has_failed, AppendsPrefix};
 ghost use Rattle.gq_text.specs.PlanText.{NamesTenant};
-ghost use Rattle.gq_finish.specs.Finishing.{events_of, goes_on, outcome_session, CauseOf, Finished, FinishOf, HasCause, IsEnd, IsOfOutput, StopsFor};
+ghost use Rattle.gq_finish.specs.Finishing.{events_of, goes_on, outcome_session, up_after, CauseOf, Finished, FinishOf, HasCause, IsEnd, IsOfOutput, StopsFor};
 
 use gq_desk::{MOST_STEPS, Plan};
 use gq_grid::{Grid, ServerSet};
 use gq_memory::{GrowCopies, OutOfMemory};
-use gq_model::{Answer, Event, Line, Refusal, ServerLine};
+use gq_model::{Answer, Event, Line, Refusal};
 use gq_phase::Outcome;
-use gq_script::{MOST_INPUT, RunFault, Watched, read_whole, write_whole};
+use gq_script::{MOST_INPUT, ReadFault, RunFault, Watched, WriteFault, read_whole, write_whole};
 use gq_text::{PlanText, first_line, put_tenant_line, read_line, read_plan};
 use gq_world::{Ended, World};
 use std::alloc::Global;
@@ -60,6 +60,32 @@ pub enum FinishFault {
     /// The tenant's steps are spent before the operation is done, or were spent by the input.
     #[error("too few steps")]
     Steps,
+    /// A row and a column are wholly up, and the messages that were delivered did not complete the operation. No script is known on which
+    /// this is told.
+    #[error("no end found")]
+    NoEnd,
+}
+
+impl From<ReadFault> for FinishFault {
+    ghost use Rattle.gq_script.specs.Faults.{of_reading};
+    ghost use Rattle.gq_finish.specs.declared.finish.FinishFault.TheVariants.{Run};
+
+    ghost from_gives = { λ fault e. e ≡ Run (of_reading fault) };
+
+    fn from(fault: ReadFault) -> FinishFault {
+        FinishFault::Run(RunFault::from(fault))
+    }
+}
+
+impl From<WriteFault> for FinishFault {
+    ghost use Rattle.gq_script.specs.declared.script.RunFault.TheVariants.{Write};
+    ghost use Rattle.gq_finish.specs.declared.finish.FinishFault.TheVariants.{Run};
+
+    ghost from_gives = { λ fault e. e ≡ Run Write };
+
+    fn from(fault: WriteFault) -> FinishFault {
+        FinishFault::Run(RunFault::from(fault))
+    }
 }
 
 // Why no line completes the operation.
@@ -233,26 +259,12 @@ fn complete(world: &mut World, tenant: u8, session: u32, text: &mut Vec<u8>) -> 
     Err(Stop::Quiet)
 }
 
-// Notes a server line.
-fn note(grid: &Grid, up: &mut ServerSet, event: &Event) {
-    match event {
-        Event::Server {
-            line: ServerLine::Down { server },
-        } if (*server as usize) < grid.servers() => up.remove(*server as usize),
-        Event::Server {
-            line: ServerLine::Up { server },
-        } if (*server as usize) < grid.servers() => up.insert(*server as usize),
-        _ => {}
-    }
-}
-
-// Answers the lines of a text after the plan, by a new world, and tells which servers they leave up.
-fn play(alloc: Global, world: &mut World, lines: &[u8]) -> Result<ServerSet, OutOfMemory>
+// Answers the lines of a text after the plan, by a new world.
+fn play(alloc: Global, world: &mut World, lines: &[u8]) -> Result<(), OutOfMemory>
     requires { Stands world.old.tables [] }
     ensures plan { world.new.tables.plan ≡ world.old.tables.plan }
     ensures stands { OnOk result (Stands world.new.tables (events_of world.old.tables.plan (lines_of lines.now))) }
 {
-    let mut up = ServerSet::all(world.plan().grid());
     let mut rest = lines;
     while !rest.is_empty() {
         let (line, after) = first_line(rest);
@@ -261,15 +273,15 @@ fn play(alloc: Global, world: &mut World, lines: &[u8]) -> Result<ServerSet, Out
             Ok(_) => {}
             Err(Ended(refused)) => return Err(refused),
         }
-        note(world.plan().grid(), &mut up, &event);
         rest = after;
     }
-    Ok(up)
+    Ok(())
 }
 
 // The fault of a script that leaves these servers up.
 fn fault_of(stop: Stop, grid: &Grid, up: ServerSet) -> FinishFault
-    ensures { (plan : CheckedPlan) (events : List Event) (t k : ℕ) → StopsFor stop plan events t k → CauseOf result plan events t k }
+    ensures { (plan : CheckedPlan) (events : List Event) (t k : ℕ) → plan.grid ≡ grid.now → up_in grid.now up ≡ up_after plan events →
+        StopsFor stop plan events t k → CauseOf result plan events t k }
 {
     match stop {
         Stop::Memory(refused) => FinishFault::Run(RunFault::Memory(refused)),
@@ -278,7 +290,8 @@ fn fault_of(stop: Stop, grid: &Grid, up: ServerSet) -> FinishFault
         Stop::Quiet => match (up.has_row(grid), up.has_column(grid)) {
             (false, false) => FinishFault::Both,
             (false, true) => FinishFault::Row,
-            (true, _) => FinishFault::Column,
+            (true, false) => FinishFault::Column,
+            (true, true) => FinishFault::NoEnd,
         },
     }
 }
@@ -311,10 +324,11 @@ fn play_and_finish(
     ensures ok { OnOk result (Finished world.old.tables.plan (events_of world.old.tables.plan (lines_of lines.now)) tenant session text.old.items text.new.items) }
     ensures fault { IfErr result (λ fault. CauseOf fault world.old.tables.plan (events_of world.old.tables.plan (lines_of lines.now)) tenant session) }
 {
-    let up = match play(alloc, world, lines) {
-        Ok(up) => up,
+    match play(alloc, world, lines) {
+        Ok(()) => {}
         Err(refused) => return Err(FinishFault::Run(RunFault::Memory(refused))),
-    };
+    }
+    let up = world.up();
     match complete(world, tenant, session, text) {
         Ok(()) => Ok(()),
         Err(stop) => Err(fault_of(stop, world.plan().grid(), up)),
@@ -405,13 +419,8 @@ pub fn finish_run<R: Read, W: Write>(
     ensures prefix { IsErrOf result (FinishFault.Run RunFault.Write) → IfSome (R.remaining (inner_of reader.old)) (λ input. (text : List ℕ) ×
         FinishOf name.now session input text × AppendsPrefix (W.contents (inner_of writer.old)) (W.contents (inner_of writer.new)) text) }
 {
-    let input = match read_whole(alloc, reader) {
-        Ok(input) => input,
-        Err(fault) => return Err(FinishFault::Run(fault)),
-    };
+    let input = read_whole(alloc, reader)?;
     let text = output(alloc, input.as_slice(), name, session)?;
-    match write_whole(writer, text.as_slice()) {
-        Ok(()) => Ok(()),
-        Err(fault) => Err(FinishFault::Run(fault)),
-    }
+    write_whole(writer, text.as_slice())?;
+    Ok(())
 }

@@ -123,7 +123,8 @@ lose_told (Some message) = Lost
 abbrev pub first_operation : State → ℕ → Task → Operation
 first_operation state k task = begun k ((state.session k).op + 1) task (state.session k).floor
 
--- a request begins an operation, whose first round asks; every request has a task, and that none is there fills the word up
+-- a request begins an operation, whose first round asks. Every request has a task: the first row is never reached, and only makes the
+-- function total
 abbrev pub begin_step : Grid → State → ℕ → Option Task → Step
 begin_step grid state k None = quiet (Refused BadLine)
 begin_step grid state k (Some task) = began (round_messages grid state.up (first_operation state k task))
@@ -165,8 +166,8 @@ deliver_step grid state (Some message) = by (to_server message.body)
     by true = serve_step state message
     by false = hear_step grid state message (operation state message.session)
 
--- the round's message goes out once more; a retry that is not refused has an operation and a quorum (`session_causes`), and
--- what is said without one fills the word up
+-- the round's message goes out once more. A retry that is not refused has an operation and a quorum (`session_causes`); what is said
+-- without one is never reached, and only makes the function total
 abbrev pub retry_step : Grid → State → Option Operation → Step
 retry_step grid state None = quiet (Refused Idle)
 retry_step grid state (Some o) = by (round_quorum grid state.up o.round)
@@ -183,7 +184,7 @@ abbrev pub unless : Option Refusal → Step → Step
 unless (Some word) step = quiet (Refused word)
 unless None step = step
 
--- what is told and sent to a session's line that is not refused; the last row fills the word up, as no such line comes here
+-- what is told and sent to a session's line that is not refused. No other line comes here: the last row only makes the function total
 abbrev pub session_step : Grid → State → Line → Step
 session_step grid state (Write k v f bytes) = begin_step grid state k (task_of state.volumes (Write k v f bytes))
 session_step grid state (Read k v f) = begin_step grid state k (task_of state.volumes (Read k v f))

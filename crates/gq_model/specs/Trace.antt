@@ -43,7 +43,7 @@ Trace = List Entry
 
 -- ---- questions to the trace, each with its step: the answer after one more entry, from the answers before
 
--- whether the last server line of the server, if there is one, isn't Down
+-- a server is up until a line by which it goes down; of its lines the last one decides
 abbrev pub up_by : Turn → Servers → Servers
 up_by (Serving (Down n)) before server = if n == server then false else before server
 up_by (Serving (Up n)) before server = if n == server then true else before server
@@ -143,15 +143,18 @@ task_of volumes (Read s v f) = Some (Reading (record { volume = v; place = f }))
 task_of volumes (ListFiles s v) = Some (Listing v (files_of volumes v))
 task_of volumes _ = None
 
--- one session: how many operations it began; what the operation that it has is to do, none where it has none; of the
--- last operation, as it stood before it ended, the round, what was heard in it, and the copy that each of its collect
--- rounds decided (of a write, the copy that it stores), in order; and the number of the tag in the last Round answer of a write, or 0
+-- one session, as what its tenant was told leaves it (`session_by`)
 pub record Session : Type 0 where
+  -- how many operations it began
   pub op : ℕ
+  -- what the operation that it has is to do, none where it has none
   pub current : Option Task
+  -- the round of its last operation, as it stood before that ended, and what was heard in the round
   pub round : ℕ
   pub heard : List Reply
+  -- the copy that each collect round of that operation decided, in order; of a write, the copy that it stores
   pub collected : List StoredCopy
+  -- the number of the tag in the last Round answer of a write, or 0
   pub floor : ℕ
 
 abbrev pub new_session : Session

@@ -13,3 +13,5 @@ mod names;
 mod replay;
 #[cfg(test)]
 mod texts;
+#[cfg(test)]
+mod verdicts;

@@ -14,6 +14,8 @@ use Rattle.gq_text.specs.Input.{event_of}
 use Rattle.gq_text.specs.Lines.{lines_of}
 use Rattle.gq_text.specs.PlanText.{plan_of}
 use Rattle.gq_script.specs.Watched.{AppendsPrefix}
+use Rattle.gq_script.specs.declared.script.ReadFault.{ReadFault}
+use Rattle.gq_script.specs.declared.script.ReadFault.TheVariants.{Read as NotRead, TooBig as ReadTooMuch, Memory as ReadMemory}
 use Rattle.gq_script.specs.declared.script.TheConstants.{MOST_INPUT}
 use Rattle.gq_runs.specs.Programs.{IsProgramsOf, fault_of}
 use Rattle.gq_runs.specs.Live.{IsRecordOf, KeepsInput}
@@ -77,6 +79,12 @@ IsLiveFaultOf input Read = Unit {0}
 IsLiveFaultOf input TooBig = MOST_INPUT < length input
 IsLiveFaultOf input Write = GivesPrograms input
 IsLiveFaultOf input fault = IsFaultOfScript input fault
+
+-- that the input was not read whole, as it is told of a live run
+abbrev pub live_of_reading : ReadFault → LiveRunFault
+live_of_reading NotRead = Read
+live_of_reading ReadTooMuch = TooBig
+live_of_reading (ReadMemory refused) = Memory refused
 
 -- the name beside a mismatch is that of the tenant's row, where it is of a session's step
 abbrev pub IsNamed : CheckedPlan → MismatchIs → Option (List ℕ) → Type 0

@@ -10,7 +10,7 @@ use gq_desk::{Name, Plan};
 use gq_inspect::{Mismatch, inspect};
 use gq_live::{Gate, LiveFault, Programs, live};
 use gq_memory::OutOfMemory;
-use gq_script::{MOST_INPUT, RunFault, Watched, read_whole, write_whole};
+use gq_script::{MOST_INPUT, ReadFault, Watched, WriteFault, read_whole, write_whole};
 use gq_text::write_script;
 use std::alloc::Global;
 use std::fmt::{Display, Error as FormatError, Formatter, Write as FormatWrite};
@@ -90,6 +90,30 @@ fn inspection_fault(plan: &Plan, mismatch: Mismatch) -> LiveRunFault
         _ => None,
     };
     LiveRunFault::Mismatch(NamedMismatch { mismatch, name })
+}
+
+impl From<ReadFault> for LiveRunFault {
+    ghost use Rattle.gq_runs.specs.LiveRuns.{live_of_reading};
+
+    ghost from_gives = { λ fault e. e ≡ live_of_reading fault };
+
+    fn from(fault: ReadFault) -> LiveRunFault {
+        match fault {
+            ReadFault::Read => LiveRunFault::Read,
+            ReadFault::TooBig => LiveRunFault::TooBig,
+            ReadFault::Memory(refused) => LiveRunFault::Memory(refused),
+        }
+    }
+}
+
+impl From<WriteFault> for LiveRunFault {
+    ghost use Rattle.gq_runs.specs.declared.live.LiveRunFault.TheVariants.{Write};
+
+    ghost from_gives = { λ fault e. e ≡ Write };
+
+    fn from(_: WriteFault) -> LiveRunFault {
+        LiveRunFault::Write
+    }
 }
 
 // Runs the programs in threads, inspects what was recorded, and gives the run's script.
@@ -173,16 +197,8 @@ pub fn live_run<R: Read, W: Write, G: Gate + Send + Sync, T: Threads + Wait + Sy
     ensures prefix { IsErrOf result LiveRunFault.Write → IfSome (R.remaining (inner_of reader.old)) (λ input.
         AppendsLivePrefix input (W.contents (inner_of writer.old)) (W.contents (inner_of writer.new))) }
 {
-    let input = match read_whole(alloc, reader) {
-        Ok(input) => input,
-        Err(RunFault::Read) => return Err(LiveRunFault::Read),
-        Err(RunFault::TooBig) => return Err(LiveRunFault::TooBig),
-        Err(RunFault::Memory(refused)) => return Err(LiveRunFault::Memory(refused)),
-        Err(_) => unreachable!(),
-    };
+    let input = read_whole(alloc, reader)?;
     let text = live_script(rt, alloc, input.as_slice(), gate)?;
-    match write_whole(writer, text.as_slice()) {
-        Ok(()) => Ok(()),
-        Err(_) => Err(LiveRunFault::Write),
-    }
+    write_whole(writer, text.as_slice())?;
+    Ok(())
 }

@@ -11,18 +11,24 @@ use Rattle.gq_desk.specs.CheckedPlan.{CheckedPlan}
 use Rattle.gq_model.specs.declared.events.Event.{Event}
 use Rattle.gq_world.specs.Tables.{Stands, Tables}
 use Rattle.gq_text.specs.declared.plan_text.TextFault.TheVariants.{Form, End, Grid, Blocks, Check}
+use Rattle.gq_text.specs.declared.plan_text.PlanText.{PlanText}
+use Rattle.gq_text.specs.declared.plan_text.PlanText.TheVariants.{Fault as PlanFault, Memory as PlanMemory}
 use Rattle.gq_script.specs.declared.script.RunFault.{RunFault}
-use Rattle.gq_script.specs.declared.script.RunFault.TheVariants.{Read, TooBig, Plan, Memory, Write}
+use Rattle.gq_script.specs.declared.script.RunFault.TheVariants.{Read, TooBig}
+use Rattle.gq_script.specs.declared.script.ReadFault.{ReadFault}
+use Rattle.gq_script.specs.declared.script.ReadFault.TheVariants.{Read as NotRead, TooBig as ReadTooMuch, Memory as ReadMemory}
+use Rattle.gq_script.specs.declared.stepping.TellFault.{TellFault}
+use Rattle.gq_script.specs.declared.stepping.TellFault.TheVariants.{Lines as NotAnswered, Write as NotWritten}
 use Rattle.gq_script.specs.declared.stepping.Stage.{Stage}
 use Rattle.gq_script.specs.declared.stepping.Stage.TheVariants.{Plan as StagePlan, Lines as StageLines}
 use Rattle.gq_text.specs.Lines.{lines_of, joined}
-use Rattle.gq_text.specs.PlanText.{Reading, plan_of}
+use Rattle.gq_text.specs.PlanText.{Reading, plan_of, IsFaultOf}
 use Rattle.gq_text.specs.Input.{event_of}
 use Rattle.gq_script.specs.Out.{answer_lines, out}
 use Rattle.gq_text.specs.Pieces.{Extends}
 use Rattle.gq_script.specs.Watched.{AppendsPrefix, Moves}
-use Rattle.gq_script.specs.Steps.{IsReadingFault}
-use Rattle.gq_script.specs.Stepping.{AnswersEnded, HasAnswered, AllEnded, IsPlanFaultIn, IsFinal, IsOfPlan, MissesGo}
+use Rattle.gq_script.specs.Faults.{of_reading}
+use Rattle.gq_script.specs.Stepping.{AnswersEnded, HasAnswered, AllEnded, IsPlanFaultIn, IsFinal, IsLast, IsOfPlan, IsTellFaultOf, MissesGo, of_telling}
 use Rattle.gq_script.proofs.Ends.{begun_from}
 use Rattle.gq_script.proofs.Growing.{lines_behind_whole, out_more, out_none, plan_misses, plan_more, plan_fault_behind, outputs_grow}
 
@@ -129,24 +135,31 @@ ended_prefix (Some x) (Some y) old new held ended begun parts ends read wrote =
     prefix_more old new (out ended) (out x) more.0 (ap out is ∙ more.1) wrote
 
 -- a fault of the plan that is known by lines that have ended is that of the whole input
-fault_behind : (ended rest : List ℕ) (e : RunFault) → AllEnded ended → IsPlanFaultIn (lines_of ended) e → IsFinal e → IsPlanFaultIn (lines_of (ended ++ rest)) e
-fault_behind ended rest Read ends told known = tt
-fault_behind ended rest TooBig ends told known = tt
-fault_behind ended rest (Memory refused) ends told known = tt
-fault_behind ended rest Write ends told known = tt
-fault_behind ended rest (Plan line End) ends told known = absurd known
-fault_behind ended rest (Plan line Form) ends told known = ap plan_of (lines_behind_whole ended rest ends) ∙ plan_fault_behind (lines_of ended) (lines_of rest) line Form told (λ same. cc)
-fault_behind ended rest (Plan line (Grid fault)) ends told known = ap plan_of (lines_behind_whole ended rest ends) ∙ plan_fault_behind (lines_of ended) (lines_of rest) line (Grid fault) told (λ same. cc)
-fault_behind ended rest (Plan line Blocks) ends told known = ap plan_of (lines_behind_whole ended rest ends) ∙ plan_fault_behind (lines_of ended) (lines_of rest) line Blocks told (λ same. cc)
-fault_behind ended rest (Plan line (Check fault)) ends told known = ap plan_of (lines_behind_whole ended rest ends) ∙ plan_fault_behind (lines_of ended) (lines_of rest) line (Check fault) told (λ same. cc)
+fault_behind : (ended rest : List ℕ) (e : PlanText) → AllEnded ended → IsFaultOf (plan_of (lines_of ended)) e → IsFinal e → IsFaultOf (plan_of (lines_of (ended ++ rest))) e
+fault_behind ended rest (PlanMemory refused) ends told known = tt
+fault_behind ended rest (PlanFault line End) ends told known = absurd known
+fault_behind ended rest (PlanFault line Form) ends told known = ap plan_of (lines_behind_whole ended rest ends) ∙ plan_fault_behind (lines_of ended) (lines_of rest) line Form told (λ same. cc)
+fault_behind ended rest (PlanFault line (Grid fault)) ends told known = ap plan_of (lines_behind_whole ended rest ends) ∙ plan_fault_behind (lines_of ended) (lines_of rest) line (Grid fault) told (λ same. cc)
+fault_behind ended rest (PlanFault line Blocks) ends told known = ap plan_of (lines_behind_whole ended rest ends) ∙ plan_fault_behind (lines_of ended) (lines_of rest) line Blocks told (λ same. cc)
+fault_behind ended rest (PlanFault line (Check fault)) ends told known = ap plan_of (lines_behind_whole ended rest ends) ∙ plan_fault_behind (lines_of ended) (lines_of rest) line (Check fault) told (λ same. cc)
 
-pub ended_fault : (all left : Option (List ℕ)) (held ended begun : List ℕ) (e : RunFault) → held ≡ ended ++ begun → AllEnded ended → Consumes all left held → IsPlanFaultIn (lines_of ended) e → IsFinal e → IfSome all (λ input. IsPlanFaultIn (lines_of input) e)
+tell_fault_behind : (ended rest : List ℕ) (e : TellFault) → AllEnded ended → IsTellFaultOf (lines_of ended) e → IsLast e → IsTellFaultOf (lines_of (ended ++ rest)) e
+tell_fault_behind ended rest (NotAnswered fault) ends told known = fault_behind ended rest fault ends told known
+tell_fault_behind ended rest NotWritten ends told known = tt
+
+-- it is told as one of the plan, if it is
+pub told_of_plan : (lines : List (List ℕ)) (e : TellFault) → IsTellFaultOf lines e → IsPlanFaultIn lines (of_telling e)
+told_of_plan lines (NotAnswered (PlanFault line fault)) told = told
+told_of_plan lines (NotAnswered (PlanMemory refused)) told = tt
+told_of_plan lines NotWritten told = tt
+
+pub ended_fault : (all left : Option (List ℕ)) (held ended begun : List ℕ) (e : TellFault) → held ≡ ended ++ begun → AllEnded ended → Consumes all left held → IsTellFaultOf (lines_of ended) e → IsLast e → IfSome all (λ input. IsPlanFaultIn (lines_of input) (of_telling e))
 ended_fault None left held ended begun e parts ends read told known = tt
 ended_fault (Some x) None held ended begun e parts ends read told known = absurd read
 ended_fault (Some x) (Some y) held ended begun e parts ends read told known =
     let is : x ≡ ended ++ (begun ++ y) = read ∙ ap (λ xs. xs ++ y) parts ∙ append_assoc ended begun y in
-    let P : List ℕ → Type 0 = λ input. IsPlanFaultIn (lines_of input) e in
-    subst P (sym is) (fault_behind ended (begun ++ y) e ends told known)
+    let P : List ℕ → Type 0 = λ input. IsPlanFaultIn (lines_of input) (of_telling e) in
+    subst P (sym is) (told_of_plan (lines_of (ended ++ (begun ++ y))) e (tell_fault_behind ended (begun ++ y) e ends told known))
 
 -- lines of an input that makes no plan make none
 pub err_before : (ended rest : List ℕ) → AllEnded ended → IsErr (plan_of (lines_of (ended ++ rest))) → IsErr (plan_of (lines_of ended))
@@ -222,9 +235,9 @@ outputs_later text done ends =
     subst P (take-append-drop done text) (outputs_grow (take done text) (drop done text) ends)
 
 -- what was written where the lines were told, or a fault of them
-pub told_prefix : {W : Type 0} (contents : W → Option (List ℕ)) (r : Result (Unit {0}) RunFault) (old : Option (List ℕ)) (mid new : W) (first whole : List ℕ) → Extends first whole → Appends old (contents mid) first
-    → IfErr r (λ e. e ≢ Write → new ≡ mid)
-    → (IsErrOf r Write → (told : List ℕ) × (whole ≡ first ++ told) × AppendsPrefix (contents mid) (contents new) told)
+pub told_prefix : {W : Type 0} (contents : W → Option (List ℕ)) (r : Result (Unit {0}) TellFault) (old : Option (List ℕ)) (mid new : W) (first whole : List ℕ) → Extends first whole → Appends old (contents mid) first
+    → IfErr r (λ e. e ≢ NotWritten → new ≡ mid)
+    → (IsErrOf r NotWritten → (told : List ℕ) × (whole ≡ first ++ told) × AppendsPrefix (contents mid) (contents new) told)
     → OnErr r (AppendsPrefix old (contents new) whole)
 told_prefix contents (Ok x) old mid new first whole more wrote still later = tt
 told_prefix {W = W} contents (Err e) old mid new first whole more wrote still later = by e refl still later
@@ -232,16 +245,13 @@ told_prefix {W = W} contents (Err e) old mid new first whole more wrote still la
     stays : new ≡ mid → AppendsPrefix old (contents new) whole
     stays same = let P : W → Type 0 = λ w. AppendsPrefix old (contents w) whole in subst P (sym same) (begins old (contents mid) whole first more.0 more.1 wrote)
 
-    by : (f : RunFault) → e ≡ f → (f ≢ Write → new ≡ mid) → (◌≡◌ {A = Result (Unit {0}) RunFault} (Err f) (Err Write) → (told : List ℕ) × (whole ≡ first ++ told) × AppendsPrefix (contents mid) (contents new) told) → AppendsPrefix old (contents new) whole
-    by Read is s l = stays (s (λ same. cc))
-    by TooBig is s l = stays (s (λ same. cc))
-    by (Plan line fault) is s l = stays (s (λ same. cc))
-    by (Memory refused) is s l = stays (s (λ same. cc))
-    by Write is s l = let t = l refl in prefix_behind old (contents mid) (contents new) whole first t.0 t.1 wrote t.2
+    by : (f : TellFault) → e ≡ f → (f ≢ NotWritten → new ≡ mid) → (◌≡◌ {A = Result (Unit {0}) TellFault} (Err f) (Err NotWritten) → (told : List ℕ) × (whole ≡ first ++ told) × AppendsPrefix (contents mid) (contents new) told) → AppendsPrefix old (contents new) whole
+    by (NotAnswered fault) is s l = stays (s (λ same. cc))
+    by NotWritten is s l = let t = l refl in prefix_behind old (contents mid) (contents new) whole first t.0 t.1 wrote t.2
 
 -- ---- and at the end of the input
 
-pub end_prefix : (r : Result (Unit {0}) RunFault) (all : Option (List ℕ)) (text : List ℕ) (old new : Option (List ℕ)) → OnErr r (AppendsPrefix old new (out text)) → IfSome all (λ input. text ≡ input)
+pub end_prefix : {E : Type 0} (r : Result (Unit {0}) E) (all : Option (List ℕ)) (text : List ℕ) (old new : Option (List ℕ)) → OnErr r (AppendsPrefix old new (out text)) → IfSome all (λ input. text ≡ input)
     → OnErr r (IfSome all (λ input. AppendsPrefix old new (out input)))
 end_prefix (Ok x) all text old new wrote whole = tt
 end_prefix (Err e) None text old new wrote whole = tt
@@ -253,28 +263,28 @@ nothing_at text done old mid new ends before now wrong =
     let P : List ℕ → Type 0 = λ xs. IsErr (plan_of (lines_of xs)) in
     now wrong ∙ before (err_before (take done text) (drop done text) ends (subst P (sym (take-append-drop done text)) wrong))
 
-pub end_nothing : {A : Type 0} (r : Result (Unit {0}) RunFault) (all : Option (List ℕ)) (text : List ℕ) (old new : A) → (IsErr (plan_of (lines_of text)) → new ≡ old) → IfSome all (λ input. text ≡ input)
+pub end_nothing : {A E : Type 0} (r : Result (Unit {0}) E) (all : Option (List ℕ)) (text : List ℕ) (old new : A) → (IsErr (plan_of (lines_of text)) → new ≡ old) → IfSome all (λ input. text ≡ input)
     → OnErr r (IfSome all (λ input. IsErr (plan_of (lines_of input)) → new ≡ old))
 end_nothing (Ok x) all text old new nothing whole = tt
 end_nothing (Err e) None text old new nothing whole = tt
 end_nothing (Err e) (Some x) text old new nothing whole = λ wrong. let P : List ℕ → Type 0 = λ xs. IsErr (plan_of (lines_of xs)) in nothing (subst P (sym whole) wrong)
 
 -- a fault of the plan comes before anything was written
-pub plan_untouched : {A : Type 0} (r : Result (Unit {0}) RunFault) (lines : List (List ℕ)) (old new : A) → IfErr r (IsPlanFaultIn lines) → (IsErr (plan_of lines) → new ≡ old) → IfErr r (λ e. IsOfPlan e → new ≡ old)
-plan_untouched (Ok x) lines old new told nothing = tt
-plan_untouched (Err Read) lines old new told nothing = λ none. absurd none
-plan_untouched (Err TooBig) lines old new told nothing = λ none. absurd none
-plan_untouched (Err (Memory refused)) lines old new told nothing = λ none. absurd none
-plan_untouched (Err Write) lines old new told nothing = λ none. absurd none
-plan_untouched (Err (Plan line fault)) lines old new told nothing = λ _. let P : Reading (CheckedPlan × List (List ℕ)) → Type 0 = λ r. IsErr r in nothing (subst P (sym told) refl)
+pub plan_untouched : {A : Type 0} (e : TellFault) (lines : List (List ℕ)) (old new : A) → IsTellFaultOf lines e → (IsErr (plan_of lines) → new ≡ old) → IsOfPlan (of_telling e) → new ≡ old
+plan_untouched (NotAnswered (PlanFault line fault)) lines old new told nothing = λ _. let P : Reading (CheckedPlan × List (List ℕ)) → Type 0 = λ r. IsErr r in nothing (subst P (sym told) refl)
+plan_untouched (NotAnswered (PlanMemory refused)) lines old new told nothing = λ none. absurd none
+plan_untouched NotWritten lines old new told nothing = λ none. absurd none
 
--- and reading has no such fault
-pub reading_untouched : {A : Type 0} (e : RunFault) (old new : A) → IsReadingFault e → IsOfPlan e → new ≡ old
-reading_untouched Read old new only none = absurd none
-reading_untouched TooBig old new only none = absurd none
-reading_untouched (Plan line fault) old new only plan = absurd only
-reading_untouched (Memory refused) old new only none = absurd none
-reading_untouched Write old new only none = absurd none
+-- what was told of reading says which fault it was
+pub is_too_much : (e : ReadFault) → ◌≡◌ {A = Result (Unit {0}) RunFault} (Err (of_reading e)) (Err TooBig) → e ≡ ReadTooMuch
+is_too_much NotRead told = absurd cc
+is_too_much ReadTooMuch told = refl
+is_too_much (ReadMemory refused) told = absurd cc
+
+pub is_not_read : (e : ReadFault) → ◌≡◌ {A = Result (Unit {0}) RunFault} (Err (of_reading e)) (Err Read) → e ≡ NotRead
+is_not_read NotRead told = refl
+is_not_read ReadTooMuch told = absurd cc
+is_not_read (ReadMemory refused) told = absurd cc
 
 -- ---- after a read fault
 

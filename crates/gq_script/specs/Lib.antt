@@ -1,7 +1,7 @@
 pub mod Watched
 pub mod Out
 pub mod Seeing
-pub mod Steps
+pub mod Faults
 pub mod Alone
 pub mod Linearizable
 pub mod Completing

@@ -3,13 +3,18 @@ use Rattle.std.specs.Prelude.{◌≡◌, ◌≢◌, ℕ, ◌≤◌, List, [], �
 use Rattle.std.specs.Io.KnownBytes.{Appends}
 use Rattle.gq_world.specs.Tables.{Stands}
 use Rattle.gq_text.specs.declared.plan_text.TextFault.TheVariants.{End}
+use Rattle.gq_text.specs.declared.plan_text.PlanText.{PlanText}
+use Rattle.gq_text.specs.declared.plan_text.PlanText.TheVariants.{Fault}
 use Rattle.gq_script.specs.declared.script.RunFault.{RunFault}
-use Rattle.gq_script.specs.declared.script.RunFault.TheVariants.{Plan as PlanFault}
+use Rattle.gq_script.specs.declared.script.RunFault.TheVariants.{Plan as PlanFault, Write as RunWrite}
+use Rattle.gq_script.specs.declared.stepping.TellFault.{TellFault}
+use Rattle.gq_script.specs.declared.stepping.TellFault.TheVariants.{Lines as NotAnswered, Write as NotWritten}
+use Rattle.gq_script.specs.Faults.{of_plan}
 use Rattle.gq_script.specs.declared.stepping.Stage.{Stage}
 use Rattle.gq_script.specs.declared.stepping.Stage.TheVariants.{Plan, Lines}
 use Rattle.gq_text.specs.Lines.{lines_of}
 use Rattle.gq_text.specs.Input.{event_of}
-use Rattle.gq_text.specs.PlanText.{rows_from, plan_of}
+use Rattle.gq_text.specs.PlanText.{rows_from, plan_of, IsFaultOf}
 use Rattle.gq_text.specs.Pieces.{Extends}
 use Rattle.gq_script.specs.Out.{out}
 use Rattle.gq_script.specs.Completing.{missing_newline}
@@ -48,9 +53,24 @@ IsOfPlan (PlanFault line fault) = Unit {0}
 IsOfPlan fault = ⊥
 
 -- it is a fault whatever comes behind these lines, and not only that they end
-abbrev pub IsFinal : RunFault → Type 0
-IsFinal (PlanFault line End) = ⊥
+abbrev pub IsFinal : PlanText → Type 0
+IsFinal (Fault line End) = ⊥
 IsFinal fault = Unit {0}
+
+-- why lines were not told, as it is told of the run
+abbrev pub of_telling : TellFault → RunFault
+of_telling (NotAnswered fault) = of_plan fault
+of_telling NotWritten = RunWrite
+
+-- what is at fault in the lines is their plan, as they tell it
+abbrev pub IsTellFaultOf : List (List ℕ) → TellFault → Type 0
+IsTellFaultOf lines (NotAnswered fault) = IsFaultOf (plan_of lines) fault
+IsTellFaultOf lines NotWritten = Unit {0}
+
+-- where lines are at fault, they are whatever comes behind them
+abbrev pub IsLast : TellFault → Type 0
+IsLast (NotAnswered fault) = IsFinal fault
+IsLast NotWritten = Unit {0}
 
 -- from whichever number on, the lines tell rows, and `go` is missing behind them
 abbrev pub MissesGo : List (List ℕ) → Type 0

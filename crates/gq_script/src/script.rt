@@ -14,6 +14,21 @@ use std::alloc::Global;
 use std::io::{Read, Write};
 use thiserror::Error;
 
+/// Why an input was not read whole. It is told as the [`RunFault`] of the same name.
+#[derive(Debug, Drop)]
+pub enum ReadFault {
+    /// The reader failed.
+    Read,
+    /// The input has more than [`MOST_INPUT`] bytes.
+    TooBig,
+    /// Memory is wanting.
+    Memory(OutOfMemory),
+}
+
+/// A text was not written whole: the writer failed, or took none of some bytes. It is told as [`RunFault::Write`].
+#[derive(Debug, Drop)]
+pub struct WriteFault;
+
 /// Why a run ended early. After each fault but `Write` nothing was written.
 #[derive(Debug, Drop, Error)]
 pub enum RunFault {
@@ -34,23 +49,59 @@ pub enum RunFault {
     Write,
 }
 
+impl From<ReadFault> for RunFault {
+    ghost use Rattle.gq_script.specs.Faults.{of_reading};
+
+    ghost from_gives = { λ fault e. e ≡ of_reading fault };
+
+    fn from(fault: ReadFault) -> RunFault {
+        match fault {
+            ReadFault::Read => RunFault::Read,
+            ReadFault::TooBig => RunFault::TooBig,
+            ReadFault::Memory(refused) => RunFault::Memory(refused),
+        }
+    }
+}
+
+impl From<PlanText> for RunFault {
+    ghost use Rattle.gq_script.specs.Faults.{of_plan};
+
+    ghost from_gives = { λ fault e. e ≡ of_plan fault };
+
+    fn from(fault: PlanText) -> RunFault {
+        match fault {
+            PlanText::Fault { line, fault } => RunFault::Plan(line, fault),
+            PlanText::Memory(refused) => RunFault::Memory(refused),
+        }
+    }
+}
+
+impl From<WriteFault> for RunFault {
+    ghost use Rattle.gq_script.specs.declared.script.RunFault.TheVariants.{Write};
+
+    ghost from_gives = { λ fault e. e ≡ Write };
+
+    fn from(_: WriteFault) -> RunFault {
+        RunFault::Write
+    }
+}
+
 /// The most bytes that an input may have.
 pub const MOST_INPUT: usize = 16_777_216;
 
 ghost use Rattle.gq_world.specs.Tables.{Stands};
 ghost use Rattle.gq_text.specs.Input.{event_of};
 ghost use Rattle.gq_text.specs.Lines.{lines_of, joined};
-ghost use Rattle.gq_text.specs.PlanText.{plan_of};
+ghost use Rattle.gq_text.specs.PlanText.{plan_of, IsFaultOf};
 ghost use Rattle.gq_model.specs.declared.events.Event.{Event};
 ghost use Rattle.gq_script.specs.Out.{answer_lines as event_lines, output_lines, out, IsAccepted, IsPlanFaultOf};
 ghost use Rattle.gq_script.specs.Alone.{IsAnswered};
-ghost use Rattle.gq_script.specs.Steps.{IsReadingFault, IsFaultOfLines};
 ghost use Rattle.gq_script.specs.Watched.{inner_of, has_failed, AppendsPrefix, Moves};
 
 // The bytes of one read.
 pub const CHUNK: usize = 65_536;
 
-// The most turns of the loop that reads: each but the last gives at least one byte.
+// The most turns of the loop that reads, two more than `MOST_INPUT`: each but the last gives at least one byte.
 pub const MOST_TURNS: usize = 16_777_218;
 
 // One read, appended to `all`. Answers whether there may be more.
@@ -58,7 +109,7 @@ pub fn read_step<R: Read>(
     reader: &mut Watched<R>,
     chunk: &mut [u8],
     all: &mut Vec<u8>,
-) -> Result<bool, RunFault>
+) -> Result<bool, ReadFault>
     requires room { 0 < length chunk.old }
     requires fine { has_failed reader.old ≡ false }
     requires bound { vec_len all.old ≤ MOST_INPUT }
@@ -69,50 +120,48 @@ pub fn read_step<R: Read>(
     ensures bound { OnOk result (vec_len all.new ≤ MOST_INPUT) }
     ensures room { length chunk.new ≡ length chunk.old }
     ensures fine { OnOk result (has_failed reader.new ≡ false) }
-    ensures read { IsErrOf result RunFault.Read → has_failed reader.new ≡ true }
-    ensures kept { IsErrOf result RunFault.Read →
+    ensures read { IsErrOf result ReadFault.Read → has_failed reader.new ≡ true }
+    ensures kept { IsErrOf result ReadFault.Read →
         Keeps (R.remaining (inner_of reader.old)) (R.remaining (inner_of reader.new)) }
-    ensures others { IfErr result (λ e. e ≢ RunFault.Read → has_failed reader.new ≡ false) }
-    ensures big { IsErrOf result RunFault.TooBig → IfSome (R.remaining (inner_of reader.old))
+    ensures others { IfErr result (λ e. e ≢ ReadFault.Read → has_failed reader.new ≡ false) }
+    ensures big { IsErrOf result ReadFault.TooBig → IfSome (R.remaining (inner_of reader.old))
         (λ xs. MOST_INPUT < vec_len all.old + length xs) }
-    ensures only { IfErr result IsReadingFault }
 {
     let Ok(n) = reader.read(chunk) else {
-        return Err(RunFault::Read);
+        return Err(ReadFault::Read);
     };
     if n > MOST_INPUT - all.len() {
-        return Err(RunFault::TooBig);
+        return Err(ReadFault::TooBig);
     }
     if let Err(refused) = all.grow_by(&chunk[..n]) {
-        return Err(RunFault::Memory(refused));
+        return Err(ReadFault::Memory(refused));
     }
     Ok(n > 0)
 }
 
 // Zeros to read into. The size is a parameter, so that no proof computes a list of that length.
-pub fn blank(alloc: Global, size: usize) -> Result<Vec<u8>, RunFault>
+pub fn blank(alloc: Global, size: usize) -> Result<Vec<u8>, ReadFault>
     requires { 0 < size }
     ensures some { IfOk result (λ v. 0 < vec_len v) }
-    ensures err { IfErr result (λ e. e ≡ RunFault.Memory tt) }
+    ensures err { IfErr result (λ e. e ≡ ReadFault.Memory tt) }
 {
     match filled(alloc, 0u8, size) {
         Ok(zeros) => Ok(zeros),
-        Err(refused) => Err(RunFault::Memory(refused)),
+        Err(refused) => Err(ReadFault::Memory(refused)),
     }
 }
 
 /// Reads all that the reader has, at most [`MOST_INPUT`] bytes, in at most 16,777,218 turns. The faults are `Read`, after
 /// which the reader has failed, `TooBig` and `Memory`; what was read then is gone.
-pub fn read_whole<R: Read>(alloc: Global, reader: &mut Watched<R>) -> Result<Vec<u8>, RunFault>
+pub fn read_whole<R: Read>(alloc: Global, reader: &mut Watched<R>) -> Result<Vec<u8>, ReadFault>
     requires { has_failed reader.old ≡ false }
     ensures all { IfOk result (λ v. IfSome (R.remaining (inner_of reader.old)) (λ xs. v.items ≡ xs)) }
     ensures bound { IfOk result (λ v. vec_len v ≤ MOST_INPUT) }
     ensures fine { OnOk result (has_failed reader.new ≡ false) }
-    ensures read { IsErrOf result RunFault.Read → has_failed reader.new ≡ true }
-    ensures others { IfErr result (λ e. e ≢ RunFault.Read → has_failed reader.new ≡ false) }
-    ensures big { IsErrOf result RunFault.TooBig → IfSome (R.remaining (inner_of reader.old))
+    ensures read { IsErrOf result ReadFault.Read → has_failed reader.new ≡ true }
+    ensures others { IfErr result (λ e. e ≢ ReadFault.Read → has_failed reader.new ≡ false) }
+    ensures big { IsErrOf result ReadFault.TooBig → IfSome (R.remaining (inner_of reader.old))
         (λ xs. MOST_INPUT < length xs) }
-    ensures only { IfErr result IsReadingFault }
 {
     let mut chunk = blank(alloc, CHUNK)?;
     let mut all = Vec::new(alloc);
@@ -162,29 +211,25 @@ pub fn answers_of(alloc: Global, plan: Plan, lines: &[u8]) -> Result<Vec<u8>, Ou
 }
 
 // The output of an input.
-fn output(alloc: Global, input: &[u8]) -> Result<Vec<u8>, RunFault>
+fn output(alloc: Global, input: &[u8]) -> Result<Vec<u8>, PlanText>
     ensures plan { OnOk result (IsOk (plan_of (lines_of input.now))) }
     ensures text { IfOk result (λ text. text.items ≡ out input.now) }
-    ensures fault { IfErr result (IsFaultOfLines (lines_of input.now)) }
+    ensures fault { IfErr result (IsFaultOf (plan_of (lines_of input.now))) }
 {
-    match read_plan(alloc, input) {
-        Ok((plan, place)) => match answers_of(alloc, plan, &input[place..]) {
-            Ok(text) => Ok(text),
-            Err(refused) => Err(RunFault::Memory(refused)),
-        },
-        Err(PlanText::Fault { line, fault }) => Err(RunFault::Plan(line, fault)),
-        Err(PlanText::Memory(refused)) => Err(RunFault::Memory(refused)),
+    let (plan, place) = read_plan(alloc, input)?;
+    match answers_of(alloc, plan, &input[place..]) {
+        Ok(text) => Ok(text),
+        Err(refused) => Err(PlanText::Memory(refused)),
     }
 }
 
-/// Writes the whole text by a loop over `write`. The fault is `Write`: the writer has failed, and a prefix of the text was
+/// Writes the whole text by a loop over `write`. At a fault the writer has failed, and a prefix of the text was
 /// written. A writer that buffers is flushed by the caller.
-pub fn write_whole<W: Write>(writer: &mut Watched<W>, text: &[u8]) -> Result<(), RunFault>
+pub fn write_whole<W: Write>(writer: &mut Watched<W>, text: &[u8]) -> Result<(), WriteFault>
     requires { has_failed writer.old ≡ false }
     ensures ok { OnOk result (Appends (W.contents (inner_of writer.old))
         (W.contents (inner_of writer.new)) text.now) }
     ensures fine { OnOk result (has_failed writer.new ≡ false) }
-    ensures fault { IfErr result (λ e. e ≡ RunFault.Write) }
     ensures failed { OnErr result (has_failed writer.new ≡ true) }
     ensures prefix { OnErr result (AppendsPrefix (W.contents (inner_of writer.old))
         (W.contents (inner_of writer.new)) text.now) }
@@ -194,11 +239,11 @@ pub fn write_whole<W: Write>(writer: &mut Watched<W>, text: &[u8]) -> Result<(),
         match writer.write(&text[done..]) {
             Ok(n) => {
                 if n == 0 {
-                    return Err(RunFault::Write);
+                    return Err(WriteFault);
                 }
                 done += n;
             }
-            Err(_) => return Err(RunFault::Write),
+            Err(_) => return Err(WriteFault),
         }
     }
     Ok(())
@@ -241,5 +286,6 @@ pub fn run<R: Read, W: Write>(
 {
     let input = read_whole(alloc, reader)?;
     let text = output(alloc, input.as_slice())?;
-    write_whole(writer, text.as_slice())
+    write_whole(writer, text.as_slice())?;
+    Ok(())
 }

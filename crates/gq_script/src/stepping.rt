@@ -5,7 +5,7 @@ ghost use Rattle.std.specs.Io.KnownBytes.{Appends, Consumes};
 
 use crate::notice::Notice;
 use crate::script::{
-    CHUNK, MOST_INPUT, MOST_TURNS, RunFault, answers, blank, read_step, write_whole,
+    CHUNK, MOST_INPUT, MOST_TURNS, RunFault, WriteFault, answers, blank, read_step, write_whole,
 };
 use crate::watched::Watched;
 use gq_desk::Plan;
@@ -25,15 +25,56 @@ enum Stage {
     Lines(World),
 }
 
+// Why lines were not answered, or their answers not written.
+#[derive(Drop)]
+enum TellFault {
+    // The lines give no plan, or memory is wanting.
+    Lines(PlanText),
+    // The writer failed.
+    Write,
+}
+
+impl From<PlanText> for TellFault {
+    ghost use Rattle.gq_script.specs.declared.stepping.TellFault.TheVariants.{Lines};
+
+    ghost from_gives = { λ fault e. e ≡ Lines fault };
+
+    fn from(fault: PlanText) -> TellFault {
+        TellFault::Lines(fault)
+    }
+}
+
+impl From<WriteFault> for TellFault {
+    ghost use Rattle.gq_script.specs.declared.stepping.TellFault.TheVariants.{Write};
+
+    ghost from_gives = { λ fault e. e ≡ Write };
+
+    fn from(_: WriteFault) -> TellFault {
+        TellFault::Write
+    }
+}
+
+impl From<TellFault> for RunFault {
+    ghost use Rattle.gq_script.specs.Stepping.{of_telling};
+
+    ghost from_gives = { λ fault e. e ≡ of_telling fault };
+
+    fn from(fault: TellFault) -> RunFault {
+        match fault {
+            TellFault::Lines(fault) => RunFault::from(fault),
+            TellFault::Write => RunFault::Write,
+        }
+    }
+}
+
 ghost use Rattle.memchr.specs.Find.{Nowhere, Passes, is_byte};
 ghost use Rattle.gq_world.specs.Tables.{Stands};
 ghost use Rattle.gq_text.specs.Input.{event_of};
 ghost use Rattle.gq_text.specs.Lines.{lines_of, joined};
-ghost use Rattle.gq_text.specs.PlanText.{plan_of};
+ghost use Rattle.gq_text.specs.PlanText.{plan_of, IsFaultOf};
 ghost use Rattle.gq_script.specs.Out.{output_lines, out, IsAccepted};
 ghost use Rattle.gq_script.specs.Alone.{IsAnswered};
-ghost use Rattle.gq_script.specs.Steps.{IsFaultOfLines};
-ghost use Rattle.gq_script.specs.Stepping.{AllEnded, AnswersEnded, IsPlanFaultIn, IsOfPlan, IsFinal, MissesGo, HasAnswered};
+ghost use Rattle.gq_script.specs.Stepping.{AllEnded, AnswersEnded, IsPlanFaultIn, IsOfPlan, IsFinal, IsLast, IsTellFaultOf, MissesGo, HasAnswered};
 ghost use Rattle.gq_script.specs.Watched.{inner_of, has_failed, AppendsPrefix};
 
 // Lines 1 and 2 are no rows of tenants.
@@ -71,28 +112,23 @@ fn begin(alloc: Global, plan: Plan, lines: &[u8]) -> Result<(World, Vec<u8>), Ou
 }
 
 // What comes of the lines where the plan is tried with them, and their output.
-fn try_plan(alloc: Global, text: &[u8], is_end: bool) -> Result<(Stage, Vec<u8>), RunFault>
+fn try_plan(alloc: Global, text: &[u8], is_end: bool) -> Result<(Stage, Vec<u8>), PlanText>
     ensures after { IfOk result (λ tried. HasAnswered tried.0 (lines_of text.now)) }
     ensures text { IfOk result (λ tried. tried.1.items ≡ out text.now) }
     ensures plan { is_end ≡ true → OnOk result (IsOk (plan_of (lines_of text.now))) }
-    ensures fault { IfErr result (IsFaultOfLines (lines_of text.now)) }
+    ensures fault { IfErr result (IsFaultOf (plan_of (lines_of text.now))) }
     ensures known { is_end ≡ false → IfErr result IsFinal }
 {
     match read_plan(alloc, text) {
         Ok((plan, place)) => match begin(alloc, plan, &text[place..]) {
             Ok((world, told)) => Ok((Stage::Lines(world), told)),
-            Err(refused) => Err(RunFault::Memory(refused)),
+            Err(refused) => Err(PlanText::Memory(refused)),
         },
-        Err(PlanText::Fault { line, fault }) => {
-            if is_end {
-                return Err(RunFault::Plan(line, fault));
-            }
-            match fault {
-                TextFault::End => Ok((Stage::Plan(line), Vec::new(alloc))),
-                fault => Err(RunFault::Plan(line, fault)),
-            }
-        }
-        Err(PlanText::Memory(refused)) => Err(RunFault::Memory(refused)),
+        Err(PlanText::Fault {
+            line,
+            fault: TextFault::End,
+        }) if !is_end => Ok((Stage::Plan(line), Vec::new(alloc))),
+        Err(fault) => Err(fault),
     }
 }
 
@@ -113,20 +149,20 @@ fn answers_from<N: Notice>(
     text: &[u8],
     done: usize,
     is_end: bool,
-) -> Result<Vec<u8>, RunFault>
+) -> Result<Vec<u8>, PlanText>
     requires within { done ≤ length text.now }
     requires ends { AllEnded (take done text.now) }
     requires after { HasAnswered stage.old (lines_of (take done text.now)) }
     ensures after { OnOk result (HasAnswered stage.new (lines_of text.now)) }
     ensures text { IfOk result (λ told. out text.now ≡ out (take done text.now) ++ told.items) }
     ensures plan { is_end ≡ true → OnOk result (IsOk (plan_of (lines_of text.now))) }
-    ensures fault { IfErr result (IsFaultOfLines (lines_of text.now)) }
+    ensures fault { IfErr result (IsFaultOf (plan_of (lines_of text.now))) }
     ensures known { is_end ≡ false → IfErr result IsFinal }
 {
     match stage {
         Stage::Lines(world) => match answers(alloc, world, &text[done..]) {
             Ok(told) => Ok(told),
-            Err(refused) => Err(RunFault::Memory(refused)),
+            Err(refused) => Err(PlanText::Memory(refused)),
         },
         Stage::Plan(missing) => {
             if !is_end && *missing >= FIRST_ROW && are_rows(&text[done..]) {
@@ -154,7 +190,7 @@ fn tell<N: Notice, W: Write>(
     text: &[u8],
     done: usize,
     is_end: bool,
-) -> Result<(), RunFault>
+) -> Result<(), TellFault>
     requires fine { has_failed writer.old ≡ false }
     requires within { done ≤ length text.now }
     requires ends { AllEnded (take done text.now) }
@@ -165,23 +201,19 @@ fn tell<N: Notice, W: Write>(
     ensures plan { is_end ≡ true → OnOk result (IsOk (plan_of (lines_of text.now))) }
     ensures fine { OnOk result (has_failed writer.new ≡ false) }
     ensures nothing { IsErr (plan_of (lines_of text.now)) → writer.new ≡ writer.old }
-    ensures read { IsErrOf result RunFault.Read → ⊥ }
-    ensures big { IsErrOf result RunFault.TooBig → ⊥ }
-    ensures fault { IfErr result (IsPlanFaultIn (lines_of text.now)) }
-    ensures known { is_end ≡ false → IfErr result IsFinal }
-    ensures write { IsErrOf result RunFault.Write ↔ (has_failed writer.new ≡ true) }
-    ensures still { IfErr result (λ e. e ≢ RunFault.Write → writer.new ≡ writer.old) }
-    ensures prefix { IsErrOf result RunFault.Write → (told : List ℕ) × (out text.now ≡ out (take done text.now) ++ told) ×
+    ensures fault { IfErr result (IsTellFaultOf (lines_of text.now)) }
+    ensures known { is_end ≡ false → IfErr result IsLast }
+    ensures write { IsErrOf result TellFault.Write ↔ (has_failed writer.new ≡ true) }
+    ensures still { IfErr result (λ e. e ≢ TellFault.Write → writer.new ≡ writer.old) }
+    ensures prefix { IsErrOf result TellFault.Write → (told : List ℕ) × (out text.now ≡ out (take done text.now) ++ told) ×
         AppendsPrefix (W.contents (inner_of writer.old)) (W.contents (inner_of writer.new)) told }
 {
-    let told = match answers_from(alloc, notice, stage, text, done, is_end) {
-        Ok(told) => told,
-        Err(fault) => return Err(fault),
-    };
+    let told = answers_from(alloc, notice, stage, text, done, is_end)?;
     if told.is_empty() {
         return Ok(());
     }
-    write_whole(writer, told.as_slice())
+    write_whole(writer, told.as_slice())?;
+    Ok(())
 }
 
 // The place behind the last line that has ended. Up to `done` lines have ended, and from there up to `begun` none.
@@ -244,16 +276,13 @@ fn step_with<R: Read, W: Write, N: Notice>(
     let mut done = 0;
     for _turn in 0..MOST_TURNS {
         let begun = held.len();
-        match read_step(reader, chunk, held) {
-            Ok(true) => {}
-            Ok(false) => return tell(alloc, notice, writer, stage, held.as_slice(), done, true),
-            Err(fault) => return Err(fault),
+        if !read_step(reader, chunk, held)? {
+            tell(alloc, notice, writer, stage, held.as_slice(), done, true)?;
+            return Ok(());
         }
         let end = end_of_lines(held.as_slice(), done, begun);
-        match tell(alloc, notice, writer, stage, &held[..end], done, false) {
-            Ok(()) => done = end,
-            Err(fault) => return Err(fault),
-        }
+        tell(alloc, notice, writer, stage, &held[..end], done, false)?;
+        done = end;
     }
     unreachable!()
 }

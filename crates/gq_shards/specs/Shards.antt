@@ -17,6 +17,8 @@ use Rattle.gq_desk.specs.declared.plans.TenantRow.{TenantRow}
 use Rattle.gq_model.specs.declared.events.Event.{Event}
 use Rattle.gq_model.specs.declared.events.Event.TheVariants.{Tenant, Server, Stray}
 use Rattle.gq_script.specs.declared.script.RunFault.{RunFault}
+use Rattle.gq_shards.specs.declared.merging.AnswersFault.{AnswersFault}
+use Rattle.gq_shards.specs.declared.merging.AnswersFault.TheVariants.{Memory as NoMemory, Write as NotWritten}
 use Rattle.gq_script.specs.declared.script.RunFault.TheVariants.{Memory, Write}
 use Rattle.gq_text.specs.Input.{event_of}
 use Rattle.gq_text.specs.Lines.{lines_of, joined}
@@ -157,11 +159,10 @@ waiting chunk = take chunk.filled chunk.bytes.items
 abbrev pub Passes : Option (List ℕ) → Option (List ℕ) → List ℕ → List ℕ → Type 0
 Passes old new text left = (sent : List ℕ) × Appends old new sent × (text ≡ sent ++ left)
 
--- a fault of writing, or want of memory
-abbrev pub IsWritingFault : RunFault → Type 0
-IsWritingFault (Memory _) = Unit {0}
-IsWritingFault Write = Unit {0}
-IsWritingFault _ = ⊥
+-- why answers were not written, as it is told of the run
+abbrev pub of_answers : AnswersFault → RunFault
+of_answers (NoMemory refused) = Memory refused
+of_answers NotWritten = Write
 
 -- the output's lines, where the plan is accepted
 abbrev pub lines_from : Reading (CheckedPlan × List (List ℕ)) → List (List ℕ)

@@ -2,19 +2,19 @@
 
 ghost use Rattle.std.specs.Prelude.{◌≡◌, ◌≤◌, ◌<◌, ℕ, List, Ok, map, vec_len, false, true, IfOk, IfErr, OnOk, IsErrOf};
 ghost use Rattle.std.specs.Io.KnownBytes.{Appends};
-ghost use Rattle.gq_script.specs.declared.script.RunFault.{RunFault};
+ghost use Rattle.gq_shards.specs.declared.merging.AnswersFault.{AnswersFault};
 ghost use Rattle.gq_text.specs.Lines.{lines_of, joined};
 ghost use Rattle.gq_script.specs.Out.{output_lines};
 ghost use Rattle.gq_script.specs.Watched.{inner_of, has_failed, AppendsPrefix};
-ghost use Rattle.gq_shards.specs.Shards.{of_shard, AreDealt, AreTold, EachTold, IsText, AreAnswers, IsWritingFault};
+ghost use Rattle.gq_shards.specs.Shards.{of_shard, AreDealt, AreTold, EachTold, IsText, AreAnswers};
 
 use crate::dealing::{Dealt, deal_in_threads};
 use crate::lengths::Lengths;
-use crate::merging::write_told;
+use crate::merging::{AnswersFault, write_told};
 use crate::telling::{Told, told_by};
 use gq_desk::Plan;
 use gq_memory::{GrowVec, OutOfMemory};
-use gq_script::{RunFault, Watched, answers_of, write_whole};
+use gq_script::{Watched, answers_of, write_whole};
 use std::alloc::Global;
 use std::io::Write;
 use std::thread;
@@ -130,25 +130,25 @@ pub fn write_answers<W: Write>(
     alloc: Global,
     writer: &mut Watched<W>,
     answers: &Answers,
-) -> Result<(), RunFault>
+) -> Result<(), AnswersFault>
     requires fine { has_failed writer.old ≡ false }
     requires answers { (lines : List (List ℕ)) × AreAnswers answers.now lines }
     ensures ok { OnOk result ((lines : List (List ℕ)) → AreAnswers answers.now lines →
         Appends (W.contents (inner_of writer.old)) (W.contents (inner_of writer.new)) (joined lines)) }
     ensures fine { OnOk result (has_failed writer.new ≡ false) }
-    ensures fault { IfErr result IsWritingFault }
-    ensures failed { IsErrOf result RunFault.Write → has_failed writer.new ≡ true }
-    ensures nothing { IsErrOf result (RunFault.Memory tt) → writer.new ≡ writer.old }
-    ensures prefix { IsErrOf result RunFault.Write → (lines : List (List ℕ)) → AreAnswers answers.now lines →
+    ensures failed { IsErrOf result AnswersFault.Write → has_failed writer.new ≡ true }
+    ensures nothing { IsErrOf result (AnswersFault.Memory tt) → writer.new ≡ writer.old }
+    ensures prefix { IsErrOf result AnswersFault.Write → (lines : List (List ℕ)) → AreAnswers answers.now lines →
         AppendsPrefix (W.contents (inner_of writer.old)) (W.contents (inner_of writer.new)) (joined lines) }
 {
     match answers {
-        Answers::One(text) => write_whole(writer, text.as_slice()),
+        Answers::One(text) => write_whole(writer, text.as_slice())?,
         Answers::Shards(marks, told) => write_told(
             alloc,
             writer,
             marks.as_slice(),
             told.as_slice(),
-        ),
+        )?,
     }
+    Ok(())
 }

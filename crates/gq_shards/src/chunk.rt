@@ -2,11 +2,10 @@
 
 ghost use Rattle.std.specs.Prelude.{◌≡◌, ◌+◌, ◌≤◌, ◌++◌, [], false, true, length, take, vec_len, IfOk, IfErr, OnOk, OnErr};
 ghost use Rattle.std.specs.Io.KnownBytes.{Appends};
-ghost use Rattle.gq_script.specs.declared.script.RunFault.{RunFault};
 ghost use Rattle.gq_script.specs.Watched.{inner_of, has_failed, AppendsPrefix};
 
 use gq_memory::{OutOfMemory, filled};
-use gq_script::{RunFault, Watched, write_whole};
+use gq_script::{Watched, WriteFault, write_whole};
 use std::alloc::Global;
 use std::io::Write;
 
@@ -32,14 +31,13 @@ impl Chunk {
         Ok(Chunk { bytes, filled: 0 })
     }
 
-    /// Writes what waits. After `Write` a prefix of it was written.
-    pub fn flush<W: Write>(&mut self, writer: &mut Watched<W>) -> Result<(), RunFault>
+    /// Writes what waits. After a fault a prefix of it was written.
+    pub fn flush<W: Write>(&mut self, writer: &mut Watched<W>) -> Result<(), WriteFault>
         requires { has_failed writer.old ≡ false }
         ensures ok { OnOk result (Appends (W.contents (inner_of writer.old))
             (W.contents (inner_of writer.new)) (waiting self.old)) }
         ensures empty { OnOk result (waiting self.new ≡ []) }
         ensures fine { OnOk result (has_failed writer.new ≡ false) }
-        ensures fault { IfErr result (λ e. e ≡ RunFault.Write) }
         ensures failed { OnErr result (has_failed writer.new ≡ true) }
         ensures prefix { OnErr result (AppendsPrefix (W.contents (inner_of writer.old))
             (W.contents (inner_of writer.new)) (waiting self.old)) }
@@ -50,14 +48,13 @@ impl Chunk {
     }
 
     /// Takes the bytes behind those that wait. Where there is no room for them, what waits is written first, and bytes that no
-    /// chunk has room for are written at once. After `Write` a prefix of all these was written.
+    /// chunk has room for are written at once. After a fault a prefix of all these was written.
     #[inline(always)]
-    pub fn put<W: Write>(&mut self, writer: &mut Watched<W>, bytes: &[u8]) -> Result<(), RunFault>
+    pub fn put<W: Write>(&mut self, writer: &mut Watched<W>, bytes: &[u8]) -> Result<(), WriteFault>
         requires { has_failed writer.old ≡ false }
         ensures ok { OnOk result (Passes (W.contents (inner_of writer.old))
             (W.contents (inner_of writer.new)) (waiting self.old ++ bytes.now) (waiting self.new)) }
         ensures fine { OnOk result (has_failed writer.new ≡ false) }
-        ensures fault { IfErr result (λ e. e ≡ RunFault.Write) }
         ensures failed { OnErr result (has_failed writer.new ≡ true) }
         ensures prefix { OnErr result (AppendsPrefix (W.contents (inner_of writer.old))
             (W.contents (inner_of writer.new)) (waiting self.old ++ bytes.now)) }
@@ -77,13 +74,12 @@ impl Chunk {
         writer: &mut Watched<W>,
         text: &[u8],
         size: usize,
-    ) -> Result<(), RunFault>
+    ) -> Result<(), WriteFault>
         requires fine { has_failed writer.old ≡ false }
         requires within { size ≤ length text.now }
         ensures ok { OnOk result (Passes (W.contents (inner_of writer.old))
             (W.contents (inner_of writer.new)) (waiting self.old ++ take size text.now) (waiting self.new)) }
         ensures fine { OnOk result (has_failed writer.new ≡ false) }
-        ensures fault { IfErr result (λ e. e ≡ RunFault.Write) }
         ensures failed { OnErr result (has_failed writer.new ≡ true) }
         ensures prefix { OnErr result (AppendsPrefix (W.contents (inner_of writer.old))
             (W.contents (inner_of writer.new)) (waiting self.old ++ take size text.now)) }
@@ -120,12 +116,11 @@ impl Chunk {
     }
 
     // Writes what waits, and then takes the bytes, or writes them too.
-    fn put_far<W: Write>(&mut self, writer: &mut Watched<W>, bytes: &[u8]) -> Result<(), RunFault>
+    fn put_far<W: Write>(&mut self, writer: &mut Watched<W>, bytes: &[u8]) -> Result<(), WriteFault>
         requires { has_failed writer.old ≡ false }
         ensures ok { OnOk result (Passes (W.contents (inner_of writer.old))
             (W.contents (inner_of writer.new)) (waiting self.old ++ bytes.now) (waiting self.new)) }
         ensures fine { OnOk result (has_failed writer.new ≡ false) }
-        ensures fault { IfErr result (λ e. e ≡ RunFault.Write) }
         ensures failed { OnErr result (has_failed writer.new ≡ true) }
         ensures prefix { OnErr result (AppendsPrefix (W.contents (inner_of writer.old))
             (W.contents (inner_of writer.new)) (waiting self.old ++ bytes.now)) }

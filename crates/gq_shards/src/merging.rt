@@ -2,18 +2,60 @@
 
 ghost use Rattle.std.specs.Prelude.{◌≡◌, [], ◌∷◌, ◌≤◌, ℕ, List, length, replicate, take, true, false, IfErr, OnOk, OnErr, IsErrOf};
 ghost use Rattle.std.specs.Io.KnownBytes.{Appends};
-ghost use Rattle.gq_script.specs.declared.script.RunFault.{RunFault};
+ghost use Rattle.gq_shards.specs.declared.merging.AnswersFault.{AnswersFault};
 ghost use Rattle.gq_text.specs.Lines.{joined};
 ghost use Rattle.gq_script.specs.Watched.{inner_of, has_failed, AppendsPrefix};
-ghost use Rattle.gq_shards.specs.Shards.{first_place, waiting, IsLeft, AreTold, IsWritingFault};
+ghost use Rattle.gq_shards.specs.Shards.{first_place, waiting, IsLeft, AreTold};
 
 use crate::chunk::Chunk;
 use crate::lengths::{FIRST_LENGTH, LengthPlace};
 use crate::telling::Told;
 use gq_memory::{OutOfMemory, filled};
-use gq_script::{RunFault, Watched};
+use gq_script::{RunFault, Watched, WriteFault};
 use std::alloc::Global;
 use std::io::Write;
+
+/// Why answers were not written.
+#[derive(Drop)]
+pub enum AnswersFault {
+    /// Memory is wanting. Nothing was written.
+    Memory(OutOfMemory),
+    /// The writer failed. A prefix was written.
+    Write,
+}
+
+impl From<OutOfMemory> for AnswersFault {
+    ghost use Rattle.gq_shards.specs.declared.merging.AnswersFault.TheVariants.{Memory};
+
+    ghost from_gives = { λ refused e. e ≡ Memory refused };
+
+    fn from(refused: OutOfMemory) -> AnswersFault {
+        AnswersFault::Memory(refused)
+    }
+}
+
+impl From<WriteFault> for AnswersFault {
+    ghost use Rattle.gq_shards.specs.declared.merging.AnswersFault.TheVariants.{Write};
+
+    ghost from_gives = { λ fault e. e ≡ Write };
+
+    fn from(_: WriteFault) -> AnswersFault {
+        AnswersFault::Write
+    }
+}
+
+impl From<AnswersFault> for RunFault {
+    ghost use Rattle.gq_shards.specs.Shards.{of_answers};
+
+    ghost from_gives = { λ fault e. e ≡ of_answers fault };
+
+    fn from(fault: AnswersFault) -> RunFault {
+        match fault {
+            AnswersFault::Memory(refused) => RunFault::Memory(refused),
+            AnswersFault::Write => RunFault::Write,
+        }
+    }
+}
 
 // The bytes that are written together.
 const CHUNK: usize = 65_536;
@@ -54,7 +96,7 @@ fn write_lines<W: Write>(
     places: &mut [Place],
     marks: &[u8],
     all: &[Told],
-) -> Result<(), RunFault>
+) -> Result<(), WriteFault>
     requires fine { has_failed writer.old ≡ false }
     requires empty { waiting chunk.old ≡ [] }
     requires first { places.old ≡ replicate (length all.now) first_place }
@@ -62,7 +104,6 @@ fn write_lines<W: Write>(
     ensures ok { OnOk result ((lines : List (List ℕ)) → AreTold marks.now lines all.now →
         Appends (W.contents (inner_of writer.old)) (W.contents (inner_of writer.new)) (joined lines)) }
     ensures fine { OnOk result (has_failed writer.new ≡ false) }
-    ensures fault { IfErr result (λ e. e ≡ RunFault.Write) }
     ensures failed { OnErr result (has_failed writer.new ≡ true) }
     ensures prefix { OnErr result ((lines : List (List ℕ)) → AreTold marks.now lines all.now →
         AppendsPrefix (W.contents (inner_of writer.old)) (W.contents (inner_of writer.new)) (joined lines)) }
@@ -83,25 +124,19 @@ pub fn write_told<W: Write>(
     writer: &mut Watched<W>,
     marks: &[u8],
     all: &[Told],
-) -> Result<(), RunFault>
+) -> Result<(), AnswersFault>
     requires fine { has_failed writer.old ≡ false }
     requires told { (lines : List (List ℕ)) × AreTold marks.now lines all.now }
     ensures ok { OnOk result ((lines : List (List ℕ)) → AreTold marks.now lines all.now →
         Appends (W.contents (inner_of writer.old)) (W.contents (inner_of writer.new)) (joined lines)) }
     ensures fine { OnOk result (has_failed writer.new ≡ false) }
-    ensures fault { IfErr result IsWritingFault }
-    ensures failed { IsErrOf result RunFault.Write → has_failed writer.new ≡ true }
-    ensures nothing { IsErrOf result (RunFault.Memory tt) → writer.new ≡ writer.old }
-    ensures prefix { IsErrOf result RunFault.Write → (lines : List (List ℕ)) → AreTold marks.now lines all.now →
+    ensures failed { IsErrOf result AnswersFault.Write → has_failed writer.new ≡ true }
+    ensures nothing { IsErrOf result (AnswersFault.Memory tt) → writer.new ≡ writer.old }
+    ensures prefix { IsErrOf result AnswersFault.Write → (lines : List (List ℕ)) → AreTold marks.now lines all.now →
         AppendsPrefix (W.contents (inner_of writer.old)) (W.contents (inner_of writer.new)) (joined lines) }
 {
-    let mut places = match filled(alloc, FIRST_PLACE, all.len()) {
-        Ok(places) => places,
-        Err(refused) => return Err(RunFault::Memory(refused)),
-    };
-    let mut chunk = match Chunk::new(alloc, CHUNK) {
-        Ok(chunk) => chunk,
-        Err(refused) => return Err(RunFault::Memory(refused)),
-    };
-    write_lines(writer, &mut chunk, places.as_mut_slice(), marks, all)
+    let mut places = filled(alloc, FIRST_PLACE, all.len())?;
+    let mut chunk = Chunk::new(alloc, CHUNK)?;
+    write_lines(writer, &mut chunk, places.as_mut_slice(), marks, all)?;
+    Ok(())
 }

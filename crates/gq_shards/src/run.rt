@@ -5,10 +5,9 @@ ghost use Rattle.std.specs.Io.KnownBytes.{Appends};
 ghost use Rattle.gq_script.specs.declared.script.TheConstants.{MOST_INPUT};
 ghost use Rattle.gq_script.specs.declared.script.RunFault.{RunFault};
 ghost use Rattle.gq_text.specs.Lines.{lines_of};
-ghost use Rattle.gq_text.specs.PlanText.{plan_of};
+ghost use Rattle.gq_text.specs.PlanText.{plan_of, IsFaultOf};
 ghost use Rattle.gq_script.specs.Alone.{IsAnswered};
 ghost use Rattle.gq_script.specs.Out.{out, IsAccepted, IsPlanFaultOf};
-ghost use Rattle.gq_script.specs.Steps.{IsFaultOfLines};
 ghost use Rattle.gq_script.specs.Watched.{inner_of, has_failed, AppendsPrefix};
 ghost use Rattle.gq_shards.specs.Shards.{out_lines, AreAnswers};
 
@@ -28,18 +27,15 @@ fn answers_to<T: Threads + Sync>(
     alloc: Global,
     shards: usize,
     input: &[u8],
-) -> Result<Answers, RunFault>
+) -> Result<Answers, PlanText>
     ensures plan { OnOk result (IsOk (plan_of (lines_of input.now))) }
     ensures answers { IfOk result (λ answers. AreAnswers answers (out_lines input.now)) }
-    ensures fault { IfErr result (IsFaultOfLines (lines_of input.now)) }
+    ensures fault { IfErr result (IsFaultOf (plan_of (lines_of input.now))) }
 {
-    match read_plan(alloc, input) {
-        Ok((plan, place)) => match answers_in_shards(rt, alloc, plan, shards, &input[place..]) {
-            Ok(answers) => Ok(answers),
-            Err(refused) => Err(RunFault::Memory(refused)),
-        },
-        Err(PlanText::Fault { line, fault }) => Err(RunFault::Plan(line, fault)),
-        Err(PlanText::Memory(refused)) => Err(RunFault::Memory(refused)),
+    let (plan, place) = read_plan(alloc, input)?;
+    match answers_in_shards(rt, alloc, plan, shards, &input[place..]) {
+        Ok(answers) => Ok(answers),
+        Err(refused) => Err(PlanText::Memory(refused)),
     }
 }
 
@@ -83,5 +79,6 @@ pub fn run_in_shards<T: Threads + Sync, R: Read, W: Write>(
     let input = read_whole(alloc, reader)?;
     let shards = if input.len() < least { 1 } else { shards };
     let answers = answers_to(rt, alloc, shards, input.as_slice())?;
-    write_answers(alloc, writer, &answers)
+    write_answers(alloc, writer, &answers)?;
+    Ok(())
 }

@@ -99,6 +99,7 @@ fn cell_steps<L: Ledger>(rt: &impl Abort, alloc: Global, blank: Blank)
     cell.add_files(0, 2, 2).expect(rt, "memory");
     replies(rt, &mut cell, &mut one, 7, 8);
     replies(rt, &mut cell, &mut one, 3, 9);
+    assert!(rt; cell.journal().len() == 2);
     stops(rt, &mut cell, &mut one);
     assert!(rt; one.count() == 2 && two.count() == 0);
     let journal = cell.close(one, two);
@@ -121,6 +122,8 @@ fn board_steps(rt: &impl Abort, board: &mut Board)
     assert!(rt; !board.up().has(0));
     assert!(rt; board.entries().len() == 1);
     assert!(rt; board.stamp(u64::MAX).is_none());
+    assert!(rt; matches!(board.change(0, true, u64::MAX), Err(ChangeRefused::Stamps)));
+    assert!(rt; board.entries().len() == 1 && !board.up().has(0));
 }
 
 #[test]

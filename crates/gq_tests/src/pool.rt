@@ -47,6 +47,7 @@ fn fills_and_drains(rt: &impl Abort, pool: &mut Pool)
     let none = filled(rt, pool, &[]);
     assert!(rt; none.blocks() == 0 && pool.free() == 1);
     pool.drain(first);
+    assert!(rt; pool.free() == 3);
     let text = filled(rt, pool, b"abc");
     let mut out = [0; 3];
     text.read(&mut out);

@@ -60,7 +60,7 @@ lane_there lanes t u messages other = get_or-set_other lanes t u (lane_at lanes 
 -- ---- the servers that are up
 
 -- the set has the servers of the grid that the tables have
-in_grid : (grid : Grid) (set : ServerSet) (s : ℕ) → s < grid.rows * grid.cols → up_in grid set s ≡ servers set s
+pub in_grid : (grid : Grid) (set : ServerSet) (s : ℕ) → s < grid.rows * grid.cols → up_in grid set s ≡ servers set s
 in_grid grid set s within = by (nat_lt s (grid.rows * grid.cols)) (grind (arith, nat_tests))
   where
     by : (b : Bool) → b ≡ true → (if b then servers set s else true) ≡ servers set s

@@ -22,6 +22,7 @@ use crate::sending::answer_heard;
 use crate::sessions::Seats;
 use bytes::Bytes;
 use gq_desk::{Desk, OpenRefused, Plan, VolumeRows};
+use gq_grid::ServerSet;
 use gq_memory::{GrowVec, OutOfMemory, filled, slice_copied};
 use gq_model::{Answer, Event, Line, Refusal, ServerLine, ServerRefusal};
 use gq_phase::{BeginRefused, Messages, Operation, ResendRefused, Who};
@@ -146,6 +147,13 @@ impl Core {
         ensures { result.now ≡ self.now.plan }
     {
         &self.plan
+    }
+
+    // The servers that are up.
+    pub(crate) fn up(&self) -> ServerSet
+        ensures { result ≡ self.now.up }
+    {
+        self.up.servers()
     }
 
     // The store of the server.

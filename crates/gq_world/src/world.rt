@@ -4,13 +4,14 @@ ghost use Rattle.std.specs.Prelude.{◌≡◌, ◌*◌, ◌<◌, ◌≤◌, ◌+
 ghost use Rattle.gq_tag.specs.Tag.{File, file_of, message_of};
 ghost use Rattle.gq_store.specs.Copies.{copy_at, blocks_free};
 ghost use Rattle.gq_model.specs.declared.events.Event.{Event};
-ghost use Rattle.gq_model.specs.Events.{IsIn, answer_to, past_at};
-ghost use Rattle.gq_model.specs.Trace.{questions, held, own_message_at};
+ghost use Rattle.gq_model.specs.Events.{IsIn, answer_to, past_at, server_past};
+ghost use Rattle.gq_model.specs.Trace.{questions, held, own_message_at, up as up_of};
 ghost use Rattle.gq_model.specs.Shown.{shown};
-ghost use Rattle.gq_world.specs.Tables.{Stands, store_at};
+ghost use Rattle.gq_world.specs.Tables.{Stands, store_at, up_in};
 
 use crate::tables::Core;
 use gq_desk::Plan;
+use gq_grid::ServerSet;
 use gq_memory::OutOfMemory;
 use gq_model::{Answer, Event};
 use gq_store::ServerStore;
@@ -69,6 +70,15 @@ impl World {
         ensures { result.now ≡ self.now.tables.plan }
     {
         self.tables.plan()
+    }
+
+    /// The servers that are up.
+    pub fn up(&self) -> ServerSet
+        ensures up { result ≡ self.now.tables.up }
+        ensures stands { (events : List Event) → Stands self.now.tables events →
+            up_in self.now.tables.plan.grid result ≡ up_of (server_past self.now.tables.plan events).trace }
+    {
+        self.tables.up()
     }
 
     /// The store of the server of this number: the one that has the copies of all tenants there.

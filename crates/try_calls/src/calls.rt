@@ -197,7 +197,7 @@ fn add_two_files(store: &mut ServerStore, out: &mut Vec<u8>) -> Result<(), Fault
     retry!(
         out,
         "ServerStore::add_files",
-        &store.free(),
+        &(store.free(), store.limit(FILE)),
         store.add_files(0, 2, 2)
     );
     Ok(())

@@ -19,10 +19,10 @@
 //! a call and fails after so many in all, and a writer that takes at most so many; where END is `fails` it fails after
 //! these, where it is `none` it takes none. It prints what the writer took, and on standard error how often the reader was
 //! called and how often it failed, and the same of the writer. With `order NAME VOLUME FILE` in place of `run`
-//! it asks for the order of the operations on a file too, with `shards N` it runs the script in so many shards, and with
-//! `step` each line is answered as it comes.
+//! it asks for the order of the operations on a file too, with `shards N` it runs the script in so many shards, with `step`
+//! each line is answered as it comes, and with `live` it runs the programs of a live run and writes the script of that run.
 //!
-//! `shards N` runs a script in so many shards on the standard streams, also a short one.
+//! `run` runs a script by one world on the standard streams, and `shards N` in so many shards, also a short one.
 //!
 //! The status is 0, 1 after a fault of the input, of reading or of writing, 2 where the words are none of these, and 3
 //! where memory was wanting.
@@ -43,8 +43,8 @@ use gq_files::OrderFault;
 use gq_inspect::Mismatch;
 use gq_live::LiveFault;
 use gq_memory::OutOfMemory;
-use gq_runs::ProgramFault;
-use gq_script::{RunFault, Watched};
+use gq_runs::{LiveRunFault, ProgramFault};
+use gq_script::{RunFault, Watched, run};
 use gq_shards::run_in_shards;
 use gq_text::PlanText;
 use std::alloc::Global;
@@ -192,6 +192,20 @@ impl From<LiveFault> for End {
     }
 }
 
+impl From<LiveRunFault> for End {
+    fn from(fault: LiveRunFault) -> End {
+        match fault {
+            LiveRunFault::Read => End::from(RunFault::Read),
+            LiveRunFault::TooBig => End::from(RunFault::TooBig),
+            LiveRunFault::Program(fault) => End::from(fault),
+            LiveRunFault::Live(fault) => End::from(fault),
+            LiveRunFault::Mismatch(named) => End::from(named.mismatch),
+            LiveRunFault::Memory(refused) => End::from(RunFault::Memory(refused)),
+            LiveRunFault::Write => End::from(RunFault::Write),
+        }
+    }
+}
+
 impl From<Mismatch> for End {
     fn from(fault: Mismatch) -> End {
         match fault {
@@ -231,6 +245,8 @@ enum Run<'a> {
     // Each line is answered as it comes.
     Step,
     Shards(usize),
+    // The programs of a live run, in threads.
+    Live,
     // With the order of the operations on a file of the tenant of this name.
     Order(&'a str, u32, u32),
 }
@@ -240,6 +256,7 @@ fn run_of<'a>(words: &'a [String]) -> Result<Run<'a>, Fault> {
     match words {
         [run] if run.as_str() == "run" => Ok(Run::Plain),
         [step] if step.as_str() == "step" => Ok(Run::Step),
+        [live] if live.as_str() == "live" => Ok(Run::Live),
         [shards, count] if shards.as_str() == "shards" => Ok(Run::Shards(number(count)?)),
         [order, name, volume, file] if order.as_str() == "order" => {
             Ok(Run::Order(name.as_str(), place(volume)?, place(file)?))
@@ -249,29 +266,35 @@ fn run_of<'a>(words: &'a [String]) -> Result<Run<'a>, Fault> {
 }
 
 // Does what is asked for between the reader and the writer, and tells their calls. What the writer took comes into `out`.
-fn between<R: Threads + Sync>(
+fn between<R: Threads + Wait + Sync>(
     threads: &R,
     alloc: Global,
     source: Source,
     sink: Sink,
     asked: Run<'_>,
     out: &mut Vec<u8>,
-) -> (Streams, Result<(), OrderFault>) {
+) -> (Streams, Result<(), End>) {
     match asked {
         Run::Plain => {
             let (calls, ended) = streams::run_between(alloc, source, sink, out);
-            (calls, ended.map_err(OrderFault::Run))
+            (calls, ended.map_err(End::from))
         }
         Run::Step => {
             let (calls, ended) = streams::step_between(alloc, source, sink, out);
-            (calls, ended.map_err(OrderFault::Run))
+            (calls, ended.map_err(End::from))
         }
         Run::Shards(shards) => {
             let (calls, ended) = streams::shards_between(threads, alloc, shards, source, sink, out);
-            (calls, ended.map_err(OrderFault::Run))
+            (calls, ended.map_err(End::from))
+        }
+        Run::Live => {
+            let (calls, ended) = streams::live_between(threads, alloc, source, sink, out);
+            (calls, ended.map_err(End::from))
         }
         Run::Order(name, volume, file) => {
-            streams::order_between(alloc, source, sink, name, volume, file, out)
+            let (calls, ended) =
+                streams::order_between(alloc, source, sink, name, volume, file, out);
+            (calls, ended.map_err(End::from))
         }
     }
 }
@@ -286,7 +309,7 @@ fn tell_calls(rt: &HostRuntime, calls: Streams) {
 }
 
 // The same with the reader and the writer that the words name; the reader gives standard input.
-fn stream<R: Threads + Sync>(
+fn stream<R: Threads + Wait + Sync>(
     rt: &HostRuntime,
     threads: &R,
     words: &[String],
@@ -312,7 +335,14 @@ fn stream<R: Threads + Sync>(
     let sink = Sink::new(rt.alloc(), write_each, write_all, fails);
     let (calls, ended) = between(threads, rt.alloc(), source, sink, asked, out);
     tell_calls(rt, calls);
-    Ok(ended?)
+    ended
+}
+
+// Runs a script on the standard streams.
+fn run_script(rt: &HostRuntime) -> Result<(), End> {
+    let mut reader = Watched::new(rt.reader());
+    let mut writer = Watched::new(io::writer(rt));
+    Ok(run(rt.alloc(), &mut reader, &mut writer)?)
 }
 
 // Runs a script in so many shards on the standard streams.
@@ -333,6 +363,7 @@ fn go<R: Threads + Wait + Sync>(
         return Err(End::Call(Fault::Usage));
     };
     match (way.as_str(), rest) {
+        ("run", []) => run_script(rt),
         ("play", []) => {
             *out = play::play(rt.alloc(), input(rt)?.as_slice())?;
             Ok(())

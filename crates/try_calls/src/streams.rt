@@ -1,11 +1,14 @@
 //! A run between a reader and a writer that give and take little at a time, and fail.
 
 use gq_files::{OrderFault, order_run};
+use gq_live::OpenGate;
+use gq_runs::{LiveRunFault, live_run};
 use gq_script::{NoNotice, RunFault, Watched, run, step};
 use gq_shards::run_in_shards;
 use std::alloc::Global;
 use std::io;
 use std::io::{Read, Write};
+use std::sync::Wait;
 use std::thread::Threads;
 
 /// How often a reader or a writer was called, and how often it failed, or took none of some bytes.
@@ -176,5 +179,19 @@ pub fn order_between(
     let mut reader = Watched::new(source);
     let mut writer = Watched::new(sink);
     let ended = order_run(alloc, &mut reader, &mut writer, name, volume, file);
+    (taken(reader, writer, out), ended)
+}
+
+/// Runs the programs in threads, and writes the script of that run.
+pub fn live_between<T: Threads + Wait + Sync>(
+    threads: &T,
+    alloc: Global,
+    source: Source,
+    sink: Sink,
+    out: &mut Vec<u8>,
+) -> (Streams, Result<(), LiveRunFault>) {
+    let mut reader = Watched::new(source);
+    let mut writer = Watched::new(sink);
+    let ended = live_run(threads, alloc, &mut reader, &mut writer, &OpenGate);
     (taken(reader, writer, out), ended)
 }

@@ -1,5 +1,5 @@
 use Rattle.std.proofs.Common.{◌≡◌, Err, length, vec_len, arith, ap}
-use Rattle.gq_script.specs.declared.script.RunFault.TheVariants.{TooBig}
+use Rattle.gq_script.specs.declared.script.ReadFault.TheVariants.{TooBig}
 use Rattle.gq_script.proofs.KnownBytesLemmas.{IfSome-of_rest}
 use Rattle.gq_script.proofs.script.read_whole.Goals as goal
 

@@ -1,7 +1,8 @@
-use Rattle.std.proofs.Common.{ℕ, ◌≤◌, List, arith, length, subst}
+use Rattle.std.proofs.Common.{ℕ, ◌≤◌, List, Ok, arith, length, subst}
 use Rattle.std.specs.Prelude.{IsOk}
 use Rattle.gq_text.specs.Lines.{lines_of}
 use Rattle.gq_text.specs.PlanText.{plan_of}
+use Rattle.gq_script.specs.declared.script.RunFault.{RunFault}
 use Rattle.gq_script.specs.Watched.{inner_of}
 use Rattle.gq_script.specs.declared.script.TheConstants.{MOST_INPUT}
 use Rattle.gq_script.proofs.Alone.{whole_answered}
@@ -12,4 +13,4 @@ returns-clause-lines g c =
     let read = c.in_ok-input.input.items in
     let small : length c.in_ok-input.input.items ≤ MOST_INPUT = omega (arith, c.in_ok-input.ensures.bound) in
     let plan = subst (λ (xs : List ℕ). IsOk (plan_of (lines_of xs))) c.as_slice.ensures.value c.in_ok-text.ensures.plan in
-    whole_answered c.write_whole.result (g.R.Read.remaining (inner_of c.args.reader.now)) read c.in_ok-input.ensures.all small plan
+    whole_answered {E = RunFault} (Ok tt) (g.R.Read.remaining (inner_of c.args.reader.now)) read c.in_ok-input.ensures.all small plan
