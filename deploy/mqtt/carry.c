@@ -71,7 +71,7 @@ static size_t tick_waits;                       /* bytes of its own queue up to 
 
 static struct mosquitto *broker;
 static enum { AWAY, LOOKING, COMING, HERE } state;
-static bool heard, slow_told;
+static bool heard, slow_told, file_told;
 static int fault, refused;                      /* our own status, if any; what CONNACK said */
 static int looked_up, look_error, look_done;    /* of `look` */
 static pthread_t look_thread;
@@ -398,7 +398,8 @@ static void try_broker(void) {
     *why = 0, refused = 0, look_until = now() + KEEPALIVE;
     mosquitto_log_callback_set(broker, on_log);
     const char *wrong = set_password();
-    if (wrong && !*told) say("%s: %s", password_file, wrong);   /* the last one is used again */
+    if (wrong && !file_told) say("%s: %s", password_file, wrong);  /* the last password is used again */
+    file_told = wrong;
     state = LOOKING;
     if (pthread_create(&look_thread, NULL, look, NULL)) broken("no thread can be started");
 }
