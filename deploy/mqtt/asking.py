@@ -5,6 +5,7 @@ Which line is to be sent when, and which answer is to be believed, is told by ex
 
 import os
 import random
+import socket
 import ssl
 import sys
 import time
@@ -67,6 +68,7 @@ class Connection:
                 raise Fault(f"{ca_file}: {getattr(error, 'strerror', None) or 'no certificate'}") from error
         self.library.on_connect, self.library.on_message = self.on_connect, self.on_message
         self.library.on_subscribe = self.on_subscribe
+        self.library.on_socket_open = lambda *words: words[-1].setsockopt(socket.IPPROTO_TCP, socket.TCP_NODELAY, 1)
         self.library.connect_async(host.strip("[]"), int(port), KEEPALIVE)
         self.is_here, self.was_here, self.is_made = False, False, False
         self.next_try, self.wait, self.why = 0, FIRST_WAIT, "no connection"
