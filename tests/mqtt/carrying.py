@@ -12,6 +12,7 @@ import subprocess
 import threading
 import time
 
+from mqtt_grid import free_ports
 from peers import COPY, DEPLOY, HERE, Broker, Carry, end_all, got, got_size, node, wait_for
 
 LONGEST = 4_095
@@ -384,11 +385,6 @@ def inherited(checked):
     checked.held(repr(({"SigBlk:": 0, "SigIgn:": ignored}, ["0", "1", "2", "3"])) in "".join(carry.lines), f"the node has {carry.lines}")
 
 
-def free_port():
-    with socket.create_server(("127.0.0.1", 0)) as listener:
-        return listener.getsockname()[1]
-
-
 def start_mosquitto(checked, folder):
     with open(f"{folder}.log", "ab") as log:
         checked.processes.append(subprocess.Popen(["mosquitto", "-c", f"{folder}/mosquitto.conf"], stderr=log))
@@ -399,10 +395,10 @@ def start_mosquitto(checked, folder):
 def certificates(checked):
     with open("plan", "w", encoding="ascii") as out:
         out.write("grid 2 2\nblocks 4096\ntenant ann 256 16 1\ngo\nann open 64 2\n")
-    port, wrong_port = free_port(), free_port()
+    port, wrong_port = free_ports(), free_ports()
     more = ["--user", "root"] if os.getuid() == 0 else []
-    for name, at, words in (("grid", port, []), ("other", 1, []), ("far", wrong_port, ["--host", "elsewhere.invalid"])):
-        subprocess.run([os.path.join(DEPLOY, "setup"), "--test-authority", "--port", str(at), *more, *words, name, "plan"], check=True)
+    for name, at, words in (("grid", port, []), ("other", 8883, []), ("far", wrong_port, ["--host", "elsewhere.invalid"])):
+        subprocess.run([os.path.join(DEPLOY, "setup"), "--test-authority", "--tls", "broker", "--port", str(at), *more, *words, name, "plan"], check=True)
     broker, far = start_mosquitto(checked, "grid"), start_mosquitto(checked, "far")
     time.sleep(0.5)
 

@@ -199,3 +199,57 @@ def end_all(processes):
             each.send_signal(signal.SIGCONT)
             each.kill()
         each.wait()
+
+
+class Speaker:
+    """What anybody can do who has a connection to a broker: says any message under any topic, and hears what comes. `is_let_in` tells
+    whether the broker took the user and the password; without a user it comes as nobody."""
+
+    def __init__(self, port, user=None, password=None, name=None, context=None):
+        self.peer = socket.create_connection(("localhost", port), SECONDS)
+        if context:
+            self.peer = context.wrap_socket(self.peer, server_hostname="localhost")
+        self.heard = []
+        flags = b"\xc2" if user else b"\x02"
+        body = text16(b"MQTT") + b"\x04" + flags + b"\0\0" + text16((name or user or "nobody").encode())
+        if user:
+            body += text16(user.encode()) + text16(password.encode())
+        self.is_let_in = False
+        try:
+            self.peer.sendall(packet(0x10, body))
+            self.is_let_in = self.peer.recv(4) == b"\x20\x02\0\0"
+        except OSError:
+            pass
+        if self.is_let_in:
+            self.peer.settimeout(None)
+            threading.Thread(target=self.listen, args=(self.peer.makefile("rb"),), daemon=True).start()
+
+    def listen(self, stream):
+        """Keeps each message that comes: its topic and its body."""
+        try:
+            while True:
+                kind, size, shift, byte = stream.read(1)[0], 0, 0, 128
+                while byte > 127:
+                    byte = stream.read(1)[0]
+                    size |= (byte & 127) << shift
+                    shift += 7
+                body = stream.read(size)
+                if kind >> 4 == 3:
+                    length = int.from_bytes(body[:2], "big")
+                    self.heard.append((body[2 : 2 + length].decode(), body[2 + length :]))
+        except (OSError, IndexError, ValueError):
+            pass
+
+    def listen_to(self, *topics):
+        for topic in topics:
+            self.peer.sendall(packet(0x82, b"\0\1" + text16(topic.encode()) + b"\0"))
+
+    def say(self, topic, body):
+        self.peer.sendall(message(topic.encode(), body))
+
+    def end(self):
+        try:
+            self.peer.shutdown(socket.SHUT_RDWR)
+        except OSError:
+            pass
+        self.peer.close()

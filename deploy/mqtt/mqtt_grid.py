@@ -19,9 +19,16 @@ class NotStarted(Exception):
     """What keeps a grid from its start."""
 
 
-def free_port():
-    with socket.create_server(("127.0.0.1", 0)) as listener:
-        return listener.getsockname()[1]
+def free_ports():
+    """The first of two ports that follow each other and are free."""
+    while True:
+        with socket.create_server(("127.0.0.1", 0)) as listener:
+            port = listener.getsockname()[1]
+            try:
+                socket.create_server(("127.0.0.1", port + 1)).close()
+                return port
+            except OSError:
+                pass
 
 
 def spent(pid):
@@ -42,11 +49,12 @@ def children_of(pid):
 
 
 class Grid:
-    """The processes of a grid whose files are in a folder: `plan`, the journals, the broker's folder `broker`, and what they tell, in `log`."""
+    """The processes of a grid whose files are in a folder: `plan`, the journals, the broker's folder `broker`, and what they tell, in `log`.
+    `tls` is as for deploy/mqtt/setup; tenants come by the port behind that of nodes."""
 
-    def __init__(self, folder, program, carry, is_tls=True, port=None, tick=None):
-        self.folder, self.program, self.carry, self.is_tls = folder, program, carry, is_tls
-        self.port, self.tick = port or free_port(), tick
+    def __init__(self, folder, program, carry, tls, port=None):
+        self.folder, self.program, self.carry, self.tls = folder, program, carry, tls
+        self.port, self.inner = port or free_ports(), free_ports()
         self.plan, self.broker_folder = os.path.join(folder, "plan"), os.path.join(folder, "broker")
         self.processes, self.count = {}, 0
 
@@ -61,37 +69,42 @@ class Grid:
         """Makes the broker's folder from the plan, or makes it again."""
         with open(self.plan, encoding="latin1") as file:
             self.count, _ = homes(file.read())
-        words += ("--port", str(self.port)) + (("--test-authority",) if self.is_tls else ("--plain",))
+        words += ("--tls", self.tls, "--port", str(self.port), "--inner", str(self.inner))
+        words += () if self.tls == "none" else ("--test-authority",)
         words += ("--user", "root") if os.getuid() == 0 else ()
         done = subprocess.run([os.path.join(HERE, "setup"), *words, self.broker_folder, self.plan], stderr=subprocess.PIPE, text=True)
         if done.returncode:
             raise NotStarted(done.stderr.strip())
 
+    def run(self, name, words):
+        """Starts a process. A signal from the terminal does not reach it; a session of its own would be a group of the scheduler's too,
+        and each would wait for the others' turns."""
+        with self.log(name) as log:
+            self.processes[name] = subprocess.Popen(words, stdin=subprocess.DEVNULL, stdout=log, stderr=log, preexec_fn=os.setpgrp)
+
     def start_broker(self):
-        with self.log("broker") as log:
-            words = ["mosquitto", "-c", os.path.join(self.broker_folder, "mosquitto.conf")]
-            self.processes["broker"] = subprocess.Popen(words, stdin=subprocess.DEVNULL, stdout=log, stderr=log, preexec_fn=os.setpgrp)
+        self.run("broker", ["mosquitto", "-c", os.path.join(self.broker_folder, "mosquitto.conf")])
 
-    def trusted(self):
-        return ["--ca-file", os.path.join(self.broker_folder, "ca.crt")] if self.is_tls else []
+    def start_front(self):
+        if self.tls == "front":
+            self.run("front", ["nginx", "-e", "stderr", "-p", self.broker_folder, "-c", os.path.join(self.broker_folder, "nginx.conf")])
 
-    def words_for(self, name, port=None):
+    def words_for(self, name):
         """The words by which a client or a carrier finds the broker and is known there."""
-        words = ["--broker", f"localhost:{port or self.port}", *self.trusted()]
-        return [*words, "--password-file", os.path.join(self.broker_folder, "secret", str(name))]
+        port = self.port + (not str(name).isdecimal())
+        trusted = [] if self.tls == "none" else ["--ca-file", os.path.join(self.broker_folder, "ca.crt")]
+        return ["--broker", f"localhost:{port}", *trusted, "--password-file", os.path.join(self.broker_folder, "secret", str(name))]
 
-    def start_node(self, number, port=None):
+    def start_node(self, number):
         """Starts a node with its carrier; its journal is begun where there is none, as at the grid's first start."""
         journal = journal_of(self.folder, number)
         node = [self.program, "node", str(number), "--plan", self.plan, "--journal", journal]
-        words = [self.carry, *self.words_for(number, port), *(["--tick", str(self.tick)] if self.tick else [])]
-        words += [str(number), "--", *node] + ["--new"] * (not os.path.exists(journal))
-        with self.log(number) as log:
-            self.processes[number] = subprocess.Popen(words, stdin=subprocess.DEVNULL, stdout=log, stderr=log, preexec_fn=os.setpgrp)
+        self.run(number, [self.carry, *self.words_for(number), str(number), "--", *node] + ["--new"] * (not os.path.exists(journal)))
 
     def start(self):
         """Starts the broker and all nodes, and waits until each is connected."""
         self.start_broker()
+        self.start_front()
         for number in range(self.count):
             self.start_node(number)
         self.wait_until_connected(range(self.count))
@@ -128,8 +141,9 @@ class Grid:
         """What broker, carriers and nodes took of the processors until now, in seconds."""
         carriers = [process.pid for name, process in self.processes.items() if isinstance(name, int)]
         nodes = [child for pid in carriers for child in children_of(pid)]
-        others = [process.pid for name, process in self.processes.items() if not isinstance(name, int)]
-        return {"broker": sum(map(spent, others)), "carriers": sum(map(spent, carriers)), "nodes": sum(map(spent, nodes))}
+        front = [self.processes["front"].pid, *children_of(self.processes["front"].pid)] if "front" in self.processes else []
+        used = {"broker": spent(self.processes["broker"].pid), "front": sum(map(spent, front))}
+        return {**used, "carriers": sum(map(spent, carriers)), "nodes": sum(map(spent, nodes))}
 
     def end(self):
         """Ends all that was started here, one by one, nodes first."""
