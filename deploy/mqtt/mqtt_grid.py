@@ -49,7 +49,7 @@ def children_of(pid):
 
 
 class Grid:
-    """The processes of a grid whose files are in a folder: `plan`, the journals, the broker's folder `broker`, and what they tell, in `log`.
+    """The processes of a grid whose files are in a folder: `plan`, the journals, the broker's folder `broker`, and what they tell, in `log.NAME`.
     `tls` is as for deploy/mqtt/setup; tenants come by the port behind that of nodes."""
 
     def __init__(self, folder, program, carry, tls, port=None):
@@ -95,19 +95,22 @@ class Grid:
         trusted = [] if self.tls == "none" else ["--ca-file", os.path.join(self.broker_folder, "ca.crt")]
         return ["--broker", f"localhost:{port}", *trusted, "--password-file", os.path.join(self.broker_folder, "secret", str(name))]
 
-    def start_node(self, number):
-        """Starts a node with its carrier; its journal is begun where there is none, as at the grid's first start."""
+    def start_node(self, number, is_new=False):
+        """Starts a node with its carrier. A journal is begun at the grid's first start alone: a node whose journal is lost must not start."""
         journal = journal_of(self.folder, number)
         node = [self.program, "node", str(number), "--plan", self.plan, "--journal", journal]
-        self.run(number, [self.carry, *self.words_for(number), str(number), "--", *node] + ["--new"] * (not os.path.exists(journal)))
+        self.run(number, [self.carry, *self.words_for(number), str(number), "--", *node] + ["--new"] * is_new)
 
     def start(self):
         """Starts the broker and all nodes, and waits until each is connected."""
+        begun = os.path.join(self.folder, "begun")
         self.start_broker()
         self.start_front()
         for number in range(self.count):
-            self.start_node(number)
-        self.wait_until_connected(range(self.count))
+            self.start_node(number, not os.path.exists(begun) and not os.path.exists(journal_of(self.folder, number)))
+        self.wait_until_connected(range(self.count), 1)
+        with open(begun, "w", encoding="ascii"):
+            pass
 
     def wait_until_connected(self, numbers, times=1):
         until = time.monotonic() + PATIENCE
