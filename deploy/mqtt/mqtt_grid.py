@@ -12,6 +12,7 @@ sys.path.insert(0, os.path.join(HERE, "..", "..", "examples", "nodes"))
 from carrier import journal_of
 from tenant import homes
 
+os.environ["PATH"] += ":/usr/sbin"  # (where Debian has mosquitto and nginx, and no user but root looks)
 PATIENCE = 15  # seconds that a process has to end, or to be ready
 
 

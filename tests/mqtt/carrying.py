@@ -354,7 +354,7 @@ def ends(checked):
     os.kill(carry.child(), signal.SIGKILL)
     checked.held(carry.status() == 137 and carry.says("ended by signal 9"), "a node that is killed: 137, told")
     carry = checked.carry(broker.port, ["/nowhere"])
-    checked.held(carry.status() == 127 and carry.first() == "carry: /nowhere: No such file or directory", f"no such command: 127: {carry.lines}")
+    checked.held(carry.status() == 127 and carry.many("carry: /nowhere: No such file or directory") == 1, f"no such command: 127: {carry.lines}")
     carry = checked.carry(broker.port, ["sh", "-c", "exec <&-; sleep 1; exit 3"])
     checked.held(carry.status() == 3, "a node that closes its input")
     carry = checked.carry(broker.port, node(COPY), program=checked.plain)
@@ -374,15 +374,19 @@ def ends(checked):
 
 @check
 def inherited(checked):
-    """The node has no signal blocked or ignored, and no descriptor but the three."""
+    """The node has no signal blocked, none ignored but what was at the carrier's start, and no descriptor but the three."""
     broker = checked.broker()
-    look = "state = [line.split() for line in open('/proc/self/status') if line.startswith('Sig')]\n"
-    tell = "sys.stderr.write(repr((dict((a, int(b, 16)) for a, b in state if a in ('SigBlk:', 'SigIgn:')), sorted(os.listdir('/proc/self/fd')))))"
-    carry = checked.carry(broker.port, ["/usr/bin/python3", "-S", "-c", "import os, sys\n" + look + tell])
+    # (a shell would unblock what is blocked, and Python ignores some signals itself; the fourth descriptor is that of the look)
+    look = "sys.stderr.write([line for line in open('/proc/self/status') if line.startswith('SigBlk')][0])"
+    carry = checked.carry(broker.port, node(look))
     carry.status()
-    # (Python itself ignores SIGPIPE and SIGXFSZ; the fourth descriptor is that of the look)
-    ignored = (1 << signal.SIGPIPE - 1) + (1 << signal.SIGXFSZ - 1)
-    checked.held(repr(({"SigBlk:": 0, "SigIgn:": ignored}, ["0", "1", "2", "3"])) in "".join(carry.lines), f"the node has {carry.lines}")
+    checked.held(carry.many("SigBlk:\t0000000000000000") == 1, f"no signal is blocked: {carry.lines}")
+    carry = checked.carry(broker.port, ["sh", "-c", "grep SigIgn /proc/self/status >&2; ls /proc/self/fd >&2"])
+    carry.status()
+    ignored = next((int(line.split()[1], 16) for line in carry.lines if line.startswith("SigIgn")), -1)
+    wanted = sum(1 << number - 1 for number in (signal.SIGPIPE, signal.SIGTERM, signal.SIGUSR1, signal.SIGUSR2))
+    checked.held(ignored & wanted == 0, f"no signal is ignored: {carry.lines}")
+    checked.held([line for line in carry.lines if line.isdecimal()] == ["0", "1", "2", "3"], f"three descriptors: {carry.lines}")
 
 
 def start_mosquitto(checked, folder):
