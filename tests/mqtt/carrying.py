@@ -184,12 +184,12 @@ def whole_writes(checked):
         carry = checked.carry(broker.port, node("time.sleep(0.4)\n" + COPY), *NO_TICKS, program=checked.plain)
         wait_for(lambda: broker.subscribed)
         for place in range(400):
-            broker.tells(b"gridfs/0/ann", b"\n".join(b"%04d " % place + b"y" * 990 for _ in range(10)))
+            broker.tells(b"gridfs/0/" + b"abcdefghijklmnopqrst"[place % 20 :][:1], b"\n".join(b"%04d " % place + b"y" * 990 for _ in range(10)))
         wait_for(lambda: got_size() > 200_000)
         carry.process.kill()
         carry.process.wait()
         time.sleep(0.3)
-        checked.held(all(re.fullmatch(rb"0 ann \d{4} y{990}", line) for line in got()[:-1]) and got()[-1] == b"", "a carrier that is killed tears no line")
+        checked.held(all(re.fullmatch(rb"0 [a-t] \d{4} y{990}", line) for line in got()[:-1]) and got()[-1] == b"", "a carrier that is killed tears no line")
 
 
 @check

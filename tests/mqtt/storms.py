@@ -18,8 +18,8 @@ sys.path.insert(0, os.path.join(HERE, "..", "linearizable"))
 from checker import is_linearizable
 
 BOUND = 100_000
-NAMES, FILES, SESSIONS = ["ann", "bob", "cid", "dan"], 64, 6
-SECONDS, AWAY = 25, 2
+NAMES, FILES, SESSIONS = ["ann", "bob", "cid", "dan"], 64, 4
+SECONDS, AWAY = 20, 2
 NODES = 4
 # What a storm does, as often as it is named. `away`: no broker for two seconds; `still`: something does not run for a while.
 DEEDS = ["node"] * 6 + ["carrier"] * 3 + ["broker", "away"] + ["still"] * 3
@@ -41,7 +41,7 @@ class Storm:
 
     def load(self, name, history, **more):
         os.makedirs(history, exist_ok=True)
-        asked = {"sessions": SESSIONS, "seconds": SECONDS, "files": FILES, "size": 16, "writes": 0.4, "timeout": ENDS_ALONE, "history": history, **more}
+        asked = {"sessions": SESSIONS, "seconds": SECONDS, "files": FILES, "size": 16, "writes": 0.4, "timeout": ENDS_ALONE, "seed": self.draw.randrange(1 << 30), "history": history, **more}
         words = [os.path.join(DEPLOY, "client"), *self.grid.words_for(name), name, "bench"]
         for option, value in asked.items():
             words += [f"--{option}", str(value)]
@@ -123,7 +123,7 @@ class Storm:
 
     def judge(self):
         """How many operations there were, and what was wrong."""
-        wrong, done, given_up, histories = [], 0, 0, 0
+        wrong, done, given_up, histories, refused = [], 0, 0, 0, 0
         for name, load in zip(NAMES * 2, self.loads):
             if load.poll() != 0:
                 with open(f"told.{name}") as told:
@@ -135,7 +135,9 @@ class Storm:
                 verdict, histories = is_linearizable(history, BOUND), histories + 1
                 given_up += verdict is None
                 if verdict is False:
-                    wrong.append(f"the history of {name}'s file {file} is not linearizable: {history}")
+                    # (no seed repeats a storm, so the first wrong history is told, and of others that they are wrong)
+                    wrong.append(f"{file} is not linearizable" + ("" if refused else f": {history}"))
+                    refused += 1
         if done < 200 or not self.kills:
             wrong.append(f"{done} operations and {self.kills} are too few to show anything")
         for number in range(NODES):
