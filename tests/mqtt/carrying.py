@@ -132,7 +132,7 @@ def out_of(checked):
     said = {topic: broker.lines(topic) for topic, body in broker.said if body}
     wanted = {"gridfs/1/0": [b"one", b"three", long[4:], b"nul\0cr\r", b"store 5 1 ab ?"], "gridfs/ann/0": [b"two", b"four"]}
     checked.held(said == wanted, "lines with the node's own number, whole and in order, and no others")
-    checked.held(next(body for topic, body in broker.said if topic == "gridfs/1/0").startswith(b"one\nthree"), "lines of one read to one place go in one message")
+    checked.held(next((body for topic, body in broker.said if topic == "gridfs/1/0"), b"").startswith(b"one\nthree"), "lines of one read to one place go in one message")
     wait_for(lambda: b"0 0 self" in got())
     checked.held(got() == [b"0 0 self", b""], "a line to itself comes back")
     checked.held(carry.stop() == 0 and not any(b"torn" in body for _, body in broker.said), "what stands behind the last LF is no line")
@@ -170,7 +170,7 @@ def turns(checked):
     wait_for(lambda: len(got()) > sum(map(len, wanted.values())))
     lines = got()
     checked.held({name: [line for line in lines if line.startswith(b"0 " + name)] for name in wanted} == wanted, "what waited comes whole, of each in order")
-    first = next(place for place, line in enumerate(lines) if line.startswith(b"0 ann"))
+    first = next((place for place, line in enumerate(lines) if line.startswith(b"0 ann")), len(lines))
     checked.held(first < 1_000, f"the first of ann's lines stands behind {first} of bob's")
     checked.held(carry.stop() == 0, "status 0")
 

@@ -172,3 +172,34 @@ def tried(program, carry):
     finally:
         clients.grid.end()
     return clients.tried, clients.wrong
+
+
+def grown(program, carry):
+    """A tenant and a volume are added while a load runs: the new plan, the broker's folder made again, SIGHUP, and nodes one after another."""
+    clients = Clients(program, carry)
+    grid = clients.grid
+    try:
+        grid.start()
+        load = subprocess.Popen(clients.words("--sessions", "8", "--seconds", "8", "ann", "bench"), stdout=subprocess.DEVNULL, stderr=subprocess.PIPE)
+        time.sleep(1)
+        with open(grid.plan, encoding="ascii") as file:
+            text = file.read()
+        with open(grid.plan, "w", encoding="ascii") as out:
+            out.write(text.replace("go\n", "tenant eve 64 2 1\ngo\n") + "eve open 8 2\nbob open 4 4\n")
+        grid.set_up()
+        grid.processes["broker"].send_signal(signal.SIGHUP)
+        time.sleep(0.5)
+        clients.held("no connection ends where the broker reads its files anew", grid.told("broker").count("disconnected"), 0)
+        for number in range(grid.count):
+            grid.processes[number].terminate()
+            clients.held(f"node {number} ends by itself", grid.processes[number].wait(), 0)
+            grid.start_node(number)
+            grid.wait_until_connected([number], 2)
+        clients.held("the new tenant writes", clients.run("eve", "write", "0", "7", "new", name="eve"), (DONE, b"", ""))
+        clients.held("and reads", clients.run("eve", "read", "0", "7", name="eve"), (DONE, b"new", ""))
+        clients.held("the new volume is there", clients.run("bob", "read", "1", "3", name="bob"), (DONE, b"", ""))
+        _, told = load.communicate(timeout=60)
+        clients.held("the old tenant goes on all the time", (load.returncode, told), (DONE, b""))
+    finally:
+        grid.end()
+    return clients.tried, clients.wrong
