@@ -27,7 +27,7 @@
 enum {
     NAME = 16,                  /* letters of a tenant's name */
     NAMES = 256,                /* most names whose lines wait at one time, in each direction */
-    LONGEST = 4095,             /* bytes of a line without its LF, and the most that a plan can ask for */
+    LONGEST = 4095,             /* bytes of a line without its LF; and the most that --longest takes */
     LONGEST_EVER = 2097407,
     CHUNK = 65536,              /* bytes of a read, of a message, of a write of a longer line */
     WRITE = 4096,               /* bytes of other writes to the node: whole lines, that a pipe takes whole (PIPE_BUF) */
@@ -349,7 +349,7 @@ static void on_connect(struct mosquitto *library, void *unused, int result) {
         snprintf(why, sizeof why, "%s", mosquitto_connack_string(result));
         return;
     }
-    mosquitto_log_callback_set(library, NULL);        /* it costs for each message */
+    mosquitto_log_callback_set(library, NULL);  /* it costs for each message */
     snprintf(topic, sizeof topic, "%s+", prefix);
     state = mosquitto_subscribe(library, NULL, topic, 0) || word_to_itself() ? AWAY : HERE;
     if (state == AWAY) return;

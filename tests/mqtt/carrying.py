@@ -196,10 +196,11 @@ def whole_writes(checked):
 def ticks(checked):
     broker = checked.broker()
     carry = checked.carry(broker.port, node(COPY), "--tick", "0.02")
-    wait_for(lambda: broker.subscribed)
-    time.sleep(1)
+    wait_for(lambda: broker.subscribed and got(True))
     before = len(got(True))
-    checked.held(10 < before <= 52, f"ticks come: {before} within a second of 0.02")
+    time.sleep(1)
+    before = len(got(True)) - before
+    checked.held(5 < before <= 60, f"ticks come: {before} within a second of 0.02")
     os.kill(carry.child(), signal.SIGSTOP)
     time.sleep(0.1)
     before = len(got(True))
