@@ -36,12 +36,13 @@ class Request:
 
 
 class Session:
-    """One session, which has one request under way, and those that wait behind it. What is sent and heard is bytes."""
+    """One session, which has one request under way, and those that wait behind it. What is sent and heard is bytes. Where the last number
+    is known, and all that was sent under it was answered, nothing has to be asked first."""
 
-    def __init__(self, name, session, home, draw):
+    def __init__(self, name, session, home, draw, last=None):
         self.name, self.session, self.home = name.encode(), b"%d" % session, b"%d" % home
-        self.waiting, self.last = collections.deque(), None
-        self.going = Request(b"abandon", [], draw.randint(FIRST_TOO_HIGH, LAST_NUMBER))
+        self.waiting, self.last = collections.deque(), last
+        self.going = Request(b"abandon", [], draw.randint(FIRST_TOO_HIGH, LAST_NUMBER)) if last is None else None
 
     def ask(self, kind, words, tell):
         """Has a request wait: `tell` is called with the answer, or with the refusal."""

@@ -1,0 +1,164 @@
+"""A grid on this machine, as deploy/mqtt/grid, the tests and the benchmarks start it: a broker, and nodes with their carriers."""
+
+import os
+import signal
+import socket
+import subprocess
+import sys
+import time
+
+HERE = os.path.dirname(os.path.realpath(__file__))
+sys.path.insert(0, os.path.join(HERE, "..", "..", "examples", "nodes"))
+from carrier import journal_of
+from tenant import homes
+
+os.environ["PATH"] += ":/usr/sbin"  # (where Debian has mosquitto and nginx, and no user but root looks)
+PATIENCE = 15  # seconds that a process has to end, or to be ready
+
+
+class NotStarted(Exception):
+    """What keeps a grid from its start."""
+
+
+def free_ports():
+    """The first of two ports that follow each other and are free."""
+    while True:
+        with socket.create_server(("127.0.0.1", 0)) as listener:
+            port = listener.getsockname()[1]
+            try:
+                socket.create_server(("127.0.0.1", port + 1)).close()
+                return port
+            except OSError:
+                pass
+
+
+def spent(pid):
+    """What a process, with all its threads, took of the processors until now, in seconds; 0 where it is gone."""
+    try:
+        with open(f"/proc/{pid}/stat") as file:
+            return sum(map(int, file.read().rsplit(") ", 1)[1].split()[11:13])) / os.sysconf("SC_CLK_TCK")
+    except (FileNotFoundError, ProcessLookupError):
+        return 0
+
+
+def children_of(pid):
+    try:
+        with open(f"/proc/{pid}/task/{pid}/children") as file:
+            return [int(word) for word in file.read().split()]
+    except (FileNotFoundError, ProcessLookupError):
+        return []
+
+
+class Grid:
+    """The processes of a grid whose files are in a folder: `plan`, the journals, the broker's folder `broker`, and what they tell, in `log.NAME`.
+    `tls` is as for deploy/mqtt/setup; tenants come by the port behind that of nodes."""
+
+    def __init__(self, folder, program, carry, tls, port=None):
+        self.folder, self.program, self.carry, self.tls = folder, program, carry, tls
+        self.port, self.inner = port or free_ports(), free_ports()
+        self.plan, self.broker_folder = os.path.join(folder, "plan"), os.path.join(folder, "broker")
+        self.processes, self.count = {}, 0
+
+    def log(self, name):
+        return open(os.path.join(self.folder, f"log.{name}"), "ab")
+
+    def told(self, name):
+        with open(os.path.join(self.folder, f"log.{name}"), encoding="latin1") as file:
+            return file.read()
+
+    def set_up(self, *words):
+        """Makes the broker's folder from the plan, or makes it again."""
+        with open(self.plan, encoding="latin1") as file:
+            self.count, _ = homes(file.read())
+        words += ("--tls", self.tls, "--port", str(self.port), "--inner", str(self.inner))
+        words += () if self.tls == "none" else ("--test-authority",)
+        words += ("--user", "root") if os.getuid() == 0 else ()
+        done = subprocess.run([os.path.join(HERE, "setup"), *words, self.broker_folder, self.plan], stderr=subprocess.PIPE, text=True)
+        if done.returncode:
+            raise NotStarted(done.stderr.strip())
+
+    def run(self, name, words):
+        """Starts a process. A signal from the terminal does not reach it; a session of its own would be a group of the scheduler's too,
+        and each would wait for the others' turns."""
+        with self.log(name) as log:
+            self.processes[name] = subprocess.Popen(words, stdin=subprocess.DEVNULL, stdout=log, stderr=log, preexec_fn=os.setpgrp)
+
+    def start_broker(self):
+        self.run("broker", ["mosquitto", "-c", os.path.join(self.broker_folder, "mosquitto.conf")])
+
+    def start_front(self):
+        if self.tls == "front":
+            self.run("front", ["nginx", "-e", "stderr", "-p", self.broker_folder, "-c", os.path.join(self.broker_folder, "nginx.conf")])
+
+    def words_for(self, name):
+        """The words by which a client or a carrier finds the broker and is known there."""
+        port = self.port + (not str(name).isdecimal())
+        trusted = [] if self.tls == "none" else ["--ca-file", os.path.join(self.broker_folder, "ca.crt")]
+        return ["--broker", f"localhost:{port}", *trusted, "--password-file", os.path.join(self.broker_folder, "secret", str(name))]
+
+    def start_node(self, number, is_new=False):
+        """Starts a node with its carrier. A journal is begun at the grid's first start alone: a node whose journal is lost must not start."""
+        journal = journal_of(self.folder, number)
+        node = [self.program, "node", str(number), "--plan", self.plan, "--journal", journal]
+        self.run(number, [self.carry, *self.words_for(number), str(number), "--", *node] + ["--new"] * is_new)
+
+    def start(self):
+        """Starts the broker and all nodes, and waits until each is connected."""
+        begun = os.path.join(self.folder, "begun")
+        self.start_broker()
+        self.start_front()
+        for number in range(self.count):
+            self.start_node(number, not os.path.exists(begun) and not os.path.exists(journal_of(self.folder, number)))
+        self.wait_until_connected(range(self.count), 1)
+        with open(begun, "w", encoding="ascii"):
+            pass
+
+    def wait_until_connected(self, numbers, times=1):
+        until = time.monotonic() + PATIENCE
+        for number in numbers:
+            while self.told(number).count("connected to") < times:
+                if self.processes[number].poll() is not None or time.monotonic() > until:
+                    raise NotStarted(f"node {number} is not connected: {self.told(number).strip() or self.told('broker').strip()}")
+                time.sleep(0.02)
+
+    def node(self, number):
+        """The process of the node itself, below its carrier; None where it is gone."""
+        return next(iter(children_of(self.processes[number].pid)), None)
+
+    def kill(self, name):
+        """Ends a process now (kill -9); of a node its carrier, and the node itself is left to end by itself."""
+        self.processes[name].kill()
+        self.processes[name].wait()
+
+    def kill_node(self, number):
+        """Ends the node's process (kill -9), and waits for its carrier, which ends with it. Its status."""
+        child = self.node(number)
+        if child:
+            os.kill(child, signal.SIGKILL)
+        try:
+            return self.processes[number].wait(PATIENCE)
+        except subprocess.TimeoutExpired:
+            self.kill(number)
+            return None
+
+    def spent(self):
+        """What broker, carriers and nodes took of the processors until now, in seconds."""
+        carriers = [process.pid for name, process in self.processes.items() if isinstance(name, int)]
+        nodes = [child for pid in carriers for child in children_of(pid)]
+        front = [self.processes["front"].pid, *children_of(self.processes["front"].pid)] if "front" in self.processes else []
+        used = {"broker": spent(self.processes["broker"].pid), "front": sum(map(spent, front))}
+        return {**used, "carriers": sum(map(spent, carriers)), "nodes": sum(map(spent, nodes))}
+
+    def end(self):
+        """Ends all that was started here, one by one, nodes first."""
+        for name in sorted(self.processes, key=lambda it: isinstance(it, str)):
+            process = self.processes[name]
+            if process.poll() is None:
+                process.send_signal(signal.SIGCONT)
+                process.terminate()
+        for process in self.processes.values():
+            try:
+                process.wait(PATIENCE)
+            except subprocess.TimeoutExpired:
+                process.kill()
+                process.wait()

@@ -1,0 +1,205 @@
+"""What the client says, takes and refuses, each with its status, and what it keeps on disk."""
+
+import json
+import os
+import signal
+import socket
+import subprocess
+import time
+
+from isolation import write_plan
+from mqtt_grid import Grid
+from peers import DEPLOY, wait_for
+
+CLIENT = os.path.join(DEPLOY, "client")
+DONE, MEND, WORDS, SILENT, GONE, REFUSED = 0, 1, 2, 3, 4, 5
+
+
+class Clients:
+    """Runs of the client, each compared with what it has to do."""
+
+    def __init__(self, program, carry):
+        self.grid, self.tried, self.wrong = Grid(os.getcwd(), program, carry, "broker"), 0, []
+        write_plan(self.grid.plan)
+        self.grid.set_up()
+
+    def held(self, name, seen, wanted):
+        self.tried += 1
+        if seen != wanted:
+            self.wrong.append(f"{name}: {seen!r}, not {wanted!r}")
+
+    def words(self, *words, name="ann", options=None):
+        options = self.grid.words_for(name) if options is None else options
+        return [CLIENT, *options, *words]
+
+    def run(self, *words, given=b"", **more):
+        done = subprocess.run(self.words(*words, **more), input=given, stdout=subprocess.PIPE, stderr=subprocess.PIPE, timeout=60)
+        return done.returncode, done.stdout, done.stderr.decode()
+
+    def asks(self):
+        content = bytes(range(128, 256))
+        self.held("write", self.run("ann", "write", "0", "3", given=content), (DONE, b"", ""))
+        self.held("read", self.run("ann", "read", "0", "3"), (DONE, content, ""))
+        self.held("write of nothing", self.run("ann", "write", "0", "4", ""), (DONE, b"", ""))
+        self.held("read of nothing", self.run("ann", "read", "0", "4"), (DONE, b"", ""))
+        status, told, _ = self.run("--json", "--session", "2", "ann", "write", "0", "5", "hi")
+        told = json.loads(told)
+        self.held("--json", (status, told["done"], told["tag"], told["session"]), (DONE, "write", [1, 2], 2))
+        status, told, _ = self.run("ann", "list", "0")
+        self.held("list", (status, told.splitlines()[3:6]), (DONE, [b"3 128 1.1", b"4 0 2.1", b"5 2 1.2"]))
+        status, told, _ = self.run("--json", "bob", "plan", name="bob")
+        self.held("plan", (status, json.loads(told)), (DONE, {"nodes": 4, "home": 0, "sessions": 16, "share": 256, "most": 16, "volumes": [{"files": 64, "blocks": 2}]}))
+
+    def refuses(self):
+        self.held("a volume that is not there", self.run("ann", "read", "7", "0"), (REFUSED, b"", "client: refused: novolume\n"))
+        self.held("a file that is not there", self.run("--json", "ann", "read", "0", "64")[0], REFUSED)
+        self.held("a content that is too long for the file", self.run("ann", "write", "0", "0", given=bytes(129)), (REFUSED, b"", "client: refused: toolong\n"))
+        self.held("a content that is longer than any", self.run("ann", "write", "0", "0", given=bytes(1_025))[::2], (REFUSED, "client: the content has more than 1024 bytes\n"))
+        for words in ([], ["ann"], ["ann", "read", "0"], ["ann", "read", "0", "x"], ["ann", "erase", "0", "0"], ["Ann", "plan"], ["ann", "write", "0"], ["--session", "17", "ann", "plan"]):
+            self.held(f"the words {words}", self.run(*words)[:2], (WORDS, b""))
+        self.held("no password file", self.run("ann", "plan", options=[])[0], WORDS)
+        self.held("--help", self.run("--help", options=[])[0], DONE)
+
+    def faults(self):
+        broker, trusted = f"localhost:{self.grid.port + 1}", ["--ca-file", "broker/ca.crt"]
+        own = ["--password-file", "broker/secret/ann"]
+        with open("open", "w", encoding="ascii") as out:
+            out.write("word\n")
+        os.chmod("open", 0o644)
+        with socket.create_server(("127.0.0.1", 0)) as listener:
+            nobody = f"localhost:{listener.getsockname()[1]}"
+        far = os.path.join(os.getcwd(), "far")
+        subprocess.run([os.path.join(DEPLOY, "setup"), "--test-authority", "--user", "root", far, self.grid.plan], check=True)
+        for name, options, told in (
+            ("no broker", ["--broker", nobody, *trusted, *own], f"{nobody}: Connection refused"),
+            ("no such host", ["--broker", "nowhere.invalid:1", *trusted, *own], "nowhere.invalid:1: Name or service not known"),
+            ("a wrong password", ["--broker", broker, *trusted, "--password-file", "broker/secret/bob"], f"{broker}: Connection Refused: not authorised."),
+            ("a broker of another authority", ["--broker", broker, "--ca-file", "far/ca.crt", *own], f"{broker}: unable to get local issuer certificate"),
+            ("no such file of authorities", ["--broker", broker, "--ca-file", "none", *own], "none: No such file or directory"),
+            ("no such password file", ["--broker", broker, *trusted, "--password-file", "none"], "none: No such file or directory"),
+            ("a password file that others may read", ["--broker", broker, *trusted, "--password-file", "open"], "open: others may read or write it"),
+        ):
+            seen = self.run("--timeout", "1", "ann", "plan", options=options)
+            if name in ("a broker of another authority", "no such host"):  # (whose words are the library's)
+                seen = seen[0], seen[1], seen[2] if seen[2].startswith(f"client: {options[1]}: ") and seen[2].count("\n") == 1 else ""
+                told = seen[2][8:-1]
+            self.held(name, seen, (MEND, b"", f"client: {told}\n"))
+
+    def keeps_numbers(self):
+        """The number on disk stands for one operation: also where a client is killed, and where another has used the session."""
+        asked = ["--numbers", "numbers", "--session", "5", "--json", "ann"]
+
+        def number():
+            with open("numbers/ann.5", encoding="ascii") as file:
+                return file.read().split()
+
+        operations = []
+        for kind in (["write", "0", "6", "aa"], ["read", "0", "6"], ["read", "0", "64"], ["read", "0", "6"]):
+            status, told, _ = self.run(*asked, *kind)
+            operations.append(json.loads(told)["operation"] if told else None)
+            self.held(f"{kind} leaves the number answered", number()[2], "answered")
+        self.held("each operation has the next number, a refused one none", [it - operations[0] for it in operations], [0, 1, 2, 2])
+        # a client that is killed before it is answered
+        for place in range(4):
+            os.kill(self.grid.processes[place].pid, signal.SIGSTOP)
+        client = subprocess.Popen(self.words(*asked, "write", "0", "6", "bb"), stdout=subprocess.DEVNULL, stderr=subprocess.DEVNULL)
+        self.held("a number that is sent is on disk first", wait_for(lambda: number()[2] == "sent"), True)
+        second = self.run(*asked, "read", "0", "6")
+        self.held("a second client of the session", (second[0], "another client has the session" in second[2]), (MEND, True))
+        client.kill()
+        client.wait()
+        for place in range(4):
+            os.kill(self.grid.processes[place].pid, signal.SIGCONT)
+        status, told, _ = self.run(*asked, "read", "0", "6")
+        told = json.loads(told or "{}")
+        self.held("the next client is answered", (status, told.get("content") in (b"aa".hex(), b"bb".hex()), number()[2]), (DONE, True, "answered"))
+        # another client of the session, whose numbers are not here
+        self.run("--session", "5", "ann", "read", "0", "6")
+        status, _, said = self.run(*asked, "read", "0", "6")
+        self.held("a number that is not the session's last", (status, "not the session's last number" in said), (MEND, True))
+        with open("numbers/ann.5", "w", encoding="ascii") as out:
+            out.write("no number\n")
+        self.held("a file of numbers without a form", self.run(*asked, "read", "0", "6")[0], MEND)
+        os.unlink("numbers/ann.5")
+        self.held("where the file is removed, the number is asked for", self.run(*asked, "read", "0", "6")[0], DONE)
+
+    def is_silent(self):
+        """No node answers: a session's home that stands still, and a broker without nodes."""
+        os.kill(self.grid.node(1), signal.SIGSTOP)
+        seen = self.run("--session", "2", "--timeout", "2", "ann", "read", "0", "7")
+        os.kill(self.grid.node(1), signal.SIGCONT)
+        self.held("a home that stands still", (seen[0], seen[2]), (SILENT, "client: not answered in time by node 1, the home of session 2\n"))
+
+    def gone(self):
+        """All nodes but a session's home stand still, so that its write can't end; then the home is killed, and starts again."""
+        asked = ["--numbers", "numbers", "--json", "ann"]
+        self.run(*asked, "write", "0", "8", "aa")
+        for number in (1, 2, 3):
+            os.kill(self.grid.node(number), signal.SIGSTOP)
+        client = subprocess.Popen(self.words(*asked, "write", "0", "8", "bb"), stdout=subprocess.PIPE, stderr=subprocess.PIPE)
+        journal = os.path.join(os.getcwd(), "node0.journal")
+        with open("numbers/ann.1", encoding="ascii") as file:
+            last = int(file.read().split()[1])
+
+        def has_begun():
+            with open(journal, "rb") as file:
+                return b"began ann 1 %d\n" % (last + 1) in file.read()
+
+        self.held("the write has begun", wait_for(has_begun), True)
+        self.grid.kill_node(0)
+        self.grid.start_node(0)
+        out, said = client.communicate(timeout=60)
+        for number in (1, 2, 3):
+            os.kill(self.grid.node(number), signal.SIGCONT)
+        self.held("a write that is gone", (client.returncode, json.loads(out or b"{}").get("gone")), (GONE, "write"))
+        status, told, _ = self.run(*asked, "read", "0", "8")
+        self.held("is looked at by a read", (status, json.loads(told or "{}").get("content") in (b"aa".hex(), b"bb".hex())), (DONE, True))
+
+    def benches(self):
+        os.mkdir("histories")
+        status, told, _ = self.run("--sessions", "4", "--seconds", "1", "--json", "--history", "histories", "bob", "bench", name="bob")
+        told = json.loads(told or "{}")
+        self.held("bench", (status, told.get("done", 0) > 10, told.get("unanswered")), (DONE, True, 0))
+        self.held("more sessions than there are", self.run("--sessions", "16", "--volume", "3", "bob", "bench", name="bob")[0], REFUSED)
+
+
+def tried(program, carry):
+    clients = Clients(program, carry)
+    try:
+        clients.grid.start()
+        for part in (clients.asks, clients.refuses, clients.faults, clients.keeps_numbers, clients.is_silent, clients.gone, clients.benches):
+            part()
+    finally:
+        clients.grid.end()
+    return clients.tried, clients.wrong
+
+
+def grown(program, carry):
+    """A tenant and a volume are added while a load runs: the new plan, the broker's folder made again, SIGHUP, and nodes one after another."""
+    clients = Clients(program, carry)
+    grid = clients.grid
+    try:
+        grid.start()
+        load = subprocess.Popen(clients.words("--sessions", "8", "--seconds", "8", "ann", "bench"), stdout=subprocess.DEVNULL, stderr=subprocess.PIPE)
+        time.sleep(1)
+        with open(grid.plan, encoding="ascii") as file:
+            text = file.read()
+        with open(grid.plan, "w", encoding="ascii") as out:
+            out.write(text.replace("go\n", "tenant eve 64 2 1\ngo\n") + "eve open 8 2\nbob open 4 4\n")
+        grid.set_up()
+        grid.processes["broker"].send_signal(signal.SIGHUP)
+        time.sleep(0.5)
+        clients.held("no connection ends where the broker reads its files anew", grid.told("broker").count("disconnected"), 0)
+        for number in range(grid.count):
+            grid.processes[number].terminate()
+            clients.held(f"node {number} ends by itself", grid.processes[number].wait(), 0)
+            grid.start_node(number)
+            grid.wait_until_connected([number], 2)
+        clients.held("the new tenant writes", clients.run("eve", "write", "0", "7", "new", name="eve"), (DONE, b"", ""))
+        clients.held("and reads", clients.run("eve", "read", "0", "7", name="eve"), (DONE, b"new", ""))
+        clients.held("the new volume is there", clients.run("bob", "read", "1", "3", name="bob"), (DONE, b"", ""))
+        _, told = load.communicate(timeout=60)
+        clients.held("the old tenant goes on all the time", (load.returncode, told), (DONE, b""))
+    finally:
+        grid.end()
+    return clients.tried, clients.wrong
