@@ -7,7 +7,6 @@
 mod grow_box;
 mod grow_bytes;
 mod grow_channel;
-mod grow_digits;
 mod grow_index_set;
 mod grow_slab;
 mod grow_vec;
@@ -42,7 +41,6 @@ impl OutOfMemory {
 pub use grow_box::boxed;
 pub use grow_bytes::{GrowBytes, bytes_of, copied_bytes};
 pub use grow_channel::{channel, channel_of_one, send, sender_copied};
-pub use grow_digits::content_of_digits;
 pub use grow_index_set::{GrowIndexSet, set_copied};
 pub use grow_slab::GrowSlab;
 pub use grow_vec::{

@@ -91,23 +91,6 @@ fn boxes_a_value(rt: HostRuntime) -> Result<(), Fail> {
     Ok(())
 }
 
-// The digits write these bytes, or none.
-fn writes(rt: &impl Abort, alloc: Global, digits: &[u8], bytes: Option<&[u8]>) {
-    match content_of_digits(alloc, digits) {
-        Ok(Some(content)) => assert!(rt; Some(content.as_slice()) == bytes),
-        Ok(None) => assert!(rt; bytes.is_none()),
-        Err(refused) => panic!(rt; "{refused}"),
-    }
-}
-
-#[test]
-fn reads_digits(rt: HostRuntime) {
-    writes(&rt, rt.alloc(), b"6869", Some(b"hi"));
-    writes(&rt, rt.alloc(), b"", Some(b""));
-    writes(&rt, rt.alloc(), b"686", None);
-    writes(&rt, rt.alloc(), b"zz", None);
-}
-
 // What is told of a refused growth, and of what is told of it once more.
 fn told_twice(alloc: Global, refused: &OutOfMemory) -> Result<String, Fail> {
     let again = refused.again();
