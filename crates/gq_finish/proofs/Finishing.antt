@@ -50,7 +50,7 @@ use Rattle.gq_finish.specs.declared.finish.Stop.TheVariants.{Idle as NoOperation
 use Rattle.gq_script.specs.declared.script.RunFault.{RunFault}
 use Rattle.gq_finish.specs.declared.finish.FinishFault.{FinishFault}
 use Rattle.gq_finish.specs.declared.finish.FinishFault.TheVariants.{Run, Name, Session as NotThere, Idle as NoneThere, Row, Column, Both, Steps as TooFew, NoEnd}
-use Rattle.gq_finish.specs.Finishing.{CauseOf, FinishOf, HasCause, IsOfOutput, finishing, goes_on, operation_left, outcome_session, Ends, Finishes, Finished, IsEnd, RunsOut, StopsFor}
+use Rattle.gq_finish.specs.Finishing.{CauseOf, FinishOf, HasCause, IsOfOutput, finishing, goes_on, operation_left, outcome_session, up_after, Ends, Finishes, Finished, IsEnd, RunsOut, StopsFor}
 
 -- ---- the same operation
 
@@ -449,6 +449,13 @@ row_after grid set up is = ap is_some (least_row_agree grid (servers set) (up_in
 
 pub column_after : (grid : Grid) (set : ServerSet) (up : Servers) → up_in grid set ≡ up → has_column grid (servers set) ≡ has_column grid up
 column_after grid set up is = ap is_some (least_column_agree grid (servers set) (up_in grid set) (λ s within. sym (in_grid grid set s within))) ∙ ap (has_column grid) is
+
+-- so whether some row, or some column, is wholly in the set, says whether it is up after the lines
+pub row_told : (plan : CheckedPlan) (events : List Event) (grid : Grid) (set : ServerSet) (told is : Bool) → plan.grid ≡ grid → up_in grid set ≡ up_after plan events → told ≡ has_row grid (servers set) → told ≡ is → has_row plan.grid (up_after plan events) ≡ is
+row_told plan events grid set told is same up tells test = ap (λ g. has_row g (up_after plan events)) same ∙ sym (row_after grid set (up_after plan events) up) ∙ sym tells ∙ test
+
+pub column_told : (plan : CheckedPlan) (events : List Event) (grid : Grid) (set : ServerSet) (told is : Bool) → plan.grid ≡ grid → up_in grid set ≡ up_after plan events → told ≡ has_column grid (servers set) → told ≡ is → has_column plan.grid (up_after plan events) ≡ is
+column_told plan events grid set told is same up tells test = ap (λ g. has_column g (up_after plan events)) same ∙ sym (column_after grid set (up_after plan events) up) ∙ sym tells ∙ test
 
 -- ---- texts
 

@@ -13,7 +13,7 @@ pub loop-rest-preserved : goal.loop-rest-preserved
 loop-rest-preserved c =
     let line = c.first_line.result.0.now in
     plays_more c.args.world.now.tables.plan c.loop-rest.world.tables c.step.new.self.tables line (lines_of c.loop-rest.rest.now) (lines_of c.first_line.result.1.now) (lines_of c.args.lines.now) c.in_ok-event.event c.loop-rest.invariant c.first_line.ensures.lines
-    (c.in_ok-event.ensures.event ∙ ap (λ (p : CheckedPlan). event_of p line) c.plan-in-loop-rest.ensures) c.step.ensures.plan c.in-Ok.ensures.stands
+    (c.in_ok-event.ensures.event ∙ ap (λ (p : CheckedPlan). event_of p line) c.plan.ensures) c.step.ensures.plan c.in-Ok.ensures.stands
 
 pub returns : goal.returns
 returns c = record {
