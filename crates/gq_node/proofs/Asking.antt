@@ -155,7 +155,7 @@ pub below : (op last : ℕ) → op ≡ last + 1 → op < 4294967296 → last < 4
 below op last is small = omega arith
 
 -- one that is given up goes on
-gives_up : (k op last : ℕ) (going : Bool) (outcome : Option Outcome) → own_admission k op false last going outcome ≡ Goes → going ≡ true
+pub gives_up : (k op last : ℕ) (going : Bool) (outcome : Option Outcome) → own_admission k op false last going outcome ≡ Goes → going ≡ true
 gives_up k op last true outcome goes = refl
 gives_up k op last false outcome goes = elim (cases_Bool (nat_lt op last || op == 0)) [
   | inl old ↦ (let e = rw old at goes in absurd (cc))

@@ -1,5 +1,5 @@
 -- Shaped tables hold no more than the plan has room for.
-use Rattle.std.proofs.Common.{◌≡◌, ◌∙◌, ℕ, ◌≤◌, length, map, sym, ap, subst}
+use Rattle.std.proofs.Common.{◌∙◌, ◌≤◌, length, sym, ap, subst}
 use Rattle.std.specs.Prelude.{is_some}
 use Rattle.std.specs.List.{sum_by}
 use Rattle.std.proofs.lemmas.List.{length-map}

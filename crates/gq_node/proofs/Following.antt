@@ -48,7 +48,7 @@ recall_volumes fact site local = elim (cases_Bool (fact_fits site (limit_at (sta
   | inr not ↦ (ap (λ (d : Doing). d.local.volumes) (recalls_not fact site local not))
 ]
 
-started_volumes : (s : Setting) (n : ℕ) (facts : List OwnFact) (local : Local) → local.volumes ≡ s.volumes → (fold (recalls_one s n) local facts).volumes ≡ s.volumes
+pub started_volumes : (s : Setting) (n : ℕ) (facts : List OwnFact) (local : Local) → local.volumes ≡ s.volumes → (fold (recalls_one s n) local facts).volumes ≡ s.volumes
 started_volumes s n [] local is = is
 started_volumes s n (fact ∷ facts) local is = started_volumes s n facts (recalls_one s n local fact) (recall_volumes fact (site_in s n) local ∙ is)
 
@@ -91,7 +91,7 @@ fact_moves site l local (Kept file copy) volumes same fits = (
   ap (λ (z : KeptPart). is_less (z.copy file).tag copy.tag) same ∙ fits.1,
 )
 
-journal_by : (s : Setting) (n : ℕ) (facts : List OwnFact) (local : Local) (fact : Option OwnFact) (part : Part) → kept_of (part_in (started s n facts)) ≡ kept_of (part_in local) → local.volumes ≡ s.volumes → KeepsBy (site_in s n) local fact part →
+pub journal_by : (s : Setting) (n : ℕ) (facts : List OwnFact) (local : Local) (fact : Option OwnFact) (part : Part) → kept_of (part_in (started s n facts)) ≡ kept_of (part_in local) → local.volumes ≡ s.volumes → KeepsBy (site_in s n) local fact part →
     kept_of (part_in (started s n (facts ++ fact_list fact))) ≡ kept_of part
 journal_by s n facts local None part same volumes keeps = ap (λ fs. kept_of (part_in (started s n fs))) (append-nil facts) ∙ same ∙ sym keeps
 journal_by s n facts local (Some fact) part same volumes keeps =
@@ -110,14 +110,14 @@ record Sound (s : Setting) (nodes : Nodes) : Type 0 where
   journal : (n : ℕ) → kept_of (part_in (started s n (nodes.facts n))) ≡ kept_of (part_in (nodes.local n))
 
 -- what holds of the node that does something, and of the others, holds of all
-at_nodes : (P : ℕ → Local → List OwnFact → Type 0) (nodes : Nodes) (n : ℕ) (doing : Doing) → P n doing.local (nodes.facts n ++ fact_list doing.fact) → ((m : ℕ) → m ≢ n → P m (nodes.local m) (nodes.facts m)) →
+pub at_nodes : (P : ℕ → Local → List OwnFact → Type 0) (nodes : Nodes) (n : ℕ) (doing : Doing) → P n doing.local (nodes.facts n ++ fact_list doing.fact) → ((m : ℕ) → m ≢ n → P m (nodes.local m) (nodes.facts m)) →
     (m : ℕ) → P m ((after_doing nodes n doing).local m) ((after_doing nodes n doing).facts m)
 at_nodes P nodes n doing here there m = elim (cases_eq m n) [
   | inl same ↦ (rw (eq-eqb m n same) (subst (λ x. P x doing.local (nodes.facts x ++ fact_list doing.fact)) (sym same) here))
   | inr away ↦ (rw (ne_eqb m n away) (there m away))
 ]
 
-at_start : (P : ℕ → Local → List OwnFact → Type 0) (s : Setting) (nodes : Nodes) (n : ℕ) → P n (started s n (nodes.facts n)) (nodes.facts n) → ((m : ℕ) → m ≢ n → P m (nodes.local m) (nodes.facts m)) →
+pub at_start : (P : ℕ → Local → List OwnFact → Type 0) (s : Setting) (nodes : Nodes) (n : ℕ) → P n (started s n (nodes.facts n)) (nodes.facts n) → ((m : ℕ) → m ≢ n → P m (nodes.local m) (nodes.facts m)) →
     (m : ℕ) → P m ((after_event s nodes (Started n)).local m) ((after_event s nodes (Started n)).facts m)
 at_start P s nodes n here there = at_nodes P nodes n (nothing (started s n (nodes.facts n))) (subst (P n (started s n (nodes.facts n))) (sym (append-nil (nodes.facts n))) here) there
 

@@ -101,7 +101,7 @@ told_keeps site local k r told inside n = kept_same local k r n.0 n.1
 
 -- ---- a request
 
-not_refused : (o : Option Refusal) (step : Step) → is_refusal (unless o step).told ≡ false → unless o step ≡ step
+pub not_refused : (o : Option Refusal) (step : Step) → is_refusal (unless o step).told ≡ false → unless o step ≡ step
 not_refused None step is = refl
 not_refused (Some word) step is = absurd (cc)
 

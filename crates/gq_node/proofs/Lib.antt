@@ -1,3 +1,4 @@
+pub mod Again
 pub mod Aiming
 pub mod AlikeParts
 pub mod Apart

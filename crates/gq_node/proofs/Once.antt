@@ -35,7 +35,7 @@ quiet_by site local op line k (Tells answer) is goes = rw is (record { part = re
 quiet_by site local op line k Passes is goes = rw is (record { part = refl; letters = refl; fact = refl })
 quiet_by site local op line k Goes is goes = absurd (goes refl)
 
-never_goes : (site : Site) (local : Local) (op : ℕ) (line : Line) (k : ℕ) → begins line ≡ true → op ≤ (local.residents k).session.op → admission_in site local k op (begins line) ≡ Goes → ⊥
+pub never_goes : (site : Site) (local : Local) (op : ℕ) (line : Line) (k : ℕ) → begins line ≡ true → op ≤ (local.residents k).session.op → admission_in site local k op (begins line) ≡ Goes → ⊥
 never_goes site local op line k begin low goes =
     let last : ℕ = (local.residents k).session.op in
     let going : Bool = is_some (local.residents k).session.current in
@@ -183,7 +183,7 @@ does_next AskedPlan site local = tt
 does_next (Brought from letter) site local = received_next from letter site local
 does_next (Ticked session) site local = ticked_next session site local
 
-does_keep : (input : Input) (site : Site) (local : Local) → Keeps site local (does input site local)
+pub does_keep : (input : Input) (site : Site) (local : Local) → Keeps site local (does input site local)
 does_keep (Asked op line) site local = all_requests_keep op line site local
 does_keep AskedPlan site local = refl
 does_keep (Brought from letter) site local = all_letters_keep from letter site local

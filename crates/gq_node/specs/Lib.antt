@@ -1,3 +1,4 @@
+pub mod Again
 pub mod Aims
 pub mod Apart
 pub mod Asking

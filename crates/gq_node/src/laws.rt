@@ -1,5 +1,6 @@
 //! The laws, as clauses of functions that do nothing.
 
+ghost use Rattle.gq_node.specs.Again.{AllToldAgain, AllEndsToldAgain};
 ghost use Rattle.gq_node.specs.Apart.{AllCallsByParts, AllTenantsApart};
 ghost use Rattle.gq_node.specs.Once.{AllAgainLeave, AllTakeOnce, AllBeginOnce};
 ghost use Rattle.gq_node.specs.Progress.{AllRowsAreTried, AllColumnsAreTried};
@@ -50,6 +51,15 @@ pub fn requests_once()
     ensures again { AllAgainLeave }
     ensures once { AllTakeOnce }
     ensures begin { AllBeginOnce }
+{}
+
+/// What is told of a request that comes again. While its operation goes on nothing is; once it is done its outcome, or that it is gone,
+/// where the node does not know the outcome; and of an operation before the last one that its number is old. And once the tenant was told how an
+/// operation ended, it is told the same, byte for byte, at each line of the session with this number, whatever comes to the nodes
+/// between, until the session begins its next operation; where the node started again since, it is told that the operation is gone.
+pub fn told_again()
+    ensures again { AllToldAgain }
+    ensures ends { AllEndsToldAgain }
 {}
 
 /// Where nothing else comes to a session that has an operation, ticks lead it on. While its round collects, one of the next ticks, one

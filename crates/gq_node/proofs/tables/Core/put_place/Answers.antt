@@ -1,10 +1,9 @@
 -- A file that is not there has nothing that a start needs, and a copy that is refused is one of the tables.
-use Rattle.std.proofs.Common.{◌≡◌, ◌∙◌, ◌++◌, [], map, None, Some, sym, ap, subst, append-nil}
+use Rattle.std.proofs.Common.{◌≡◌, ◌∙◌, ◌++◌, map, None, Some, sym, ap, subst, append-nil}
 use Rattle.std.specs.Prelude.{Result, Ok, Err, IfErr}
 use Rattle.gq_tag.specs.Tag.{file_of}
 use Rattle.gq_desk.specs.Volumes.{limit_of}
-use Rattle.gq_store.specs.Copies.{copy_at}
-use Rattle.gq_node.specs.Needing.{place_of, place_facts, IsRefusedIn}
+use Rattle.gq_node.specs.Needing.{place_of}
 use Rattle.gq_node.specs.Shape.{IsShaped}
 use Rattle.gq_node.specs.Tables.{Tables, fact_of}
 use Rattle.gq_node.proofs.Needing.{absent_facts, refused_in}

@@ -1,0 +1,5 @@
+use Rattle.gq_node.proofs.Again.{all_told_again, all_ends_told_again}
+use Rattle.gq_node.proofs.laws.told_again.Goals as goal
+
+pub returns : goal.returns
+returns c = record { again = all_told_again; ends = all_ends_told_again }

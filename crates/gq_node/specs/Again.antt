@@ -1,0 +1,87 @@
+-- What is told of a request that comes again.
+use Rattle.std.specs.Prelude.{◌≡◌, ℕ, List, [], ◌∷◌, Bool, true, false, ◌==◌, ◌||◌, not, nat_lt, Option, Some, None, is_some, ⊤, if◌then◌else◌}
+use Rattle.std.specs.List.{list_any}
+use Rattle.gq_desk.specs.Plans.{is_in}
+use Rattle.gq_phase.specs.declared.Outcome.{Outcome}
+use Rattle.gq_phase.specs.declared.Outcome.TheVariants.{Wrote, Gave, Listed}
+use Rattle.gq_cluster.specs.Cluster.{Setting}
+use Rattle.gq_model.specs.declared.events.Line.{Line}
+use Rattle.gq_model.specs.declared.events.Refusal.TheVariants.{NoSession}
+use Rattle.gq_node.specs.declared.output.Answer.{Answer}
+use Rattle.gq_node.specs.declared.output.Answer.TheVariants.{Done, Gone, Refused, Old, Away}
+use Rattle.gq_node.specs.Inputs.{Asked, does}
+use Rattle.gq_node.specs.Local.{Local, asker, ended}
+use Rattle.gq_node.specs.Nodes.{Nodes, Event, LineCame, Started, new_nodes, node_in, doing_of, after_event, nodes_after}
+use Rattle.gq_node.specs.Once.{comes_again, begun_by}
+use Rattle.gq_node.specs.Sites.{Site}
+
+-- ---- by what the node has of the session
+
+-- of a request with the number op, at the home of session k, whose last operation has that number, and goes on or has this outcome, if
+-- one is known: nothing while it goes on, and then how it ended; of an earlier one that its number is old
+abbrev pub told_at_home : (k op last : ℕ) → (going : Bool) → Option Outcome → Option Answer
+told_at_home k op last going outcome =
+    if nat_lt op last || op == 0 then Some (Old k op last)
+    else if going then None
+    else Some (ended k op outcome)
+
+-- and at any node
+abbrev pub told_again : Site → (k op last : ℕ) → (going : Bool) → Option Outcome → Option Answer
+told_again site k op last going outcome =
+    if not (is_in 1 site.row.sessions k) then Some (Refused k op NoSession)
+    else if not (site.home k == site.here) then Some (Away k op (site.home k))
+    else told_at_home k op last going outcome
+
+-- so it is at each request that comes again
+abbrev pub AllToldAgain : Type 0
+AllToldAgain = (site : Site) (local : Local) (op : ℕ) (line : Line) (k : ℕ) → asker line ≡ Some k → comes_again local (Asked op line) ≡ true →
+    (does (Asked op line) site local).answer ≡ told_again site k op (local.residents k).session.op (is_some (local.residents k).session.current) (local.residents k).outcome
+
+-- ---- by what was told before
+
+-- the session and the number of the operation that the outcome is of
+abbrev pub session_in : Outcome → ℕ
+session_in (Wrote session op tag) = session
+session_in (Gave session op copy) = session
+session_in (Listed session op rows) = session
+
+abbrev pub number_in : Outcome → ℕ
+number_in (Wrote session op tag) = op
+number_in (Gave session op copy) = op
+number_in (Listed session op rows) = op
+
+-- the answer tells how operation op of session k ended: its outcome, or that it is gone
+abbrev pub TellsEnd : (k op : ℕ) → Answer → Type 0
+TellsEnd k op (Done outcome) = (session_in outcome ≡ k) × (number_in outcome ≡ op)
+TellsEnd k op (Gone j number) = (j ≡ k) × (number ≡ op)
+TellsEnd k op _ = ⊥
+
+-- the operation of session k that began at node n by the event, if one did
+abbrev pub begun_at : Setting → Nodes → (n k : ℕ) → Event → Option ℕ
+begun_at s nodes n k event = if node_in event == n then begun_by k (doing_of s nodes event).fact else None
+
+-- none begins by these
+abbrev pub NoneBegins : Setting → Nodes → (n k : ℕ) → List Event → Type 0
+NoneBegins s nodes n k [] = ⊤
+NoneBegins s nodes n k (event ∷ events) = (begun_at s nodes n k event ≡ None) × NoneBegins s (after_event s nodes event) n k events
+
+-- whether node n starts again by one of these
+abbrev pub is_start : ℕ → Event → Bool
+is_start n (Started m) = m == n
+is_start n _ = false
+
+-- what is told of the operation after these: the same as before, or that it is gone, where the node was started again since
+abbrev pub end_after : (n k op : ℕ) → List Event → Answer → Answer
+end_after n k op events answer = if list_any (is_start n) events then Gone k op else answer
+
+-- of any nodes that were never started, whatever came to them: once a node told how operation op of session k ended, each line that
+-- comes to it for this session with this number is told the same again, whatever came to all nodes between, until the session begins
+-- its next operation
+abbrev pub AllEndsToldAgain : Type 0
+AllEndsToldAgain = (s : Setting) (before : List Event) (event : Event) (between : List Event) (k op : ℕ) (answer : Answer) (line : Line) →
+    let nodes : Nodes = nodes_after s (new_nodes s) before in
+    let told : Nodes = after_event s nodes event in
+    let n : ℕ = node_in event in
+    (doing_of s nodes event).answer ≡ Some answer → TellsEnd k op answer →
+    NoneBegins s told n k between → asker line ≡ Some k →
+    (doing_of s (nodes_after s told between) (LineCame n op line)).answer ≡ Some (end_after n k op between answer)
