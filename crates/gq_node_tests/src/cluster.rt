@@ -1,10 +1,10 @@
 //! A grid of 2 by 2, one node for each server, and the letters between them by hand.
 
 use bytes::Bytes;
-use gq_desk::{Name, Plan, TenantRow};
+use gq_desk::{Name, Plan, TenantRow, VolumeRow};
 use gq_grid::Grid;
 use gq_memory::GrowVec;
-use gq_node::{Answer, Fact, Line, Node, Output};
+use gq_node::{Answer, Fact, Holding, Line, Node, Output};
 use gq_phase::Outcome;
 use gq_tag::Message;
 use std::alloc::Global;
@@ -282,5 +282,83 @@ fn a_start_from_facts(rt: HostRuntime) -> Result<(), Fail> {
     let mut cluster = Cluster::new(&rt, rt.alloc());
     let mut fresh = node(&rt, rt.alloc(), 0);
     starts(&rt, &mut cluster, &mut fresh, &write(1, b"one"));
+    Ok(())
+}
+
+// ---- what a tenant has
+
+// Node 1, at which the second tenant has two volumes, and the first one.
+fn node_with_volumes(rt: &impl Abort, alloc: Global) -> Node {
+    let plan = plan(rt, alloc);
+    assert!(rt; 1 < plan.grid().servers());
+    let node = Node::new(alloc, plan, 1).expect(rt, "memory");
+    assert!(rt; 1 < node.plan().tenants());
+    let node = node.open(1, 2, 1).expect(rt, "a volume");
+    assert!(rt; 1 < node.plan().tenants());
+    let node = node.open(0, 1, 8).expect(rt, "a volume");
+    assert!(rt; 1 < node.plan().tenants());
+    node.open(1, 1, 3).expect(rt, "a volume")
+}
+
+// What the tenant is told that it has, where nothing is sent and nothing is to be kept.
+fn holding(rt: &impl Abort, node: &mut Node, tenant: u8) -> Option<Holding> {
+    assert!(rt; (tenant as usize) < node.plan().tenants());
+    let Output {
+        answer,
+        letters,
+        fact,
+    } = node.holding(tenant).expect(rt, "memory");
+    assert!(rt; letters.is_empty());
+    assert!(rt; fact.is_none());
+    match answer {
+        Some(Answer::Has(holding)) => Some(holding),
+        _ => None,
+    }
+}
+
+// The numbers of the grid, the home, the sessions, the share and the most blocks of a file.
+fn numbers(held: &Holding) -> (u8, u8, u32, u32, u32) {
+    (
+        held.servers,
+        held.home,
+        held.sessions,
+        held.share,
+        held.most_blocks,
+    )
+}
+
+fn volume(files: u32, blocks: u32) -> VolumeRow {
+    VolumeRow { files, blocks }
+}
+
+// Each tenant is told its own row of the plan and its own volumes.
+fn tells_each_its_own(rt: &impl Abort, node: &mut Node) {
+    let ann = holding(rt, node, 0).expect(rt, "what ann has");
+    assert_eq!(rt; numbers(&ann), (4, 0, 2, 8, 16));
+    assert_eq!(rt; ann.volumes.items.len(), 1);
+    assert_eq!(rt; ann.volumes.items.first().copied(), Some(volume(1, 8)));
+    // the home of the second tenant's session 1 is node 2, whoever is asked
+    let bob = holding(rt, node, 1).expect(rt, "what bob has");
+    assert_eq!(rt; numbers(&bob), (4, 2, 2, 8, 16));
+    assert_eq!(rt; bob.volumes.items.len(), 2);
+    assert_eq!(rt; bob.volumes.items.first().copied(), Some(volume(2, 1)));
+    assert_eq!(rt; bob.volumes.items.last().copied(), Some(volume(1, 3)));
+}
+
+#[test]
+fn a_tenant_asks_what_it_has(rt: HostRuntime) -> Result<(), Fail> {
+    let mut node = node_with_volumes(&rt, rt.alloc());
+    tells_each_its_own(&rt, &mut node);
+    // the question has no number: it takes none, and the next request has the same as without it
+    let read = Line::Read {
+        session: 2,
+        volume: 0,
+        file: 0,
+    };
+    let began = ask(&rt, &mut node, 1, &read);
+    assert_eq!(rt; began.letters.len(), 2);
+    tells_each_its_own(&rt, &mut node);
+    let other = ask(&rt, &mut node, 2, &read);
+    assert_eq!(rt; shown(&other.answer), Told::Busy(1));
     Ok(())
 }
