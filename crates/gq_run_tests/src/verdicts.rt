@@ -92,7 +92,14 @@ fn operations_of(rt: &impl Abort, alloc: Global, lines: &[&str]) -> Vec<Op> {
     let mut events = Vec::new(alloc);
     let mut answers = Vec::new(alloc);
     for line in lines {
-        answer(rt, alloc, &mut world, line.as_bytes(), &mut events, &mut answers);
+        answer(
+            rt,
+            alloc,
+            &mut world,
+            line.as_bytes(),
+            &mut events,
+            &mut answers,
+        );
     }
     operations(alloc, &plan, &events, &answers, FILE).expect(rt, "memory")
 }

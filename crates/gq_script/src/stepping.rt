@@ -124,10 +124,12 @@ fn try_plan(alloc: Global, text: &[u8], is_end: bool) -> Result<(Stage, Vec<u8>)
             Ok((world, told)) => Ok((Stage::Lines(world), told)),
             Err(refused) => Err(PlanText::Memory(refused)),
         },
-        Err(PlanText::Fault {
-            line,
-            fault: TextFault::End,
-        }) if !is_end => Ok((Stage::Plan(line), Vec::new(alloc))),
+        Err(
+            PlanText::Fault {
+                line,
+                fault: TextFault::End,
+            },
+        ) if !is_end => Ok((Stage::Plan(line), Vec::new(alloc))),
         Err(fault) => Err(fault),
     }
 }

@@ -292,8 +292,9 @@ fn between<R: Threads + Wait + Sync>(
             (calls, ended.map_err(End::from))
         }
         Run::Order(name, volume, file) => {
-            let (calls, ended) =
-                streams::order_between(alloc, source, sink, name, volume, file, out);
+            let (calls, ended) = streams::order_between(
+                alloc, source, sink, name, volume, file, out,
+            );
             (calls, ended.map_err(End::from))
         }
     }
