@@ -85,6 +85,18 @@ class Clients:
                 told = seen[2][8:-1]
             self.held(name, seen, (MEND, b"", f"client: {told}\n"))
 
+    def starts(self):
+        """A node that does not start: it tells why, and its carrier ends with its status."""
+        carry = [self.grid.carry, *self.grid.words_for(0)]
+        node = [self.grid.program, "node", "9", "--plan", self.grid.plan, "--journal", "journal9", "--new"]
+        for name, words, status, told in (
+            ("a number that is not the plan's", [*carry, "9", "--", *node], 1, "gridfs: node 9: of 4"),
+            ("a journal that is not there", [*carry, "9", "--", *node[:2], "3", *node[3:6], "none"], 1, "gridfs: none: no journal"),
+            ("words that are no request", [*carry, "9", "--", *node[:2]], 2, "Usage: gridfs node"),
+        ):
+            done = subprocess.run(words, stdin=subprocess.DEVNULL, stdout=subprocess.PIPE, stderr=subprocess.PIPE, text=True, timeout=30)
+            self.held(name, (done.returncode, told in done.stderr, done.stdout), (status, True, ""))
+
     def keeps_numbers(self):
         """The number on disk stands for one operation: also where a client is killed, and where another has used the session."""
         asked = ["--numbers", "numbers", "--session", "5", "--json", "ann"]
@@ -167,7 +179,7 @@ def tried(program, carry):
     clients = Clients(program, carry)
     try:
         clients.grid.start()
-        for part in (clients.asks, clients.refuses, clients.faults, clients.keeps_numbers, clients.is_silent, clients.gone, clients.benches):
+        for part in (clients.asks, clients.refuses, clients.faults, clients.starts, clients.keeps_numbers, clients.is_silent, clients.gone, clients.benches):
             part()
     finally:
         clients.grid.end()
