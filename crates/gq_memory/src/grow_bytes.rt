@@ -1,5 +1,5 @@
 //! The growths of shared bytes.
-ghost use Rattle.std.specs.Prelude.{◌≡◌, IfOk};
+ghost use Rattle.std.specs.Prelude.{◌≡◌, length, IsOk, IfOk};
 
 use crate::OutOfMemory;
 use bytes::Bytes;
@@ -37,7 +37,8 @@ pub fn copied_bytes(alloc: Global, bytes: &[u8]) -> Result<Bytes, OutOfMemory>
 /// Shared bytes that are those of the vector.
 #[inline(always)]
 pub fn bytes_of(vec: Vec<u8>) -> Result<Bytes, OutOfMemory>
-    ensures { IfOk result (λ made. made ≡ vec.items) }
+    ensures made { IfOk result (λ made. made ≡ vec.items) }
+    ensures empty { length vec.items ≡ 0 → IsOk result }
 {
     match Bytes::from_vec(vec) {
         Ok(made) => Ok(made),

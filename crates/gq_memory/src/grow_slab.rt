@@ -1,5 +1,5 @@
 //! The growth of a slab.
-ghost use Rattle.std.specs.Prelude.{◌≡◌, ◌≤◌, IfOk, OnOk};
+ghost use Rattle.std.specs.Prelude.{◌≡◌, ◌<◌, ◌≤◌, ◌^◌, IsOk, IfOk, OnOk};
 ghost use Rattle.slab.specs.Slab.{HasRoomFor};
 
 use crate::OutOfMemory;
@@ -20,6 +20,7 @@ impl<T> GrowSlab<T> for Slab<T> {
         ensures place { IfOk result (λ place. place ≡ self.old.vacant_key) }
         ensures capacity { self.old.capacity ≤ self.new.capacity }
         ensures rest_kept { self.new ≡ record self.old { capacity = self.new.capacity } }
+        ensures succeeds { self.old.vacant_key < 2 ^ 32 → HasRoomFor self.old 1 → IsOk result }
     {
         let Ok(place) = u32::try_from(self.vacant_key()) else {
             return Err(OutOfMemory {

@@ -1,5 +1,5 @@
 //! The growths of a `Vec`.
-ghost use Rattle.std.specs.Prelude.{◌≡◌, ◌+◌, ◌<◌, ◌≤◌, ◌-◌, ◌++◌, ◌∷◌, [], length, replicate, take, if◌then◌else◌, is_ok, IsOk, IfOk, OnOk, OnErr};
+ghost use Rattle.std.specs.Prelude.{◌≡◌, ◌+◌, ◌<◌, ◌≤◌, ◌-◌, ◌^◌, ◌⊎◌, ◌++◌, ◌∷◌, [], length, replicate, take, if◌then◌else◌, is_ok, IsOk, IfOk, OnOk, OnErr};
 ghost use Rattle.std.specs.List.Sorted.{IsPermutation, IsSorted, IsStable};
 ghost use Rattle.std.specs.Vec.{vec_len, vec_capacity};
 
@@ -42,6 +42,7 @@ impl<T: Drop> GrowPlaces<T> for Vec<T> {
     fn grow_place(&mut self, value: T) -> Result<u32, OutOfMemory>
         ensures place { IfOk result (λ place. place ≡ vec_len self.old) }
         ensures items { self.new.items ≡ (if is_ok result then self.old.items ++ value ∷ [] else self.old.items) }
+        ensures full { OnErr result ((vec_capacity self.old ≤ vec_len self.old) ⊎ (2 ^ 32 ≤ vec_len self.old)) }
     {
         let Ok(place) = u32::try_from(self.len()) else {
             return Err(OutOfMemory {
@@ -64,6 +65,7 @@ impl GrowLengths for Vec<u32> {
     #[inline(always)]
     fn grow_length(&mut self, text: &[u8]) -> Result<(), OutOfMemory>
         ensures items { self.new.items ≡ (if is_ok result then self.old.items ++ length text.now ∷ [] else self.old.items) }
+        ensures full { OnErr result ((vec_capacity self.old ≤ vec_len self.old) ⊎ (2 ^ 32 ≤ length text.now)) }
     {
         let Ok(length) = u32::try_from(text.len()) else {
             return Err(OutOfMemory {
