@@ -48,14 +48,17 @@ class Clients:
         status, told, _ = self.run("ann", "list", "0")
         self.held("list", (status, told.splitlines()[3:6]), (DONE, [b"3 128 1.1", b"4 0 2.1", b"5 2 1.2"]))
         status, told, _ = self.run("--json", "bob", "plan", name="bob")
-        self.held("plan", (status, json.loads(told)), (DONE, {"nodes": 4, "home": 0, "sessions": 16, "share": 256, "most": 16, "volumes": [{"files": 64, "blocks": 2}]}))
+        has = {"nodes": 4, "home": 0, "sessions": 16, "share": 256, "most": 16, "volumes": [{"files": 64, "blocks": 2}]}
+        self.held("plan", (status, json.loads(told)), (DONE, has))
 
     def refuses(self):
         self.held("a volume that is not there", self.run("ann", "read", "7", "0"), (REFUSED, b"", "client: refused: novolume\n"))
         self.held("a file that is not there", self.run("--json", "ann", "read", "0", "64")[0], REFUSED)
         self.held("a content that is too long for the file", self.run("ann", "write", "0", "0", given=bytes(129)), (REFUSED, b"", "client: refused: toolong\n"))
-        self.held("a content that is longer than any", self.run("ann", "write", "0", "0", given=bytes(1_025))[::2], (REFUSED, "client: the content has more than 1024 bytes\n"))
-        for words in ([], ["ann"], ["ann", "read", "0"], ["ann", "read", "0", "x"], ["ann", "erase", "0", "0"], ["Ann", "plan"], ["ann", "write", "0"], ["--session", "17", "ann", "plan"]):
+        seen = self.run("ann", "write", "0", "0", given=bytes(1_025))
+        self.held("a content that is longer than any", seen, (REFUSED, b"", "client: the content has more than 1024 bytes\n"))
+        wrong = ["", "ann", "ann read 0", "ann read 0 x", "ann erase 0 0", "Ann plan", "ann write 0", "--session 17 ann plan"]
+        for words in map(str.split, wrong):
             self.held(f"the words {words}", self.run(*words)[:2], (WORDS, b""))
         self.held("no password file", self.run("ann", "plan", options=[])[0], WORDS)
         self.held("--help", self.run("--help", options=[])[0], DONE)

@@ -23,6 +23,10 @@ SECONDS, AWAY = 20, 2
 NODES = 4
 # What a storm does, as often as it is named. `away`: no broker for two seconds; `still`: something does not run for a while.
 DEEDS = ["node"] * 6 + ["carrier"] * 3 + ["broker", "away"] + ["still"] * 3
+WORDS = ["read", "write", "list", "abandon", "0", "1", "4294967296", "\0", "done", "ask", "-", "ab" * 700]
+TOPICS = ["gridfs/ann/eve", "gridfs/0/1", "gridfs/0", "other", "gridfs/0/ann"]
+# What no node and no carrier may say.
+FAULTS = ["damaged", "Sanitizer", "runtime error", "another node"]
 STILL = [0.3, 1, 3, 7]  # seconds; a connection is given up after 5
 FAR = 1_000_000  # numbers of processes that no load comes to
 ENDS_ALONE = 60  # seconds that a load may take longer, for want of answers
@@ -41,7 +45,8 @@ class Storm:
 
     def load(self, name, history, **more):
         os.makedirs(history, exist_ok=True)
-        asked = {"sessions": SESSIONS, "seconds": SECONDS, "files": FILES, "size": 16, "writes": 0.4, "timeout": ENDS_ALONE, "seed": self.draw.randrange(1 << 30), "history": history, **more}
+        asked = {"sessions": SESSIONS, "seconds": SECONDS, "files": FILES, "size": 16, "writes": 0.4, "timeout": ENDS_ALONE}
+        asked |= {"seed": self.draw.randrange(1 << 30), "history": history, **more}
         words = [os.path.join(DEPLOY, "client"), *self.grid.words_for(name), name, "bench"]
         for option, value in asked.items():
             words += [f"--{option}", str(value)]
@@ -87,8 +92,8 @@ class Storm:
         try:
             eve = speaker(self.grid, "eve")
             for _ in range(50):
-                words = [self.draw.choice(["read", "write", "list", "abandon", "0", "1", "4294967296", "\0", "done", "ask", "-", "ab" * 700]) for _ in range(self.draw.randrange(7))]
-                topic = self.draw.choice([f"gridfs/{self.draw.randrange(NODES)}/eve"] * 4 + ["gridfs/ann/eve", "gridfs/0/1", "gridfs/0", "other", "gridfs/0/ann"])
+                words = [self.draw.choice(WORDS) for _ in range(self.draw.randrange(7))]
+                topic = self.draw.choice([f"gridfs/{self.draw.randrange(NODES)}/eve"] * 4 + TOPICS)
                 eve.say(topic, "\n".join([" ".join(words)] * self.draw.randrange(3)).encode())
             eve.end()
         except OSError:
@@ -141,8 +146,8 @@ class Storm:
         if done < 200 or not self.kills:
             wrong.append(f"{done} operations and {self.kills} are too few to show anything")
         for number in range(NODES):
-            text = self.grid.told(number)
-            wrong += [f"node {number} says: {line}" for line in text.splitlines() if "damaged" in line or "Sanitizer" in line or "runtime error" in line or "another node" in line]
+            lines = self.grid.told(number).splitlines()
+            wrong += [f"node {number} says: {line}" for line in lines if any(fault in line for fault in FAULTS)]
         told = f"{done} operations, {histories} histories, {given_up} given up, " + ", ".join(f"{deed} {count}" for deed, count in sorted(self.kills.items()))
         return told, wrong
 
