@@ -10,7 +10,7 @@ import sys
 import time
 
 from isolation import speaker
-from mqtt_grid import Grid
+from mqtt_grid import Grid, journal_of
 from peers import DEPLOY
 
 HERE = os.path.dirname(os.path.abspath(__file__))
@@ -20,6 +20,7 @@ from checker import is_linearizable
 BOUND = 100_000
 NAMES, FILES, SESSIONS = ["ann", "bob", "cid", "dan"], 64, 4
 SECONDS, AWAY = 20, 2
+FEW = 4  # seconds of a storm over nodes that forget
 NODES = 4
 # What a storm does, as often as it is named. `away`: no broker for two seconds; `still`: something does not run for a while.
 DEEDS = ["node"] * 6 + ["carrier"] * 3 + ["broker", "away"] + ["still"] * 3
@@ -33,10 +34,12 @@ ENDS_ALONE = 60  # seconds that a load may take longer, for want of answers
 
 
 class Storm:
-    """A grid of 2 by 2 over a broker, and what happens to it."""
+    """A grid of 2 by 2 over a broker, and what happens to it. Where it `forgets`, a node that starts again begins a new journal."""
 
-    def __init__(self, program, carry, seed, tls):
+    def __init__(self, program, carry, seed, tls, forgets=False):
         self.grid, self.draw, self.kills = Grid(os.getcwd(), program, carry, tls), random.Random(seed), {}
+        self.forgets = forgets
+        self.seconds, self.patience = (FEW, FEW) if forgets else (SECONDS, ENDS_ALONE)
         rows = "".join(f"tenant {name} 128 16 1\n" for name in [*NAMES, "eve"])
         with open(self.grid.plan, "w", encoding="ascii") as out:
             out.write(f"grid 2 2\nblocks 1024\n{rows}go\n" + "".join(f"{name} open {FILES} 2\n" for name in NAMES))
@@ -45,7 +48,7 @@ class Storm:
 
     def load(self, name, history, **more):
         os.makedirs(history, exist_ok=True)
-        asked = {"sessions": SESSIONS, "seconds": SECONDS, "files": FILES, "size": 16, "writes": 0.4, "timeout": ENDS_ALONE}
+        asked = {"sessions": SESSIONS, "seconds": self.seconds, "files": FILES, "size": 16, "writes": 0.4, "timeout": self.patience}
         asked |= {"seed": self.draw.randrange(1 << 30), "history": history, **more}
         words = [os.path.join(DEPLOY, "client"), *self.grid.words_for(name), name, "bench"]
         for option, value in asked.items():
@@ -58,7 +61,10 @@ class Storm:
         if self.grid.processes[number].poll() is None:
             self.grid.processes[number].kill()
         self.grid.processes[number].wait()
-        self.grid.start_node(number)
+        journal = journal_of(self.grid.folder, number)
+        if self.forgets and os.path.exists(journal):
+            os.unlink(journal)
+        self.grid.start_node(number, self.forgets)
 
     def look_after(self):
         """Starts again what has ended by itself, as a unit of systemd would."""
@@ -101,7 +107,7 @@ class Storm:
 
     def rage(self):
         self.loads = [self.load(name, f"history.{name}") for name in NAMES]
-        until = time.monotonic() + SECONDS
+        until = time.monotonic() + self.seconds
         time.sleep(1)
         while time.monotonic() < until:
             self.look_after()
@@ -111,7 +117,7 @@ class Storm:
         self.wait_for(self.loads)
 
     def wait_for(self, loads):
-        until = time.monotonic() + ENDS_ALONE
+        until = time.monotonic() + self.patience + ENDS_ALONE
         while any(load.poll() is None for load in loads) and time.monotonic() < until:
             self.look_after()
             time.sleep(0.1)
@@ -181,3 +187,17 @@ def stormed(program, carry, seed, tls):
         return storm.judge()
     finally:
         storm.end()
+
+
+def forgotten(program, carry):
+    """Nodes that forget what they acknowledged have to be found."""
+    storm = Storm(program, carry, 1, "none", forgets=True)
+    try:
+        storm.grid.start()
+        storm.rage()
+        storm.read_at_the_end()
+        told, wrong = storm.judge()
+    finally:
+        storm.end()
+    found = [fault for fault in wrong if "not linearizable" in fault]
+    return f"{len(found)} of its histories are wrong: {told}", [] if found else ["nodes that forget are not found"]
