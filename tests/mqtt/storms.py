@@ -28,6 +28,7 @@ WORDS = ["read", "write", "list", "abandon", "0", "1", "4294967296", "\0", "done
 TOPICS = ["gridfs/ann/eve", "gridfs/0/1", "gridfs/0", "other", "gridfs/0/ann"]
 # What no node and no carrier may say.
 FAULTS = ["damaged", "Sanitizer", "runtime error", "another node"]
+FIRST = ["node", "carrier", "away"]  # that each storm has
 STILL = [0.3, 1, 3, 7]  # seconds; a connection is given up after 5
 FAR = 1_000_000  # numbers of processes that no load comes to
 ENDS_ALONE = 60  # seconds that a load may take longer, for want of answers
@@ -74,6 +75,7 @@ class Storm:
 
     def strike(self):
         deed, number = self.draw.choice(DEEDS), self.draw.randrange(NODES)
+        deed = next((each for each in FIRST if each not in self.kills), deed)
         self.kills[deed] = self.kills.get(deed, 0) + 1
         if deed in ("broker", "away"):
             self.grid.kill("broker")
