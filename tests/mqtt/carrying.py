@@ -19,6 +19,21 @@ LONGEST = 4_095
 LONG = b"x" * (LONGEST - len("0 ann "))
 NO_TICKS = ("--tick", "60")
 CHECKS = []
+# A node that writes the file `out` in pieces of all sizes, and one that writes lines of all lengths to three others.
+IN_PIECES = """time.sleep(0.7)
+text, at = open('out', 'rb').read(), 0
+while at < len(text):
+    size = at * 7919 % 9000 + 1
+    put(text[at:at + size])
+    at += size
+    time.sleep(0.0005)
+"""
+NUMBERED = """put(b' ?\\n')
+time.sleep(0.5)
+for turn in range(300):
+    put(b''.join(b'%d 0 out %05d %s\\n' % (1 + k % 3, turn * 30 + k, b'x' * (k * 50)) for k in range(30)))
+    time.sleep(0.005)
+"""
 
 
 def check(function):
@@ -132,7 +147,8 @@ def out_of(checked):
     said = {topic: broker.lines(topic) for topic, body in broker.said if body}
     wanted = {"gridfs/1/0": [b"one", b"three", long[4:], b"nul\0cr\r", b"store 5 1 ab ?"], "gridfs/ann/0": [b"two", b"four"]}
     checked.held(said == wanted, "lines with the node's own number, whole and in order, and no others")
-    checked.held(next((body for topic, body in broker.said if topic == "gridfs/1/0"), b"").startswith(b"one\nthree"), "lines of one read to one place go in one message")
+    first = next((body for topic, body in broker.said if topic == "gridfs/1/0"), b"")
+    checked.held(first.startswith(b"one\nthree"), "lines of one read to one place go in one message")
     wait_for(lambda: b"0 0 self" in got())
     checked.held(got() == [b"0 0 self", b""], "a line to itself comes back")
     checked.held(carry.stop() == 0 and not any(b"torn" in body for _, body in broker.said), "what stands behind the last LF is no line")
@@ -197,10 +213,10 @@ def ticks(checked):
     broker = checked.broker()
     carry = checked.carry(broker.port, node(COPY), "--tick", "0.02")
     wait_for(lambda: broker.subscribed and got(True))
-    before = len(got(True))
+    before, begun = len(got(True)), time.monotonic()
     time.sleep(1)
-    before = len(got(True)) - before
-    checked.held(5 < before <= 60, f"ticks come: {before} within a second of 0.02")
+    came, seconds = len(got(True)) - before, time.monotonic() - begun
+    checked.held(5 < came <= seconds / 0.018 + 1, f"ticks come: {came} within {seconds:.1f} seconds, one each 0.02")
     os.kill(carry.child(), signal.SIGSTOP)
     time.sleep(0.1)
     before = len(got(True))
@@ -298,7 +314,7 @@ def silent_hosts(checked):
     checked.held(wait_for(lambda: os.path.exists("written")), "a host that does not answer: the node's output is read")
     checked.held(carry.says("no answer within 5 s: tries again", 15), f"it is told: {carry.lines}")
     begun = time.monotonic()
-    checked.held(carry.stop() == 0 and time.monotonic() < begun + 3, "SIGTERM ends it at once")
+    checked.held(carry.stop() == 0 and time.monotonic() < begun + 4, "SIGTERM ends it at once")
     for each in [*fill, hole]:
         each.close()
     silent = checked.broker(answer=None)
@@ -331,7 +347,7 @@ def refused(checked):
     carry = checked.carry(broker.port, node(COPY))
     checked.held(carry.says("doesn't carry what node 0 tells itself"), "an access list that refuses without a word is told")
     begun = time.monotonic()
-    checked.held(carry.stop() == 0 and time.monotonic() < begun + 3, "and the end does not wait for it long")
+    checked.held(carry.stop() == 0 and time.monotonic() < begun + 4, "and the end does not wait for it long")
 
 
 @check
@@ -451,7 +467,8 @@ def resets(checked):
             peer.setsockopt(socket.SOL_SOCKET, socket.SO_LINGER, b"\1\0\0\0\0\0\0\0")
             peer.close()
 
-    subprocess.run(["openssl", "req", "-x509", "-newkey", "rsa:2048", "-nodes", "-keyout", "key", "-out", "ca", "-subj", "/CN=x"], check=True, stderr=subprocess.DEVNULL)
+    words = ["openssl", "req", "-x509", "-newkey", "rsa:2048", "-nodes", "-keyout", "key", "-out", "ca", "-subj", "/CN=x"]
+    subprocess.run(words, check=True, stderr=subprocess.DEVNULL)
     threading.Thread(target=reset, daemon=True).start()
     carry = checked.carry(rude.getsockname()[1], node(COPY), "--ca-file", "ca")
     checked.held(carry.says(":", 4) and not carry.many("no answer"), f"it is told at once: {carry.lines}")
@@ -471,8 +488,7 @@ def random_bytes(checked):
         if right:
             wanted.setdefault(right[1].decode(), []).append(right[2])
     broker = checked.broker()
-    speak = "time.sleep(0.7)\nt = open('out', 'rb').read()\nat = 0\nwhile at < len(t):\n    n = at * 7919 % 9000 + 1\n    put(t[at:at + n])\n    at += n\n    time.sleep(0.0005)\n"
-    carry = checked.carry(broker.port, node(speak + COPY), *NO_TICKS)
+    carry = checked.carry(broker.port, node(IN_PIECES + COPY), *NO_TICKS)
     wait_for(lambda: broker.subscribed)
     came = []
     for place in range(2_000):
@@ -512,11 +528,10 @@ def any_broker(checked):
 def memory(checked):
     """Memory that is refused at random, by a library that is loaded first: each line that comes is right, and no signal ends the carrier."""
     subprocess.run([os.environ.get("CC", "cc"), "-O1", "-shared", "-fPIC", "-o", "refuse.so", os.path.join(HERE, "refuse.c"), "-ldl"], check=True)
-    speak = "put(b' ?\\n'); time.sleep(0.5)\nfor i in range(300): put(b''.join(b'%d 0 out %05d %s\\n' % (1 + k % 3, i * 30 + k, b'x' * (k * 50)) for k in range(30))); time.sleep(0.005)\n"
     for each in (3, 10, 50, 300):
         broker = checked.broker()
         environment = {"LD_PRELOAD": os.path.abspath("refuse.so"), "REFUSE": str(each)}
-        carry = checked.carry(broker.port, ["env", "-u", "LD_PRELOAD", *node(speak + COPY)], program=checked.plain, environment=environment)
+        carry = checked.carry(broker.port, ["env", "-u", "LD_PRELOAD", *node(NUMBERED + COPY)], program=checked.plain, environment=environment)
         place, until = 0, time.monotonic() + 4
         while place < 3_000 and time.monotonic() < until:
             place += 1

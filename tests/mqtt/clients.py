@@ -48,14 +48,17 @@ class Clients:
         status, told, _ = self.run("ann", "list", "0")
         self.held("list", (status, told.splitlines()[3:6]), (DONE, [b"3 128 1.1", b"4 0 2.1", b"5 2 1.2"]))
         status, told, _ = self.run("--json", "bob", "plan", name="bob")
-        self.held("plan", (status, json.loads(told)), (DONE, {"nodes": 4, "home": 0, "sessions": 16, "share": 256, "most": 16, "volumes": [{"files": 64, "blocks": 2}]}))
+        has = {"nodes": 4, "home": 0, "sessions": 16, "share": 256, "most": 16, "volumes": [{"files": 64, "blocks": 2}]}
+        self.held("plan", (status, json.loads(told)), (DONE, has))
 
     def refuses(self):
         self.held("a volume that is not there", self.run("ann", "read", "7", "0"), (REFUSED, b"", "client: refused: novolume\n"))
         self.held("a file that is not there", self.run("--json", "ann", "read", "0", "64")[0], REFUSED)
         self.held("a content that is too long for the file", self.run("ann", "write", "0", "0", given=bytes(129)), (REFUSED, b"", "client: refused: toolong\n"))
-        self.held("a content that is longer than any", self.run("ann", "write", "0", "0", given=bytes(1_025))[::2], (REFUSED, "client: the content has more than 1024 bytes\n"))
-        for words in ([], ["ann"], ["ann", "read", "0"], ["ann", "read", "0", "x"], ["ann", "erase", "0", "0"], ["Ann", "plan"], ["ann", "write", "0"], ["--session", "17", "ann", "plan"]):
+        seen = self.run("ann", "write", "0", "0", given=bytes(1_025))
+        self.held("a content that is longer than any", seen, (REFUSED, b"", "client: the content has more than 1024 bytes\n"))
+        wrong = ["", "ann", "ann read 0", "ann read 0 x", "ann erase 0 0", "Ann plan", "ann write 0", "--session 17 ann plan"]
+        for words in map(str.split, wrong):
             self.held(f"the words {words}", self.run(*words)[:2], (WORDS, b""))
         self.held("no password file", self.run("ann", "plan", options=[])[0], WORDS)
         self.held("--help", self.run("--help", options=[])[0], DONE)
@@ -84,6 +87,18 @@ class Clients:
                 seen = seen[0], seen[1], seen[2] if seen[2].startswith(f"client: {options[1]}: ") and seen[2].count("\n") == 1 else ""
                 told = seen[2][8:-1]
             self.held(name, seen, (MEND, b"", f"client: {told}\n"))
+
+    def starts(self):
+        """A node that does not start: it tells why, and its carrier ends with its status."""
+        carry = [self.grid.carry, *self.grid.words_for(0)]
+        node = [self.grid.program, "node", "9", "--plan", self.grid.plan, "--journal", "journal9", "--new"]
+        for name, words, status, told in (
+            ("a number that is not the plan's", [*carry, "9", "--", *node], 1, "gridfs: node 9: of 4"),
+            ("a journal that is not there", [*carry, "9", "--", *node[:2], "3", *node[3:6], "none"], 1, "gridfs: none: no journal"),
+            ("words that are no request", [*carry, "9", "--", *node[:2]], 2, "Usage: gridfs node"),
+        ):
+            done = subprocess.run(words, stdin=subprocess.DEVNULL, stdout=subprocess.PIPE, stderr=subprocess.PIPE, text=True, timeout=30)
+            self.held(name, (done.returncode, told in done.stderr, done.stdout), (status, True, ""))
 
     def keeps_numbers(self):
         """The number on disk stands for one operation: also where a client is killed, and where another has used the session."""
@@ -167,7 +182,7 @@ def tried(program, carry):
     clients = Clients(program, carry)
     try:
         clients.grid.start()
-        for part in (clients.asks, clients.refuses, clients.faults, clients.keeps_numbers, clients.is_silent, clients.gone, clients.benches):
+        for part in (clients.asks, clients.refuses, clients.faults, clients.starts, clients.keeps_numbers, clients.is_silent, clients.gone, clients.benches):
             part()
     finally:
         clients.grid.end()

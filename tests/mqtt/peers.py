@@ -11,7 +11,7 @@ import time
 
 HERE = os.path.dirname(os.path.abspath(__file__))
 DEPLOY = os.path.join(HERE, "..", "..", "deploy", "mqtt")
-SECONDS = 10  # that something may take until it is told to be wrong
+SECONDS = 25  # that something may take until it is told to be wrong
 
 
 def wait_for(test, seconds=SECONDS):

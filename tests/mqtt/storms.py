@@ -10,7 +10,7 @@ import sys
 import time
 
 from isolation import speaker
-from mqtt_grid import Grid
+from mqtt_grid import Grid, journal_of
 from peers import DEPLOY
 
 HERE = os.path.dirname(os.path.abspath(__file__))
@@ -20,19 +20,27 @@ from checker import is_linearizable
 BOUND = 100_000
 NAMES, FILES, SESSIONS = ["ann", "bob", "cid", "dan"], 64, 4
 SECONDS, AWAY = 20, 2
+FEW = 4  # seconds of a storm over nodes that forget
 NODES = 4
 # What a storm does, as often as it is named. `away`: no broker for two seconds; `still`: something does not run for a while.
 DEEDS = ["node"] * 6 + ["carrier"] * 3 + ["broker", "away"] + ["still"] * 3
+WORDS = ["read", "write", "list", "abandon", "0", "1", "4294967296", "\0", "done", "ask", "-", "ab" * 700]
+TOPICS = ["gridfs/ann/eve", "gridfs/0/1", "gridfs/0", "other", "gridfs/0/ann"]
+# What no node and no carrier may say.
+FAULTS = ["damaged", "Sanitizer", "runtime error", "another node"]
+FIRST = ["node", "carrier", "away"]  # that each storm has
 STILL = [0.3, 1, 3, 7]  # seconds; a connection is given up after 5
 FAR = 1_000_000  # numbers of processes that no load comes to
 ENDS_ALONE = 60  # seconds that a load may take longer, for want of answers
 
 
 class Storm:
-    """A grid of 2 by 2 over a broker, and what happens to it."""
+    """A grid of 2 by 2 over a broker, and what happens to it. Where it `forgets`, a node that starts again begins a new journal."""
 
-    def __init__(self, program, carry, seed, tls):
+    def __init__(self, program, carry, seed, tls, forgets=False):
         self.grid, self.draw, self.kills = Grid(os.getcwd(), program, carry, tls), random.Random(seed), {}
+        self.forgets = forgets
+        self.seconds, self.patience = (FEW, FEW) if forgets else (SECONDS, ENDS_ALONE)
         rows = "".join(f"tenant {name} 128 16 1\n" for name in [*NAMES, "eve"])
         with open(self.grid.plan, "w", encoding="ascii") as out:
             out.write(f"grid 2 2\nblocks 1024\n{rows}go\n" + "".join(f"{name} open {FILES} 2\n" for name in NAMES))
@@ -41,7 +49,8 @@ class Storm:
 
     def load(self, name, history, **more):
         os.makedirs(history, exist_ok=True)
-        asked = {"sessions": SESSIONS, "seconds": SECONDS, "files": FILES, "size": 16, "writes": 0.4, "timeout": ENDS_ALONE, "seed": self.draw.randrange(1 << 30), "history": history, **more}
+        asked = {"sessions": SESSIONS, "seconds": self.seconds, "files": FILES, "size": 16, "writes": 0.4, "timeout": self.patience}
+        asked |= {"seed": self.draw.randrange(1 << 30), "history": history, **more}
         words = [os.path.join(DEPLOY, "client"), *self.grid.words_for(name), name, "bench"]
         for option, value in asked.items():
             words += [f"--{option}", str(value)]
@@ -53,7 +62,10 @@ class Storm:
         if self.grid.processes[number].poll() is None:
             self.grid.processes[number].kill()
         self.grid.processes[number].wait()
-        self.grid.start_node(number)
+        journal = journal_of(self.grid.folder, number)
+        if self.forgets and os.path.exists(journal):
+            os.unlink(journal)
+        self.grid.start_node(number, self.forgets)
 
     def look_after(self):
         """Starts again what has ended by itself, as a unit of systemd would."""
@@ -63,6 +75,7 @@ class Storm:
 
     def strike(self):
         deed, number = self.draw.choice(DEEDS), self.draw.randrange(NODES)
+        deed = next((each for each in FIRST if each not in self.kills), deed)
         self.kills[deed] = self.kills.get(deed, 0) + 1
         if deed in ("broker", "away"):
             self.grid.kill("broker")
@@ -87,8 +100,8 @@ class Storm:
         try:
             eve = speaker(self.grid, "eve")
             for _ in range(50):
-                words = [self.draw.choice(["read", "write", "list", "abandon", "0", "1", "4294967296", "\0", "done", "ask", "-", "ab" * 700]) for _ in range(self.draw.randrange(7))]
-                topic = self.draw.choice([f"gridfs/{self.draw.randrange(NODES)}/eve"] * 4 + ["gridfs/ann/eve", "gridfs/0/1", "gridfs/0", "other", "gridfs/0/ann"])
+                words = [self.draw.choice(WORDS) for _ in range(self.draw.randrange(7))]
+                topic = self.draw.choice([f"gridfs/{self.draw.randrange(NODES)}/eve"] * 4 + TOPICS)
                 eve.say(topic, "\n".join([" ".join(words)] * self.draw.randrange(3)).encode())
             eve.end()
         except OSError:
@@ -96,7 +109,7 @@ class Storm:
 
     def rage(self):
         self.loads = [self.load(name, f"history.{name}") for name in NAMES]
-        until = time.monotonic() + SECONDS
+        until = time.monotonic() + self.seconds
         time.sleep(1)
         while time.monotonic() < until:
             self.look_after()
@@ -106,7 +119,7 @@ class Storm:
         self.wait_for(self.loads)
 
     def wait_for(self, loads):
-        until = time.monotonic() + ENDS_ALONE
+        until = time.monotonic() + self.patience + ENDS_ALONE
         while any(load.poll() is None for load in loads) and time.monotonic() < until:
             self.look_after()
             time.sleep(0.1)
@@ -141,8 +154,8 @@ class Storm:
         if done < 200 or not self.kills:
             wrong.append(f"{done} operations and {self.kills} are too few to show anything")
         for number in range(NODES):
-            text = self.grid.told(number)
-            wrong += [f"node {number} says: {line}" for line in text.splitlines() if "damaged" in line or "Sanitizer" in line or "runtime error" in line or "another node" in line]
+            lines = self.grid.told(number).splitlines()
+            wrong += [f"node {number} says: {line}" for line in lines if any(fault in line for fault in FAULTS)]
         told = f"{done} operations, {histories} histories, {given_up} given up, " + ", ".join(f"{deed} {count}" for deed, count in sorted(self.kills.items()))
         return told, wrong
 
@@ -176,3 +189,17 @@ def stormed(program, carry, seed, tls):
         return storm.judge()
     finally:
         storm.end()
+
+
+def forgotten(program, carry):
+    """Nodes that forget what they acknowledged have to be found."""
+    storm = Storm(program, carry, 1, "none", forgets=True)
+    try:
+        storm.grid.start()
+        storm.rage()
+        storm.read_at_the_end()
+        told, wrong = storm.judge()
+    finally:
+        storm.end()
+    found = [fault for fault in wrong if "not linearizable" in fault]
+    return f"{len(found)} of its histories are wrong: {told}", [] if found else ["nodes that forget are not found"]
