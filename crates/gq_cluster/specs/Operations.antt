@@ -37,7 +37,7 @@ told_in (Some SaidAbandoned) = Abandoned
 told_in (Some (SaidRefused refusal)) = Refused refusal
 told_in None = Stale
 
--- exchanges, each with its session, at these places
+-- exchanges, each with its session, the one of this number in the list at that place (a function, so that places need not lie side by side)
 abbrev pub answers_at : (ℕ → ℕ) → List Exchange → List SessionAnswer
 answers_at place [] = []
 answers_at place (d ∷ done) = record { place = place 0; turn = turn_in d.came; told = told_in d.said; session = session_in d.came } ∷ answers_at (λ i. place (i + 1)) done

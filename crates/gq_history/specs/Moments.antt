@@ -11,7 +11,7 @@ use Rattle.gq_history.specs.declared.moments.Stage.TheVariants.{Begins, Ends, St
 
 -- ---- which process a session is
 
--- the operation is one that session k gave up: it did not end
+-- the operation is one of session k that did not end; where a later one of the session follows, it was given up
 abbrev pub gives_up : ℕ → Op → Bool
 gives_up k a = (a.session == k) && is_none a.end
 

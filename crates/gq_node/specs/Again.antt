@@ -70,7 +70,7 @@ abbrev pub is_start : ℕ → Event → Bool
 is_start n (Started m) = m == n
 is_start n _ = false
 
--- what is told of the operation after these: the same as before, or that it is gone, where the node was started again since
+-- what is told of the operation's end after these events: the same as before, or that it is gone, where the node was started again since
 abbrev pub end_after : (n k op : ℕ) → List Event → Answer → Answer
 end_after n k op events answer = if list_any (is_start n) events then Gone k op else answer
 

@@ -152,12 +152,12 @@ own_answer s nodes (LineCame n op line) = request_answer op line (site_in s n) (
 own_answer s nodes (PlanCame n) = Some (Has (holding (site_in s n) (nodes.local n).volumes))
 own_answer s nodes _ = None
 
--- what is told and sent is what the law tells and sends by the act
+-- an event that is an act: what is told is the law's answer to the act, made the node's by `tell`, and what is sent is the law's
 pub record IsSaid (c : Cluster) (s : Setting) (tell : Told → Option Answer) (doing : Doing) (act : Act) : Type 0 where
   pub told : doing.answer ≡ tell (step_in s c act).told
   pub letters : doing.letters ≡ (step_in s c act).new
 
--- or this is told, and nothing is sent
+-- one that is no act: the node tells this by itself, and sends nothing
 pub record IsOwn (own : Option Answer) (doing : Doing) : Type 0 where
   pub told : doing.answer ≡ own
   pub letters : doing.letters ≡ []

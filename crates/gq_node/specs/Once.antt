@@ -29,13 +29,14 @@ AllAgainLeave = (site : Site) (local : Local) (input : Input) → comes_again lo
 
 -- ---- what comes, without the requests that come again
 
+-- only those come that did not come before
 abbrev pub first_inputs : Site → Local → List Input → List Input
 first_inputs site local [] = []
 first_inputs site local (input ∷ rest) =
     if comes_again local input then first_inputs site local rest
     else input ∷ first_inputs site (after_one site local input) rest
 
--- what is done by these, the others having come between
+-- all inputs come; what is listed is what those do that did not come before
 abbrev pub first_doings : Site → Local → List Input → List Doing
 first_doings site local [] = []
 first_doings site local (input ∷ rest) =

@@ -96,7 +96,7 @@ pub record AreNodes (plan : CheckedPlan) (nodes : AllNodes) (t : ℕ) (by_law : 
   pub parts : (n : ℕ) → n < node_count plan → Agrees (nodes.tables n) t (by_law.local n)
   pub facts : (n : ℕ) → n < node_count plan → those_of t (facts_said plan (nodes.kept n)) ≡ by_law.facts n
 
--- what a line tells, behind these happenings, is what is written for the tenants by the parts that its node has by the law
+-- what a line tells, after these happenings, is what is written for the tenants by the parts that its node then has by the law
 abbrev pub TellsAt : CheckedPlan → (volumes : ℕ → List VolumeRow) → List Happening → Happening → Type 0
 TellsAt plan volumes before (Took n did) = did.told ≡ written_by plan n (λ t. (nodes_at plan volumes before t).local n) (line_inputs plan n did.line)
 TellsAt plan volumes before (Restarted n) = Unit {0}
@@ -110,11 +110,13 @@ abbrev pub FollowsIf : CheckedPlan → (volumes : ℕ → List VolumeRow) → Li
 FollowsIf plan volumes hs t = AllCanCome (setting_at plan volumes t) (new_nodes (setting_at plan volumes t)) (all_events plan t hs) →
     Follows (setting_at plan volumes t) (new_nodes (setting_at plan volumes t)) new_cluster (all_events plan t hs)
 
+-- all lines told what the law says, all nodes are left as it says, and each tenant's events follow the law of clusters
 pub record IsByLaw (plan : CheckedPlan) (volumes : ℕ → List VolumeRow) (hs : List Happening) (last : AllNodes) : Type 0 where
   pub told : TellsAll plan volumes [] hs
   pub nodes : (t : ℕ) → t < length plan.rows → AreNodes plan last t (nodes_at plan volumes hs t)
   pub follow : (t : ℕ) → FollowsIf plan volumes hs t
 
+-- whatever lines come to the nodes of a plan, of which none was ever started, and whenever one starts again
 abbrev pub AllByLaw : Type 0
 AllByLaw = (plan : CheckedPlan) (volumes : ℕ → List VolumeRow) (first last : AllNodes) (hs : List Happening) →
     IsPlan plan → AllNew plan volumes first → AllHappen plan volumes first hs last → IsByLaw plan volumes hs last

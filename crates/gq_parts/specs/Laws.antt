@@ -65,7 +65,7 @@ AllTenantsApart = (plan : CheckedPlan) (here t : ℕ) (local : Local) (ones twos
 
 -- ---- starts
 
--- what a start makes of the part of the tenant at place t is what it makes of the facts that the lines say of this tenant
+-- a start makes of the part of the tenant at place t what this tenant's own facts make of it, whatever the other lines of the journal say
 abbrev pub AllStartsByParts : Type 0
 AllStartsByParts = (plan : CheckedPlan) (here t : ℕ) (start : Local) (lines : List (List ℕ)) (old new : Tables) → IsNodeOf plan here old → Agrees old t start →
     RecallsAll RecallsTo old lines new → Agrees new t (recall_all (site_of plan here t) start (those_of t (facts_said plan lines)))

@@ -21,7 +21,8 @@ end_at ops place = by (slice_get ops place)
     by None = None
     by (Some a) = a.end
 
--- for each operation the last place at which one up to it begins, the first of them standing behind this place
+-- for each operation of the order the last place at which it or one before it begins: its point stands right after that. Those before
+-- these begin at `last` at the latest
 abbrev pub latest_from : ℕ → List Op → List ℕ
 latest_from last [] = []
 latest_from last (a ∷ seq) = max last a.begin ∷ latest_from (max last a.begin) seq

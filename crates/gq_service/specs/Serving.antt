@@ -41,7 +41,7 @@ journal_found false seen = seen
 
 -- ---- what it writes
 
--- From this journal a node started, and its steps took these lines. What is shown behind `base` is what they told; and a start from
+-- From this journal a node started, and its steps took these lines. What is shown after `base` is what they told; and a start from
 -- what is synced reads the node that they left, the operations of its sessions gone.
 pub record Serves (setup : Setup) (number : ℕ) (journal : List ℕ) (lines : List Line) (base synced shown : List ℕ) : Type 0 where
   pub first : NodeMachine
@@ -49,7 +49,8 @@ pub record Serves (setup : Setup) (number : ℕ) (journal : List ℕ) (lines : L
   pub started : IsStarted setup number journal first
   pub durable : Durable MachineSteps MachineRecalls MachineIsBlank MachineRests first last (whole_lines (node_text number setup)) lines base synced shown
 
--- The same of the node of this number by some plan and journal: whatever was shown is told by steps whose facts are synced.
+-- At any write: the same of the node of this number, by some plan, journal and lines. Whatever was shown is told by steps whose facts
+-- are synced.
 pub record IsDurable (number : ℕ) (base synced shown : List ℕ) : Type 0 where
   pub setup : Setup
   pub journal : List ℕ
@@ -62,7 +63,7 @@ pub record ServesInput (setup : Setup) (number : ℕ) (journal : List ℕ) (inpu
   pub all : IfSome input (λ known. known ≡ bytes)
   pub serves : Serves setup number journal (short_lines bytes) base synced shown
 
--- the same, by some plan and journal
+-- at the end of the input: the same, by some plan and journal
 pub record ServesSomehow (number : ℕ) (input : Option (List ℕ)) (base shown : List ℕ) : Type 0 where
   pub setup : Setup
   pub journal : List ℕ
