@@ -4,8 +4,9 @@ use Rattle.std.specs.Option.{option_and_then}
 use Rattle.gq_pool.specs.declared.TheConstants.{BLOCK_BYTES}
 use Rattle.gq_tag.specs.declared.FileId.{FileId}
 use Rattle.gq_tag.specs.declared.TheConstants.{MOST_FILES}
-use Rattle.gq_desk.specs.declared.limits.TheConstants.{MOST_FILE_BLOCKS, MOST_VOLUMES}
+use Rattle.gq_desk.specs.declared.limits.TheConstants.{MOST_VOLUMES}
 use Rattle.gq_desk.specs.Plans.{is_in}
+use Rattle.gq_desk.specs.declared.plans.TenantRow.{TenantRow}
 use Rattle.gq_desk.specs.declared.volumes.VolumeRow.{VolumeRow}
 use Rattle.gq_desk.specs.declared.volumes.OpenRefused.{OpenRefused}
 use Rattle.gq_desk.specs.declared.volumes.OpenRefused.TheVariants.{Size, Volumes, Share, Memory}
@@ -18,13 +19,14 @@ blocks_of v = v.files * v.blocks
 abbrev pub reserved : List VolumeRow → ℕ
 reserved volumes = sum_by blocks_of volumes
 
--- a volume has a file and no more than it may, and so has each file blocks
-abbrev pub is_sized : VolumeRow → Bool
-is_sized v = is_in 1 MOST_FILES v.files && is_in 1 MOST_FILE_BLOCKS v.blocks
+-- a volume has a file and no more than it may, and each of its files has a block and no more than these
+abbrev pub is_sized : ℕ → VolumeRow → Bool
+is_sized most_blocks v = is_in 1 MOST_FILES v.files && is_in 1 most_blocks v.blocks
 
--- a tenant's share of every server's blocks, and its volumes in order
+-- a tenant's share of every server's blocks, the most blocks of its files, and its volumes in order
 pub record Account : Type 0 where
   pub share : ℕ
+  pub most_blocks : ℕ
   pub volumes : List VolumeRow
 
 -- the blocks of the share that no volume takes
@@ -43,7 +45,7 @@ pub data OpenFault : Type 0 where
 -- the first cause why the volume can't be opened
 abbrev pub open_fault : Account → VolumeRow → Option OpenFault
 open_fault account v =
-    if not (is_sized v) then Some WrongSize
+    if not (is_sized account.most_blocks v) then Some WrongSize
     else if nat_le MOST_VOLUMES (length account.volumes) then Some NoVolumeLeft
     else if nat_lt (free_of account) (blocks_of v) then Some (OverShare (free_of account))
     else None
@@ -57,15 +59,23 @@ IsRefusedFor fault (Memory _) = fault ≡ None
 
 -- the account with one volume more
 abbrev pub with_volume : VolumeRow → Account → Account
-with_volume v account = record { share = account.share; volumes = account.volumes ++ v ∷ [] }
+with_volume v account = record { share = account.share; most_blocks = account.most_blocks; volumes = account.volumes ++ v ∷ [] }
 
 -- the account of no tenant
 abbrev pub no_account : Account
-no_account = record { share = 0; volumes = [] }
+no_account = record { share = 0; most_blocks = 0; volumes = [] }
 
 -- the account of the tenant at place t
 abbrev pub account_at : List Account → ℕ → Account
 account_at accounts t = unwrap_or (slice_get accounts t) no_account
+
+-- the account of a tenant with these volumes
+abbrev pub account_with : TenantRow → List VolumeRow → Account
+account_with row volumes = record { share = row.share; most_blocks = row.most_blocks; volumes = volumes }
+
+-- and without one
+abbrev pub new_account : TenantRow → Account
+new_account row = account_with row []
 
 -- how many bytes a file of the volume may hold, where the volume has it
 abbrev pub limit_in : ℕ → VolumeRow → Option ℕ

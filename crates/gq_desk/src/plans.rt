@@ -5,7 +5,7 @@ ghost use Rattle.std.specs.List.{list_all, list_any, position_from};
 ghost use Rattle.gq_desk.specs.Plans.{number_fault, row_fault, rows_fault, plan_fault, shares, is_of, is_in, is_named, IsSound};
 
 use crate::likely::Likely;
-use crate::limits::{MOST_BLOCKS, MOST_SESSIONS, MOST_STEPS, MOST_TENANTS};
+use crate::limits::{MOST_BLOCKS, MOST_FILE_BLOCKS, MOST_SESSIONS, MOST_STEPS, MOST_TENANTS};
 use crate::names::Name;
 use crate::rows::Rows;
 use gq_grid::Grid;
@@ -15,14 +15,15 @@ use std::fmt::{self, Debug, Formatter, Write};
 use std::marker::Model;
 use thiserror::Error;
 
-/// What the plan says of a tenant: its name, its share in blocks of every server, the number of its sessions, and how many
-/// lines it may send.
+/// What the plan says of a tenant: its name, its share in blocks of every server, the number of its sessions, how many
+/// lines it may send, and how many blocks a file of it may have.
 #[derive(Clone, Copy, Debug, Drop)]
 pub struct TenantRow {
     pub name: Name,
     pub share: u32,
     pub sessions: u32,
     pub steps: u32,
+    pub most_blocks: u32,
 }
 
 /// Why rows are no plan. A fault of a row names its place, from 0.
@@ -43,6 +44,9 @@ pub enum PlanFault {
     /// The steps are not 1 to [`MOST_STEPS`].
     #[error("steps")]
     Steps { row: usize },
+    /// The most blocks of a file are not 1 to [`MOST_FILE_BLOCKS`].
+    #[error("most")]
+    Most { row: usize },
     /// The shares of all rows sum to more blocks than a server has: `sum` blocks and `blocks`.
     #[error("overblocks {sum} {blocks}")]
     OverBlocks { sum: u64, blocks: u32 },
@@ -95,6 +99,8 @@ fn number_fault(place: usize, row: &TenantRow) -> Option<PlanFault>
         Some(PlanFault::Sessions { row: place })
     } else if !is_in(1, MOST_STEPS, row.steps) {
         Some(PlanFault::Steps { row: place })
+    } else if !is_in(1, MOST_FILE_BLOCKS, row.most_blocks) {
+        Some(PlanFault::Most { row: place })
     } else {
         None
     }
@@ -138,8 +144,8 @@ fn shares(rows: &[TenantRow]) -> u64
 
 impl Plan {
     /// The plan of these rows, of servers of `blocks` blocks each. The rows are tested in order, each for `TooMany`,
-    /// `SameName`, `ZeroShare`, `Sessions` and `Steps`, and then all together for `NoTenant` and `OverBlocks`; the first
-    /// fault is told, with the place of its row from 0. `Memory` may come before a later row is tested.
+    /// `SameName`, `ZeroShare`, `Sessions`, `Steps` and `Most`, and then all together for `NoTenant` and `OverBlocks`; the
+    /// first fault is told, with the place of its row from 0. `Memory` may come before a later row is tested.
     pub fn check(
         alloc: Global,
         grid: Grid,

@@ -1,11 +1,11 @@
 //! Volumes of the tenants, each inside its tenant's share of every server's blocks.
 
 ghost use Rattle.std.specs.Prelude.{◌≡◌, ◌<◌, ◌≤◌, ◌*◌, ◌+◌, [], None, Some, IfOk, IfErr, OnOk, OnErr, IfSome, IfNone, length, map, slice_set, true};
-ghost use Rattle.gq_desk.specs.Volumes.{Account as Holding, open_fault, IsRefusedFor, with_volume, account_at, blocks_of, reserved, free_of, is_sized, limit_in, limit_of};
+ghost use Rattle.gq_desk.specs.Volumes.{Account as Holding, open_fault, IsRefusedFor, with_volume, account_at, blocks_of, reserved, free_of, is_sized, limit_in, limit_of, new_account};
 ghost use Rattle.std.specs.List.{list_all};
 
 use crate::limits::{MOST_FILE_BLOCKS, MOST_VOLUMES};
-use crate::plans::Plan;
+use crate::plans::{Plan, TenantRow};
 use gq_memory::{GrowVec, OutOfMemory};
 use gq_pool::BLOCK_BYTES;
 use gq_tag::{FileId, MOST_FILES};
@@ -38,7 +38,7 @@ impl Model for VolumeRows {
 /// Why a volume is not opened. The causes are tested in this order.
 #[derive(Debug, Drop, Error)]
 pub enum OpenRefused {
-    /// The files are not 1 to [`MOST_FILES`], or the blocks of a file not 1 to [`MOST_FILE_BLOCKS`].
+    /// The files are not 1 to [`MOST_FILES`], or the blocks of a file not 1 to the most of the tenant's row.
     #[error("size")]
     Size,
     /// The tenant has [`MOST_VOLUMES`] volumes already.
@@ -52,10 +52,11 @@ pub enum OpenRefused {
     Memory(OutOfMemory),
 }
 
-// A tenant's volumes, and how many blocks of its share no volume takes.
+// A tenant's volumes, the most blocks of its files, and how many blocks of its share no volume takes.
 #[derive(Drop)]
 struct Account {
     share: u32,
+    most_blocks: u32,
     free: u32,
     volumes: Vec<VolumeRow>,
 }
@@ -63,24 +64,26 @@ struct Account {
 impl Model for Account {
     ghost use Rattle.std.specs.Prelude.{◌≡◌, ◌+◌, ◌≤◌, length, true};
     ghost use Rattle.std.specs.List.{list_all};
-    ghost use Rattle.gq_desk.specs.declared.limits.TheConstants.{MOST_VOLUMES};
+    ghost use Rattle.gq_desk.specs.declared.limits.TheConstants.{MOST_FILE_BLOCKS, MOST_VOLUMES};
     ghost use Rattle.gq_desk.specs.Volumes.{Account as Holding, reserved, is_sized};
 
     ghost Value = { Holding };
 
-    ghost view = { λ a. record { share = a.share; volumes = a.volumes.items } };
+    ghost view = { λ a. record { share = a.share; most_blocks = a.most_blocks; volumes = a.volumes.items } };
 
-    ghost invariant = { λ a. (a.free + reserved a.volumes.items ≡ a.share) × (length a.volumes.items ≤ MOST_VOLUMES) × (list_all is_sized a.volumes.items ≡ true) };
+    ghost invariant = { λ a. (a.free + reserved a.volumes.items ≡ a.share) × (length a.volumes.items ≤ MOST_VOLUMES) × (a.most_blocks ≤ MOST_FILE_BLOCKS) × (list_all (is_sized MOST_FILE_BLOCKS) a.volumes.items ≡ true) };
 }
 
 impl Account {
     // All of the share is free.
-    fn new(alloc: Global, share: u32) -> Account
-        ensures { result ≡ record { share = share; volumes = [] } }
+    fn new(alloc: Global, row: &TenantRow) -> Account
+        requires { row.now.most_blocks ≤ MOST_FILE_BLOCKS }
+        ensures { result ≡ new_account row.now }
     {
         Account {
-            share,
-            free: share,
+            share: row.share,
+            most_blocks: row.most_blocks,
+            free: row.share,
             volumes: Vec::new(alloc),
         }
     }
@@ -95,7 +98,7 @@ impl Account {
         if volume.files < 1
             || volume.files > MOST_FILES
             || volume.blocks < 1
-            || volume.blocks > MOST_FILE_BLOCKS
+            || volume.blocks > self.most_blocks
         {
             return Some(OpenRefused::Size);
         }
@@ -140,11 +143,11 @@ impl Model for Desk {
 impl Desk {
     /// The desk of the plan's tenants: no volume is there, and each share is free. `OutOfMemory` is want of memory.
     pub fn new(alloc: Global, plan: &Plan) -> Result<Desk, OutOfMemory>
-        ensures { IfOk result (λ d. d ≡ map (λ row. record { share = row.share; volumes = [] }) plan.now.rows) }
+        ensures { IfOk result (λ d. d ≡ map new_account plan.now.rows) }
     {
         let mut accounts = Vec::new(alloc);
         for row in plan.rows() {
-            accounts.grow(Account::new(alloc, row.share))?;
+            accounts.grow(Account::new(alloc, row))?;
         }
         Ok(Desk { accounts })
     }
@@ -175,7 +178,7 @@ impl Desk {
         requires { tenant < length self.now }
         ensures volumes { result.now ≡ (account_at self.now tenant).volumes }
         ensures within { reserved result.now ≤ (account_at self.now tenant).share }
-        ensures sized { list_all is_sized result.now ≡ true }
+        ensures sized { list_all (is_sized MOST_FILE_BLOCKS) result.now ≡ true }
     {
         let account = &self.accounts[tenant as usize];
         account.volumes.as_slice()

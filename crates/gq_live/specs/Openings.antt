@@ -2,7 +2,7 @@
 use Rattle.std.specs.Prelude.{ℕ, ◌≡◌, ◌+◌, List, [], ◌∷◌, Option, Some, None, map, slice_set}
 use Rattle.std.specs.Option.{option_or}
 use Rattle.gq_desk.specs.CheckedPlan.{CheckedPlan}
-use Rattle.gq_desk.specs.Volumes.{Account, OpenFault, account_at, open_fault, with_volume}
+use Rattle.gq_desk.specs.Volumes.{Account, OpenFault, account_at, open_fault, with_volume, new_account}
 use Rattle.gq_session.specs.declared.records.LiveFault.{LiveFault}
 use Rattle.gq_session.specs.declared.records.LiveFault.TheVariants.{Memory, Volume}
 use Rattle.gq_session.specs.declared.records.Opening.{Opening}
@@ -27,7 +27,7 @@ first_refused desk place (o ∷ os) = option_or (place_if place (opening_fault d
 
 -- the same of the volumes of a plan, of which none is open yet
 abbrev pub refused_volume : CheckedPlan → List Opening → Option ℕ
-refused_volume plan volumes = first_refused (map (λ row. record { share = row.share; volumes = [] }) plan.rows) 0 volumes
+refused_volume plan volumes = first_refused (map new_account plan.rows) 0 volumes
 
 -- the first volume that is refused is told exactly where one is; but want of memory may come before it is found
 abbrev pub TellsOfVolume : CheckedPlan → List Opening → LiveFault → Type 0

@@ -2,6 +2,7 @@
 ghost use Rattle.std.specs.Prelude.{◌≡◌, ◌≢◌, ◌<◌, All, IfOk, IfErr, OnOk, Some, None, true, length};
 ghost use Rattle.std.specs.List.{list_all};
 ghost use Rattle.gq_desk.specs.Volumes.{is_sized};
+ghost use Rattle.gq_desk.specs.declared.limits.TheConstants.{MOST_FILE_BLOCKS};
 ghost use Rattle.gq_session.specs.Faults.{NoGate};
 ghost use Rattle.gq_session.specs.Fitting.{IsRequest, IsTenants};
 ghost use Rattle.gq_live.specs.Openings.{TellsOfVolume, desk_with, opening_fault, place_if, refused_volume};
@@ -151,7 +152,7 @@ pub(crate) struct Seat {
     pub lines: Vec<Line>,
     pub inbox: Receiver<Note>,
     pub servers: Vec<Sender<Letter>>,
-    pub ghost sized: { list_all is_sized volumes.items ≡ true },
+    pub ghost sized: { list_all (is_sized MOST_FILE_BLOCKS) volumes.items ≡ true },
     pub ghost requests: { All IsRequest lines.items },
 }
 

@@ -15,7 +15,7 @@ use Rattle.gq_tag.specs.declared.Body.TheVariants.{Store}
 use Rattle.gq_tag.specs.Tag.{File, is_file, OwnMessage, first_copy, greatest, to_server}
 use Rattle.gq_desk.specs.declared.plans.TenantRow.{TenantRow}
 use Rattle.gq_desk.specs.declared.volumes.VolumeRow.{VolumeRow}
-use Rattle.gq_desk.specs.Volumes.{Account, limit_in}
+use Rattle.gq_desk.specs.Volumes.{Account, account_with, limit_in}
 use Rattle.gq_phase.specs.Phase.{Task, Writing, Reading, Listing, Reply, Operation, hear_reply, reply_of, collected_after, floor_after}
 use Rattle.gq_model.specs.declared.events.Line.{Line}
 use Rattle.gq_model.specs.declared.events.Line.TheVariants.{NewVolume, Write, Read, List as ListFiles, Deliver, Lose, Abandon}
@@ -225,9 +225,9 @@ held state server file = greatest (first_copy ∷ state.brought server file)
 abbrev pub operation : State → ℕ → Option Operation
 operation state k = option_map (operation_with k (state.session k)) (state.session k).current
 
--- the tenant's share with its volumes
+-- what the tenant's row gives it, with its volumes
 abbrev pub account_of : TenantRow → State → Account
-account_of row state = record { share = row.share; volumes = state.volumes }
+account_of row state = account_with row state.volumes
 
 -- how many bytes the file of the volume may hold, where it is there
 abbrev pub limit_at : State → ℕ → ℕ → Option ℕ

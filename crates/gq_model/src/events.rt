@@ -151,7 +151,7 @@ pub enum Refusal {
     NoQuorum,
     /// No such message was sent, or it is lost.
     NoMessage,
-    /// The files are not 1 to `gq_tag::MOST_FILES`, or the blocks of a file not 1 to `gq_desk::MOST_FILE_BLOCKS`.
+    /// The files are not 1 to `gq_tag::MOST_FILES`, or the blocks of a file not 1 to the most of the tenant's row.
     Size,
     /// The tenant has `gq_desk::MOST_VOLUMES` volumes already.
     Volumes,

@@ -6,7 +6,6 @@ use Rattle.std.proofs.lemmas.Bool.{and_parts}
 use Rattle.std.proofs.lemmas.Bool.Decides.{nat_tests}
 use Rattle.gq_tag.specs.declared.TheConstants.{MOST_FILES}
 use Rattle.gq_desk.specs.CheckedPlan.{row_at}
-use Rattle.gq_desk.specs.declared.limits.TheConstants.{MOST_FILE_BLOCKS}
 use Rattle.gq_desk.specs.declared.volumes.VolumeRow.{VolumeRow}
 use Rattle.gq_desk.specs.Plans.{is_in}
 use Rattle.gq_desk.specs.Volumes.{account_at, is_sized}
@@ -39,10 +38,10 @@ files_at (x ∷ xs) zero none within = refl
 files_at (x ∷ xs) (suc v) none within = files_at xs v none (omega arith)
 
 -- each volume has a file, and no more than it may
-pub sized_files : (volumes : List VolumeRow) (v : ℕ) → list_all is_sized volumes ≡ true → v < length volumes → (1 ≤ files_of volumes v) × (files_of volumes v ≤ MOST_FILES)
-sized_files [] v sized within = absurd (omega arith)
-sized_files (volume ∷ volumes) zero sized within =
-    let parts = and_parts (is_sized volume) (list_all is_sized volumes) sized in
-    let size = and_parts (is_in 1 MOST_FILES volume.files) (is_in 1 MOST_FILE_BLOCKS volume.blocks) parts.0 in
+pub sized_files : (most : ℕ) (volumes : List VolumeRow) (v : ℕ) → list_all (is_sized most) volumes ≡ true → v < length volumes → (1 ≤ files_of volumes v) × (files_of volumes v ≤ MOST_FILES)
+sized_files most [] v sized within = absurd (omega arith)
+sized_files most (volume ∷ volumes) zero sized within =
+    let parts = and_parts (is_sized most volume) (list_all (is_sized most) volumes) sized in
+    let size = and_parts (is_in 1 MOST_FILES volume.files) (is_in 1 most volume.blocks) parts.0 in
     in_range MOST_FILES volume.files size.0
-sized_files (volume ∷ volumes) (suc v) sized within = sized_files volumes v (and_parts (is_sized volume) (list_all is_sized volumes) sized).1 (omega arith)
+sized_files most (volume ∷ volumes) (suc v) sized within = sized_files most volumes v (and_parts (is_sized most volume) (list_all (is_sized most) volumes) sized).1 (omega arith)

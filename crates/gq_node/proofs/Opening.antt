@@ -45,7 +45,7 @@ open_opens w t row store within sound copies = record {
 
 -- the volume fits
 pub fits_free : (a : Account) (v : VolumeRow) → open_fault a v ≡ None → blocks_of v ≤ free_of a
-fits_free a v is = elim (cases_Bool (is_sized v)) [
+fits_free a v is = elim (cases_Bool (is_sized a.most_blocks v)) [
   | inr not_sized ↦ (let h = rw not_sized at is in absurd (cc))
   | inl sized ↦ (elim (cases_Bool (nat_le MOST_VOLUMES (length a.volumes))) [
     | inl many ↦ (let h = rw (sized, many) at is in absurd (cc))
@@ -58,7 +58,7 @@ fits_free a v is = elim (cases_Bool (is_sized v)) [
 
 -- the tenant has not all volumes that it may have
 few_volumes : (a : Account) (v : VolumeRow) → open_fault a v ≡ None → length a.volumes < MOST_VOLUMES
-few_volumes a v is = elim (cases_Bool (is_sized v)) [
+few_volumes a v is = elim (cases_Bool (is_sized a.most_blocks v)) [
   | inr not_sized ↦ (let h = rw not_sized at is in absurd (cc))
   | inl sized ↦ (elim (cases_Bool (nat_le MOST_VOLUMES (length a.volumes))) [
     | inl many ↦ (let h = rw (sized, many) at is in absurd (cc))

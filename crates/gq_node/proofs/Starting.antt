@@ -11,7 +11,7 @@ use Rattle.gq_desk.specs.declared.plans.TenantRow.{TenantRow}
 use Rattle.gq_desk.specs.declared.limits.TheConstants.{MOST_VOLUMES}
 use Rattle.gq_desk.specs.CheckedPlan.{CheckedPlan, nobody, row_at}
 use Rattle.gq_desk.specs.declared.volumes.VolumeRow.{VolumeRow}
-use Rattle.gq_desk.specs.Volumes.{Account, no_account, account_at}
+use Rattle.gq_desk.specs.Volumes.{Account, no_account, account_at, new_account}
 use Rattle.gq_store.specs.Copies.{StoreCopies, VolumeCopies, copies_account, store_accounts, new_tenant, empty_store, tenant_in, volume_copy, copy_at, empty_volume}
 use Rattle.gq_node.specs.declared.seats.Seat.{Seat}
 use Rattle.gq_node.specs.Sites.{Site, site_of}
@@ -20,13 +20,10 @@ use Rattle.gq_node.specs.Opening.{Opens, opened}
 use Rattle.gq_node.specs.Shape.{IsShaped, IsFirst, FewSessions}
 use Rattle.gq_node.specs.Tables.{Tables, Agrees, Leads, Stands, AllStand, SeatAgrees, seats_at, seat_in, no_seat, first_seat}
 
-abbrev fresh : TenantRow → Account
-fresh row = record { share = row.share; volumes = [] }
-
-fresh_at : (rows : List TenantRow) (t : ℕ) → account_at (map fresh rows) t ≡ fresh (unwrap_or (slice_get rows t) nobody)
-fresh_at rows t = rw (slice_get-map fresh rows t) (by (slice_get rows t))
+fresh_at : (rows : List TenantRow) (t : ℕ) → account_at (map new_account rows) t ≡ new_account (unwrap_or (slice_get rows t) nobody)
+fresh_at rows t = rw (slice_get-map new_account rows t) (by (slice_get rows t))
   where
-    by : (o : Option TenantRow) → unwrap_or (option_map fresh o) no_account ≡ fresh (unwrap_or o nobody)
+    by : (o : Option TenantRow) → unwrap_or (option_map new_account o) no_account ≡ new_account (unwrap_or o nobody)
     by None = refl
     by (Some row) = refl
 
@@ -38,9 +35,9 @@ seats_are seat [] t within = absurd (omega arith)
 seats_are seat (row ∷ rows) zero within = refl
 seats_are seat (row ∷ rows) (suc t) within = seats_are seat rows t (omega arith)
 
-accounts_first : (rows : List TenantRow) → map copies_account (map new_tenant rows) ≡ map fresh rows
+accounts_first : (rows : List TenantRow) → map copies_account (map new_tenant rows) ≡ map new_account rows
 accounts_first [] = refl
-accounts_first (row ∷ rows) = ap (λ rest. fresh row ∷ rest) (accounts_first rows)
+accounts_first (row ∷ rows) = ap (λ rest. new_account row ∷ rest) (accounts_first rows)
 
 no_volumes : (rows : List TenantRow) (t : ℕ) → (tenant_in (map new_tenant rows) t).volumes ≡ []
 no_volumes [] t = refl
@@ -57,7 +54,7 @@ first_shaped plan server w first few inside small =
     let all : S plan server = (
       inside,
       small,
-      ap length first.desk ∙ length-map plan.rows fresh,
+      ap length first.desk ∙ length-map plan.rows new_account,
       ap length first.seats ∙ length-map plan.rows (new_seats (first_seat plan.grid server)),
       (λ t within. ap (λ all. length (seats_at all t)) first.seats ∙ ap length (seats_are (first_seat plan.grid server) plan.rows t within) ∙ length-replicate (row_at plan t).sessions (first_seat plan.grid server)),
       few,
@@ -77,7 +74,7 @@ first_shaped plan server w first few inside small =
 
 pub first_agrees : (plan : CheckedPlan) (server : ℕ) (w : Tables) (t : ℕ) → IsFirst plan server w → t < length plan.rows → Agrees w t (new_local plan.grid server [])
 first_agrees plan server w t first within =
-    let P : CheckedPlan → Type 0 = λ p. (account_at w.desk t ≡ record { share = (row_at p t).share; volumes = [] })
+    let P : CheckedPlan → Type 0 = λ p. (account_at w.desk t ≡ new_account (row_at p t))
     × ((place : ℕ) → place < (row_at p t).sessions → SeatAgrees p.grid t (place + 1) (seat_in (seats_at w.seats t) place) (new_resident plan.grid server)) in
     let all : P plan = (
       ap (λ desk. account_at desk t) first.desk ∙ fresh_at plan.rows t,

@@ -10,7 +10,6 @@ use Rattle.gq_phase.specs.declared.Outcome.{Outcome}
 use Rattle.gq_phase.specs.Phase.{Operation, is_collect, round_file, heard_servers}
 use Rattle.gq_desk.specs.Plans.{is_in}
 use Rattle.gq_desk.specs.declared.volumes.VolumeRow.{VolumeRow}
-use Rattle.gq_desk.specs.declared.limits.TheConstants.{MOST_FILE_BLOCKS}
 use Rattle.gq_model.specs.declared.events.Line.{Line}
 use Rattle.gq_model.specs.declared.events.Line.TheVariants.{Write, Read, List as ListFiles, Deliver, Abandon}
 use Rattle.gq_model.specs.declared.events.Refusal.{Refusal}
@@ -209,15 +208,14 @@ asks op line site local = by (asker line)
 
 -- ---- what a tenant has
 
--- a tenant with these volumes has so many servers, a home for its session 1, the sessions and the share of its row, and files of at
--- most so many blocks
+-- a tenant with these volumes has so many servers, a home for its session 1, and what its row says
 abbrev pub holding : Site → List VolumeRow → Holding
 holding site volumes = record {
   servers = site.grid.rows * site.grid.cols;
   home = site.home 1;
   sessions = site.row.sessions;
   share = site.row.share;
-  most_blocks = MOST_FILE_BLOCKS;
+  most_blocks = site.row.most_blocks;
   volumes = volumes;
 }
 

@@ -3,7 +3,7 @@ use Rattle.std.specs.Prelude.{◌≡◌, ℕ, ◌+◌, ◌*◌, ◌≤◌, lengt
 use Rattle.gq_grid.specs.Grid.{Grid}
 use Rattle.gq_tag.specs.Tag.{File, OwnMessage}
 use Rattle.gq_desk.specs.declared.plans.TenantRow.{TenantRow}
-use Rattle.gq_desk.specs.Volumes.{open_fault}
+use Rattle.gq_desk.specs.Volumes.{account_with, open_fault}
 use Rattle.gq_desk.specs.declared.volumes.VolumeRow.{VolumeRow}
 use Rattle.gq_model.specs.declared.events.Line.{Line}
 use Rattle.gq_model.specs.Told.{Told}
@@ -206,10 +206,10 @@ AllNodesServe = (grid : Grid) (row : TenantRow) (home : ℕ → ℕ) (opens : Li
     IsServed grid row home opens (all_steps (setting_of grid row home opens) (new_nodes (setting_of grid row home opens)) events)
 
 -- each of the volumes may be opened behind those before it
-abbrev pub AllOpen : (share : ℕ) → (before opens : List VolumeRow) → Type 0
-AllOpen share before [] = ⊤
-AllOpen share before (v ∷ opens) = (open_fault (record { share = share; volumes = before }) v ≡ None) × AllOpen share (before ++ v ∷ []) opens
+abbrev pub AllOpen : TenantRow → (before opens : List VolumeRow) → Type 0
+AllOpen row before [] = ⊤
+AllOpen row before (v ∷ opens) = (open_fault (account_with row before) v ≡ None) × AllOpen row (before ++ v ∷ []) opens
 
 -- then these are the volumes of the run
 abbrev pub AllVolumesOpen : Type 0
-AllVolumesOpen = (grid : Grid) (row : TenantRow) (home : ℕ → ℕ) (opens : List VolumeRow) → AllOpen row.share [] opens → length opens ≤ row.steps → (setting_of grid row home opens).volumes ≡ opens
+AllVolumesOpen = (grid : Grid) (row : TenantRow) (home : ℕ → ℕ) (opens : List VolumeRow) → AllOpen row [] opens → length opens ≤ row.steps → (setting_of grid row home opens).volumes ≡ opens

@@ -3,7 +3,7 @@ use Rattle.std.specs.Prelude.{◌≡◌, ℕ, ◌*◌, ◌<◌, ◌≤◌, [], l
 use Rattle.gq_grid.specs.declared.TheConstants.{MOST_SERVERS}
 use Rattle.gq_desk.specs.CheckedPlan.{CheckedPlan, row_at}
 use Rattle.gq_desk.specs.declared.limits.TheConstants.{MOST_SESSIONS, MOST_VOLUMES}
-use Rattle.gq_desk.specs.Volumes.{account_at}
+use Rattle.gq_desk.specs.Volumes.{account_at, new_account}
 use Rattle.gq_store.specs.Copies.{empty_store, store_accounts}
 use Rattle.gq_node.specs.Tables.{Tables, seats_at, first_seat}
 
@@ -27,6 +27,6 @@ FewSessions plan = (t : ℕ) → t < length plan.rows → (row_at plan t).sessio
 pub record IsFirst (plan : CheckedPlan) (server : ℕ) (w : Tables) : Type 0 where
   pub plan_is : w.plan ≡ plan
   pub server_is : w.server ≡ server
-  pub desk : w.desk ≡ map (λ row. record { share = row.share; volumes = [] }) plan.rows
+  pub desk : w.desk ≡ map new_account plan.rows
   pub store : w.store ≡ empty_store plan
   pub seats : w.seats ≡ map (λ row. replicate row.sessions (first_seat plan.grid server)) plan.rows

@@ -3,7 +3,7 @@ use Rattle.std.specs.Prelude.{◌≡◌, ◌≢◌, ℕ, ◌+◌, ◌-◌, ◌/�
 use Rattle.gq_grid.specs.Grid.{Grid}
 use Rattle.gq_tag.specs.Tag.{File, file_of, message_of, first_copy, greatest}
 use Rattle.gq_desk.specs.CheckedPlan.{CheckedPlan, row_at}
-use Rattle.gq_desk.specs.Volumes.{Account, account_at}
+use Rattle.gq_desk.specs.Volumes.{Account, account_at, account_with}
 use Rattle.gq_phase.specs.Phase.{Operation}
 use Rattle.gq_phase.specs.Standing.{StandsFor}
 use Rattle.gq_phase.specs.declared.operation.Operation.{Operation as Code}
@@ -67,7 +67,7 @@ pub record SeatAgrees (grid : Grid) (t k : ℕ) (seat : Seat) (r : Resident) : T
 
 -- the tables have for the tenant at place t this part of the node
 pub record Agrees (w : Tables) (t : ℕ) (local : Local) : Type 0 where
-  pub account : account_at w.desk t ≡ record { share = (row_at w.plan t).share; volumes = local.volumes }
+  pub account : account_at w.desk t ≡ account_with (row_at w.plan t) local.volumes
   pub copies : (file : File) → copy_at w.store (file_of t file) ≡ greatest (first_copy ∷ local.brought file)
   pub seats : (place : ℕ) → place < (row_at w.plan t).sessions → SeatAgrees w.plan.grid t (place + 1) (seat_in (seats_at w.seats t) place) (local.residents (place + 1))
 

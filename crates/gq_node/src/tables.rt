@@ -16,7 +16,7 @@ ghost use Rattle.gq_node.specs.Opening.{Opens};
 use crate::homes::home;
 use crate::output::{Answer, Holding, Output};
 use crate::seats::Seats;
-use gq_desk::{Desk, MOST_FILE_BLOCKS, OpenRefused, Plan, VolumeRows};
+use gq_desk::{Desk, OpenRefused, Plan, VolumeRows};
 use gq_memory::{GrowVec, OutOfMemory, slice_copied};
 use gq_store::ServerStore;
 use std::alloc::Global;
@@ -162,7 +162,7 @@ impl Core {
             home: home(&self.plan, tenant, 1),
             sessions: row.sessions,
             share: row.share,
-            most_blocks: MOST_FILE_BLOCKS,
+            most_blocks: row.most_blocks,
             volumes: VolumeRows { items },
         })
     }

@@ -4,7 +4,7 @@ use Rattle.std.specs.List.{filter_map}
 use Rattle.std.specs.Option.{option_or}
 use Rattle.gq_desk.specs.CheckedPlan.{CheckedPlan, row_at}
 use Rattle.gq_desk.specs.Plans.{is_in}
-use Rattle.gq_desk.specs.Volumes.{Account, OpenFault, open_fault, account_at, with_volume}
+use Rattle.gq_desk.specs.Volumes.{Account, OpenFault, open_fault, account_at, with_volume, new_account}
 use Rattle.gq_desk.specs.declared.limits.TheConstants.{MOST_STEPS}
 use Rattle.gq_desk.specs.declared.plans.TenantRow.{TenantRow}
 use Rattle.gq_model.specs.declared.events.Event.{Event}
@@ -100,7 +100,7 @@ steps_fault n (row ∷ rows) = if row.steps == MOST_STEPS then steps_fault (n + 
 
 -- a desk on which no volume is open
 abbrev pub new_desk : CheckedPlan → List Account
-new_desk plan = map (λ row. record { share = row.share; volumes = [] }) plan.rows
+new_desk plan = map new_account plan.rows
 
 -- the first fault of the events behind a plan, whose rows begin in line 3 and are followed by `go`
 abbrev pub events_fault : CheckedPlan → List Event → Option ProgramFault

@@ -5,7 +5,7 @@ use Rattle.std.proofs.lemmas.Bool.{cases_Bool, cases_eq, eq-eqb, ne_eqb, eqb-tru
 use Rattle.std.proofs.lemmas.List.{take_more, take_all, length-set, get_or-map, get_or-set_same, get_or-set_other}
 use Rattle.std.proofs.lemmas.Option.{unwrap_or-slice_get}
 use Rattle.gq_desk.specs.CheckedPlan.{CheckedPlan, nobody, row_at}
-use Rattle.gq_desk.specs.Volumes.{Account, account_at, no_account, open_fault, with_volume}
+use Rattle.gq_desk.specs.Volumes.{Account, account_at, no_account, open_fault, with_volume, account_with, new_account}
 use Rattle.gq_desk.specs.declared.plans.TenantRow.{TenantRow}
 use Rattle.gq_desk.specs.declared.volumes.VolumeRow.{VolumeRow}
 use Rattle.gq_node.specs.Local.{new_local}
@@ -28,32 +28,32 @@ its_account accounts t a within = unwrap_or-slice_get (slice_set accounts t a) t
 differ : (b : Bool) → b ≡ true → b ≡ false → ⊥
 differ b holds fails = (cc)
 
-accounts_after : (openings : List Opening) (accounts : List Account) (t share : ℕ) (volumes : List VolumeRow) → t < length accounts → account_at accounts t ≡ record { share = share; volumes = volumes } →
-    account_at (after_openings accounts openings) t ≡ record { share = share; volumes = volumes ++ volumes_in t openings }
-accounts_after [] accounts t share volumes within has = has ∙ ap (λ (vs : List VolumeRow). let a : Account = record { share = share; volumes = vs } in a) (sym (append-nil volumes))
-accounts_after (o ∷ openings) accounts t share volumes within has =
+accounts_after : (openings : List Opening) (accounts : List Account) (t : ℕ) (row : TenantRow) (volumes : List VolumeRow) → t < length accounts → account_at accounts t ≡ account_with row volumes →
+    account_at (after_openings accounts openings) t ≡ account_with row (volumes ++ volumes_in t openings)
+accounts_after [] accounts t row volumes within has = has ∙ ap (account_with row) (sym (append-nil volumes))
+accounts_after (o ∷ openings) accounts t row volumes within has =
     let next : List Account = after_opening accounts o in
     let inside : t < length next = subst (λ n. t < n) (sym (length-set accounts o.tenant (with_volume (volume_of o) (account_at accounts o.tenant)))) within in
     elim (cases_Bool (o.tenant == t)) [
       | inl same ↦ (
           let is : o.tenant ≡ t = eqb-true o.tenant t same in
-          let now : account_at next t ≡ record { share = share; volumes = volumes ++ volume_of o ∷ [] } =
+          let now : account_at next t ≡ account_with row (volumes ++ volume_of o ∷ []) =
           ap (λ p. account_at (slice_set accounts p (with_volume (volume_of o) (account_at accounts p))) t) is
           ∙ its_account accounts t (with_volume (volume_of o) (account_at accounts t)) within
           ∙ ap (with_volume (volume_of o)) has in
-          rw same (accounts_after openings next t share (volumes ++ volume_of o ∷ []) inside now
-          ∙ ap (λ (vs : List VolumeRow). let a : Account = record { share = share; volumes = vs } in a) (append_assoc volumes (volume_of o ∷ []) (volumes_in t openings))))
+          rw same (accounts_after openings next t row (volumes ++ volume_of o ∷ []) inside now
+          ∙ ap (account_with row) (append_assoc volumes (volume_of o ∷ []) (volumes_in t openings))))
       | inr other ↦ (
           let differs : o.tenant ≢ t = λ e. differ (o.tenant == t) (eq-eqb o.tenant t e) other in
-          rw other (accounts_after openings next t share volumes inside (other_account accounts o.tenant t (with_volume (volume_of o) (account_at accounts o.tenant)) differs ∙ has)))
+          rw other (accounts_after openings next t row volumes inside (other_account accounts o.tenant t (with_volume (volume_of o) (account_at accounts o.tenant)) differs ∙ has)))
     ]
 
 -- at first each has its share, and no volume
-first_account : (plan : CheckedPlan) (t : ℕ) → t < length plan.rows → account_at (accounts_of plan) t ≡ record { share = (row_at plan t).share; volumes = [] }
+first_account : (plan : CheckedPlan) (t : ℕ) → t < length plan.rows → account_at (accounts_of plan) t ≡ new_account (row_at plan t)
 first_account plan t within =
     unwrap_or-slice_get (accounts_of plan) t no_account
-    ∙ get_or-map (λ (row : TenantRow). let a : Account = record { share = row.share; volumes = [] } in a) plan.rows t nobody no_account within
-    ∙ ap (λ (row : TenantRow). let a : Account = record { share = row.share; volumes = [] } in a) (sym (unwrap_or-slice_get plan.rows t nobody))
+    ∙ get_or-map new_account plan.rows t nobody no_account within
+    ∙ ap new_account (sym (unwrap_or-slice_get plan.rows t nobody))
 
 -- ---- what can be opened
 
@@ -123,7 +123,7 @@ pub record NextCanOpen (w : Tables) (opening : Opening) : Type 0 where
   pub tenant : opening.tenant < length w.plan.rows
   pub sound : open_fault (account_at w.desk opening.tenant) (volume_of opening) ≡ None
 
-rows-length : (rows : List TenantRow) → length (map (λ (row : TenantRow). let a : Account = record { share = row.share; volumes = [] } in a) rows) ≡ length rows
+rows-length : (rows : List TenantRow) → length (map new_account rows) ≡ length rows
 rows-length [] = refl
 rows-length (row ∷ rows) = ap suc (rows-length rows)
 
@@ -131,10 +131,10 @@ next_at : (plan : CheckedPlan) (here : ℕ) (done : List Opening) (opening : Ope
 next_at plan here done opening w has can =
     let within : opening.tenant < length plan.rows = subst (λ n. opening.tenant < n) (after-length done (accounts_of plan) ∙ rows-length plan.rows) can.within in
     let rows : length (accounts_of plan) ≡ length plan.rows = rows-length plan.rows in
-    let counted : account_at (after_openings (accounts_of plan) done) opening.tenant ≡ record { share = (row_at plan opening.tenant).share; volumes = volumes_in opening.tenant done } =
-    accounts_after done (accounts_of plan) opening.tenant (row_at plan opening.tenant).share [] (subst (λ n. opening.tenant < n) (sym rows) within) (first_account plan opening.tenant within) in
-    let open_here : account_at w.desk opening.tenant ≡ record { share = (row_at plan opening.tenant).share; volumes = volumes_in opening.tenant done } =
-    (has.parts opening.tenant within).account ∙ ap (λ (p : CheckedPlan). let a : Account = record { share = (row_at p opening.tenant).share; volumes = volumes_in opening.tenant done } in a) has.node.plan_is in
+    let counted : account_at (after_openings (accounts_of plan) done) opening.tenant ≡ account_with (row_at plan opening.tenant) (volumes_in opening.tenant done) =
+    accounts_after done (accounts_of plan) opening.tenant (row_at plan opening.tenant) [] (subst (λ n. opening.tenant < n) (sym rows) within) (first_account plan opening.tenant within) in
+    let open_here : account_at w.desk opening.tenant ≡ account_with (row_at plan opening.tenant) (volumes_in opening.tenant done) =
+    (has.parts opening.tenant within).account ∙ ap (λ (p : CheckedPlan). account_with (row_at p opening.tenant) (volumes_in opening.tenant done)) has.node.plan_is in
     record {
       tenant = subst (λ (p : CheckedPlan). opening.tenant < length p.rows) (sym has.node.plan_is) within;
       sound = ap (λ a. open_fault a (volume_of opening)) (open_here ∙ sym counted) ∙ can.sound;

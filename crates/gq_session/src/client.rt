@@ -7,6 +7,7 @@ ghost use Rattle.gq_grid.specs.Sets.{servers};
 ghost use Rattle.gq_grid.specs.declared.TheConstants.{MOST_SERVERS};
 ghost use Rattle.gq_tag.specs.declared.TheConstants.{MOST_FILES};
 ghost use Rattle.gq_desk.specs.Volumes.{is_sized};
+ghost use Rattle.gq_desk.specs.declared.limits.TheConstants.{MOST_FILE_BLOCKS};
 ghost use Rattle.gq_phase.specs.Best.{copied_number};
 ghost use Rattle.gq_phase.specs.Standing.{IsGoing, Begins};
 ghost use Rattle.gq_model.specs.Lone.{first_cause};
@@ -47,7 +48,7 @@ pub(crate) struct Client {
     // the session's own last number
     floor: u64,
     current: Option<Operation>,
-    ghost sized: { list_all is_sized volumes.items ≡ true },
+    ghost sized: { list_all (is_sized MOST_FILE_BLOCKS) volumes.items ≡ true },
     ghost going: { ForSome current (λ o. IsGoing o) },
 }
 
@@ -128,7 +129,7 @@ impl Client {
         session: u8,
         volumes: Vec<VolumeRow>,
     ) -> Client
-        requires { list_all is_sized volumes.items ≡ true }
+        requires { list_all (is_sized MOST_FILE_BLOCKS) volumes.items ≡ true }
         ensures home { home_of result ≡ record { grid = grid; tenant = tenant; number = session; volumes = volumes.items } }
         ensures work { work_of result ≡ no_work }
     {
@@ -178,7 +179,7 @@ impl Client {
 
     // The volume of that number.
     fn volume(&self, number: u32) -> Result<VolumeRow, Refusal>
-        ensures sized { IfOk result (λ row. is_sized row ≡ true) }
+        ensures sized { IfOk result (λ row. is_sized MOST_FILE_BLOCKS row ≡ true) }
         ensures row { IfOk result (λ row. slice_get self.now.volumes.items number ≡ Some row) }
         ensures refusal { IfErr result (λ refusal. first_cause (no_volume_in self.now.volumes.items number ∷ []) ≡ Some refusal) }
     {

@@ -3,6 +3,7 @@ ghost use Rattle.std.specs.Prelude.{◌≡◌, ◌≢◌, [], All, IfOk, IfErr, 
 ghost use Rattle.std.specs.List.{list_all};
 ghost use Rattle.std.specs.Option.{ForSome, ForNone};
 ghost use Rattle.gq_desk.specs.Volumes.{is_sized};
+ghost use Rattle.gq_desk.specs.declared.limits.TheConstants.{MOST_FILE_BLOCKS};
 ghost use Rattle.gq_session.specs.Agendas.{servers_up, IsStamped, IsSameAgenda, KeepsChanges, IsStampFault};
 ghost use Rattle.gq_session.specs.Asked.{asked_of};
 ghost use Rattle.gq_session.specs.Faults.{NoGate};
@@ -75,7 +76,7 @@ impl Session {
         volumes: Vec<VolumeRow>,
         lines: Vec<Line>,
     ) -> Session
-        requires sized { list_all is_sized volumes.items ≡ true }
+        requires sized { list_all (is_sized MOST_FILE_BLOCKS) volumes.items ≡ true }
         requires requests { All IsRequest lines.items }
         ensures home { result.home ≡ record { grid = grid; tenant = tenant; number = number; volumes = volumes.items } }
         ensures work { result.work ≡ no_work }

@@ -4,7 +4,7 @@ use Rattle.std.specs.Prelude.{map}
 use Rattle.std.proofs.Math.ListN.{length-set}
 use Rattle.gq_desk.specs.CheckedPlan.{CheckedPlan}
 use Rattle.gq_desk.specs.declared.plans.TenantRow.{TenantRow}
-use Rattle.gq_desk.specs.Volumes.{Account}
+use Rattle.gq_desk.specs.Volumes.{Account, new_account}
 use Rattle.gq_text.specs.Lines.{lines_of}
 use Rattle.gq_text.specs.Input.{event_of}
 use Rattle.gq_setup.specs.declared.openings.Opening.{Opening}
@@ -19,7 +19,7 @@ pub after_openings-length : (accounts : List Account) (openings : List Opening) 
 after_openings-length accounts [] = refl
 after_openings-length accounts (o ∷ openings) = after_openings-length (after_opening accounts o) openings ∙ length-set accounts _ _
 
-rows-length : (rows : List TenantRow) → length (map (λ (row : TenantRow). let account : Account = record { share = row.share; volumes = [] } in account) rows) ≡ length rows
+rows-length : (rows : List TenantRow) → length (map new_account rows) ≡ length rows
 rows-length [] = refl
 rows-length (row ∷ rows) = ap suc (rows-length rows)
 

@@ -1,7 +1,7 @@
 -- What a node starts with: a plan, and the volumes that are opened at each start.
 use Rattle.std.specs.Prelude.{◌≡◌, ℕ, ◌+◌, ◌<◌, List, [], ◌∷◌, ◌++◌, length, map, slice_set, Option, Some, None, Result, Ok, Err}
 use Rattle.gq_desk.specs.CheckedPlan.{CheckedPlan}
-use Rattle.gq_desk.specs.Volumes.{Account, open_fault, OpenFault, with_volume, account_at}
+use Rattle.gq_desk.specs.Volumes.{Account, open_fault, OpenFault, with_volume, account_at, new_account}
 use Rattle.gq_desk.specs.declared.volumes.VolumeRow.{VolumeRow}
 use Rattle.gq_model.specs.declared.events.Event.{Event}
 use Rattle.gq_model.specs.declared.events.Event.TheVariants.{Tenant, Server, Stray}
@@ -22,7 +22,7 @@ pub record Setup : Type 0 where
 
 -- what the tenants of a plan have before a volume is opened
 abbrev pub accounts_of : CheckedPlan → List Account
-accounts_of plan = map (λ row. record { share = row.share; volumes = [] }) plan.rows
+accounts_of plan = map new_account plan.rows
 
 abbrev pub volume_of : Opening → VolumeRow
 volume_of opening = record { files = opening.files; blocks = opening.blocks }

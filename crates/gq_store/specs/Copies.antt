@@ -15,9 +15,10 @@ pub record VolumeCopies : Type 0 where
   pub blocks : ℕ
   pub copies : List StoredCopy
 
--- a tenant's share of the server's blocks, and its volumes in order
+-- a tenant's share of the server's blocks, the most blocks of its files, and its volumes in order
 pub record TenantCopies : Type 0 where
   pub share : ℕ
+  pub most_blocks : ℕ
   pub volumes : List VolumeCopies
 
 -- the server's blocks, and the tenants in the order of the plan
@@ -31,7 +32,7 @@ abbrev pub empty_volume : VolumeCopies
 empty_volume = record { blocks = 0; copies = [] }
 
 abbrev pub no_tenant : TenantCopies
-no_tenant = record { share = 0; volumes = [] }
+no_tenant = record { share = 0; most_blocks = 0; volumes = [] }
 
 abbrev pub volume_copy : VolumeCopies → ℕ → StoredCopy
 volume_copy volume file = slice_index_or volume.copies file first_copy
@@ -52,9 +53,9 @@ copy_at store id = volume_copy (volume_in (tenant_in store.tenants id.tenant) id
 abbrev pub volume_size : VolumeCopies → VolumeRow
 volume_size volume = record { files = length volume.copies; blocks = volume.blocks }
 
--- the tenant's account: its share, and the sizes of its volumes
+-- the tenant's account: what it may have, and the sizes of its volumes
 abbrev pub copies_account : TenantCopies → Account
-copies_account tenant = record { share = tenant.share; volumes = map volume_size tenant.volumes }
+copies_account tenant = record { share = tenant.share; most_blocks = tenant.most_blocks; volumes = map volume_size tenant.volumes }
 
 -- the accounts of the tenants, as a desk has them
 abbrev pub store_accounts : StoreCopies → List Account
@@ -91,7 +92,7 @@ blocks_free store = store.blocks - blocks_taken store
 
 -- the tenant of the row, without volumes
 abbrev pub new_tenant : TenantRow → TenantCopies
-new_tenant row = record { share = row.share; volumes = [] }
+new_tenant row = record { share = row.share; most_blocks = row.most_blocks; volumes = [] }
 
 -- the store of a server of the plan, without volumes
 abbrev pub empty_store : CheckedPlan → StoreCopies
@@ -106,7 +107,7 @@ volume_with volume file copy = record { blocks = volume.blocks; copies = slice_s
 
 abbrev pub tenant_with : TenantCopies → ℕ → ℕ → StoredCopy → TenantCopies
 tenant_with tenant number file copy =
-    record { share = tenant.share; volumes = slice_set tenant.volumes number (volume_with (volume_in tenant number) file copy) }
+    record { share = tenant.share; most_blocks = tenant.most_blocks; volumes = slice_set tenant.volumes number (volume_with (volume_in tenant number) file copy) }
 
 -- the tenants with another copy of one file
 abbrev pub tenants_with : List TenantCopies → FileId → StoredCopy → List TenantCopies

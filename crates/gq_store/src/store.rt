@@ -93,7 +93,7 @@ fn add_tenants(alloc: Global, tenants: &mut Vec<Tenant>, rows: &[TenantRow])
     ensures { tenants.new.items ≡ tenants.old.items ++ map new_tenant rows.now }
 {
     for row in rows {
-        tenants.push_reserved(Tenant::new(alloc, row.share));
+        tenants.push_reserved(Tenant::new(alloc, row));
     }
 }
 

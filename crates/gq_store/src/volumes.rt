@@ -4,9 +4,10 @@ ghost use Rattle.std.specs.Option.{option_and_then};
 ghost use Rattle.gq_desk.specs.Volumes.{limit_in};
 ghost use Rattle.gq_pool.specs.Blocks.{blocks_for};
 ghost use Rattle.gq_tag.specs.Tag.{first_copy};
-ghost use Rattle.gq_store.specs.Copies.{volume_size, copies_account, volume_copy, volume_in, taken, volume_taken, tenant_taken, new_volume, volume_with, tenant_with};
+ghost use Rattle.gq_store.specs.Copies.{volume_size, copies_account, volume_copy, volume_in, taken, volume_taken, tenant_taken, new_volume, new_tenant, volume_with, tenant_with};
 
 use crate::entry::Entry;
+use gq_desk::TenantRow;
 use gq_memory::{OutOfMemory, RoomInVec, room_for};
 use gq_pool::{BLOCK_BYTES, Pool};
 use gq_tag::Tag;
@@ -27,9 +28,10 @@ impl Model for Volume {
     ghost view = { λ v. record { blocks = v.blocks; copies = v.files.items } };
 }
 
-/// The volumes of a tenant in order, and its share of the server's blocks.
+/// The volumes of a tenant in order, its share of the server's blocks, and the most blocks of its files.
 pub(crate) struct Tenant {
     share: u32,
+    most_blocks: u32,
     volumes: Vec<Volume>,
 }
 
@@ -38,7 +40,7 @@ impl Model for Tenant {
 
     ghost Value = { TenantCopies };
 
-    ghost view = { λ t. record { share = t.share; volumes = t.volumes.items } };
+    ghost view = { λ t. record { share = t.share; most_blocks = t.most_blocks; volumes = t.volumes.items } };
 }
 
 impl Volume {
@@ -114,18 +116,19 @@ impl Volume {
 
 impl Tenant {
     // No volume is there.
-    pub(crate) fn new(alloc: Global, share: u32) -> Tenant
-        ensures { result ≡ record { share = share; volumes = [] } }
+    pub(crate) fn new(alloc: Global, row: &TenantRow) -> Tenant
+        ensures { result ≡ new_tenant row.now }
     {
         Tenant {
-            share,
+            share: row.share,
+            most_blocks: row.most_blocks,
             volumes: Vec::new(alloc),
         }
     }
 
     // Adds a volume whose files have their first copies.
     pub(crate) fn add(&mut self, alloc: Global, files: u32, blocks: u32) -> Result<(), OutOfMemory>
-        ensures added { OnOk result (self.new ≡ record { share = self.old.share; volumes = self.old.volumes ++ new_volume files blocks ∷ [] }) }
+        ensures added { OnOk result (self.new ≡ record self.old { volumes = self.old.volumes ++ new_volume files blocks ∷ [] }) }
         ensures same { OnErr result (self.new ≡ self.old) }
     {
         self.volumes.make_room(1)?;
@@ -180,6 +183,7 @@ impl Tenant {
     {
         let Tenant {
             share: _,
+            most_blocks: _,
             mut volumes,
         } = self;
         while let Some(volume) = volumes.pop() {

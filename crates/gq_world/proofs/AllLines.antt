@@ -7,7 +7,6 @@ use Rattle.std.proofs.lemmas.Bool.Decides.{nat_tests}
 use Rattle.gq_grid.specs.Grid.{Grid, Servers, choose}
 use Rattle.gq_tag.specs.declared.TheConstants.{MOST_FILES}
 use Rattle.gq_tag.specs.Tag.{OwnMessage}
-use Rattle.gq_desk.specs.declared.limits.TheConstants.{MOST_FILE_BLOCKS}
 use Rattle.gq_desk.specs.declared.plans.TenantRow.{TenantRow}
 use Rattle.gq_desk.specs.declared.volumes.VolumeRow.{VolumeRow}
 use Rattle.gq_desk.specs.Plans.{is_in}
@@ -117,13 +116,13 @@ keeps_read k v f grid row n known h = asks_bounded grid row n known.state (Read 
     (begins_bounded grid row n state k (read_task v f) h range.0 range.1 there there))
 
 -- each volume has a file, and no more than it may
-pub sized_files : (volumes : List VolumeRow) (v : ℕ) → list_all is_sized volumes ≡ true → v < length volumes → (1 ≤ files_of volumes v) × (files_of volumes v ≤ MOST_FILES)
-sized_files [] v sized within = absurd (omega arith)
-sized_files (volume ∷ volumes) zero sized within =
-    let parts = and_parts (is_sized volume) (list_all is_sized volumes) sized in
-    let size = and_parts (is_in 1 MOST_FILES volume.files) (is_in 1 MOST_FILE_BLOCKS volume.blocks) parts.0 in
+pub sized_files : (most : ℕ) (volumes : List VolumeRow) (v : ℕ) → list_all (is_sized most) volumes ≡ true → v < length volumes → (1 ≤ files_of volumes v) × (files_of volumes v ≤ MOST_FILES)
+sized_files most [] v sized within = absurd (omega arith)
+sized_files most (volume ∷ volumes) zero sized within =
+    let parts = and_parts (is_sized most volume) (list_all (is_sized most) volumes) sized in
+    let size = and_parts (is_in 1 MOST_FILES volume.files) (is_in 1 most volume.blocks) parts.0 in
     in_range MOST_FILES volume.files size.0
-sized_files (volume ∷ volumes) (suc v) sized within = sized_files volumes v (and_parts (is_sized volume) (list_all is_sized volumes) sized).1 (omega arith)
+sized_files most (volume ∷ volumes) (suc v) sized within = sized_files most volumes v (and_parts (is_sized most volume) (list_all (is_sized most) volumes) sized).1 (omega arith)
 
 pub volume_there : (volumes : List VolumeRow) (v : ℕ) → not (nat_lt v (length volumes)) ≡ false → v < length volumes
 volume_there volumes v is = grind (arith, nat_tests)
@@ -139,7 +138,7 @@ keeps_list k v grid row n known h = asks_bounded grid row n known.state (ListFil
     let c = first_none (no_volume state v) c3 b.1 in
     let range = session_there row k a.0 in
     let files : ℕ = files_of state.volumes v in
-    let first : (round_file (Listing v files) 1).place < files = (sized_files state.volumes v h.sized (volume_there state.volumes v c.0)).0 in
+    let first : (round_file (Listing v files) 1).place < files = (sized_files row.most_blocks state.volumes v h.sized (volume_there state.volumes v c.0)).0 in
     subst (IsBounded grid row (n + 1)) (sym (lists state k v files (session_step grid state (ListFiles k v)) refl))
     (begins_bounded grid row n state k (Listing v files) h range.0 range.1 (omega arith) first))
 

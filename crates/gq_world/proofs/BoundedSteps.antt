@@ -80,14 +80,14 @@ message_grown grid row n vs v l h = record {
 }
 
 -- an opened volume has a size that is allowed
-sized_volume : (share : ℕ) (row : TenantRow) (state : State) (v : VolumeRow) → open_fault (account_of row state) v ≡ None → is_sized v ≡ true
-sized_volume share row state v is = by (is_sized v) refl
+sized_volume : (share : ℕ) (row : TenantRow) (state : State) (v : VolumeRow) → open_fault (account_of row state) v ≡ None → is_sized row.most_blocks v ≡ true
+sized_volume share row state v is = by (is_sized row.most_blocks v) refl
   where
-    by : (b : Bool) → is_sized v ≡ b → is_sized v ≡ true
+    by : (b : Bool) → is_sized row.most_blocks v ≡ b → is_sized row.most_blocks v ≡ true
     by true e = e
     by false e = let h = rw e at is in absurd (cc)
 
-grown_bounded : (grid : Grid) (row : TenantRow) (n : ℕ) (state : State) (v : VolumeRow) → IsBounded grid row n state → is_sized v ≡ true → IsBounded grid row n (record state { volumes = state.volumes ++ v ∷ [] })
+grown_bounded : (grid : Grid) (row : TenantRow) (n : ℕ) (state : State) (v : VolumeRow) → IsBounded grid row n state → is_sized row.most_blocks v ≡ true → IsBounded grid row n (record state { volumes = state.volumes ++ v ∷ [] })
 grown_bounded grid row n state v h sized = record {
   messages = All-weaker (MessageFits grid row n state.volumes) (MessageFits grid row n (state.volumes ++ v ∷ [])) (message_grown grid row n state.volumes v) state.sent h.messages;
   owners = h.owners;
@@ -98,7 +98,7 @@ grown_bounded grid row n state v h sized = record {
     floor = (h.sessions k).floor;
     works = λ task is. operation_grown n state.volumes v (operation_with k (state.session k) task) ((h.sessions k).works task is);
   };
-  sized = rw (list_all-append is_sized state.volumes (v ∷ []), h.sized, sized) refl;
+  sized = rw (list_all-append (is_sized row.most_blocks) state.volumes (v ∷ []), h.sized, sized) refl;
 }
 
 pub open_refused : (number : ℕ) (word : OpenFault) → is_refusal (open_told number (Some word)) ≡ true

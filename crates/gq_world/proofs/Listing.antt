@@ -43,4 +43,4 @@ pub files_few : (w : Tables) (t k v : ℕ) → IsReady w t → first_cause (volu
 files_few w t k v ready asked =
     let same : (account_at w.desk t).volumes ≡ ready.known.state.volumes = ap (λ (a : Account). a.volumes) ready.agrees.account in
     let there : v < length ready.known.state.volumes = subst (λ volumes. v < length volumes) same (listed_there w t k v asked) in
-    subst (λ volumes. (1 ≤ files_of volumes v) × (files_of volumes v ≤ MOST_FILES)) (sym same) (sized_files ready.known.state.volumes v ready.bounded.sized there)
+    subst (λ volumes. (1 ≤ files_of volumes v) × (files_of volumes v ≤ MOST_FILES)) (sym same) (sized_files (row_at w.plan t).most_blocks ready.known.state.volumes v ready.bounded.sized there)

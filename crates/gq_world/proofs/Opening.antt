@@ -121,7 +121,7 @@ refused_acts w t files blocks word is = record {
 -- ---- the conditions
 
 fits_free : (a : Account) (v : VolumeRow) → open_fault a v ≡ None → blocks_of v ≤ free_of a
-fits_free a v is = elim (cases_Bool (is_sized v)) [
+fits_free a v is = elim (cases_Bool (is_sized a.most_blocks v)) [
   | inr not_sized ↦ (let h = rw not_sized at is in absurd (cc))
   | inl sized ↦ (elim (cases_Bool (nat_le MOST_VOLUMES (length a.volumes))) [
     | inl many ↦ (let h = rw (sized, many) at is in absurd (cc))

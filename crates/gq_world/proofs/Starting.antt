@@ -15,7 +15,7 @@ use Rattle.gq_tag.specs.Tag.{File, file_of, first_copy}
 use Rattle.gq_desk.specs.declared.limits.TheConstants.{MOST_SESSIONS}
 use Rattle.gq_desk.specs.declared.plans.TenantRow.{TenantRow}
 use Rattle.gq_desk.specs.CheckedPlan.{CheckedPlan, nobody, row_at}
-use Rattle.gq_desk.specs.Volumes.{Account, no_account, account_at}
+use Rattle.gq_desk.specs.Volumes.{Account, no_account, account_at, new_account}
 use Rattle.gq_post.specs.Lanes.{lane_at, message_at}
 use Rattle.gq_store.specs.Copies.{StoreCopies, VolumeCopies, copies_account, store_accounts, new_tenant, empty_store, tenant_in, volume_copy, copy_at, empty_volume}
 use Rattle.gq_model.specs.Trace.{questions}
@@ -31,13 +31,10 @@ all_up grid set is = fun_ext (λ s. by s (cases_Bool (nat_lt s (grid.rows * grid
     by s (inl within) = rw within (ap (λ (f : Servers). f s) is ∙ within)
     by s (inr outside) = rw outside refl
 
-abbrev fresh : TenantRow → Account
-fresh row = record { share = row.share; volumes = [] }
-
-fresh_at : (rows : List TenantRow) (t : ℕ) → account_at (map fresh rows) t ≡ fresh (unwrap_or (slice_get rows t) nobody)
-fresh_at rows t = rw (slice_get-map fresh rows t) (by (slice_get rows t))
+fresh_at : (rows : List TenantRow) (t : ℕ) → account_at (map new_account rows) t ≡ new_account (unwrap_or (slice_get rows t) nobody)
+fresh_at rows t = rw (slice_get-map new_account rows t) (by (slice_get rows t))
   where
-    by : (o : Option TenantRow) → unwrap_or (option_map fresh o) no_account ≡ fresh (unwrap_or o nobody)
+    by : (o : Option TenantRow) → unwrap_or (option_map new_account o) no_account ≡ new_account (unwrap_or o nobody)
     by None = refl
     by (Some row) = refl
 
@@ -58,9 +55,9 @@ seats_are (row ∷ rows) (suc t) within = seats_are rows t (omega arith)
 
 -- ---- the stores
 
-accounts_first : (rows : List TenantRow) → map copies_account (map new_tenant rows) ≡ map fresh rows
+accounts_first : (rows : List TenantRow) → map copies_account (map new_tenant rows) ≡ map new_account rows
 accounts_first [] = refl
-accounts_first (row ∷ rows) = ap (λ rest. fresh row ∷ rest) (accounts_first rows)
+accounts_first (row ∷ rows) = ap (λ rest. new_account row ∷ rest) (accounts_first rows)
 
 no_volumes : (rows : List TenantRow) (t : ℕ) → (tenant_in (map new_tenant rows) t).volumes ≡ []
 no_volumes [] t = refl
@@ -84,7 +81,7 @@ first_shaped plan w is first few small =
     × ((t : ℕ) → t < length p.rows → length (seats_at w.seats t) ≡ (row_at p t).sessions) × ((t : ℕ) → t < length p.rows → (row_at p t).sessions ≤ MOST_SESSIONS) × (p.grid.rows * p.grid.cols ≤ MOST_SERVERS) in
     let all : S plan = (
       ap length first.lines ∙ length-replicate (length plan.rows) 0,
-      ap length first.desk ∙ length-map plan.rows fresh,
+      ap length first.desk ∙ length-map plan.rows new_account,
       ap length first.lanes ∙ length-replicate (length plan.rows) [],
       ap length first.stores ∙ length-replicate (plan.grid.rows * plan.grid.cols) (empty_store plan),
       subst (All (IsOfPlan plan)) (sym first.stores) (All-replicate (IsOfPlan plan) (plan.grid.rows * plan.grid.cols) (empty_store plan) (of_plan plan)),

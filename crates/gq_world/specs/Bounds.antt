@@ -88,4 +88,4 @@ pub record IsBounded (grid : Grid) (row : TenantRow) (n : ℕ) (state : State) :
   pub owners : All (λ message. IsOfSession (state.session message.session) message) state.sent
   pub brought : (server : ℕ) (file : File) → All (CopyFits n (room state.volumes file.volume)) (state.brought server file)
   pub sessions : (k : ℕ) → SessionFits n state.volumes k (state.session k)
-  pub sized : list_all is_sized state.volumes ≡ true
+  pub sized : list_all (is_sized row.most_blocks) state.volumes ≡ true

@@ -4,6 +4,7 @@ use Rattle.gq_grid.specs.Grid.{all_servers}
 use Rattle.gq_grid.specs.Sets.{servers}
 use Rattle.gq_desk.specs.CheckedPlan.{CheckedPlan, row_at}
 use Rattle.gq_desk.specs.declared.limits.TheConstants.{MOST_SESSIONS}
+use Rattle.gq_desk.specs.Volumes.{new_account}
 use Rattle.gq_store.specs.Copies.{empty_store}
 use Rattle.gq_world.specs.Tables.{Tables, IsKnown, no_seat}
 
@@ -25,7 +26,7 @@ pub record IsFirst (plan : CheckedPlan) (w : Tables) : Type 0 where
   pub plan_is : w.plan ≡ plan
   pub up : servers w.up ≡ all_servers plan.grid
   pub lines : w.lines ≡ replicate (length plan.rows) 0
-  pub desk : w.desk ≡ map (λ row. record { share = row.share; volumes = [] }) plan.rows
+  pub desk : w.desk ≡ map new_account plan.rows
   pub lanes : w.lanes ≡ replicate (length plan.rows) []
   pub stores : w.stores ≡ replicate (plan.grid.rows * plan.grid.cols) (empty_store plan)
   pub seats : w.seats ≡ map (λ row. replicate row.sessions no_seat) plan.rows
