@@ -17,6 +17,7 @@ fn plan(rt: &impl Abort, alloc: Global) -> Plan {
         share: 8,
         sessions: 2,
         steps: 10,
+        most_blocks: 16,
     };
     Plan::check(alloc, grid, 16, &[row]).expect(rt, "a plan")
 }

@@ -18,7 +18,7 @@ use Rattle.gq_node.specs.Local.{part_in}
 use Rattle.gq_node.specs.Nodes.{Nodes, Event, LineCame, PlanCame, LetterCame, TickCame, Started, new_nodes, doing_of, after_event, nodes_after, AllCanCome}
 
 abbrev row : TenantRow
-row = record { name = 97 ∷ []; share = 4; sessions = 2; steps = 100 }
+row = record { name = 97 ∷ []; share = 4; sessions = 2; steps = 100; most_blocks = 16 }
 
 abbrev file : File
 file = record { volume = 0; place = 0 }

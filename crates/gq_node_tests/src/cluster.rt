@@ -60,6 +60,7 @@ fn row(rt: &impl Abort, name: &[u8]) -> TenantRow {
         share: 8,
         sessions: 2,
         steps: 10,
+        most_blocks: 16,
     }
 }
 

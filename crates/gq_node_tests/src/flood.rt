@@ -19,6 +19,7 @@ fn row(rt: &impl Abort, name: &[u8], sessions: u32) -> TenantRow {
         share: 8,
         sessions,
         steps: 10,
+        most_blocks: 16,
     }
 }
 

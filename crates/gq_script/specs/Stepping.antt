@@ -1,5 +1,5 @@
 -- Lines that are answered as they come.
-use Rattle.std.specs.Prelude.{◌≡◌, ◌≢◌, ℕ, ◌≤◌, List, [], ◌++◌, map, All, Option, Ok, Err, IfErr}
+use Rattle.std.specs.Prelude.{◌≡◌, ◌≢◌, ℕ, ◌≤◌, List, [], ◌∷◌, ◌++◌, Bool, false, map, All, Option, Ok, Err, IfErr}
 use Rattle.std.specs.Io.KnownBytes.{Appends}
 use Rattle.gq_world.specs.Tables.{Stands}
 use Rattle.gq_text.specs.declared.plan_text.TextFault.TheVariants.{End}
@@ -14,7 +14,8 @@ use Rattle.gq_script.specs.declared.stepping.Stage.{Stage}
 use Rattle.gq_script.specs.declared.stepping.Stage.TheVariants.{Plan, Lines}
 use Rattle.gq_text.specs.Lines.{lines_of}
 use Rattle.gq_text.specs.Input.{event_of}
-use Rattle.gq_text.specs.PlanText.{rows_from, plan_of, IsFaultOf}
+use Rattle.gq_text.specs.Words.{words_of}
+use Rattle.gq_text.specs.PlanText.{is_room, rows_from, plan_of, IsFaultOf}
 use Rattle.gq_text.specs.Pieces.{Extends}
 use Rattle.gq_script.specs.Out.{out}
 use Rattle.gq_script.specs.Completing.{missing_newline}
@@ -72,9 +73,14 @@ abbrev pub IsLast : TellFault → Type 0
 IsLast (NotAnswered fault) = IsFinal fault
 IsLast NotWritten = Unit {0}
 
--- from whichever number on, the lines tell rows, and `go` is missing behind them
-abbrev pub MissesGo : List (List ℕ) → Type 0
-MissesGo lines = (first : ℕ) → (n : ℕ) × (first ≤ n) × (rows_from first lines ≡ Err (n, End))
+-- whether the second line is one of `room`
+abbrev pub room_in : List (List ℕ) → Bool
+room_in (first ∷ second ∷ lines) = is_room (words_of second)
+room_in _ = false
+
+-- from whichever number on, the lines tell rows, of a plan with room or not, and `go` is missing behind them
+abbrev pub MissesGo : (room : Bool) → List (List ℕ) → Type 0
+MissesGo room lines = (first : ℕ) → (n : ℕ) × (first ≤ n) × (rows_from room first lines ≡ Err (n, End))
 
 -- these lines were answered: either they are the beginning of a plan, or the world stands for those after the plan
 abbrev pub HasAnswered : Stage → List (List ℕ) → Type 0

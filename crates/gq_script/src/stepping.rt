@@ -10,7 +10,7 @@ use crate::script::{
 use crate::watched::Watched;
 use gq_desk::Plan;
 use gq_memory::OutOfMemory;
-use gq_text::{PlanText, TextFault, first_line, read_plan, row_told};
+use gq_text::{PlanText, TextFault, first_line, is_room, read_plan, row_told};
 use gq_world::World;
 use memchr::memrchr;
 use std::alloc::Global;
@@ -74,15 +74,30 @@ ghost use Rattle.gq_text.specs.Lines.{lines_of, joined};
 ghost use Rattle.gq_text.specs.PlanText.{plan_of, IsFaultOf};
 ghost use Rattle.gq_script.specs.Out.{output_lines, out, IsAccepted};
 ghost use Rattle.gq_script.specs.Alone.{IsAnswered};
-ghost use Rattle.gq_script.specs.Stepping.{AllEnded, AnswersEnded, IsPlanFaultIn, IsOfPlan, IsFinal, IsLast, IsTellFaultOf, MissesGo, HasAnswered};
+ghost use Rattle.gq_script.specs.Stepping.{AllEnded, AnswersEnded, IsPlanFaultIn, IsOfPlan, IsFinal, IsLast, IsTellFaultOf, room_in, MissesGo, HasAnswered};
 ghost use Rattle.gq_script.specs.Watched.{inner_of, has_failed, AppendsPrefix};
 
 // Lines 1 and 2 are no rows of tenants.
 const FIRST_ROW: u64 = 3;
 
-// Whether each line is the row of a tenant, so that the plan goes on and tells no fault yet.
-fn are_rows(text: &[u8]) -> bool
-    ensures { result ≡ true → MissesGo (lines_of text.now) }
+// Whether the second line of a text is one of `room`.
+fn has_room(text: &[u8]) -> bool
+    ensures { result ≡ room_in (lines_of text.now) }
+{
+    if text.is_empty() {
+        return false;
+    }
+    let (_, rest) = first_line(text);
+    if rest.is_empty() {
+        return false;
+    }
+    let (second, _) = first_line(rest);
+    is_room(second)
+}
+
+// Whether each line is the row of a tenant, in a plan with room or not, so that the plan goes on and tells no fault yet.
+fn are_rows(room: bool, text: &[u8]) -> bool
+    ensures { result ≡ true → MissesGo room (lines_of text.now) }
 {
     let mut rest = text;
     while !rest.is_empty() {
@@ -90,7 +105,7 @@ fn are_rows(text: &[u8]) -> bool
         if line == b"go".as_slice() {
             return false;
         }
-        if row_told(line).is_none() {
+        if row_told(room, line).is_none() {
             return false;
         }
         rest = after;
@@ -167,7 +182,8 @@ fn answers_from<N: Notice>(
             Err(refused) => Err(PlanText::Memory(refused)),
         },
         Stage::Plan(missing) => {
-            if !is_end && *missing >= FIRST_ROW && are_rows(&text[done..]) {
+            if !is_end && *missing >= FIRST_ROW && are_rows(has_room(&text[..done]), &text[done..])
+            {
                 return Ok(Vec::new(alloc));
             }
             match try_plan(alloc, text, is_end) {

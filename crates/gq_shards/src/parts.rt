@@ -19,6 +19,7 @@ fn part_row(mine: bool, row: &TenantRow) -> TenantRow
             share: 1,
             sessions: 1,
             steps: 1,
+            most_blocks: 1,
         }
     }
 }

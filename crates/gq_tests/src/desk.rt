@@ -16,6 +16,7 @@ fn row(rt: &impl Abort, name: &[u8], share: u32) -> TenantRow {
         share,
         sessions: 1,
         steps: 1,
+        most_blocks: 16,
     }
 }
 

@@ -16,7 +16,7 @@ use std::test::Fail;
 
 // The store of a server of the plan of one tenant.
 fn store_of_ann(rt: &impl Abort, alloc: Global, blocks: u32, share: u32) -> ServerStore
-    ensures { store_accounts result ≡ record { share = share; volumes = [] } ∷ [] }
+    ensures { store_accounts result ≡ record { share = share; most_blocks = 16; volumes = [] } ∷ [] }
 {
     assert!(rt; 1 <= blocks && blocks <= MOST_BLOCKS);
     let grid = Grid::new(1, 1).expect(rt, "a grid");
@@ -26,6 +26,7 @@ fn store_of_ann(rt: &impl Abort, alloc: Global, blocks: u32, share: u32) -> Serv
         share,
         sessions: 1,
         steps: 10,
+        most_blocks: 16,
     };
     let plan = Plan::check(alloc, grid, blocks, &[row]).expect(rt, "a plan");
     ServerStore::new(alloc, &plan).expect(rt, "memory")
@@ -45,7 +46,7 @@ const SECOND: FileId = FileId {
 
 // The store with one volume of two files of two blocks.
 fn store_of_two_files(rt: &impl Abort, alloc: Global) -> ServerStore
-    ensures { store_accounts result ≡ record { share = 4; volumes = record { files = 2; blocks = 2 } ∷ [] } ∷ [] }
+    ensures { store_accounts result ≡ record { share = 4; most_blocks = 16; volumes = record { files = 2; blocks = 2 } ∷ [] } ∷ [] }
 {
     let mut store = store_of_ann(rt, alloc, 4, 4);
     store.add_files(0, 2, 2).expect(rt, "memory");
@@ -80,7 +81,7 @@ fn copy(tag: Tag, bytes: &'static [u8]) -> StoredCopy {
 
 // The store after four puts, of which three are kept.
 fn store_after_puts(rt: &impl Abort, alloc: Global) -> ServerStore
-    ensures { store_accounts result ≡ record { share = 4; volumes = record { files = 2; blocks = 2 } ∷ [] } ∷ [] }
+    ensures { store_accounts result ≡ record { share = 4; most_blocks = 16; volumes = record { files = 2; blocks = 2 } ∷ [] } ∷ [] }
 {
     let mut store = store_of_two_files(rt, alloc);
     assert!(rt; store.free() == 4);

@@ -1,6 +1,6 @@
 -- The canonical script of a plan and events, and what reading it gives.
-use Rattle.std.specs.Prelude.{◌≡◌, ℕ, ◌<◌, ◌^◌, List, [], ◌∷◌, ◌++◌, Ok, true, codes, decimal, map, length}
-use Rattle.std.specs.List.{flat_map}
+use Rattle.std.specs.Prelude.{◌≡◌, ℕ, ◌<◌, ◌^◌, List, [], ◌∷◌, ◌++◌, Ok, Bool, true, false, not, ◌&&◌, ◌==◌, nat_le, codes, decimal, map, length}
+use Rattle.std.specs.List.{flat_map, list_all}
 use Rattle.hex.specs.Hex.{IsBytes}
 use Rattle.gq_grid.specs.Grid.{is_side}
 use Rattle.gq_desk.specs.Plans.{IsSound}
@@ -12,6 +12,7 @@ use Rattle.gq_model.specs.declared.events.Line.{Line}
 use Rattle.gq_model.specs.declared.events.Line.TheVariants.{Bad, Quorum, NewVolume, Volumes, Write, Read, List as ListFiles, Deliver, Lose, Retry, Abandon}
 use Rattle.gq_model.specs.declared.events.ServerLine.{ServerLine}
 use Rattle.gq_model.specs.declared.events.ServerLine.TheVariants.{Bad as ServerBad, Down, Up}
+use Rattle.gq_text.specs.declared.plan_text.TheConstants.{BLOCKS_WITHOUT_ROOM, FILE_BLOCKS_WITHOUT_ROOM}
 use Rattle.gq_text.specs.Words.{Word}
 use Rattle.gq_text.specs.Lines.{lines_of}
 use Rattle.gq_text.specs.Input.{event_of}
@@ -44,19 +45,38 @@ event_line plan (Tenant tenant line) = line_text (row_at plan tenant).name (line
 event_line plan (Server line) = line_text (codes "server") (server_line_words line)
 event_line plan Stray = line_text [] []
 
+-- the row's files have the most blocks that they have in a plan with `blocks`
+abbrev pub has_few_blocks : TenantRow → Bool
+has_few_blocks row = row.most_blocks == FILE_BLOCKS_WITHOUT_ROOM
+
+-- whether the text of the plan is one with `room`: a server has more blocks than one with `blocks` may say, or a row other
+-- files
+abbrev pub has_room : CheckedPlan → Bool
+has_room plan = not (nat_le plan.blocks BLOCKS_WITHOUT_ROOM && list_all has_few_blocks plan.rows)
+
+-- the word before the blocks of a server
+abbrev pub blocks_verb : (room : Bool) → Word
+blocks_verb true = codes "room"
+blocks_verb false = codes "blocks"
+
+-- the words of a row's most blocks of a file
+abbrev pub most_words : (room : Bool) → TenantRow → List Word
+most_words true row = decimal row.most_blocks ∷ []
+most_words false row = []
+
 -- the line of a tenant's row
-abbrev pub row_line : TenantRow → List ℕ
-row_line row = line_text (codes "tenant") (row.name ∷ decimal row.share ∷ decimal row.sessions ∷ decimal row.steps ∷ [])
+abbrev pub row_line : (room : Bool) → TenantRow → List ℕ
+row_line room row = line_text (codes "tenant") (row.name ∷ decimal row.share ∷ decimal row.sessions ∷ decimal row.steps ∷ most_words room row)
 
 -- the first two lines of a plan
 abbrev pub head_text : CheckedPlan → List ℕ
 head_text plan =
     line_text (codes "grid") (decimal plan.grid.rows ∷ decimal plan.grid.cols ∷ [])
-    ++ line_text (codes "blocks") (decimal plan.blocks ∷ [])
+    ++ line_text (blocks_verb (has_room plan)) (decimal plan.blocks ∷ [])
 
 -- the lines of a plan, up to `go`
 abbrev pub plan_text : CheckedPlan → List ℕ
-plan_text plan = head_text plan ++ flat_map row_line plan.rows ++ line_text (codes "go") []
+plan_text plan = head_text plan ++ flat_map (row_line (has_room plan)) plan.rows ++ line_text (codes "go") []
 
 -- the canonical script: the plan, then one line for each event
 abbrev pub script_text : CheckedPlan → List Event → List ℕ

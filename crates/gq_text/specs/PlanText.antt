@@ -1,5 +1,5 @@
 -- What the lines of an input say of its plan.
-use Rattle.std.specs.Prelude.{◌≡◌, ℕ, ◌+◌, List, [], ◌∷◌, ◌&&◌, if◌then◌else◌, codes, not, length, Option, Some, None, Result, Ok, Err, IsSome}
+use Rattle.std.specs.Prelude.{◌≡◌, ℕ, ◌+◌, List, [], ◌∷◌, ◌&&◌, Bool, true, false, if◌then◌else◌, codes, not, length, Option, Some, None, Result, Ok, Err, IsSome}
 use Rattle.std.specs.Str.{bytes_eq}
 use Rattle.gq_grid.specs.Grid.{Grid, is_side}
 use Rattle.gq_grid.specs.declared.GridFault.TheVariants.{Rows, Cols}
@@ -9,7 +9,8 @@ use Rattle.gq_desk.specs.Plans.{is_in, plan_fault}
 use Rattle.gq_desk.specs.CheckedPlan.{CheckedPlan}
 use Rattle.gq_desk.specs.declared.plans.TenantRow.{TenantRow}
 use Rattle.gq_desk.specs.declared.plans.PlanFault.{PlanFault}
-use Rattle.gq_desk.specs.declared.plans.PlanFault.TheVariants.{TooMany, SameName, ZeroShare, Sessions, Steps, NoTenant, OverBlocks, Memory as NoMemory}
+use Rattle.gq_desk.specs.declared.plans.PlanFault.TheVariants.{TooMany, SameName, ZeroShare, Sessions, Steps, Most, NoTenant, OverBlocks, Memory as NoMemory}
+use Rattle.gq_text.specs.declared.plan_text.TheConstants.{BLOCKS_WITHOUT_ROOM, FILE_BLOCKS_WITHOUT_ROOM}
 use Rattle.gq_text.specs.declared.plan_text.TextFault.{TextFault}
 use Rattle.gq_text.specs.declared.plan_text.TextFault.TheVariants.{Form, End, Grid as GridFault, Blocks, Check}
 use Rattle.gq_text.specs.declared.plan_text.PlanText.{PlanText}
@@ -50,23 +51,37 @@ unfoldable pub grid_told : List Word → Result Grid TextFault
 grid_told [] = Err Form
 grid_told (verb ∷ words) = if bytes_eq verb (codes "grid") then grid_from (two_numbers_of words) else Err Form
 
--- this number of blocks, tested for form, then for value
-abbrev pub blocks_from : Option ℕ → Result ℕ TextFault
-blocks_from None = Err Form
-blocks_from (Some blocks) = if is_in 1 MOST_BLOCKS blocks then Ok blocks else Err Blocks
+-- this number of blocks, at most so many, tested for form, then for value
+abbrev pub blocks_from : ℕ → Option ℕ → Result ℕ TextFault
+blocks_from most None = Err Form
+blocks_from most (Some blocks) = if is_in 1 most blocks then Ok blocks else Err Blocks
 
--- the blocks of a line `blocks BLOCKS`
+-- the blocks of a line `blocks BLOCKS`, or of a line `room BLOCKS`, which may say more
 unfoldable pub blocks_told : List Word → Result ℕ TextFault
 blocks_told [] = Err Form
-blocks_told (verb ∷ words) = if bytes_eq verb (codes "blocks") then blocks_from (one_number_of words) else Err Form
+blocks_told (verb ∷ words) =
+    if bytes_eq verb (codes "blocks") then blocks_from BLOCKS_WITHOUT_ROOM (one_number_of words)
+    else if bytes_eq verb (codes "room") then blocks_from MOST_BLOCKS (one_number_of words)
+    else Err Form
 
--- the row of a line `tenant NAME SHARE SESSIONS STEPS`
-unfoldable pub row_told : List Word → Option TenantRow
-row_told (verb ∷ name ∷ a ∷ b ∷ c ∷ []) =
+-- whether a line is one of `room`, behind which each row says the most blocks of its files
+unfoldable pub is_room : List Word → Bool
+is_room [] = false
+is_room (verb ∷ words) = bytes_eq verb (codes "room")
+
+-- the row of these words, whose files have at most so many blocks
+abbrev pub row_from : (verb name a b c : Word) → Option ℕ → Option TenantRow
+row_from verb name a b c most =
     if bytes_eq verb (codes "tenant") && is_name name then
-    number_of a >>= (λ share. number_of b >>= (λ sessions. number_of c >>= (λ steps. Some (record { name = name; share = share; sessions = sessions; steps = steps }))))
+    number_of a >>= (λ share. number_of b >>= (λ sessions. number_of c >>= (λ steps. most >>= (λ most_blocks.
+    Some (record { name = name; share = share; sessions = sessions; steps = steps; most_blocks = most_blocks })))))
     else None
-row_told _ = None
+
+-- the row of a line `tenant NAME SHARE SESSIONS STEPS`, or in a plan with room of a line `tenant NAME SHARE SESSIONS STEPS MOST`
+unfoldable pub row_told : (room : Bool) → List Word → Option TenantRow
+row_told false (verb ∷ name ∷ a ∷ b ∷ c ∷ []) = row_from verb name a b c (Some FILE_BLOCKS_WITHOUT_ROOM)
+row_told true (verb ∷ name ∷ a ∷ b ∷ c ∷ most ∷ []) = row_from verb name a b c (number_of most)
+row_told room _ = None
 
 -- a row before the others, or the fault of its line, which has number n
 abbrev pub row_then : ℕ → Option TenantRow → Reading (List TenantRow × List (List ℕ)) → Reading (List TenantRow × List (List ℕ))
@@ -75,9 +90,9 @@ row_then n (Some row) (Ok rest) = Ok (row ∷ rest.0, rest.1)
 row_then n (Some row) (Err fault) = Err fault
 
 -- the rows of the lines up to `go`, of which the first has number n, and the lines after it
-abbrev pub rows_from : ℕ → List (List ℕ) → Reading (List TenantRow × List (List ℕ))
-rows_from n [] = Err (n, End)
-rows_from n (line ∷ lines) = if bytes_eq line (codes "go") then Ok ([], lines) else row_then n (row_told (words_of line)) (rows_from (n + 1) lines)
+abbrev pub rows_from : (room : Bool) → ℕ → List (List ℕ) → Reading (List TenantRow × List (List ℕ))
+rows_from room n [] = Err (n, End)
+rows_from room n (line ∷ lines) = if bytes_eq line (codes "go") then Ok ([], lines) else row_then n (row_told room (words_of line)) (rows_from room (n + 1) lines)
 
 -- the line of a fault of so many rows: that of the row, or that of `go`
 abbrev pub line_of_fault : ℕ → PlanFault → ℕ
@@ -86,6 +101,7 @@ line_of_fault rows (SameName row) = 3 + row
 line_of_fault rows (ZeroShare row) = 3 + row
 line_of_fault rows (Sessions row) = 3 + row
 line_of_fault rows (Steps row) = 3 + row
+line_of_fault rows (Most row) = 3 + row
 line_of_fault rows NoTenant = 3 + rows
 line_of_fault rows (OverBlocks sum blocks) = 3 + rows
 line_of_fault rows (NoMemory _) = 3 + rows
@@ -106,7 +122,7 @@ plan_of lines =
     then_read (at_line 1 (grid_told (words_of first))) (λ grid.
     then_read (line_at 2 lines) (λ (second, lines).
     then_read (at_line 2 (blocks_told (words_of second))) (λ blocks.
-    then_read (rows_from 3 lines) (λ (rows, lines).
+    then_read (rows_from (is_room (words_of second)) 3 lines) (λ (rows, lines).
     then_read (checked grid blocks rows) (λ plan.
     Ok (plan, lines)))))))
 

@@ -1,16 +1,17 @@
 //! The canonical script of a plan and events.
 
 ghost use Rattle.std.specs.Prelude.{◌≡◌, ◌++◌, codes, true, OnOk, OnErr};
-ghost use Rattle.std.specs.List.{All, flat_map};
+ghost use Rattle.std.specs.List.{All, flat_map, list_all};
 ghost use Rattle.hex.specs.Hex.{IsBytes};
 ghost use Rattle.gq_grid.specs.Grid.{is_side};
 ghost use Rattle.gq_model.specs.Events.{IsIn};
 ghost use Rattle.gq_model.specs.declared.events.Line.TheVariants.{Write};
 ghost use Rattle.gq_text.specs.AnswerText.{line_text};
 ghost use Rattle.gq_text.specs.Pieces.{words_in, Extends};
-ghost use Rattle.gq_text.specs.Canonical.{line_words, server_line_words, event_line, row_line, head_text, plan_text, script_text, IsPlan, FitsLine, FitsServerLine, Fits, IsScriptOf};
+ghost use Rattle.gq_text.specs.Canonical.{line_words, server_line_words, event_line, has_few_blocks, has_room, row_line, head_text, plan_text, script_text, IsPlan, FitsLine, FitsServerLine, Fits, IsScriptOf};
 
 use crate::pieces::{Piece, put_words};
+use crate::plan_text::{BLOCKS_WITHOUT_ROOM, FILE_BLOCKS_WITHOUT_ROOM};
 use gq_desk::{Plan, TenantRow};
 use gq_memory::{GrowCopies, OutOfMemory};
 use gq_model::{Event, Line, ServerLine};
@@ -25,36 +26,59 @@ fn put_line(out: &mut Vec<u8>, first: &[u8], words: &[Piece]) -> Result<(), OutO
     put_words(out, words)
 }
 
+// Whether the files of each row have the most blocks that they have in a plan with `blocks`.
+fn have_few_blocks(rows: &[TenantRow]) -> bool
+    ensures { result ≡ list_all has_few_blocks rows.now }
+{
+    for row in rows {
+        if row.most_blocks != FILE_BLOCKS_WITHOUT_ROOM {
+            return false;
+        }
+    }
+    true
+}
+
+// Whether the text of the plan is one with `room`.
+fn has_room(plan: &Plan) -> bool
+    ensures { result ≡ has_room plan.now }
+{
+    plan.blocks() > BLOCKS_WITHOUT_ROOM || !have_few_blocks(plan.rows())
+}
+
 // Appends the line of a tenant's row.
-fn put_row(out: &mut Vec<u8>, row: &TenantRow) -> Result<(), OutOfMemory>
-    ensures ok { OnOk result (out.new.items ≡ out.old.items ++ row_line row.now) }
+fn put_row(out: &mut Vec<u8>, room: bool, row: &TenantRow) -> Result<(), OutOfMemory>
+    ensures ok { OnOk result (out.new.items ≡ out.old.items ++ row_line room row.now) }
     ensures err { OnErr result (Extends out.old.items out.new.items) }
 {
+    let name = Piece::Text(row.name.as_bytes());
+    let share = Piece::Number(u64::from(row.share));
+    let sessions = Piece::Number(u64::from(row.sessions));
+    let steps = Piece::Number(u64::from(row.steps));
+    if !room {
+        return put_line(out, b"tenant", &[name, share, sessions, steps]);
+    }
+    let most_blocks = Piece::Number(u64::from(row.most_blocks));
     put_line(
         out,
         b"tenant",
-        &[
-            Piece::Text(row.name.as_bytes()),
-            Piece::Number(u64::from(row.share)),
-            Piece::Number(u64::from(row.sessions)),
-            Piece::Number(u64::from(row.steps)),
-        ],
+        &[name, share, sessions, steps, most_blocks],
     )
 }
 
 // Appends the lines of rows.
-fn put_rows(out: &mut Vec<u8>, rows: &[TenantRow]) -> Result<(), OutOfMemory>
-    ensures ok { OnOk result (out.new.items ≡ out.old.items ++ flat_map row_line rows.now) }
+fn put_rows(out: &mut Vec<u8>, room: bool, rows: &[TenantRow]) -> Result<(), OutOfMemory>
+    ensures ok { OnOk result (out.new.items ≡ out.old.items ++ flat_map (row_line room) rows.now) }
     ensures err { OnErr result (Extends out.old.items out.new.items) }
 {
     for row in rows {
-        put_row(out, row)?;
+        put_row(out, room, row)?;
     }
     Ok(())
 }
 
 // Appends the first two lines of a plan.
-fn put_head(out: &mut Vec<u8>, plan: &Plan) -> Result<(), OutOfMemory>
+fn put_head(out: &mut Vec<u8>, room: bool, plan: &Plan) -> Result<(), OutOfMemory>
+    requires { room ≡ has_room plan.now }
     ensures ok { OnOk result (out.new.items ≡ out.old.items ++ head_text plan.now) }
     ensures err { OnErr result (Extends out.old.items out.new.items) }
     ensures rows { is_side plan.now.grid.rows ≡ true }
@@ -69,7 +93,12 @@ fn put_head(out: &mut Vec<u8>, plan: &Plan) -> Result<(), OutOfMemory>
             Piece::Number(grid.cols() as u64),
         ],
     )?;
-    put_line(out, b"blocks", &[Piece::Number(u64::from(plan.blocks()))])
+    let verb = if room {
+        b"room".as_slice()
+    } else {
+        b"blocks".as_slice()
+    };
+    put_line(out, verb, &[Piece::Number(u64::from(plan.blocks()))])
 }
 
 // Appends the lines of a plan, up to `go`.
@@ -78,8 +107,9 @@ fn put_plan(out: &mut Vec<u8>, plan: &Plan) -> Result<(), OutOfMemory>
     ensures err { OnErr result (Extends out.old.items out.new.items) }
     ensures is { OnOk result (IsPlan plan.now) }
 {
-    put_head(out, plan)?;
-    put_rows(out, plan.rows())?;
+    let room = has_room(plan);
+    put_head(out, room, plan)?;
+    put_rows(out, room, plan.rows())?;
     put_line(out, b"go", &[])
 }
 

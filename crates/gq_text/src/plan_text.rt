@@ -13,6 +13,12 @@ use gq_memory::{GrowVec, OutOfMemory};
 use std::alloc::Global;
 use thiserror::Error;
 
+/// The most blocks of a server in a plan with `blocks`, where one with `room` may have [`MOST_BLOCKS`].
+pub const BLOCKS_WITHOUT_ROOM: u32 = 4_096;
+
+/// The most blocks of a file in a plan with `blocks`, where the rows of one with `room` say them.
+pub const FILE_BLOCKS_WITHOUT_ROOM: u32 = 16;
+
 /// What is wrong with a line of a plan.
 #[derive(Debug, Drop, Error)]
 pub enum TextFault {
@@ -25,7 +31,7 @@ pub enum TextFault {
     /// The grid has no such sides.
     #[error("{0}")]
     Grid(GridFault),
-    /// The blocks of a server are not 1 to [`MOST_BLOCKS`].
+    /// The blocks of a server are not 1 to [`BLOCKS_WITHOUT_ROOM`], or of one with `room` not 1 to [`MOST_BLOCKS`].
     #[error("blocks")]
     Blocks,
     /// The rows of the tenants make no plan. A fault of a row is told with the line of that row, one of the rows as a
@@ -45,7 +51,7 @@ pub enum PlanText {
     Memory(OutOfMemory),
 }
 
-ghost use Rattle.gq_text.specs.PlanText.{grid_told, blocks_told, line_at, at_line, row_told, rows_from, line_of_fault, checked, plan_of, IsFaultOf};
+ghost use Rattle.gq_text.specs.PlanText.{grid_told, blocks_told, is_room, row_from, line_at, at_line, row_told, rows_from, line_of_fault, checked, plan_of, IsFaultOf};
 
 // Line `number` of an input, and the text after it.
 fn line_at(number: u64, text: &[u8]) -> Result<(&[u8], &[u8]), PlanText>
@@ -89,7 +95,7 @@ fn grid_told(line: &[u8]) -> Result<Grid, TextFault>
     }
 }
 
-// The number of a line `blocks BLOCKS`.
+// The number of a line `blocks BLOCKS` or `room BLOCKS`.
 #[tactic(auto, unfolding(crate::specs::PlanText::blocks_told))]
 fn blocks_told(line: &[u8]) -> Result<u32, TextFault>
     ensures value { result ≡ blocks_told (words_of line.now) }
@@ -97,29 +103,43 @@ fn blocks_told(line: &[u8]) -> Result<u32, TextFault>
     ensures most { IfOk result (λ blocks. blocks ≤ MOST_BLOCKS) }
 {
     let (verb, rest) = first_word(line);
-    if verb != b"blocks".as_slice() {
+    let most = if verb == b"blocks".as_slice() {
+        BLOCKS_WITHOUT_ROOM
+    } else if verb == b"room".as_slice() {
+        MOST_BLOCKS
+    } else {
         return Err(TextFault::Form);
-    }
+    };
     let Some(blocks) = one_number(rest) else {
         return Err(TextFault::Form);
     };
-    if blocks < 1 || blocks > MOST_BLOCKS {
+    if blocks < 1 || blocks > most {
         return Err(TextFault::Blocks);
     }
     Ok(blocks)
 }
 
-// The row of a line `tenant NAME SHARE SESSIONS STEPS`.
-#[tactic(auto, unfolding(crate::specs::PlanText::row_told))]
-pub fn row_told(line: &[u8]) -> Option<TenantRow>
-    ensures { result ≡ row_told (words_of line.now) }
+/// Whether a line is one of `room`, behind which each row says the most blocks of its files.
+#[tactic(auto, unfolding(crate::specs::PlanText::is_room))]
+pub fn is_room(line: &[u8]) -> bool
+    ensures { result ≡ is_room (words_of line.now) }
 {
-    let (verb, rest) = first_word(line);
-    let (name, rest) = next_word(rest)?;
-    let (share, rest) = next_word(rest)?;
-    let (sessions, rest) = next_word(rest)?;
-    let (steps, rest) = next_word(rest)?;
-    if !is_end(rest) || verb != b"tenant".as_slice() {
+    let (verb, _) = first_word(line);
+    verb == b"room".as_slice()
+}
+
+// The row of these words, whose files have at most so many blocks.
+fn row_from(
+    verb: &[u8],
+    name: &[u8],
+    share: &[u8],
+    sessions: &[u8],
+    steps: &[u8],
+    most_blocks: Option<u32>,
+) -> Option<TenantRow>
+    ensures { result ≡ row_from verb.now name.now share.now sessions.now steps.now most_blocks }
+{
+    if verb != b"tenant".as_slice() {
         return None;
     }
     Some(TenantRow {
@@ -127,16 +147,47 @@ pub fn row_told(line: &[u8]) -> Option<TenantRow>
         share: number(share)?,
         sessions: number(sessions)?,
         steps: number(steps)?,
+        most_blocks: most_blocks?,
     })
+}
+
+/// The row of a line `tenant NAME SHARE SESSIONS STEPS`, or in a plan with room of `tenant NAME SHARE SESSIONS STEPS MOST`.
+#[tactic(auto, unfolding(crate::specs::PlanText::row_told))]
+pub fn row_told(room: bool, line: &[u8]) -> Option<TenantRow>
+    ensures { result ≡ row_told room (words_of line.now) }
+{
+    let (verb, rest) = first_word(line);
+    let (name, rest) = next_word(rest)?;
+    let (share, rest) = next_word(rest)?;
+    let (sessions, rest) = next_word(rest)?;
+    let (steps, rest) = next_word(rest)?;
+    if room {
+        let (most, rest) = next_word(rest)?;
+        if !is_end(rest) {
+            return None;
+        }
+        return row_from(verb, name, share, sessions, steps, number(most));
+    }
+    if !is_end(rest) {
+        return None;
+    }
+    row_from(
+        verb,
+        name,
+        share,
+        sessions,
+        steps,
+        Some(FILE_BLOCKS_WITHOUT_ROOM),
+    )
 }
 
 // The rows of the lines up to `go`, of which the first is line 3, and the text after it.
 #[tactic(auto, using(crate::proofs::Rests::rest_of_rest, crate::proofs::Rests::rest_whole))]
-fn rows_from(alloc: Global, text: &[u8]) -> Result<(Vec<TenantRow>, &[u8]), PlanText>
+fn rows_from(alloc: Global, room: bool, text: &[u8]) -> Result<(Vec<TenantRow>, &[u8]), PlanText>
     requires { length text.now < 2 ^ 63 }
-    ensures rows { IfOk result (λ read. rows_from 3 (lines_of text.now) ≡ Ok (read.0.items, lines_of read.1.now)) }
+    ensures rows { IfOk result (λ read. rows_from room 3 (lines_of text.now) ≡ Ok (read.0.items, lines_of read.1.now)) }
     ensures rest { IfOk result (λ read. IsRest text.now read.1.now) }
-    ensures fault { IfErr result (λ e. IsFaultOf (rows_from 3 (lines_of text.now)) e) }
+    ensures fault { IfErr result (λ e. IsFaultOf (rows_from room 3 (lines_of text.now)) e) }
 {
     let mut rows = Vec::new(alloc);
     let mut line = 3u64;
@@ -147,7 +198,7 @@ fn rows_from(alloc: Global, text: &[u8]) -> Result<(Vec<TenantRow>, &[u8]), Plan
         if first == b"go".as_slice() {
             return Ok((rows, rest));
         }
-        let Some(row) = row_told(first) else {
+        let Some(row) = row_told(room, first) else {
             return Err(PlanText::Fault {
                 line,
                 fault: TextFault::Form,
@@ -174,7 +225,8 @@ fn line_of_fault(rows: usize, fault: &PlanFault) -> u64
         | PlanFault::SameName { row }
         | PlanFault::ZeroShare { row }
         | PlanFault::Sessions { row }
-        | PlanFault::Steps { row } => 3 + *row as u64,
+        | PlanFault::Steps { row }
+        | PlanFault::Most { row } => 3 + *row as u64,
         PlanFault::NoTenant | PlanFault::OverBlocks { .. } | PlanFault::Memory(_) => 3
             + rows as u64,
     }
@@ -212,7 +264,7 @@ pub fn read_plan(alloc: Global, text: &[u8]) -> Result<(Plan, usize), PlanText>
     let grid = at_line(1, grid_told(first))?;
     let (second, rest) = line_at(2, rest)?;
     let blocks = at_line(2, blocks_told(second))?;
-    let (rows, rest) = rows_from(alloc, rest)?;
+    let (rows, rest) = rows_from(alloc, is_room(second), rest)?;
     let plan = checked(alloc, grid, blocks, rows.as_slice())?;
     Ok((plan, text.len() - rest.len()))
 }
