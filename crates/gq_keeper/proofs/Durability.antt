@@ -12,22 +12,22 @@ use Rattle.gq_keeper.proofs.Crashing.{found_whole}
 use Rattle.gq_keeper.proofs.Restarts.{Owes, runs_facts, restarts_more}
 
 -- the lines that were taken, where nothing is left
-pub took_all : {M : Type 0} (steps : M → List ℕ → List (List ℕ) → List ℕ → M → Type 0) (first last : M) (text rest facts told : List ℕ) (t : Took steps first text rest [] facts [] told last) → short_lines rest ≡ [] → lines_of t.dids ≡ short_lines text
-took_all steps first last text rest facts told t none =
-    sym (ap short_lines (sym (append-nil text)) ∙ t.took [] ∙ ap (λ r. lines_of t.dids ++ short_lines r) (append-nil rest) ∙ ap (λ ls. lines_of t.dids ++ ls) none ∙ append-nil (lines_of t.dids))
+pub took_all : {M : Type 0} (longest : ℕ) (steps : M → List ℕ → List (List ℕ) → List ℕ → M → Type 0) (first last : M) (text rest facts told : List ℕ) (t : Took longest steps first text rest [] facts [] told last) → short_lines longest rest ≡ [] → lines_of t.dids ≡ short_lines longest text
+took_all longest steps first last text rest facts told t none =
+    sym (ap (short_lines longest) (sym (append-nil text)) ∙ t.took [] ∙ ap (λ r. lines_of t.dids ++ short_lines longest r) (append-nil rest) ∙ ap (λ ls. lines_of t.dids ++ ls) none ∙ append-nil (lines_of t.dids))
 
 -- what stands behind the text joins with the rest
-pub took_behind : {M : Type 0} (steps : M → List ℕ → List (List ℕ) → List ℕ → M → Type 0) (first last : M) (text rest facts told : List ℕ) (t : Took steps first text rest [] facts [] told last) → short_lines rest ≡ [] → (more : List ℕ) → short_lines (text ++ more) ≡ short_lines text ++ short_lines (rest ++ more)
-took_behind steps first last text rest facts told t none more = t.took more ∙ ap (λ ls. ls ++ short_lines (rest ++ more)) (took_all steps first last text rest facts told t none)
+pub took_behind : {M : Type 0} (longest : ℕ) (steps : M → List ℕ → List (List ℕ) → List ℕ → M → Type 0) (first last : M) (text rest facts told : List ℕ) (t : Took longest steps first text rest [] facts [] told last) → short_lines longest rest ≡ [] → (more : List ℕ) → short_lines longest (text ++ more) ≡ short_lines longest text ++ short_lines longest (rest ++ more)
+took_behind longest steps first last text rest facts told t none more = t.took more ∙ ap (λ ls. ls ++ short_lines longest (rest ++ more)) (took_all longest steps first last text rest facts told t none)
 
-pub turn_durable : {M : Type 0} (steps : M → List ℕ → List (List ℕ) → List ℕ → M → Type 0) (recalls : M → List ℕ → M → Type 0) (blank rests : M → M → Type 0) → Owes steps recalls blank rests →
+pub turn_durable : {M : Type 0} (longest : ℕ) (steps : M → List ℕ → List (List ℕ) → List ℕ → M → Type 0) (recalls : M → List ℕ → M → Type 0) (blank rests : M → M → Type 0) → Owes steps recalls blank rests →
     (plan : List Line) (first last : M) (seen synced : List ℕ) (number : ℕ) (base text rest facts told : List ℕ) → AllSealed seen synced number → Restarts recalls blank rests plan first synced →
-    Took steps first text rest [] facts [] told last → short_lines rest ≡ [] → number < 2 ^ 64 → length facts < 2 ^ 64 →
-    Durable steps recalls blank rests first last plan (short_lines text) base (synced ++ kept_text number facts) (base ++ told)
-turn_durable steps recalls blank rests owes plan first last seen synced number base text rest facts told s r t none fits short = record {
+    Took longest steps first text rest [] facts [] told last → short_lines longest rest ≡ [] → number < 2 ^ 64 → length facts < 2 ^ 64 →
+    Durable steps recalls blank rests first last plan (short_lines longest text) base (synced ++ kept_text number facts) (base ++ told)
+turn_durable longest steps recalls blank rests owes plan first last seen synced number base text rest facts told s r t none fits short = record {
   dids = t.dids;
   runs = t.runs;
-  took = took_all steps first last text rest facts told t none;
+  took = took_all longest steps first last text rest facts told t none;
   told = ap (λ x. base ++ x) t.told;
   restarts = restarts_more steps recalls blank rests owes plan first last t.dids synced (synced ++ kept_text number facts) r t.runs
       (found_whole (batches_of synced ++ batches_for (facts_of t.dids)) (synced ++ kept_text number facts)

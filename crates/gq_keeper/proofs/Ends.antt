@@ -6,7 +6,6 @@ use Rattle.std.proofs.lemmas.List.{length-take-le}
 use Rattle.std.proofs.Math.Seq.{take-length}
 use Rattle.gq_journal.specs.Batches.{Line, before_line, whole_lines}
 use Rattle.gq_journal.proofs.Lines.{lines_cut}
-use Rattle.gq_wire.specs.declared.incoming.TheConstants.{MOST_LINE}
 use Rattle.gq_keeper.specs.Lines.{is_short, short_lines}
 
 -- the lines, the first of them behind these bytes
@@ -45,16 +44,16 @@ behind_first : List Line → List Line
 behind_first [] = []
 behind_first (line ∷ lines) = lines
 
-long_joined : (a : List ℕ) (lines : List Line) → MOST_LINE < length a → filter is_short (joined a lines) ≡ filter is_short (behind_first lines)
+long_joined : (longest : ℕ) (a : List ℕ) (lines : List Line) → longest < length a → filter (is_short longest) (joined a lines) ≡ filter (is_short longest) (behind_first lines)
 unfolding joined behind_first
-long_joined a [] long = refl
-long_joined a (line ∷ lines) long = rw (lt-leb (length (a ++ line)) MOST_LINE (omega (arith, length-append a line))) refl
+long_joined longest a [] long = refl
+long_joined longest a (line ∷ lines) long = rw (lt-leb (length (a ++ line)) longest (omega (arith, length-append a line))) refl
 
 -- what is too long for a line may be cut anywhere where it is still too long
-long_end : (a b more : List ℕ) → whole_lines a ≡ [] → whole_lines b ≡ [] → MOST_LINE < length a → MOST_LINE < length b → short_lines (a ++ more) ≡ short_lines (b ++ more)
-long_end a b more none_a none_b long_a long_b =
-    ap (filter is_short) (join_lines a more none_a) ∙ long_joined a (whole_lines more) long_a
-    ∙ sym (long_joined b (whole_lines more) long_b) ∙ ap (filter is_short) (sym (join_lines b more none_b))
+long_end : (longest : ℕ) (a b more : List ℕ) → whole_lines a ≡ [] → whole_lines b ≡ [] → longest < length a → longest < length b → short_lines longest (a ++ more) ≡ short_lines longest (b ++ more)
+long_end longest a b more none_a none_b long_a long_b =
+    ap (filter (is_short longest)) (join_lines a more none_a) ∙ long_joined longest a (whole_lines more) long_a
+    ∙ sym (long_joined longest b (whole_lines more) long_b) ∙ ap (filter (is_short longest)) (sym (join_lines b more none_b))
 
 nothing_before : {A : Type 0} (a b : List A) → [] ≡ a ++ b → a ≡ []
 nothing_before [] b e = refl
@@ -65,8 +64,8 @@ kept_none k end none =
     let cut = lines_cut k end in
     nothing_before (whole_lines (take k end)) cut.0 (sym none ∙ cut.1)
 
-pub kept_same : (k : ℕ) (end more : List ℕ) → whole_lines end ≡ [] → k ≡ min (length end) (MOST_LINE + 1) → short_lines (take k end ++ more) ≡ short_lines (end ++ more)
-kept_same k end more none is = elim (cases_lt MOST_LINE (length end)) [
-  | inl long ↦ long_end (take k end) end more (kept_none k end none) none (let e : k ≡ MOST_LINE + 1 = omega arith in omega (arith, length-take-le k end (omega arith))) long
-  | inr short ↦ let e : k ≡ length end = omega arith in ap (λ n. short_lines (take n end ++ more)) e ∙ ap (λ t. short_lines (t ++ more)) (take-length end)
+pub kept_same : (longest k : ℕ) (end more : List ℕ) → whole_lines end ≡ [] → k ≡ min (length end) (longest + 1) → short_lines longest (take k end ++ more) ≡ short_lines longest (end ++ more)
+kept_same longest k end more none is = elim (cases_lt longest (length end)) [
+  | inl long ↦ long_end longest (take k end) end more (kept_none k end none) none (let e : k ≡ longest + 1 = omega arith in omega (arith, length-take-le k end (omega arith))) long
+  | inr short ↦ let e : k ≡ length end = omega arith in ap (λ n. short_lines longest (take n end ++ more)) e ∙ ap (λ t. short_lines longest (t ++ more)) (take-length end)
 ]

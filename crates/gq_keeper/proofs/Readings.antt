@@ -15,12 +15,12 @@ use Rattle.gq_keeper.proofs.Restarts.{restarts_found, sealed_left}
 use Rattle.gq_keeper.proofs.Durability.{durable_none, durable_then, durable_renewed}
 
 -- this was taken of the input, its lines were served, and what is held is the end that goes on
-pub record Served {M : Type 0} (steps : M → List ℕ → List (List ℕ) → List ℕ → M → Type 0) (recalls : M → List ℕ → M → Type 0) (blank rests : M → M → Type 0) (first now : M) (plan : List Line) (base synced shown : List ℕ) (before after : Option (List ℕ)) (held : List ℕ) : Type 0 where
+pub record Served {M : Type 0} (longest : ℕ) (steps : M → List ℕ → List (List ℕ) → List ℕ → M → Type 0) (recalls : M → List ℕ → M → Type 0) (blank rests : M → M → Type 0) (first now : M) (plan : List Line) (base synced shown : List ℕ) (before after : Option (List ℕ)) (held : List ℕ) : Type 0 where
   pub taken : List ℕ
   pub input : Consumes before after taken
-  pub durable : Durable steps recalls blank rests first now plan (short_lines taken) (base ++ first_text) synced shown
+  pub durable : Durable steps recalls blank rests first now plan (short_lines longest taken) (base ++ first_text) synced shown
   pub none : whole_lines held ≡ []
-  pub goes_on : (more : List ℕ) → short_lines (taken ++ more) ≡ short_lines taken ++ short_lines (held ++ more)
+  pub goes_on : (more : List ℕ) → short_lines longest (taken ++ more) ≡ short_lines longest taken ++ short_lines longest (held ++ more)
 
 consumes_none : (known : Option (List ℕ)) → Consumes known known []
 consumes_none None = tt
@@ -37,43 +37,43 @@ consumes_all None b xs ys x end = tt
 consumes_all (Some a) None xs ys x end = absurd x
 consumes_all (Some a) (Some b) xs ys x end = x ∙ ap (λ t. xs ++ t) end ∙ append-nil xs
 
-pub served_none : {M : Type 0} (steps : M → List ℕ → List (List ℕ) → List ℕ → M → Type 0) (recalls : M → List ℕ → M → Type 0) (blank rests : M → M → Type 0) (machine : M) (plan : List Line) (base synced shown : List ℕ) (known : Option (List ℕ)) (held : List ℕ) →
-    Restarts recalls blank rests plan machine synced → shown ≡ base ++ first_text → held ≡ [] → Served steps recalls blank rests machine machine plan base synced shown known known held
-served_none steps recalls blank rests machine plan base synced shown known held r is none = record {
+pub served_none : {M : Type 0} (longest : ℕ) (steps : M → List ℕ → List (List ℕ) → List ℕ → M → Type 0) (recalls : M → List ℕ → M → Type 0) (blank rests : M → M → Type 0) (machine : M) (plan : List Line) (base synced shown : List ℕ) (known : Option (List ℕ)) (held : List ℕ) →
+    Restarts recalls blank rests plan machine synced → shown ≡ base ++ first_text → held ≡ [] → Served longest steps recalls blank rests machine machine plan base synced shown known known held
+served_none longest steps recalls blank rests machine plan base synced shown known held r is none = record {
   taken = [];
   input = consumes_none known;
   durable = subst (λ o. Durable steps recalls blank rests machine machine plan [] (base ++ first_text) synced o) (sym is) (durable_none steps recalls blank rests machine plan (base ++ first_text) synced r);
   none = ap whole_lines none;
-  goes_on = λ more. ap (λ h. short_lines (h ++ more)) (sym none);
+  goes_on = λ more. ap (λ h. short_lines longest (h ++ more)) (sym none);
 }
 
-pub no_short : (text : List ℕ) → whole_lines text ≡ [] → short_lines text ≡ []
-no_short text none = rw none refl
+pub no_short : (longest : ℕ) (text : List ℕ) → whole_lines text ≡ [] → short_lines longest text ≡ []
+no_short longest text none = rw none refl
 
 -- one read more
-pub served_more : {M : Type 0} (steps : M → List ℕ → List (List ℕ) → List ℕ → M → Type 0) (recalls : M → List ℕ → M → Type 0) (blank rests : M → M → Type 0) (first now next : M) (plan : List Line) (base synced shown synced_turn shown_next synced_next : List ℕ) (before after later : Option (List ℕ)) (held block text rest kept : List ℕ) →
-    Served steps recalls blank rests first now plan base synced shown before after held → Consumes after later block → text ≡ held ++ block →
-    Durable steps recalls blank rests now next plan (short_lines text) shown synced_turn shown_next → Restarts recalls blank rests plan next synced_next →
-    ((more : List ℕ) → short_lines (text ++ more) ≡ short_lines text ++ short_lines (rest ++ more)) → whole_lines kept ≡ [] → ((more : List ℕ) → short_lines (kept ++ more) ≡ short_lines (rest ++ more)) →
-    Served steps recalls blank rests first next plan base synced_next shown_next before later kept
-served_more steps recalls blank rests first now next plan base synced shown synced_turn shown_next synced_next before after later held block text rest kept s read is d r behind none same = record {
+pub served_more : {M : Type 0} (longest : ℕ) (steps : M → List ℕ → List (List ℕ) → List ℕ → M → Type 0) (recalls : M → List ℕ → M → Type 0) (blank rests : M → M → Type 0) (first now next : M) (plan : List Line) (base synced shown synced_turn shown_next synced_next : List ℕ) (before after later : Option (List ℕ)) (held block text rest kept : List ℕ) →
+    Served longest steps recalls blank rests first now plan base synced shown before after held → Consumes after later block → text ≡ held ++ block →
+    Durable steps recalls blank rests now next plan (short_lines longest text) shown synced_turn shown_next → Restarts recalls blank rests plan next synced_next →
+    ((more : List ℕ) → short_lines longest (text ++ more) ≡ short_lines longest text ++ short_lines longest (rest ++ more)) → whole_lines kept ≡ [] → ((more : List ℕ) → short_lines longest (kept ++ more) ≡ short_lines longest (rest ++ more)) →
+    Served longest steps recalls blank rests first next plan base synced_next shown_next before later kept
+served_more longest steps recalls blank rests first now next plan base synced shown synced_turn shown_next synced_next before after later held block text rest kept s read is d r behind none same = record {
   taken = s.taken ++ block;
   input = consumes_more before after later s.taken block s.input read;
   durable = subst (λ ls. Durable steps recalls blank rests first next plan ls (base ++ first_text) synced_next shown_next) (sym lines)
-      (durable_renewed steps recalls blank rests first next plan (short_lines s.taken ++ short_lines text) (base ++ first_text) synced_turn shown_next synced_next
-      (durable_then steps recalls blank rests first now next plan (short_lines s.taken) (short_lines text) (base ++ first_text) synced shown synced_turn shown_next s.durable d) r);
+      (durable_renewed steps recalls blank rests first next plan (short_lines longest s.taken ++ short_lines longest text) (base ++ first_text) synced_turn shown_next synced_next
+      (durable_then steps recalls blank rests first now next plan (short_lines longest s.taken) (short_lines longest text) (base ++ first_text) synced shown synced_turn shown_next s.durable d) r);
   none = none;
-  goes_on = λ more. all more ∙ ap (λ ls. ls ++ short_lines (kept ++ more)) (sym lines);
+  goes_on = λ more. all more ∙ ap (λ ls. ls ++ short_lines longest (kept ++ more)) (sym lines);
 }
   where
-    step : (more : List ℕ) → short_lines ((s.taken ++ block) ++ more) ≡ short_lines s.taken ++ short_lines (text ++ more)
-    step more = ap short_lines (append_assoc s.taken block more) ∙ s.goes_on (block ++ more) ∙ ap (λ t. short_lines s.taken ++ short_lines t) (sym (append_assoc held block more) ∙ ap (λ t. t ++ more) (sym is))
+    step : (more : List ℕ) → short_lines longest ((s.taken ++ block) ++ more) ≡ short_lines longest s.taken ++ short_lines longest (text ++ more)
+    step more = ap (short_lines longest) (append_assoc s.taken block more) ∙ s.goes_on (block ++ more) ∙ ap (λ t. short_lines longest s.taken ++ short_lines longest t) (sym (append_assoc held block more) ∙ ap (λ t. t ++ more) (sym is))
 
-    all : (more : List ℕ) → short_lines ((s.taken ++ block) ++ more) ≡ (short_lines s.taken ++ short_lines text) ++ short_lines (kept ++ more)
-    all more = step more ∙ ap (λ ls. short_lines s.taken ++ ls) (behind more ∙ ap (λ ls. short_lines text ++ ls) (sym (same more))) ∙ sym (append_assoc (short_lines s.taken) (short_lines text) (short_lines (kept ++ more)))
+    all : (more : List ℕ) → short_lines longest ((s.taken ++ block) ++ more) ≡ (short_lines longest s.taken ++ short_lines longest text) ++ short_lines longest (kept ++ more)
+    all more = step more ∙ ap (λ ls. short_lines longest s.taken ++ ls) (behind more ∙ ap (λ ls. short_lines longest text ++ ls) (sym (same more))) ∙ sym (append_assoc (short_lines longest s.taken) (short_lines longest text) (short_lines longest (kept ++ more)))
 
-    lines : short_lines (s.taken ++ block) ≡ short_lines s.taken ++ short_lines text
-    lines = ap short_lines (sym (append-nil (s.taken ++ block))) ∙ step [] ∙ ap (λ t. short_lines s.taken ++ short_lines t) (append-nil text)
+    lines : short_lines longest (s.taken ++ block) ≡ short_lines longest s.taken ++ short_lines longest text
+    lines = ap (short_lines longest) (sym (append-nil (s.taken ++ block))) ∙ step [] ∙ ap (λ t. short_lines longest s.taken ++ short_lines longest t) (append-nil text)
 
 -- ---- what a crash leaves
 

@@ -26,21 +26,21 @@ text_append a b = flat_map-append ended_line a b
 
 -- ---- lines that are taken, and lines that are too long
 
-kept : (line : Line) (lines : List Line) → is_short line ≡ true → filter is_short (line ∷ lines) ≡ line ∷ filter is_short lines
-kept line lines short = rw short refl
+kept : (longest : ℕ) (line : Line) (lines : List Line) → is_short longest line ≡ true → filter (is_short longest) (line ∷ lines) ≡ line ∷ filter (is_short longest) lines
+kept longest line lines short = rw short refl
 
-passed : (line : Line) (lines : List Line) → is_short line ≡ false → filter is_short (line ∷ lines) ≡ filter is_short lines
-passed line lines long = rw long refl
+passed : (longest : ℕ) (line : Line) (lines : List Line) → is_short longest line ≡ false → filter (is_short longest) (line ∷ lines) ≡ filter (is_short longest) lines
+passed longest line lines long = rw long refl
 
 next_line : (rest line after more : List ℕ) → rest ≡ ended_line line ++ after → is_one_line line ≡ true → whole_lines (rest ++ more) ≡ line ∷ whole_lines (after ++ more)
 next_line rest line after more cut one = ap (λ r. whole_lines (r ++ more)) cut ∙ ap whole_lines (append_assoc (ended_line line) after more) ∙ ended_then line (after ++ more) one
 
-pub took_none : {M : Type 0} (steps : M → List ℕ → List (List ℕ) → List ℕ → M → Type 0) (old : M) (text facts told : List ℕ) → Took steps old text text facts facts told told old
-took_none steps old text facts told = record { dids = []; runs = refl; front = []; cut = refl; took = λ more. refl; facts = sym (append-nil facts); told = sym (append-nil told) }
+pub took_none : {M : Type 0} (longest : ℕ) (steps : M → List ℕ → List (List ℕ) → List ℕ → M → Type 0) (old : M) (text facts told : List ℕ) → Took longest steps old text text facts facts told told old
+took_none longest steps old text facts told = record { dids = []; runs = refl; front = []; cut = refl; took = λ more. refl; facts = sym (append-nil facts); told = sym (append-nil told) }
 
-pub took_from_none : {M : Type 0} (steps : M → List ℕ → List (List ℕ) → List ℕ → M → Type 0) (old new : M) (text rest f0 f1 t0 t1 : List ℕ) → f0 ≡ [] → t0 ≡ [] →
-    Took steps old text rest f0 f1 t0 t1 new → Took steps old text rest [] f1 [] t1 new
-took_from_none steps old new text rest f0 f1 t0 t1 f t took = record {
+pub took_from_none : {M : Type 0} (longest : ℕ) (steps : M → List ℕ → List (List ℕ) → List ℕ → M → Type 0) (old new : M) (text rest f0 f1 t0 t1 : List ℕ) → f0 ≡ [] → t0 ≡ [] →
+    Took longest steps old text rest f0 f1 t0 t1 new → Took longest steps old text rest [] f1 [] t1 new
+took_from_none longest steps old new text rest f0 f1 t0 t1 f t took = record {
   dids = took.dids;
   runs = took.runs;
   front = took.front;
@@ -54,27 +54,27 @@ front_more : (front rest line after text : List ℕ) → text ≡ front ++ rest 
 front_more front rest line after text is cut = is ∙ ap (λ r. front ++ r) cut ∙ sym (append_assoc front (ended_line line) after)
 
 -- a line that is too long was passed over
-pub took_past : {M : Type 0} (steps : M → List ℕ → List (List ℕ) → List ℕ → M → Type 0) (old m : M) (text rest line after f0 f1 t0 t1 : List ℕ) →
-    Took steps old text rest f0 f1 t0 t1 m → rest ≡ ended_line line ++ after → is_one_line line ≡ true → is_short line ≡ false → Took steps old text after f0 f1 t0 t1 m
-took_past steps old m text rest line after f0 f1 t0 t1 so cut one long = record {
+pub took_past : {M : Type 0} (longest : ℕ) (steps : M → List ℕ → List (List ℕ) → List ℕ → M → Type 0) (old m : M) (text rest line after f0 f1 t0 t1 : List ℕ) →
+    Took longest steps old text rest f0 f1 t0 t1 m → rest ≡ ended_line line ++ after → is_one_line line ≡ true → is_short longest line ≡ false → Took longest steps old text after f0 f1 t0 t1 m
+took_past longest steps old m text rest line after f0 f1 t0 t1 so cut one long = record {
   dids = so.dids;
   runs = so.runs;
   front = so.front ++ ended_line line;
   cut = front_more so.front rest line after text so.cut cut;
-  took = λ more. so.took more ∙ ap (λ ls. lines_of so.dids ++ ls) (ap (filter is_short) (next_line rest line after more cut one) ∙ passed line (whole_lines (after ++ more)) long);
+  took = λ more. so.took more ∙ ap (λ ls. lines_of so.dids ++ ls) (ap (filter (is_short longest)) (next_line rest line after more cut one) ∙ passed longest line (whole_lines (after ++ more)) long);
   facts = so.facts;
   told = so.told;
 }
 
-pub took_more : {M : Type 0} (steps : M → List ℕ → List (List ℕ) → List ℕ → M → Type 0) (old m n : M) (text rest line after f0 f1 f2 t0 t1 t2 : List ℕ) →
-    Took steps old text rest f0 f1 t0 t1 m → rest ≡ ended_line line ++ after → is_one_line line ≡ true → is_short line ≡ true → Takes steps m line f1 f2 t1 t2 n → Took steps old text after f0 f2 t0 t2 n
-took_more {M} steps old m n text rest line after f0 f1 f2 t0 t1 t2 so cut one short takes = record {
+pub took_more : {M : Type 0} (longest : ℕ) (steps : M → List ℕ → List (List ℕ) → List ℕ → M → Type 0) (old m n : M) (text rest line after f0 f1 f2 t0 t1 t2 : List ℕ) →
+    Took longest steps old text rest f0 f1 t0 t1 m → rest ≡ ended_line line ++ after → is_one_line line ≡ true → is_short longest line ≡ true → Takes steps m line f1 f2 t1 t2 n → Took longest steps old text after f0 f2 t0 t2 n
+took_more {M} longest steps old m n text rest line after f0 f1 f2 t0 t1 t2 so cut one short takes = record {
   dids = so.dids ++ did ∷ [];
   runs = runs_append steps old m n so.dids (did ∷ []) so.runs (n, takes.step, refl);
   front = so.front ++ ended_line line;
   cut = front_more so.front rest line after text so.cut cut;
-  took = λ more. so.took more ∙ ap (λ ls. lines_of so.dids ++ ls) (ap (filter is_short) (next_line rest line after more cut one) ∙ kept line (whole_lines (after ++ more)) short)
-      ∙ sym (append_assoc (lines_of so.dids) (line ∷ []) (short_lines (after ++ more))) ∙ ap (λ ls. ls ++ short_lines (after ++ more)) (sym (lines_append so.dids (did ∷ [])));
+  took = λ more. so.took more ∙ ap (λ ls. lines_of so.dids ++ ls) (ap (filter (is_short longest)) (next_line rest line after more cut one) ∙ kept longest line (whole_lines (after ++ more)) short)
+      ∙ sym (append_assoc (lines_of so.dids) (line ∷ []) (short_lines longest (after ++ more))) ∙ ap (λ ls. ls ++ short_lines longest (after ++ more)) (sym (lines_append so.dids (did ∷ [])));
   facts = takes.facts ∙ ap (λ x. x ++ lines_text takes.lines) so.facts ∙ append_assoc f0 (lines_text (facts_of so.dids)) (lines_text takes.lines)
       ∙ ap (λ x. f0 ++ x) (sym (text_append (facts_of so.dids) takes.lines) ∙ ap lines_text (ap (λ x. facts_of so.dids ++ x) (sym (append-nil takes.lines)) ∙ sym (facts_append so.dids (did ∷ []))));
   told = takes.told ∙ ap (λ x. x ++ takes.text) so.told ∙ append_assoc t0 (told_of so.dids) takes.text

@@ -33,13 +33,13 @@ pub record Takes {M : Type 0} (steps : M → List ℕ → List (List ℕ) → Li
   pub told : told_after ≡ told_before ++ text
   pub opened : are_batch_lines lines ≡ true
 
--- Steps took the lines of the text before the rest, but for those that are too long: what they gave was appended. Whatever
+-- Steps took the lines of the text before the rest, but for those that are longer: what they gave was appended. Whatever
 -- comes behind the text, the lines that are not taken yet are those of the rest with it.
-pub record Took {M : Type 0} (steps : M → List ℕ → List (List ℕ) → List ℕ → M → Type 0) (old : M) (text rest facts_before facts_after told_before told_after : List ℕ) (new : M) : Type 0 where
+pub record Took {M : Type 0} (longest : ℕ) (steps : M → List ℕ → List (List ℕ) → List ℕ → M → Type 0) (old : M) (text rest facts_before facts_after told_before told_after : List ℕ) (new : M) : Type 0 where
   pub dids : List Did
   pub runs : Runs steps old dids new
   pub front : List ℕ
   pub cut : text ≡ front ++ rest
-  pub took : (more : List ℕ) → short_lines (text ++ more) ≡ lines_of dids ++ short_lines (rest ++ more)
+  pub took : (more : List ℕ) → short_lines longest (text ++ more) ≡ lines_of dids ++ short_lines longest (rest ++ more)
   pub facts : facts_after ≡ facts_before ++ lines_text (facts_of dids)
   pub told : told_after ≡ told_before ++ told_of dids

@@ -1,6 +1,6 @@
 //! The loop: lines are taken, their facts are synced, and then what rests on them is shown.
 
-ghost use Rattle.std.specs.Prelude.{◌≡◌, ◌⊎◌, ◌+◌, ◌++◌, ◌≤◌, ℕ, List, [], length, replicate, IfOk, IfSome, OnOk};
+ghost use Rattle.std.specs.Prelude.{◌≡◌, ◌⊎◌, ◌+◌, ◌++◌, ◌≤◌, ℕ, List, [], length, min, replicate, IfOk, IfSome, OnOk};
 ghost use Rattle.std.specs.Io.{ReadsAtMost};
 ghost use Rattle.std.specs.Io.KnownBytes.{ReadConsumes};
 ghost use Rattle.gq_journal.specs.Batches.{Line, whole_lines, batches_of};
@@ -17,7 +17,6 @@ use crate::renewing::renew_if_due;
 use crate::{Disk, Fault, Lasting, Log, Machine, Output};
 use gq_journal::first_whole_line;
 use gq_memory::{GrowCopies, OutOfMemory, slice_copied};
-use gq_wire::MOST_LINE;
 use std::alloc::Global;
 use std::io;
 use std::io::Read;
@@ -25,19 +24,20 @@ use std::io::Read;
 // The most bytes of one read.
 const MOST_READ: usize = 65_536;
 
-// Takes the lines of the text, but for those that are too long, and answers what is behind them.
+// Takes the lines of the text, but for those that are longer, and answers what is behind them.
 fn take_lines<'x, M: Machine>(
+    longest: usize,
     machine: &mut M,
     text: &'x [u8],
     facts: &mut Vec<u8>,
     told: &mut Vec<u8>,
 ) -> Result<&'x [u8], Fault>
-    ensures took { IfOk result (λ rest. Took M.steps machine.old text.now rest.now facts.old.items facts.new.items told.old.items told.new.items machine.new) }
+    ensures took { IfOk result (λ rest. Took longest M.steps machine.old text.now rest.now facts.old.items facts.new.items told.old.items told.new.items machine.new) }
     ensures rest { IfOk result (λ rest. whole_lines rest.now ≡ []) }
 {
     let mut rest = text;
     while let Some((line, after)) = first_whole_line(rest) {
-        if line.len() <= MOST_LINE {
+        if line.len() <= longest {
             machine.take(line, facts, told)?;
         }
         rest = after;
@@ -49,6 +49,7 @@ fn take_lines<'x, M: Machine>(
 /// shown what they told. Answers what is behind the lines. Lines without facts leave the journal alone.
 pub fn take_text<'x, M: Lasting, L: Log, O: Output>(
     alloc: Global,
+    longest: usize,
     machine: &mut M,
     log: &mut L,
     out: &mut O,
@@ -59,11 +60,11 @@ pub fn take_text<'x, M: Lasting, L: Log, O: Output>(
     requires restarts { Restarts M.recalls M.blank M.rests (last_plan [] (batches_of (L.synced log.old))) machine.old (L.synced log.old) }
     requires may { (last : M) (lines : List Line) (synced shown : List ℕ) → Durable M.steps M.recalls M.blank M.rests machine.old last (last_plan [] (batches_of (L.synced log.old))) lines (O.shown out.old) synced shown → O.allows synced shown }
     ensures sealed { OnOk result (AllSealed (L.seen log.new) (L.synced log.new) number.new) }
-    ensures durable { OnOk result (Durable M.steps M.recalls M.blank M.rests machine.old machine.new (last_plan [] (batches_of (L.synced log.old))) (short_lines text.now) (O.shown out.old) (L.synced log.new) (O.shown out.new)) }
+    ensures durable { OnOk result (Durable M.steps M.recalls M.blank M.rests machine.old machine.new (last_plan [] (batches_of (L.synced log.old))) (short_lines longest text.now) (O.shown out.old) (L.synced log.new) (O.shown out.new)) }
     ensures idle { OnOk result (L.synced log.new ≡ L.synced log.old → log.new ≡ log.old) }
     ensures rest { IfOk result (λ rest. (front : List ℕ) × (text.now ≡ front ++ rest.now)) }
     ensures left { IfOk result (λ rest. whole_lines rest.now ≡ []) }
-    ensures behind { IfOk result (λ rest. (more : List ℕ) → short_lines (text.now ++ more) ≡ short_lines text.now ++ short_lines (rest.now ++ more)) }
+    ensures behind { IfOk result (λ rest. (more : List ℕ) → short_lines longest (text.now ++ more) ≡ short_lines longest text.now ++ short_lines longest (rest.now ++ more)) }
     ensures crash { Elapses (L.instant log.old) (L.instant log.new) (L.left_since log.old) (L.left_since log.new)
         (RestartsAsEither M.steps M.recalls M.blank M.rests (last_plan [] (batches_of (L.synced log.old))) machine.old machine.new) }
 {
@@ -71,7 +72,7 @@ pub fn take_text<'x, M: Lasting, L: Log, O: Output>(
     let _number = *number;
     let mut facts = Vec::new(alloc);
     let mut told = Vec::new(alloc);
-    let rest = take_lines(machine, text, &mut facts, &mut told)?;
+    let rest = take_lines(longest, machine, text, &mut facts, &mut told)?;
     keep(log, number, &mut facts)?;
     out.show(log, told.as_slice())?;
     Ok(rest)
@@ -86,14 +87,21 @@ fn zeros(alloc: Global, count: usize) -> Result<Vec<u8>, OutOfMemory>
     Ok(zeros)
 }
 
+// How many of so many bytes have to be kept: of what is too long for a line as many as show it.
+fn kept_count(longest: usize, count: usize) -> usize
+    ensures { result ≡ min count (longest + 1) }
+{
+    if count > longest { longest + 1 } else { count }
+}
+
 // What has to be kept of the end of a text, of which no newline is left: of what is too long for a line as much as shows it.
-fn kept_end(alloc: Global, end: &[u8]) -> Result<Vec<u8>, OutOfMemory>
+fn kept_end(alloc: Global, longest: usize, end: &[u8]) -> Result<Vec<u8>, OutOfMemory>
     requires { whole_lines end.now ≡ [] }
     ensures none { IfOk result (λ kept. whole_lines kept.items ≡ []) }
-    ensures same { IfOk result (λ kept. (more : List ℕ) → short_lines (kept.items ++ more) ≡ short_lines (end.now ++ more)) }
-    ensures small { IfOk result (λ kept. length kept.items ≤ MOST_LINE + 1) }
+    ensures same { IfOk result (λ kept. (more : List ℕ) → short_lines longest (kept.items ++ more) ≡ short_lines longest (end.now ++ more)) }
+    ensures small { IfOk result (λ kept. length kept.items ≤ longest + 1) }
 {
-    let kept = slice_copied(alloc, &end[..end.len().min(MOST_LINE + 1)])?;
+    let kept = slice_copied(alloc, &end[..kept_count(longest, end.len())])?;
     Ok(kept)
 }
 
@@ -112,11 +120,12 @@ fn read_some<R: Read>(input: &mut R, block: &mut [u8]) -> Result<usize, Fault>
     Err(Fault::Read)
 }
 
-/// Takes the lines of the input to its end. At each write to the output, `O.allows` is all that is known of what may be shown; the
+/// Takes the lines of the input to its end, but for those that are longer, of which no more is held than shows it. At each write to the output, `O.allows` is all that is known of what may be shown; the
 /// premise `may` says that it is allowed where it is durable: what is shown is what steps told, and a start from what is synced
 /// reads the machine that they left. Whenever it is killed, a start reads a machine that steps left.
 pub fn serve<M: Lasting, R: Read, D: Disk, O: Output>(
     alloc: Global,
+    longest: usize,
     machine: &mut M,
     plan: &[u8],
     input: &mut R,
@@ -129,7 +138,7 @@ pub fn serve<M: Lasting, R: Read, D: Disk, O: Output>(
     requires restarts { Restarts M.recalls M.blank M.rests (whole_lines plan.now) machine.old (D.synced disk.old) }
     requires may { (last : M) (lines : List Line) (synced shown : List ℕ) → Durable M.steps M.recalls M.blank M.rests machine.old last (whole_lines plan.now) lines (O.shown out.old ++ first_text) synced shown → O.allows synced shown }
     ensures durable { OnOk result ((taken : List ℕ) × IfSome (R.remaining input.old) (λ all. all ≡ taken)
-        × Durable M.steps M.recalls M.blank M.rests machine.old machine.new (whole_lines plan.now) (short_lines taken) (O.shown out.old ++ first_text) (D.synced disk.new) (O.shown out.new)) }
+        × Durable M.steps M.recalls M.blank M.rests machine.old machine.new (whole_lines plan.now) (short_lines longest taken) (O.shown out.old ++ first_text) (D.synced disk.new) (O.shown out.new)) }
     ensures any_time { (left : List ℕ) → D.left_since disk.new (D.instant disk.old) left → RestartsAsOne M.steps M.recalls M.blank M.rests (whole_lines plan.now) machine.old left }
 {
     let mut number = first;
@@ -143,8 +152,8 @@ pub fn serve<M: Lasting, R: Read, D: Disk, O: Output>(
             return Ok(());
         }
         held.grow_by(&block[..count])?;
-        let rest = take_text(alloc, machine, disk, out, &mut number, held.as_slice())?;
-        held = kept_end(alloc, rest)?;
+        let rest = take_text(alloc, longest, machine, disk, out, &mut number, held.as_slice())?;
+        held = kept_end(alloc, longest, rest)?;
         renew_if_due(alloc, machine, plan, disk, &mut number, &mut due)?;
     }
     Err(Fault::Read)

@@ -19,6 +19,9 @@ pub enum Lived {
     Another,
 }
 
+/// The most bytes of a line.
+pub const LONGEST: usize = 4_095;
+
 /// Writes a first journal.
 pub fn begin<D: Disk, P: Plan>(alloc: Global, disk: &mut D, plan: &P) -> Result<u64, Fault>
     requires { IsPlan (P.text plan.now) }
@@ -43,6 +46,7 @@ pub fn live<D: Disk, P: Plan, R: Read, O: Output>(
         Started::Ready(reading) => {
             serve(
                 alloc,
+                LONGEST,
                 register,
                 plan.text(),
                 input,

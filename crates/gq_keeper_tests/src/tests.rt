@@ -282,8 +282,8 @@ fn long_line(rt: &impl Abort, alloc: Global, c: u8, count: usize) -> Vec<u8> {
 #[test]
 fn passes_over_lines_that_are_too_long(rt: HostRuntime) {
     let alloc = rt.alloc();
-    let longest = long_line(&rt, alloc, b'a', 4_095);
-    let longer = long_line(&rt, alloc, b'b', 4_096);
+    let longest = long_line(&rt, alloc, b'a', LONGEST);
+    let longer = long_line(&rt, alloc, b'b', LONGEST + 1);
     let long = long_line(&rt, alloc, b'c', 20_000);
     let last = long_line(&rt, alloc, b'd', 100);
     let text = joined(

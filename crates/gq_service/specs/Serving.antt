@@ -7,6 +7,7 @@ use Rattle.gq_keeper.specs.Lines.{short_lines}
 use Rattle.gq_keeper.specs.Plans.{is_of}
 use Rattle.gq_keeper.specs.Starting.{RecallsAll, IsDamaged, facts_read}
 use Rattle.gq_node.specs.Tables.{Tables}
+use Rattle.gq_wire.specs.Incoming.{longest_line}
 use Rattle.gq_parts.specs.Resting.{IsNewNode}
 use Rattle.gq_machine.specs.declared.machine.NodeMachine.{NodeMachine}
 use Rattle.gq_machine.specs.Machines.{tables_of, MachineSteps, MachineRecalls, MachineIsBlank, MachineRests}
@@ -61,7 +62,7 @@ pub record IsDurable (number : ℕ) (base synced shown : List ℕ) : Type 0 wher
 pub record ServesInput (setup : Setup) (number : ℕ) (journal : List ℕ) (input : Option (List ℕ)) (base synced shown : List ℕ) : Type 0 where
   pub bytes : List ℕ
   pub all : IfSome input (λ known. known ≡ bytes)
-  pub serves : Serves setup number journal (short_lines bytes) base synced shown
+  pub serves : Serves setup number journal (short_lines (longest_line setup.plan) bytes) base synced shown
 
 -- at the end of the input: the same, by some plan and journal
 pub record ServesSomehow (number : ℕ) (input : Option (List ℕ)) (base shown : List ℕ) : Type 0 where

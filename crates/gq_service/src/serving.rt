@@ -16,6 +16,7 @@ use crate::new_node::new_node;
 use crate::this_node::ThisNode;
 use gq_keeper::{Disk, Fault, Output, Plan, Started, renew, serve, start};
 use gq_machine::NodeMachine;
+use gq_wire::longest_line;
 use std::alloc::Global;
 use std::io::Read;
 
@@ -131,7 +132,17 @@ fn serve_machine<D: Disk, I: Read, O: Output, C: Console>(
 {
     let number = begin_or_go_on(alloc, node, is_new, console, machine, disk)?;
     tell_ready(console, node, machine.facts);
-    serve(alloc, machine, node.plan.text(), input, disk, out, number)?;
+    let longest = longest_line(node.plan.setup().plan());
+    serve(
+        alloc,
+        longest,
+        machine,
+        node.plan.text(),
+        input,
+        disk,
+        out,
+        number,
+    )?;
     Ok(())
 }
 

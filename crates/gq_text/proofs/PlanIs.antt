@@ -3,7 +3,7 @@ use Rattle.std.proofs.Common.{◌≡◌, ◌∙◌, ℕ, ◌+◌, ◌*◌, ◌<�
 use Rattle.std.specs.Prelude.{◌==◌, not, nat_le, nat_lt, codes, slice_get, unwrap_or}
 use Rattle.std.specs.List.{list_any, list_all}
 use Rattle.std.specs.Str.{bytes_eq}
-use Rattle.std.proofs.lemmas.Bool.{leb-true, leb-false, ltb-false, eqb-false, not-false, and_parts}
+use Rattle.std.proofs.lemmas.Bool.{leb-true, leb-false, le-leb, ltb-false, eqb-false, not-false, and_parts}
 use Rattle.std.proofs.lemmas.Nat.{mul-le}
 use Rattle.std.proofs.lemmas.Option.{slice_get-get_or}
 use Rattle.gq_grid.specs.declared.TheConstants.{MOST_SIDE}
@@ -11,16 +11,17 @@ use Rattle.gq_grid.specs.Grid.{Grid, is_side}
 use Rattle.gq_grid.specs.declared.GridFault.TheVariants.{Rows as RowsFault, Cols as ColsFault}
 use Rattle.gq_desk.specs.Plans.{is_of, is_in, is_named, shares, number_fault, row_fault, rows_fault, table_fault, plan_fault}
 use Rattle.gq_desk.specs.CheckedPlan.{CheckedPlan, nobody, row_at}
-use Rattle.gq_desk.specs.declared.limits.TheConstants.{MOST_TENANTS, MOST_BLOCKS, MOST_SESSIONS, MOST_STEPS}
+use Rattle.gq_desk.specs.declared.limits.TheConstants.{MOST_TENANTS, MOST_BLOCKS, MOST_FILE_BLOCKS, MOST_SESSIONS, MOST_STEPS}
 use Rattle.gq_desk.specs.declared.plans.TenantRow.{TenantRow}
 use Rattle.gq_desk.specs.declared.plans.PlanFault.{PlanFault}
-use Rattle.gq_desk.specs.declared.plans.PlanFault.TheVariants.{TooMany, SameName, NoTenant, OverBlocks, ZeroShare, Sessions, Steps}
+use Rattle.gq_desk.specs.declared.plans.PlanFault.TheVariants.{TooMany, SameName, NoTenant, OverBlocks, ZeroShare, Sessions, Steps, Most}
 use Rattle.gq_desk.proofs.SoundRows.{or_none, unless_none, row_numbers}
+use Rattle.gq_text.specs.declared.plan_text.TheConstants.{BLOCKS_WITHOUT_ROOM}
 use Rattle.gq_text.specs.declared.plan_text.TextFault.{TextFault}
 use Rattle.gq_text.specs.declared.plan_text.TextFault.TheVariants.{Form, Grid as GridFault, Blocks}
 use Rattle.gq_text.specs.Words.{Word, words_of}
 use Rattle.gq_text.specs.Input.{one_number_of, two_numbers_of}
-use Rattle.gq_text.specs.PlanText.{at_line, line_at, grid_from, grid_told, blocks_from, blocks_told, row_told, row_then, rows_from, checked, plan_of}
+use Rattle.gq_text.specs.PlanText.{at_line, line_at, grid_from, grid_told, blocks_from, blocks_told, is_room, row_told, row_then, rows_from, checked, plan_of}
 use Rattle.gq_text.specs.Canonical.{IsPlan}
 use Rattle.gq_text.proofs.PlanNames.{ok_same, row_named, row_and_rest, then_read_ok, unless_ok}
 
@@ -55,35 +56,45 @@ unfolding grid_told
 sides_told [] grid is = cc
 sides_told (verb ∷ words) grid is = grid_is (two_numbers_of words) grid (if_fault (bytes_eq verb (codes "grid")) (grid_from (two_numbers_of words)) Form grid is).1
 
-blocks_are : (o : Option ℕ) (blocks : ℕ) → blocks_from o ≡ Ok blocks → is_in 1 MOST_BLOCKS blocks ≡ true
-blocks_are None blocks is = cc
-blocks_are (Some n) blocks is =
-    let told = if_fault (is_in 1 MOST_BLOCKS n) (Ok n) Blocks blocks is in
+blocks_are : (most : ℕ) (o : Option ℕ) (blocks : ℕ) → blocks_from most o ≡ Ok blocks → is_in 1 most blocks ≡ true
+blocks_are most None blocks is = cc
+blocks_are most (Some n) blocks is =
+    let told = if_fault (is_in 1 most n) (Ok n) Blocks blocks is in
     let same : n ≡ blocks = got_same told.1 in
-    let P : ℕ → Type 0 = λ m. is_in 1 MOST_BLOCKS m ≡ true in
+    let P : ℕ → Type 0 = λ m. is_in 1 most m ≡ true in
     subst P same told.0
+
+wider : (blocks : ℕ) → is_in 1 BLOCKS_WITHOUT_ROOM blocks ≡ true → is_in 1 MOST_BLOCKS blocks ≡ true
+wider blocks is =
+    let parts = and_parts (nat_le 1 blocks) (nat_le blocks BLOCKS_WITHOUT_ROOM) is in
+    let bound = leb-true blocks BLOCKS_WITHOUT_ROOM parts.1 in
+    rw (parts.0, le-leb blocks MOST_BLOCKS (omega (arith, bound))) refl
 
 number_told : (words : List Word) (blocks : ℕ) → blocks_told words ≡ Ok blocks → is_in 1 MOST_BLOCKS blocks ≡ true
 unfolding blocks_told
 number_told [] blocks is = cc
-number_told (verb ∷ words) blocks is = blocks_are (one_number_of words) blocks (if_fault (bytes_eq verb (codes "blocks")) (blocks_from (one_number_of words)) Form blocks is).1
+number_told (verb ∷ words) blocks is = by (bytes_eq verb (codes "blocks")) is
+  where
+    by : (b : Bool) → cond b (blocks_from BLOCKS_WITHOUT_ROOM (one_number_of words)) (cond (bytes_eq verb (codes "room")) (blocks_from MOST_BLOCKS (one_number_of words)) (Err Form)) ≡ Ok blocks → is_in 1 MOST_BLOCKS blocks ≡ true
+    by true here = wider blocks (blocks_are BLOCKS_WITHOUT_ROOM (one_number_of words) blocks here)
+    by false later = blocks_are MOST_BLOCKS (one_number_of words) blocks (if_fault (bytes_eq verb (codes "room")) (blocks_from MOST_BLOCKS (one_number_of words)) Form blocks later).1
 
 -- ---- the rows
 
-all_named : (n : ℕ) (lines rest : List (List ℕ)) (rows : List TenantRow) → rows_from n lines ≡ Ok (rows, rest) → list_all is_named rows ≡ true
-all_named n [] rest rows is = cc
-all_named n (line ∷ lines) rest rows is = by (bytes_eq line (codes "go")) is (λ more. all_named (n + 1) lines rest more)
+all_named : (room : Bool) (n : ℕ) (lines rest : List (List ℕ)) (rows : List TenantRow) → rows_from room n lines ≡ Ok (rows, rest) → list_all is_named rows ≡ true
+all_named room n [] rest rows is = cc
+all_named room n (line ∷ lines) rest rows is = by (bytes_eq line (codes "go")) is (λ more. all_named room (n + 1) lines rest more)
   where
     P : List TenantRow → Type 0
     P rs = list_all is_named rs ≡ true
 
-    by : (b : Bool) → cond b (Ok ([], lines)) (row_then n (row_told (words_of line)) (rows_from (n + 1) lines)) ≡ Ok (rows, rest) → ((more : List TenantRow) → rows_from (n + 1) lines ≡ Ok (more, rest) → P more) → P rows
+    by : (b : Bool) → cond b (Ok ([], lines)) (row_then n (row_told room (words_of line)) (rows_from room (n + 1) lines)) ≡ Ok (rows, rest) → ((more : List TenantRow) → rows_from room (n + 1) lines ≡ Ok (more, rest) → P more) → P rows
     by true here later =
         let same : [] ≡ rows = ap (λ x. x.0) (ok_same here) in
         subst P same refl
     by false there later =
-        let r = row_and_rest n (row_told (words_of line)) (rows_from (n + 1) lines) rows rest there in
-        let named = row_named (words_of line) r.0 r.2 in
+        let r = row_and_rest n (row_told room (words_of line)) (rows_from room (n + 1) lines) rows rest there in
+        let named = row_named room (words_of line) r.0 r.2 in
         subst P (sym r.4) (rw (named, later r.1 r.3) refl)
 
 few_rows : (before rows : List TenantRow) → length before ≤ MOST_TENANTS → rows_fault before rows ≡ None → length before + length rows ≤ MOST_TENANTS
@@ -105,7 +116,7 @@ plan_is lines rest plan is =
     let grid = then_read_ok (at_line 1 (grid_told (words_of first.0.0))) _ (plan, rest) first.2 in
     let second = then_read_ok (line_at 2 first.0.1) _ (plan, rest) grid.2 in
     let blocks = then_read_ok (at_line 2 (blocks_told (words_of second.0.0))) _ (plan, rest) second.2 in
-    let rows = then_read_ok (rows_from 3 second.0.1) _ (plan, rest) blocks.2 in
+    let rows = then_read_ok (rows_from (is_room (words_of second.0.0)) 3 second.0.1) _ (plan, rest) blocks.2 in
     let made = then_read_ok (checked grid.0 blocks.0 rows.0.0) _ (plan, rest) rows.2 in
     let sound = unless_ok (plan_fault blocks.0 rows.0.0) (record { grid = grid.0; blocks = blocks.0; rows = rows.0.0 }) made.0 made.1 in
     let same : made.0 ≡ plan = ap (λ x. x.0) (ok_same made.2) in
@@ -125,7 +136,7 @@ plan_is lines rest plan is =
         few = omega (arith, few);
         least = leb-true 1 blocks.0 range.0;
         bound = leb-true blocks.0 MOST_BLOCKS range.1;
-        named = all_named 3 second.0.1 rows.0.1 rows.0.0 rows.1;
+        named = all_named (is_room (words_of second.0.0)) 3 second.0.1 rows.0.1 rows.0.0 rows.1;
         within = ltb-false blocks.0 (shares rows.0.0) within.0;
         fault = sound.0;
       };
@@ -140,10 +151,11 @@ pub record RowFits (row : TenantRow) : Type 0 where
 
 row_fits : (place : ℕ) (row : TenantRow) → number_fault place row ≡ None → RowFits row
 row_fits place row none =
-    let late : Option PlanFault = cond (not (is_in 1 MOST_STEPS row.steps)) (Some (Steps place)) None in
+    let last : Option PlanFault = cond (not (is_in 1 MOST_FILE_BLOCKS row.most_blocks)) (Some (Most place)) None in
+    let late : Option PlanFault = cond (not (is_in 1 MOST_STEPS row.steps)) (Some (Steps place)) last in
     let share_on = unless_none (row.share == 0) (ZeroShare place) (cond (not (is_in 1 MOST_SESSIONS row.sessions)) (Some (Sessions place)) late) none in
     let sessions = unless_none (not (is_in 1 MOST_SESSIONS row.sessions)) (Sessions place) late share_on.1 in
-    let steps = unless_none (not (is_in 1 MOST_STEPS row.steps)) (Steps place) None sessions.1 in
+    let steps = unless_none (not (is_in 1 MOST_STEPS row.steps)) (Steps place) last sessions.1 in
     record {
       sessions = leb-true row.sessions MOST_SESSIONS (and_parts (nat_le 1 row.sessions) (nat_le row.sessions MOST_SESSIONS) (not-false (is_in 1 MOST_SESSIONS row.sessions) sessions.0)).1;
       steps = leb-true row.steps MOST_STEPS (and_parts (nat_le 1 row.steps) (nat_le row.steps MOST_STEPS) (not-false (is_in 1 MOST_STEPS row.steps) steps.0)).1;

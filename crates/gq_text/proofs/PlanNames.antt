@@ -11,7 +11,8 @@ use Rattle.gq_desk.specs.declared.plans.PlanFault.{PlanFault}
 use Rattle.gq_desk.proofs.SoundRows.{or_none, found, row_found}
 use Rattle.gq_text.specs.Words.{Word, words_of, number_of}
 use Rattle.gq_text.specs.Input.{◌>>=◌, place_named}
-use Rattle.gq_text.specs.PlanText.{Reading, then_read, at_line, line_at, grid_told, blocks_told, row_told, row_then, rows_from, plan_unless, checked, plan_of}
+use Rattle.gq_text.specs.declared.plan_text.TheConstants.{FILE_BLOCKS_WITHOUT_ROOM}
+use Rattle.gq_text.specs.PlanText.{Reading, then_read, at_line, line_at, grid_told, blocks_told, is_room, row_from, row_told, row_then, rows_from, plan_unless, checked, plan_of}
 
 -- ---- the rows of lines are named
 
@@ -32,22 +33,34 @@ then_some (Some x) next y is = (x, refl, is)
 some_same : {x y : TenantRow} → Some x ≡ Some y → x ≡ y
 some_same is = cc
 
-pub row_named : (words : List Word) (row : TenantRow) → row_told words ≡ Some row → is_name row.name ≡ true
-unfolding row_told
-row_named [] row is = cc
-row_named (verb ∷ []) row is = cc
-row_named (verb ∷ name ∷ []) row is = cc
-row_named (verb ∷ name ∷ a ∷ []) row is = cc
-row_named (verb ∷ name ∷ a ∷ b ∷ []) row is = cc
-row_named (verb ∷ name ∷ a ∷ b ∷ c ∷ []) row is =
+from_named : (verb name a b c : Word) (most : Option ℕ) (row : TenantRow) → row_from verb name a b c most ≡ Some row → is_name row.name ≡ true
+from_named verb name a b c most row is =
     let one = if_some (bytes_eq verb (codes "tenant") && is_name name) _ row is in
     let share = then_some (number_of a) _ row one.1 in
     let sessions = then_some (number_of b) _ row share.2 in
     let steps = then_some (number_of c) _ row sessions.2 in
-    let same : name ≡ row.name = ap (λ (r : TenantRow). r.name) (some_same steps.2) in
+    let blocks = then_some most _ row steps.2 in
+    let same : name ≡ row.name = ap (λ (r : TenantRow). r.name) (some_same blocks.2) in
     let P : Word → Type 0 = λ n. is_name n ≡ true in
     subst P same (and_true (bytes_eq verb (codes "tenant")) (is_name name) one.0).1
-row_named (verb ∷ name ∷ a ∷ b ∷ c ∷ d ∷ words) row is = cc
+
+pub row_named : (room : Bool) (words : List Word) (row : TenantRow) → row_told room words ≡ Some row → is_name row.name ≡ true
+unfolding row_told
+row_named false [] row is = cc
+row_named false (verb ∷ []) row is = cc
+row_named false (verb ∷ name ∷ []) row is = cc
+row_named false (verb ∷ name ∷ a ∷ []) row is = cc
+row_named false (verb ∷ name ∷ a ∷ b ∷ []) row is = cc
+row_named false (verb ∷ name ∷ a ∷ b ∷ c ∷ []) row is = from_named verb name a b c (Some FILE_BLOCKS_WITHOUT_ROOM) row is
+row_named false (verb ∷ name ∷ a ∷ b ∷ c ∷ d ∷ words) row is = cc
+row_named true [] row is = cc
+row_named true (verb ∷ []) row is = cc
+row_named true (verb ∷ name ∷ []) row is = cc
+row_named true (verb ∷ name ∷ a ∷ []) row is = cc
+row_named true (verb ∷ name ∷ a ∷ b ∷ []) row is = cc
+row_named true (verb ∷ name ∷ a ∷ b ∷ c ∷ []) row is = cc
+row_named true (verb ∷ name ∷ a ∷ b ∷ c ∷ most ∷ []) row is = from_named verb name a b c (number_of most) row is
+row_named true (verb ∷ name ∷ a ∷ b ∷ c ∷ most ∷ d ∷ words) row is = cc
 
 pub ok_same : {A : Type 0} {x y : A} → ◌≡◌ {A = Reading A} (Ok x) (Ok y) → x ≡ y
 ok_same is = cc
@@ -63,27 +76,27 @@ row_and_rest n (Some row) (Err fault) rows rest is = cc
 none_there : (t : ℕ) (row : TenantRow) → slice_get [] t ≡ Some row → ⊥
 none_there t row is = cc
 
-rows_named : (n : ℕ) (lines rest : List (List ℕ)) (rows : List TenantRow) (t : ℕ) (row : TenantRow) → rows_from n lines ≡ Ok (rows, rest) → slice_get rows t ≡ Some row → is_name row.name ≡ true
-rows_named n [] rest rows t row is at = cc
-rows_named n (line ∷ lines) rest rows t row is at = by (bytes_eq line (codes "go")) is (λ more t. rows_named (n + 1) lines rest more t row)
+rows_named : (room : Bool) (n : ℕ) (lines rest : List (List ℕ)) (rows : List TenantRow) (t : ℕ) (row : TenantRow) → rows_from room n lines ≡ Ok (rows, rest) → slice_get rows t ≡ Some row → is_name row.name ≡ true
+rows_named room n [] rest rows t row is at = cc
+rows_named room n (line ∷ lines) rest rows t row is at = by (bytes_eq line (codes "go")) is (λ more t. rows_named room (n + 1) lines rest more t row)
   where
     Named : List TenantRow → ℕ → Type 0
-    Named more t = rows_from (n + 1) lines ≡ Ok (more, rest) → slice_get more t ≡ Some row → is_name row.name ≡ true
+    Named more t = rows_from room (n + 1) lines ≡ Ok (more, rest) → slice_get more t ≡ Some row → is_name row.name ≡ true
 
-    one : (first : TenantRow) (more : List TenantRow) (t : ℕ) → row_told (words_of line) ≡ Some first → rows_from (n + 1) lines ≡ Ok (more, rest) → slice_get (first ∷ more) t ≡ Some row → ((more : List TenantRow) (t : ℕ) → Named more t) → is_name row.name ≡ true
+    one : (first : TenantRow) (more : List TenantRow) (t : ℕ) → row_told room (words_of line) ≡ Some first → rows_from room (n + 1) lines ≡ Ok (more, rest) → slice_get (first ∷ more) t ≡ Some row → ((more : List TenantRow) (t : ℕ) → Named more t) → is_name row.name ≡ true
     one first more zero first_is more_is at later =
         let same : first ≡ row = cc in
         let P : TenantRow → Type 0 = λ r. is_name r.name ≡ true in
-        subst P same (row_named (words_of line) first first_is)
+        subst P same (row_named room (words_of line) first first_is)
     one first more (suc t) first_is more_is at later = later more t more_is at
 
-    by : (b : Bool) → cond b (Ok ([], lines)) (row_then n (row_told (words_of line)) (rows_from (n + 1) lines)) ≡ Ok (rows, rest) → ((more : List TenantRow) (t : ℕ) → Named more t) → is_name row.name ≡ true
+    by : (b : Bool) → cond b (Ok ([], lines)) (row_then n (row_told room (words_of line)) (rows_from room (n + 1) lines)) ≡ Ok (rows, rest) → ((more : List TenantRow) (t : ℕ) → Named more t) → is_name row.name ≡ true
     by true here later =
         let same : [] ≡ rows = ap (λ x. x.0) (ok_same here) in
         let P : List TenantRow → Type 0 = λ rs. slice_get rs t ≡ Some row in
         absurd (none_there t row (subst P (sym same) at))
     by false there later =
-        let r = row_and_rest n (row_told (words_of line)) (rows_from (n + 1) lines) rows rest there in
+        let r = row_and_rest n (row_told room (words_of line)) (rows_from room (n + 1) lines) rows rest there in
         let P : List TenantRow → Type 0 = λ rs. slice_get rs t ≡ Some row in
         one r.0 r.1 t r.2 r.3 (subst P r.4 at) later
 
@@ -99,9 +112,10 @@ unless_ok (Some fault) made plan is = cc
 
 -- the rows of an accepted plan: they are those of some lines, and have no fault
 pub record Rows (rows : List TenantRow) : Type 0 where
+  pub room : Bool
   pub lines : List (List ℕ)
   pub rest : List (List ℕ)
-  pub read : rows_from 3 lines ≡ Ok (rows, rest)
+  pub read : rows_from room 3 lines ≡ Ok (rows, rest)
   pub sound : rows_fault [] rows ≡ None
 
 pub rows_of_plan : (lines rest : List (List ℕ)) (plan : CheckedPlan) → plan_of lines ≡ Ok (plan, rest) → Rows plan.rows
@@ -111,12 +125,13 @@ rows_of_plan lines rest plan is =
     let grid = then_read_ok (at_line 1 (grid_told (words_of first.0.0))) _ (plan, rest) first.2 in
     let second = then_read_ok (line_at 2 first.0.1) _ (plan, rest) grid.2 in
     let blocks = then_read_ok (at_line 2 (blocks_told (words_of second.0.0))) _ (plan, rest) second.2 in
-    let rows = then_read_ok (rows_from 3 second.0.1) _ (plan, rest) blocks.2 in
+    let rows = then_read_ok (rows_from (is_room (words_of second.0.0)) 3 second.0.1) _ (plan, rest) blocks.2 in
     let made = then_read_ok (checked grid.0 blocks.0 rows.0.0) _ (plan, rest) rows.2 in
     let sound = unless_ok (plan_fault blocks.0 rows.0.0) (record { grid = grid.0; blocks = blocks.0; rows = rows.0.0 }) made.0 made.1 in
     let same : made.0 ≡ plan = ap (λ x. x.0) (ok_same made.2) in
     let rows_same : rows.0.0 ≡ plan.rows = ap (λ (p : CheckedPlan). p.rows) (sound.1 ∙ same) in
     subst Rows rows_same (record {
+      room = is_room (words_of second.0.0);
       lines = second.0.1;
       rest = rows.0.1;
       read = rows.1;
@@ -154,4 +169,4 @@ place_of_row plan sound t row at named =
 pub has_place : (lines rest : List (List ℕ)) (plan : CheckedPlan) (t : ℕ) (row : TenantRow) → plan_of lines ≡ Ok (plan, rest) → slice_get plan.rows t ≡ Some row → HasPlace plan t row
 has_place lines rest plan t row is at =
     let rows = rows_of_plan lines rest plan is in
-    place_of_row plan rows.sound t row at (rows_named 3 rows.lines rows.rest plan.rows t row rows.read at)
+    place_of_row plan rows.sound t row at (rows_named rows.room 3 rows.lines rows.rest plan.rows t row rows.read at)

@@ -93,12 +93,12 @@ fn put_head(out: &mut Vec<u8>, room: bool, plan: &Plan) -> Result<(), OutOfMemor
             Piece::Number(grid.cols() as u64),
         ],
     )?;
-    let verb = if room {
-        b"room".as_slice()
+    let blocks = Piece::Number(u64::from(plan.blocks()));
+    if room {
+        put_line(out, b"room", &[blocks])
     } else {
-        b"blocks".as_slice()
-    };
-    put_line(out, verb, &[Piece::Number(u64::from(plan.blocks()))])
+        put_line(out, b"blocks", &[blocks])
+    }
 }
 
 // Appends the lines of a plan, up to `go`.

@@ -12,7 +12,7 @@ use Rattle.gq_text.specs.Canonical.{IsPlan}
 use Rattle.gq_text.proofs.Numbers.{numbers_read_back}
 use Rattle.gq_text.proofs.Plain.{is_plain, are_plain, is_inner, decimal_plain, line_inner}
 use Rattle.gq_text.proofs.LinesBack.{words_back}
-use Rattle.gq_wire.specs.declared.incoming.TheConstants.{MOST_LINE}
+use Rattle.gq_wire.specs.Incoming.{longest_line}
 use Rattle.gq_wire.specs.declared.incoming.Incoming.TheVariants.{Letter}
 use Rattle.gq_wire.specs.declared.letters.Heading.{Heading}
 use Rattle.gq_wire.specs.Letters.{body_of_words, heading_then, message_from, letter_of_words}
@@ -114,7 +114,7 @@ pub letters_read_back : LettersReadBack
 letters_read_back plan to from m is fits =
     let first : is_plain (decimal to) ≡ true = decimal_plain to fits.to_fits in
     let others : are_plain (decimal from ∷ letter_words plan m) ≡ true = letter_plain plan to from m is fits in
-    let short : nat_lt MOST_LINE (length (letter_text plan to from m)) ≡ false = le-ltb MOST_LINE (length (letter_text plan to from m)) (letter_short plan to from m is fits) in (
+    let short : nat_lt (longest_line plan) (length (letter_text plan to from m)) ≡ false = le-ltb (longest_line plan) (length (letter_text plan to from m)) (letter_short plan to from m is fits) in (
       sym (append_assoc (decimal to) (spaced (decimal from ∷ letter_words plan m)) (10 ∷ [])),
       inner_one (letter_text plan to from m) (line_inner (decimal to) (decimal from ∷ letter_words plan m) first others),
       rw short (ap (incoming_of_words plan to) (letter_words_back plan to from m is fits) ∙ line_back plan to from m is fits),

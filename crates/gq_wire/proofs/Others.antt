@@ -7,7 +7,7 @@ use Rattle.gq_text.specs.Words.{Word, words_of, number_of}
 use Rattle.gq_text.specs.AnswerText.{spaced}
 use Rattle.gq_text.proofs.Numbers.{numbers_read_back}
 use Rattle.gq_text.proofs.Plain.{is_plain, plain_parts}
-use Rattle.gq_wire.specs.declared.incoming.TheConstants.{MOST_LINE}
+use Rattle.gq_wire.specs.Incoming.{longest_line}
 use Rattle.gq_wire.specs.declared.incoming.Incoming.{Incoming}
 use Rattle.gq_wire.specs.declared.incoming.Incoming.TheVariants.{Nothing}
 use Rattle.gq_wire.specs.Texts.{letter_words}
@@ -44,9 +44,9 @@ nothing_at_any_length : (b : Bool) (x : Incoming) → x ≡ Nothing → cond b N
 nothing_at_any_length true x is = refl
 nothing_at_any_length false x is = is
 
-passed_over : (plan : CheckedPlan) (here : ℕ) (line : List ℕ) (to : Word) (more : List Word) → words_of line ≡ to ∷ more → is_to here (number_of to) ≡ false → cond (nat_lt MOST_LINE (length line)) Nothing (incoming_of_words plan here (words_of line)) ≡ Nothing
+passed_over : (plan : CheckedPlan) (here : ℕ) (line : List ℕ) (to : Word) (more : List Word) → words_of line ≡ to ∷ more → is_to here (number_of to) ≡ false → cond (nat_lt (longest_line plan) (length line)) Nothing (incoming_of_words plan here (words_of line)) ≡ Nothing
 passed_over plan here line to more words is =
-    nothing_at_any_length (nat_lt MOST_LINE (length line)) (incoming_of_words plan here (words_of line)) (ap (incoming_of_words plan here) words ∙ to_another plan here to more is)
+    nothing_at_any_length (nat_lt (longest_line plan) (length line)) (incoming_of_words plan here (words_of line)) (ap (incoming_of_words plan here) words ∙ to_another plan here to more is)
 
 pub passes_over : PassesOver
 passes_over = record {

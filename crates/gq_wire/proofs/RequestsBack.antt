@@ -1,8 +1,9 @@
 -- The line of a request is read as that request.
-use Rattle.std.proofs.Common.{◌≡◌, ℕ, ◌+◌, ◌<◌, ◌≤◌, List, [], ◌∷◌, length, Some, None, true, false, refl, ap, ◌∙◌, arith, length-append}
+use Rattle.std.proofs.Common.{◌≡◌, ℕ, ◌+◌, ◌*◌, ◌<◌, ◌≤◌, List, [], ◌∷◌, length, Some, None, true, false, refl, ap, ◌∙◌, arith, length-append}
 use Rattle.std.specs.Prelude.{codes, decimal, nat_le, nat_lt}
 use Rattle.std.specs.List.{list_all}
 use Rattle.std.proofs.lemmas.Bool.{and_parts, eq-eqb, ne_eqb, le-leb, lt-leb, leb-true, le-ltb}
+use Rattle.gq_pool.specs.declared.TheConstants.{BLOCK_BYTES}
 use Rattle.gq_desk.specs.Names.{is_letter, is_name}
 use Rattle.gq_desk.specs.CheckedPlan.{CheckedPlan, row_at}
 use Rattle.gq_model.specs.declared.events.Line.{Line}
@@ -14,13 +15,12 @@ use Rattle.gq_text.proofs.Numbers.{numbers_read_back}
 use Rattle.gq_text.proofs.Plain.{are_plain, decimal_plain, content_plain}
 use Rattle.gq_text.proofs.LinesBack.{words_back}
 use Rattle.gq_text.proofs.EventsBack.{line_of-words}
-use Rattle.gq_wire.specs.declared.incoming.TheConstants.{MOST_LINE}
 use Rattle.gq_wire.specs.declared.incoming.Incoming.TheVariants.{Request, Plan}
 use Rattle.gq_wire.specs.Requests.{request_of, request_words}
-use Rattle.gq_wire.specs.Incoming.{is_only, incoming_of_words}
+use Rattle.gq_wire.specs.Incoming.{is_only, incoming_of_words, longest_line}
 use Rattle.gq_wire.specs.Laws.{FitsRequest, request_text, plan_text, RequestsReadBack, PlansReadBack}
 use Rattle.gq_wire.proofs.ValuesBack.{name_at, name_is_plain, place_back}
-use Rattle.gq_wire.proofs.Lengths.{short_number, short_name, content_length-le, one_more}
+use Rattle.gq_wire.proofs.Lengths.{short_number, short_name, content_length-le, one_more, number_more, fits_longest}
 
 -- ---- a name is no number
 
@@ -48,40 +48,38 @@ name_is_no_number name is =
 
 -- ---- the words
 
-words_plain : (op : ℕ) (line : Line) → FitsRequest op line → are_plain (request_words op line) ≡ true
-words_plain op (Write k v f bytes) fits = rw (decimal_plain k fits.1, decimal_plain op fits.0, decimal_plain v fits.2, decimal_plain f fits.3, content_plain bytes fits.4.0) refl
-words_plain op (Read k v f) fits = rw (decimal_plain k fits.1, decimal_plain op fits.0, decimal_plain v fits.2, decimal_plain f fits.3) refl
-words_plain op (ListFiles k v) fits = rw (decimal_plain k fits.1, decimal_plain op fits.0, decimal_plain v fits.2) refl
-words_plain op (Abandon k) fits = rw (decimal_plain k fits.1, decimal_plain op fits.0) refl
-words_plain op line fits = absurd fits
+words_plain : (blocks op : ℕ) (line : Line) → FitsRequest blocks op line → are_plain (request_words op line) ≡ true
+words_plain blocks op (Write k v f bytes) fits = rw (decimal_plain k fits.1, decimal_plain op fits.0, decimal_plain v fits.2, decimal_plain f fits.3, content_plain bytes fits.4.0) refl
+words_plain blocks op (Read k v f) fits = rw (decimal_plain k fits.1, decimal_plain op fits.0, decimal_plain v fits.2, decimal_plain f fits.3) refl
+words_plain blocks op (ListFiles k v) fits = rw (decimal_plain k fits.1, decimal_plain op fits.0, decimal_plain v fits.2) refl
+words_plain blocks op (Abandon k) fits = rw (decimal_plain k fits.1, decimal_plain op fits.0) refl
+words_plain blocks op line fits = absurd fits
 
-words_back_as : (op : ℕ) (line : Line) → FitsRequest op line → request_of (request_words op line) ≡ Some (op, line)
+words_back_as : (blocks op : ℕ) (line : Line) → FitsRequest blocks op line → request_of (request_words op line) ≡ Some (op, line)
 unfolding request_of
-words_back_as op (Write k v f bytes) fits = rw (numbers_read_back op fits.0, line_of-words (Write k v f bytes) (fits.1, fits.2, fits.3, fits.4.0)) refl
-words_back_as op (Read k v f) fits = rw (numbers_read_back op fits.0, line_of-words (Read k v f) (fits.1, fits.2, fits.3)) refl
-words_back_as op (ListFiles k v) fits = rw (numbers_read_back op fits.0, line_of-words (ListFiles k v) (fits.1, fits.2)) refl
-words_back_as op (Abandon k) fits = rw (numbers_read_back op fits.0, line_of-words (Abandon k) fits.1) refl
-words_back_as op line fits = absurd fits
+words_back_as blocks op (Write k v f bytes) fits = rw (numbers_read_back op fits.0, line_of-words (Write k v f bytes) (fits.1, fits.2, fits.3, fits.4.0)) refl
+words_back_as blocks op (Read k v f) fits = rw (numbers_read_back op fits.0, line_of-words (Read k v f) (fits.1, fits.2, fits.3)) refl
+words_back_as blocks op (ListFiles k v) fits = rw (numbers_read_back op fits.0, line_of-words (ListFiles k v) (fits.1, fits.2)) refl
+words_back_as blocks op (Abandon k) fits = rw (numbers_read_back op fits.0, line_of-words (Abandon k) fits.1) refl
+words_back_as blocks op line fits = absurd fits
 
-no_plan : (op : ℕ) (line : Line) → FitsRequest op line → is_only (codes "plan") (request_words op line) ≡ false
-no_plan op (Write k v f bytes) fits = refl
-no_plan op (Read k v f) fits = refl
-no_plan op (ListFiles k v) fits = refl
-no_plan op (Abandon k) fits = refl
-no_plan op line fits = absurd fits
+no_plan : (blocks op : ℕ) (line : Line) → FitsRequest blocks op line → is_only (codes "plan") (request_words op line) ≡ false
+no_plan blocks op (Write k v f bytes) fits = refl
+no_plan blocks op (Read k v f) fits = refl
+no_plan blocks op (ListFiles k v) fits = refl
+no_plan blocks op (Abandon k) fits = refl
+no_plan blocks op line fits = absurd fits
 
-number_more : (n : ℕ) (words : List Word) (k : ℕ) → IsNumber n → length (spaced words) ≤ k → length (spaced (decimal n ∷ words)) ≤ 11 + k
-number_more n words k fits rest = omega (arith, one_more (decimal n) words 10 k (short_number n fits) rest)
-
-words_short : (op : ℕ) (line : Line) → FitsRequest op line → length (spaced (request_words op line)) ≤ 2099
-words_short op (Write k v f bytes) fits =
-    one_more (codes "write") (decimal k ∷ decimal op ∷ decimal v ∷ decimal f ∷ content_word bytes ∷ []) 5 2093 (omega arith)
-    (number_more k (decimal op ∷ decimal v ∷ decimal f ∷ content_word bytes ∷ []) 2082 fits.1
-    (number_more op (decimal v ∷ decimal f ∷ content_word bytes ∷ []) 2071 fits.0
-    (number_more v (decimal f ∷ content_word bytes ∷ []) 2060 fits.2
-    (number_more f (content_word bytes ∷ []) 2049 fits.3
-    (one_more (content_word bytes) [] 2048 0 (content_length-le bytes fits.4.1) (omega arith))))))
-words_short op (Read k v f) fits =
+words_short : (blocks op : ℕ) (line : Line) → FitsRequest blocks op line → length (spaced (request_words op line)) ≤ 52 + 2 * (BLOCK_BYTES * blocks)
+words_short blocks op (Write k v f bytes) fits =
+    let n : ℕ = BLOCK_BYTES * blocks in
+    let content = one_more (content_word bytes) [] (2 * n + 1) 0 (content_length-le n bytes fits.4.1) (omega arith) in
+    let file = number_more f (content_word bytes ∷ []) (2 + 2 * n) fits.3 (omega (arith, content)) in
+    let volume = number_more v (decimal f ∷ content_word bytes ∷ []) (13 + 2 * n) fits.2 (omega (arith, file)) in
+    let number = number_more op (decimal v ∷ decimal f ∷ content_word bytes ∷ []) (24 + 2 * n) fits.0 (omega (arith, volume)) in
+    let session = number_more k (decimal op ∷ decimal v ∷ decimal f ∷ content_word bytes ∷ []) (35 + 2 * n) fits.1 (omega (arith, number)) in
+    omega (arith, one_more (codes "write") (decimal k ∷ decimal op ∷ decimal v ∷ decimal f ∷ content_word bytes ∷ []) 5 (46 + 2 * n) (omega arith) (omega (arith, session)))
+words_short blocks op (Read k v f) fits =
     omega (
       arith,
       one_more (codes "read") (decimal k ∷ decimal op ∷ decimal v ∷ decimal f ∷ []) 4 44 (omega arith)
@@ -90,7 +88,7 @@ words_short op (Read k v f) fits =
           (number_more v (decimal f ∷ []) 11 fits.2
           (number_more f [] 0 fits.3 (omega arith))))),
     )
-words_short op (ListFiles k v) fits =
+words_short blocks op (ListFiles k v) fits =
     omega (
       arith,
       one_more (codes "list") (decimal k ∷ decimal op ∷ decimal v ∷ []) 4 33 (omega arith)
@@ -98,23 +96,25 @@ words_short op (ListFiles k v) fits =
           (number_more op (decimal v ∷ []) 11 fits.0
           (number_more v [] 0 fits.2 (omega arith)))),
     )
-words_short op (Abandon k) fits =
+words_short blocks op (Abandon k) fits =
     omega (
       arith,
       one_more (codes "abandon") (decimal k ∷ decimal op ∷ []) 7 22 (omega arith)
           (number_more k (decimal op ∷ []) 11 fits.1
           (number_more op [] 0 fits.0 (omega arith))),
     )
-words_short op line fits = absurd fits
+words_short blocks op line fits = absurd fits
 
 -- ---- the line
 
-text_short : (plan : CheckedPlan) (to t op : ℕ) (line : Line) → IsPlan plan → IsNumber to → t < length plan.rows → FitsRequest op line → length (request_text plan to t op line) ≤ MOST_LINE
+text_short : (plan : CheckedPlan) (to t op : ℕ) (line : Line) → IsPlan plan → IsNumber to → t < length plan.rows → FitsRequest (row_at plan t).most_blocks op line → length (request_text plan to t op line) ≤ longest_line plan
 text_short plan to t op line is to_fits within fits =
-    let name = one_more (row_at plan t).name (request_words op line) 16 2099 (short_name (row_at plan t).name (name_at plan t is within)) (words_short op line fits) in
-    omega (arith, length-append (decimal to) (spaced ((row_at plan t).name ∷ request_words op line)), short_number to to_fits, name)
+    let n : ℕ = BLOCK_BYTES * (row_at plan t).most_blocks in
+    let name = one_more (row_at plan t).name (request_words op line) 16 (52 + 2 * n) (short_name (row_at plan t).name (name_at plan t is within)) (words_short (row_at plan t).most_blocks op line fits) in
+    fits_longest plan t (length (request_text plan to t op line))
+    (omega (arith, length-append (decimal to) (spaced ((row_at plan t).name ∷ request_words op line)), short_number to to_fits, name))
 
-line_back : (plan : CheckedPlan) (to t op : ℕ) (line : Line) → IsPlan plan → IsNumber to → t < length plan.rows → FitsRequest op line → incoming_of_words plan to (decimal to ∷ (row_at plan t).name ∷ request_words op line) ≡ Request t op line
+line_back : (plan : CheckedPlan) (to t op : ℕ) (line : Line) → IsPlan plan → IsNumber to → t < length plan.rows → FitsRequest (row_at plan t).most_blocks op line → incoming_of_words plan to (decimal to ∷ (row_at plan t).name ∷ request_words op line) ≡ Request t op line
 unfolding incoming_of_words
 line_back plan to t op line is to_fits within fits =
     rw (
@@ -122,19 +122,19 @@ line_back plan to t op line is to_fits within fits =
       eq-eqb to to refl,
       name_is_no_number (row_at plan t).name (name_at plan t is within),
       place_back plan t is within,
-      no_plan op line fits,
-      words_back_as op line fits,
+      no_plan (row_at plan t).most_blocks op line fits,
+      words_back_as (row_at plan t).most_blocks op line fits,
     ) refl
 
 pub requests_read_back : RequestsReadBack
 requests_read_back plan to t op line is to_fits within fits =
-    let short : nat_lt MOST_LINE (length (request_text plan to t op line)) ≡ false = le-ltb MOST_LINE (length (request_text plan to t op line)) (text_short plan to t op line is to_fits within fits) in
-    let others : are_plain ((row_at plan t).name ∷ request_words op line) ≡ true = rw (name_is_plain plan t is within) (words_plain op line fits) in
+    let short : nat_lt (longest_line plan) (length (request_text plan to t op line)) ≡ false = le-ltb (longest_line plan) (length (request_text plan to t op line)) (text_short plan to t op line is to_fits within fits) in
+    let others : are_plain ((row_at plan t).name ∷ request_words op line) ≡ true = rw (name_is_plain plan t is within) (words_plain (row_at plan t).most_blocks op line fits) in
     rw short (ap (incoming_of_words plan to) (words_back (decimal to) ((row_at plan t).name ∷ request_words op line) (decimal_plain to to_fits) others) ∙ line_back plan to t op line is to_fits within fits)
 
 -- ---- the question what a tenant has
 
-plan_short : (plan : CheckedPlan) (to t : ℕ) → IsPlan plan → IsNumber to → t < length plan.rows → length (plan_text plan to t) ≤ MOST_LINE
+plan_short : (plan : CheckedPlan) (to t : ℕ) → IsPlan plan → IsNumber to → t < length plan.rows → length (plan_text plan to t) ≤ longest_line plan
 plan_short plan to t is to_fits within =
     let name = one_more (row_at plan t).name (codes "plan" ∷ []) 16 5 (short_name (row_at plan t).name (name_at plan t is within)) (omega arith) in
     omega (arith, length-append (decimal to) (spaced ((row_at plan t).name ∷ codes "plan" ∷ [])), short_number to to_fits, name)
@@ -151,6 +151,6 @@ plan_back plan to t is to_fits within =
 
 pub plans_read_back : PlansReadBack
 plans_read_back plan to t is to_fits within =
-    let short : nat_lt MOST_LINE (length (plan_text plan to t)) ≡ false = le-ltb MOST_LINE (length (plan_text plan to t)) (plan_short plan to t is to_fits within) in
+    let short : nat_lt (longest_line plan) (length (plan_text plan to t)) ≡ false = le-ltb (longest_line plan) (length (plan_text plan to t)) (plan_short plan to t is to_fits within) in
     let others : are_plain ((row_at plan t).name ∷ codes "plan" ∷ []) ≡ true = rw (name_is_plain plan t is within) refl in
     rw short (ap (incoming_of_words plan to) (words_back (decimal to) ((row_at plan t).name ∷ codes "plan" ∷ []) (decimal_plain to to_fits) others) ∙ plan_back plan to t is to_fits within)

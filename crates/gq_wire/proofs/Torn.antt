@@ -12,7 +12,7 @@ use Rattle.gq_model.specs.declared.events.Line.TheVariants.{Read, List as ListFi
 use Rattle.gq_text.specs.Words.{Word, words_of, number_up_to, number_of, long_number_of, bytes_from, content_of}
 use Rattle.gq_text.specs.Input.{◌>>=◌, place_named}
 use Rattle.gq_text.proofs.WordsLemmas.{some_word}
-use Rattle.gq_wire.specs.declared.incoming.TheConstants.{MOST_LINE}
+use Rattle.gq_wire.specs.Incoming.{longest_line}
 use Rattle.gq_wire.specs.declared.incoming.Incoming.{Incoming}
 use Rattle.gq_wire.specs.declared.incoming.Incoming.TheVariants.{Tick, Nothing}
 use Rattle.gq_wire.specs.Values.{number_then, within_byte, byte_then, long_then, last_content, copy_of, alone}
@@ -197,5 +197,5 @@ pub torn_lines_have_no_form : TornLinesHaveNoForm
 torn_lines_have_no_form plan here torn =
     let formless : is_formless (incoming_of_words plan here (words_of (torn ++ 32 ∷ 63 ∷ []))) ≡ true = ap (λ ws. is_formless (incoming_of_words plan here ws)) (words_marked torn) ∙ words_formless plan here (words_of torn) in (
       sym (append_assoc torn (32 ∷ 63 ∷ []) (10 ∷ [])),
-      (chosen (nat_lt MOST_LINE (length (torn ++ 32 ∷ 63 ∷ []))) (incoming_of_words plan here (words_of (torn ++ 32 ∷ 63 ∷ []))) formless).1,
+      (chosen (nat_lt (longest_line plan) (length (torn ++ 32 ∷ 63 ∷ []))) (incoming_of_words plan here (words_of (torn ++ 32 ∷ 63 ∷ []))) formless).1,
     )

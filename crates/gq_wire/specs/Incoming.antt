@@ -1,12 +1,14 @@
 -- What a line `TO FROM BODY` is to a node.
-use Rattle.std.specs.Prelude.{◌≡◌, ℕ, ◌*◌, ◌<◌, length, List, [], ◌∷◌, Bool, false, ◌&&◌, ◌==◌, nat_lt, codes, Option, Some, None, if◌then◌else◌}
+use Rattle.std.specs.Prelude.{◌≡◌, ℕ, ◌+◌, ◌*◌, ◌<◌, max, length, List, [], ◌∷◌, Bool, false, ◌&&◌, ◌==◌, nat_lt, codes, Option, Some, None, if◌then◌else◌}
 use Rattle.std.specs.Str.{bytes_eq}
 use Rattle.gq_tag.specs.declared.Message.{Message}
+use Rattle.gq_pool.specs.declared.TheConstants.{BLOCK_BYTES}
+use Rattle.gq_desk.specs.declared.plans.TenantRow.{TenantRow}
 use Rattle.gq_desk.specs.CheckedPlan.{CheckedPlan}
 use Rattle.gq_model.specs.declared.events.Line.{Line}
 use Rattle.gq_text.specs.Words.{Word, words_of, number_of}
 use Rattle.gq_text.specs.Input.{place_named}
-use Rattle.gq_wire.specs.declared.incoming.TheConstants.{MOST_LINE}
+use Rattle.gq_wire.specs.declared.incoming.TheConstants.{MOST_LINE, BESIDE_CONTENT}
 use Rattle.gq_wire.specs.declared.incoming.Incoming.{Incoming}
 use Rattle.gq_wire.specs.declared.incoming.Incoming.TheVariants.{Request, Plan, Bad, Letter, Tick, Nothing}
 use Rattle.gq_wire.specs.Requests.{request_of}
@@ -59,9 +61,18 @@ unfoldable pub incoming_of_words : CheckedPlan → ℕ → List Word → Incomin
 incoming_of_words plan here (to ∷ from ∷ body) = if is_to here (number_of to) then incoming_from plan here (number_of from) from body else Nothing
 incoming_of_words plan here _ = Nothing
 
+-- the most blocks that a file of these tenants may have
+abbrev pub most_blocks_of : List TenantRow → ℕ
+most_blocks_of [] = 0
+most_blocks_of (row ∷ rows) = max row.most_blocks (most_blocks_of rows)
+
+-- the most bytes of a line: so many whatever the plan, and enough for a content with two digits for each byte
+abbrev pub longest_line : CheckedPlan → ℕ
+longest_line plan = max MOST_LINE (2 * BLOCK_BYTES * most_blocks_of plan.rows + BESIDE_CONTENT)
+
 -- what a line without its newline is to the node of that number; one that is too long is nothing
 abbrev pub incoming_of : CheckedPlan → ℕ → List ℕ → Incoming
-incoming_of plan here line = if nat_lt MOST_LINE (length line) then Nothing else incoming_of_words plan here (words_of line)
+incoming_of plan here line = if nat_lt (longest_line plan) (length line) then Nothing else incoming_of_words plan here (words_of line)
 
 -- ---- what it names
 

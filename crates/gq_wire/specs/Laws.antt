@@ -8,7 +8,6 @@ use Rattle.gq_tag.specs.declared.Body.TheVariants.{Copy, Store}
 use Rattle.gq_tag.specs.declared.Message.{Message}
 use Rattle.gq_tag.specs.Tag.{to_server}
 use Rattle.gq_pool.specs.declared.TheConstants.{BLOCK_BYTES}
-use Rattle.gq_desk.specs.declared.limits.TheConstants.{MOST_FILE_BLOCKS}
 use Rattle.gq_desk.specs.CheckedPlan.{CheckedPlan, row_at}
 use Rattle.gq_model.specs.declared.events.Line.{Line}
 use Rattle.gq_model.specs.declared.events.Line.TheVariants.{Write, Read, List as ListFiles, Abandon}
@@ -38,7 +37,7 @@ content_length (Store copy) = length copy.bytes
 content_length _ = 0
 
 -- a letter between these two, of a tenant of the plan, whose numbers fit, whose content is no longer than
--- a file may have, and whose body is of its round
+-- a file of the tenant may have, and whose body is of its round
 pub record FitsLetter (plan : CheckedPlan) (to from : ℕ) (m : Message) : Type 0 where
   pub tenant : m.tenant < length plan.rows
   pub own : m.file.tenant ≡ m.tenant
@@ -52,7 +51,7 @@ pub record FitsLetter (plan : CheckedPlan) (to from : ℕ) (m : Message) : Type 
   pub volume : m.file.volume < 2 ^ 32
   pub file : m.file.file < 2 ^ 32
   pub body : FitsBody m.body
-  pub short : content_length m.body ≤ BLOCK_BYTES * MOST_FILE_BLOCKS
+  pub short : content_length m.body ≤ BLOCK_BYTES * (row_at plan m.tenant).most_blocks
   pub in_round : is_of_round m.round m.body ≡ true
 
 -- no byte of the line is a newline
@@ -71,17 +70,17 @@ LettersReadBack =
 
 -- ---- requests
 
--- a content that a file may have
-abbrev pub FitsContent : List ℕ → Type 0
-FitsContent bytes = IsBytes bytes × (length bytes ≤ BLOCK_BYTES * MOST_FILE_BLOCKS)
+-- a content that a file of so many blocks may have
+abbrev pub FitsContent : (blocks : ℕ) → List ℕ → Type 0
+FitsContent blocks bytes = IsBytes bytes × (length bytes ≤ BLOCK_BYTES * blocks)
 
--- a request whose numbers fit
-abbrev pub FitsRequest : ℕ → Line → Type 0
-FitsRequest op (Write k v f bytes) = IsNumber op × IsNumber k × IsNumber v × IsNumber f × FitsContent bytes
-FitsRequest op (Read k v f) = IsNumber op × IsNumber k × IsNumber v × IsNumber f
-FitsRequest op (ListFiles k v) = IsNumber op × IsNumber k × IsNumber v
-FitsRequest op (Abandon k) = IsNumber op × IsNumber k
-FitsRequest op _ = ⊥
+-- a request whose numbers fit, of a tenant whose files have at most so many blocks
+abbrev pub FitsRequest : (blocks op : ℕ) → Line → Type 0
+FitsRequest blocks op (Write k v f bytes) = IsNumber op × IsNumber k × IsNumber v × IsNumber f × FitsContent blocks bytes
+FitsRequest blocks op (Read k v f) = IsNumber op × IsNumber k × IsNumber v × IsNumber f
+FitsRequest blocks op (ListFiles k v) = IsNumber op × IsNumber k × IsNumber v
+FitsRequest blocks op (Abandon k) = IsNumber op × IsNumber k
+FitsRequest blocks op _ = ⊥
 
 -- the line of a tenant's request to that node, without its newline
 abbrev pub request_text : CheckedPlan → (to tenant op : ℕ) → Line → List ℕ
@@ -90,7 +89,7 @@ request_text plan to tenant op line = decimal to ++ spaced ((row_at plan tenant)
 -- the request that a tenant writes is read as that request
 abbrev pub RequestsReadBack : Type 0
 RequestsReadBack =
-    (plan : CheckedPlan) (to tenant op : ℕ) (line : Line) → IsPlan plan → IsNumber to → tenant < length plan.rows → FitsRequest op line →
+    (plan : CheckedPlan) (to tenant op : ℕ) (line : Line) → IsPlan plan → IsNumber to → tenant < length plan.rows → FitsRequest (row_at plan tenant).most_blocks op line →
     incoming_of plan to (request_text plan to tenant op line) ≡ Request tenant op line
 
 -- ---- the question what a tenant has

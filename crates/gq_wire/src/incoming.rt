@@ -3,19 +3,23 @@
 ghost use Rattle.std.specs.Prelude.{◌≡◌, ◌*◌, ◌<◌, length, IfOk};
 ghost use Rattle.gq_text.specs.Words.{words_of, words_after, number_of};
 ghost use Rattle.gq_text.specs.Input.{place_named};
-ghost use Rattle.gq_wire.specs.Incoming.{is_only, is_tick, from_node, from_tenant, incoming_from, incoming_of_words, incoming_of, FitsPlan};
+ghost use Rattle.gq_wire.specs.Incoming.{is_only, is_tick, from_node, from_tenant, incoming_from, incoming_of_words, incoming_of, most_blocks_of, longest_line, FitsPlan};
 
 use crate::letters::letter;
 use crate::requests::request;
-use gq_desk::Plan;
+use gq_desk::{Plan, TenantRow};
 use gq_memory::OutOfMemory;
 use gq_model::Line;
+use gq_pool::BLOCK_BYTES;
 use gq_tag::Message;
 use gq_text::{first_word, is_end, next_word, number};
 use std::alloc::Global;
 
-/// The most bytes of a line, its newline not counted.
+/// The most bytes of a line, its newline not counted, where no content of the plan needs more.
 pub const MOST_LINE: usize = 4095;
+
+/// The most bytes of a line beside the digits of a content that is as long as a file of the plan may be.
+const BESIDE_CONTENT: usize = 255;
 
 /// What a line is to a node.
 #[derive(Debug, Drop)]
@@ -123,6 +127,27 @@ fn read_words(alloc: Global, line: &[u8], plan: &Plan, here: u8) -> Result<Incom
     }
 }
 
+// The most blocks that a file of these tenants may have.
+fn most_blocks_of(rows: &[TenantRow]) -> u32
+    ensures { result ≡ most_blocks_of rows.now }
+{
+    let mut most = 0;
+    for row in rows {
+        most = row.most_blocks.max(most);
+    }
+    most
+}
+
+/// The most bytes of a line between nodes of the plan, or from a tenant to one, its newline not counted: a file's content
+/// has two digits for each byte.
+pub fn longest_line(plan: &Plan) -> usize
+    ensures value { result ≡ longest_line plan.now }
+    ensures least { MOST_LINE ≤ result }
+{
+    let most = most_blocks_of(plan.rows()) as usize;
+    MOST_LINE.max(2 * BLOCK_BYTES * most + BESIDE_CONTENT)
+}
+
 /// What the line, which has no newline, is to the node of this number. Only a content takes memory.
 pub fn read_incoming(
     alloc: Global,
@@ -133,7 +158,7 @@ pub fn read_incoming(
     ensures incoming { IfOk result (λ incoming. incoming ≡ incoming_of plan.now here line.now) }
     ensures fits { IfOk result (λ incoming. FitsPlan plan.now incoming) }
 {
-    if line.len() > MOST_LINE {
+    if line.len() > MOST_LINE && line.len() > longest_line(plan) {
         return Ok(Incoming::Nothing);
     }
     read_words(alloc, line, plan, here)

@@ -10,6 +10,6 @@ mod values;
 mod writing;
 
 pub use answers::put_told;
-pub use incoming::{Incoming, MOST_LINE, read_incoming};
+pub use incoming::{Incoming, MOST_LINE, longest_line, read_incoming};
 pub use values::{read_copy, take_byte, take_long, take_number};
 pub use writing::{put_first, put_letter};

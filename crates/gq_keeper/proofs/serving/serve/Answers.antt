@@ -57,8 +57,8 @@ loop-preserved g c =
     let back = written_back c.loop.block.len c.read_some.new.block (drop (length c.read_some.new.block) c.loop.block.items) full in
     record {
       sealed = c.in_ok-renew_if_due.ensures.sealed;
-      served = served_more g.M.Machine.steps g.M.Machine.recalls g.M.Lasting.blank g.M.Lasting.rests c.args.machine.now c.loop.machine c.take_text.new.machine (whole_lines c.args.plan.now) (g.O.Output.shown c.args.out.now) _ _ (g.D.Log.synced c.take_text.new.log) (g.O.Output.shown c.take_text.new.out) _ _ _ _ c.loop.held.items taken c.as_slice.result.now c.in_ok-rest.rest.now c.in_ok-held.held.items
-          c.loop.invariant.served c.in_ok-count.ensures.bytes.0 (c.as_slice.ensures.value ∙ c.in_ok-grow_by.ensures.items ∙ ap (λ b. c.loop.held.items ++ b) (ap (take c.in_ok-count.count) (c.deref.ensures.value ∙ back))) (subst (λ (p : List Line). Durable g.M.Machine.steps g.M.Machine.recalls g.M.Lasting.blank g.M.Lasting.rests c.loop.machine c.take_text.new.machine p (short_lines c.as_slice.result.now) (g.O.Output.shown c.loop.out) (g.D.Log.synced c.take_text.new.log) (g.O.Output.shown c.take_text.new.out)) c.loop.invariant.served.durable.restarts.last c.in_ok-rest.ensures.durable) c.in_ok-renew_if_due.ensures.restarts c.in_ok-rest.ensures.behind c.in_ok-held.ensures.none c.in_ok-held.ensures.same;
+      served = served_more c.args.longest g.M.Machine.steps g.M.Machine.recalls g.M.Lasting.blank g.M.Lasting.rests c.args.machine.now c.loop.machine c.take_text.new.machine (whole_lines c.args.plan.now) (g.O.Output.shown c.args.out.now) _ _ (g.D.Log.synced c.take_text.new.log) (g.O.Output.shown c.take_text.new.out) _ _ _ _ c.loop.held.items taken c.as_slice.result.now c.in_ok-rest.rest.now c.in_ok-held.held.items
+          c.loop.invariant.served c.in_ok-count.ensures.bytes.0 (c.as_slice.ensures.value ∙ c.in_ok-grow_by.ensures.items ∙ ap (λ b. c.loop.held.items ++ b) (ap (take c.in_ok-count.count) (c.deref.ensures.value ∙ back))) (subst (λ (p : List Line). Durable g.M.Machine.steps g.M.Machine.recalls g.M.Lasting.blank g.M.Lasting.rests c.loop.machine c.take_text.new.machine p (short_lines c.args.longest c.as_slice.result.now) (g.O.Output.shown c.loop.out) (g.D.Log.synced c.take_text.new.log) (g.O.Output.shown c.take_text.new.out)) c.loop.invariant.served.durable.restarts.last c.in_ok-rest.ensures.durable) c.in_ok-renew_if_due.ensures.restarts c.in_ok-rest.ensures.behind c.in_ok-held.ensures.none c.in_ok-held.ensures.same;
       crash = elapses_then _ _ _ _ _ _ _ _ (RestartsAsOne g.M.Machine.steps g.M.Machine.recalls g.M.Lasting.blank g.M.Lasting.rests (whole_lines c.args.plan.now) c.args.machine.now) turned c.renew_if_due.ensures.crash (λ left x. x) (λ left r. as_one g.M.Machine.steps g.M.Machine.recalls g.M.Lasting.blank g.M.Lasting.rests (whole_lines c.args.plan.now) c.args.machine.now c.take_text.new.machine _ left (runs_append g.M.Machine.steps _ _ _ c.loop.invariant.served.durable.dids c.in_ok-rest.ensures.durable.dids c.loop.invariant.served.durable.runs c.in_ok-rest.ensures.durable.runs) r);
       room = rw back (omega arith);
     }

@@ -4,4 +4,4 @@ use Rattle.gq_text.specs.Canonical.{row_line}
 use Rattle.gq_text.proofs.canonical.put_rows.Given as goal
 
 abbrev pub invariant-loop-row : goal.invariant-loop-row
-invariant-loop-row l = l.out.items ≡ l.fn.out.items ++ flat_map row_line (take l.row-index l.rows)
+invariant-loop-row l = l.out.items ≡ l.fn.out.items ++ flat_map (row_line l.room) (take l.row-index l.rows)
