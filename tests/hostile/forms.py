@@ -55,11 +55,12 @@ class Fault(Exception):
 
 
 class Row:
-    def __init__(self, name, share, sessions, steps):
-        self.name, self.share, self.sessions, self.steps = name, share, sessions, steps
+    def __init__(self, name, share, sessions, steps, most=16):
+        self.name, self.share, self.sessions, self.steps, self.most = name, share, sessions, steps, most
 
-    def line(self):
-        return b"tenant %s %d %d %d\n" % (self.name, self.share, self.sessions, self.steps)
+    def line(self, room):
+        words = (self.name, self.share, self.sessions, self.steps)
+        return b"tenant %s %d %d %d" % words + (b" %d\n" % self.most if room else b"\n")
 
 
 class Plan:
@@ -67,8 +68,9 @@ class Plan:
         self.rows, self.cols, self.blocks, self.tenants = rows, cols, blocks, tenants
 
     def text(self):
-        head = b"grid %d %d\nblocks %d\n" % (self.rows, self.cols, self.blocks)
-        return head + b"".join(row.line() for row in self.tenants) + b"go\n"
+        room = self.blocks > 4096 or any(row.most != 16 for row in self.tenants)
+        head = b"grid %d %d\n%s %d\n" % (self.rows, self.cols, b"room" if room else b"blocks", self.blocks)
+        return head + b"".join(row.line(room) for row in self.tenants) + b"go\n"
 
 
 def plan_of(text):
@@ -96,12 +98,13 @@ def plan_of(text):
     rows, cols = told(0, b"grid", 2)
     within(0, rows, 1, 8, "rows")
     within(0, cols, 1, 8, "cols")
-    (blocks,) = told(1, b"blocks", 1)
-    within(1, blocks, 1, 4096, "blocks")
+    room = words(1)[0] == b"room"
+    (blocks,) = told(1, b"room" if room else b"blocks", 1)
+    within(1, blocks, 1, 67108864 if room else 4096, "blocks")
     tenants, place = [], 2
     while words(place) != [b"go"]:
         first, *rest = words(place)
-        values = numbers(rest[1:], 3) if first == b"tenant" and rest and is_name(rest[0]) else None
+        values = numbers(rest[1:], 4 if room else 3) if first == b"tenant" and rest and is_name(rest[0]) else None
         if values is None:
             raise Fault(f"line {place + 1}: form")
         tenants.append(Row(rest[0], *values))
@@ -113,6 +116,7 @@ def plan_of(text):
         within(line, row.share, 1, MOST_NUMBER, "zeroshare")
         within(line, row.sessions, 1, 16, "sessions")
         within(line, row.steps, 1, 1_000_000, "steps")
+        within(line, row.most, 1, 16384, "most")
         names.add(row.name)
     within(place, len(tenants), 1, 64, "notenant")
     shares = sum(row.share for row in tenants)
@@ -211,7 +215,7 @@ class Tenant:
         return b"quorum %d %d servers" % (row, col) + b"".join(b" %d" % server for server in servers)
 
     def opened(self, files, blocks):
-        if not (1 <= files <= 64 and 1 <= blocks <= 16):
+        if not (1 <= files <= 64 and 1 <= blocks <= self.row.most):
             return b"refused size"
         if len(self.volumes) == 64:
             return b"refused volumes"

@@ -66,12 +66,29 @@ LINES = {
 }
 
 
+# The same, where a file has up to 40 blocks, and so a line up to 128 * 40 + 255 bytes.
+ROOM = b"grid 2 2\nroom 5000\ntenant ann 80 1 1 40\ntenant bob 16 2 1 16\ngo\nann open 2 40\nbob open 1 1\n"
+LONGEST = 128 * 40 + 255
+ROOM_LINES = {
+    "with room, a line of the most bytes": (filled(LONGEST) + READ, BAD + ASK),
+    "with room, a line of one byte more": (filled(LONGEST + 1) + READ, ASK),
+    "with room, a line of 300,000 bytes": (filled(300_000) + READ, ASK),
+    "with room, what a tenant has": (b"0 ann plan\n0 bob plan\n", b"ann 0 plan 4 0 1 80 40 2.40\nbob 0 plan 4 1 2 16 16 1.1\n"),
+    "with room, a content of the most bytes": (WRITE + b"ab" * 2560 + b"\n", ASK),
+    "with room, a content of one byte more": (WRITE + b"ab" * 2561 + b"\n", b"ann 0 refused toolong 1 1 0 0 2561\n"),
+    "with room, a store of the most bytes": (STORE + b"1 1 " + b"ab" * 2560 + b"\n", STORED),
+    "with room, a store of one byte more": (STORE + b"1 1 " + b"ab" * 2561 + b"\n", b""),
+}
+
+
 def tell_lines(program, folder):
     """How many were tried, and what is wrong."""
     put(os.path.join(folder, "plan"), PLAN)
+    put(os.path.join(folder, "room"), ROOM)
     wrong = []
-    for place, (name, (given, wanted)) in enumerate(LINES.items()):
-        seen = ended(words_of(program, 0, "plan", f"journal{place}", True), given, cwd=folder)
-        if seen != (0, b"gridfs: node 0 of 2 by 2: 0 facts\n", b" ?\n" + wanted):
-            wrong.append(f"{name}: {seen}, not {wanted}")
-    return len(LINES), wrong
+    for plan, lines in ("plan", LINES), ("room", ROOM_LINES):
+        for place, (name, (given, wanted)) in enumerate(lines.items()):
+            seen = ended(words_of(program, 0, plan, f"journal-{plan}{place}", True), given, cwd=folder)
+            if seen != (0, b"gridfs: node 0 of 2 by 2: 0 facts\n", b" ?\n" + wanted):
+                wrong.append(f"{name}: {seen}, not {wanted}")
+    return len(LINES) + len(ROOM_LINES), wrong

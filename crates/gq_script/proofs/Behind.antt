@@ -6,7 +6,7 @@ use Rattle.gq_desk.specs.CheckedPlan.{CheckedPlan}
 use Rattle.gq_desk.specs.declared.plans.TenantRow.{TenantRow}
 use Rattle.gq_text.specs.Words.{words_of}
 use Rattle.gq_text.specs.Lines.{before_first, lines_of}
-use Rattle.gq_text.specs.PlanText.{then_read, at_line, line_at, grid_told, blocks_told, row_told, row_then, rows_from, checked, plan_of}
+use Rattle.gq_text.specs.PlanText.{then_read, at_line, line_at, grid_told, blocks_told, is_room, row_told, row_then, rows_from, checked, plan_of}
 use Rattle.gq_script.specs.Completing.{missing_newline}
 use Rattle.gq_text.proofs.PlanNames.{ok_same, row_and_rest, then_read_ok}
 use Rattle.gq_text.proofs.PlanReading.{plan_after_lines}
@@ -46,17 +46,17 @@ line_behind n (first ∷ lines) more rest line is =
     let same = ok_same is in
     ap (λ (x : List ℕ × List (List ℕ)). Ok (x.0, x.1 ++ more)) same
 
-pub rows_behind : (n : ℕ) (lines more rest : List (List ℕ)) (rows : List TenantRow) → rows_from n lines ≡ Ok (rows, rest) → rows_from n (lines ++ more) ≡ Ok (rows, rest ++ more)
-rows_behind n [] more rest rows is = cc
-rows_behind n (line ∷ lines) more rest rows is = by (bytes_eq line (codes "go")) is (λ later. rows_behind (n + 1) lines more rest later)
+pub rows_behind : (room : Bool) (n : ℕ) (lines more rest : List (List ℕ)) (rows : List TenantRow) → rows_from room n lines ≡ Ok (rows, rest) → rows_from room n (lines ++ more) ≡ Ok (rows, rest ++ more)
+rows_behind room n [] more rest rows is = cc
+rows_behind room n (line ∷ lines) more rest rows is = by (bytes_eq line (codes "go")) is (λ later. rows_behind room (n + 1) lines more rest later)
   where
-    by : (b : Bool) → cond b (Ok ([], lines)) (row_then n (row_told (words_of line)) (rows_from (n + 1) lines)) ≡ Ok (rows, rest)
-        → ((later : List TenantRow) → rows_from (n + 1) lines ≡ Ok (later, rest) → rows_from (n + 1) (lines ++ more) ≡ Ok (later, rest ++ more))
-        → cond b (Ok ([], lines ++ more)) (row_then n (row_told (words_of line)) (rows_from (n + 1) (lines ++ more))) ≡ Ok (rows, rest ++ more)
+    by : (b : Bool) → cond b (Ok ([], lines)) (row_then n (row_told room (words_of line)) (rows_from room (n + 1) lines)) ≡ Ok (rows, rest)
+        → ((later : List TenantRow) → rows_from room (n + 1) lines ≡ Ok (later, rest) → rows_from room (n + 1) (lines ++ more) ≡ Ok (later, rest ++ more))
+        → cond b (Ok ([], lines ++ more)) (row_then n (row_told room (words_of line)) (rows_from room (n + 1) (lines ++ more))) ≡ Ok (rows, rest ++ more)
     by true here later = ap (λ (x : List TenantRow × List (List ℕ)). Ok (x.0, x.1 ++ more)) (ok_same here)
     by false there later =
-        let r = row_and_rest n (row_told (words_of line)) (rows_from (n + 1) lines) rows rest there in
-        ap (λ o. row_then n o (rows_from (n + 1) (lines ++ more))) r.2 ∙ ap (row_then n (Some r.0)) (later r.1 r.3) ∙ ap (λ rs. Ok (rs, rest ++ more)) (sym r.4)
+        let r = row_and_rest n (row_told room (words_of line)) (rows_from room (n + 1) lines) rows rest there in
+        ap (λ o. row_then n o (rows_from room (n + 1) (lines ++ more))) r.2 ∙ ap (row_then n (Some r.0)) (later r.1 r.3) ∙ ap (λ rs. Ok (rs, rest ++ more)) (sym r.4)
 
 -- lines behind those of a plan
 pub plan_behind : (lines more rest : List (List ℕ)) (plan : CheckedPlan) → plan_of lines ≡ Ok (plan, rest) → plan_of (lines ++ more) ≡ Ok (plan, rest ++ more)
@@ -66,10 +66,10 @@ plan_behind lines more rest plan is =
     let grid = then_read_ok (at_line 1 (grid_told (words_of first.0.0))) _ (plan, rest) first.2 in
     let second = then_read_ok (line_at 2 first.0.1) _ (plan, rest) grid.2 in
     let blocks = then_read_ok (at_line 2 (blocks_told (words_of second.0.0))) _ (plan, rest) second.2 in
-    let rows = then_read_ok (rows_from 3 second.0.1) _ (plan, rest) blocks.2 in
+    let rows = then_read_ok (rows_from (is_room (words_of second.0.0)) 3 second.0.1) _ (plan, rest) blocks.2 in
     let made = then_read_ok (checked grid.0 blocks.0 rows.0.0) _ (plan, rest) rows.2 in
     let same : (made.0, rows.0.1) ≡ (plan, rest) = ok_same made.2 in
     plan_after_lines (lines ++ more) (first.0.1 ++ more) (second.0.1 ++ more) (rows.0.1 ++ more) first.0.0 second.0.0 grid.0 blocks.0 rows.0.0
-    (line_behind 1 lines more first.0.1 first.0.0 first.1) grid.1 (line_behind 2 first.0.1 more second.0.1 second.0.0 second.1) blocks.1 (rows_behind 3 second.0.1 more rows.0.1 rows.0.0 rows.1)
+    (line_behind 1 lines more first.0.1 first.0.0 first.1) grid.1 (line_behind 2 first.0.1 more second.0.1 second.0.0 second.1) blocks.1 (rows_behind (is_room (words_of second.0.0)) 3 second.0.1 more rows.0.1 rows.0.0 rows.1)
     ∙ ap (λ made. then_read made (λ plan. Ok (plan, rows.0.1 ++ more))) made.1
     ∙ ap (λ (x : CheckedPlan × List (List ℕ)). Ok (x.0, x.1 ++ more)) same

@@ -1,5 +1,5 @@
 -- Lines behind lines: a fault of the plan stays, rows go on, and the output goes on from what it was.
-use Rattle.std.proofs.Common.{◌≡◌, ◌≢◌, ◌⊎◌, ◌∙◌, ℕ, ◌+◌, ◌≤◌, List, [], ◌∷◌, ◌++◌, Option, Some, None, Result, Ok, Err, Bool, true, false, cond, map, refl, sym, ap, inl, inr, arith}
+use Rattle.std.proofs.Common.{◌≡◌, ◌≢◌, ◌⊎◌, ◌∙◌, ℕ, ◌+◌, ◌≤◌, List, [], ◌∷◌, ◌++◌, Option, Some, None, Result, Ok, Err, Bool, true, false, cond, map, refl, sym, ap, subst, inl, inr, arith}
 use Rattle.std.specs.Prelude.{codes}
 use Rattle.std.specs.Str.{bytes_eq}
 use Rattle.std.proofs.lemmas.List.{map-append}
@@ -14,18 +14,19 @@ use Rattle.gq_text.specs.declared.plan_text.TextFault.TheVariants.{Form, End, Ch
 use Rattle.gq_text.specs.Words.{words_of}
 use Rattle.gq_text.specs.Lines.{lines_of, joined}
 use Rattle.gq_text.specs.Input.{event_of}
-use Rattle.gq_text.specs.PlanText.{Reading, then_read, at_line, line_at, grid_told, blocks_told, row_told, row_then, rows_from, plan_unless, checked, plan_of}
+use Rattle.gq_text.specs.PlanText.{Reading, then_read, at_line, line_at, grid_told, blocks_told, is_room, row_told, row_then, rows_from, plan_unless, checked, plan_of}
+use Rattle.gq_text.proofs.PlanNames.{ok_same}
 use Rattle.gq_script.specs.Out.{answer_lines, output_of, out}
 use Rattle.gq_text.specs.Pieces.{Extends}
-use Rattle.gq_script.specs.Stepping.{AllEnded, OutputsGrow, MissesGo}
+use Rattle.gq_script.specs.Stepping.{AllEnded, OutputsGrow, room_in, MissesGo}
 use Rattle.gq_script.proofs.Behind.{lines_behind, line_behind, rows_behind, plan_behind}
 use Rattle.gq_script.proofs.Longer.{answers-append}
 
 -- ---- rows that go on
 
 -- a row more before rows that miss `go`
-pub misses_more : (line : List ℕ) (lines : List (List ℕ)) (row : TenantRow) → bytes_eq line (codes "go") ≡ false → row_told (words_of line) ≡ Some row → MissesGo lines → MissesGo (line ∷ lines)
-misses_more line lines row other is miss = λ k. let m = miss (k + 1) in (m.0, omega arith, rw (other, is, m.2) refl)
+pub misses_more : (room : Bool) (line : List ℕ) (lines : List (List ℕ)) (row : TenantRow) → bytes_eq line (codes "go") ≡ false → row_told room (words_of line) ≡ Some row → MissesGo room lines → MissesGo room (line ∷ lines)
+misses_more room line lines row other is miss = λ k. let m = miss (k + 1) in (m.0, omega arith, rw (other, is, m.2) refl)
 
 row_fault_later : (k : ℕ) (row : TenantRow) (later : Reading (List TenantRow × List (List ℕ))) (fault : ℕ × TextFault) → row_then k (Some row) later ≡ Err fault → later ≡ Err fault
 row_fault_later k row (Ok read) fault is = cc
@@ -35,32 +36,32 @@ err_same : {A : Type 0} {x y : ℕ × TextFault} → ◌≡◌ {A = Reading A} (
 err_same is = cc
 
 -- rows that miss `go`, behind such rows
-rows_miss : (k : ℕ) (lines more : List (List ℕ)) (n : ℕ) → rows_from k lines ≡ Err (n, End) → MissesGo more → (m : ℕ) × (n ≤ m) × (rows_from k (lines ++ more) ≡ Err (m, End))
-rows_miss k [] more n is miss =
+rows_miss : (room : Bool) (k : ℕ) (lines more : List (List ℕ)) (n : ℕ) → rows_from room k lines ≡ Err (n, End) → MissesGo room more → (m : ℕ) × (n ≤ m) × (rows_from room k (lines ++ more) ≡ Err (m, End))
+rows_miss room k [] more n is miss =
     let same : k ≡ n = ap (λ x. x.0) (err_same is) in
     let m = miss k in (m.0, omega arith, m.2)
-rows_miss k (line ∷ lines) more n is miss = by (bytes_eq line (codes "go")) (row_told (words_of line)) is (λ later. rows_miss (k + 1) lines more n later miss)
+rows_miss room k (line ∷ lines) more n is miss = by (bytes_eq line (codes "go")) (row_told room (words_of line)) is (λ later. rows_miss room (k + 1) lines more n later miss)
   where
-    by : (b : Bool) (o : Option TenantRow) → cond b (Ok ([], lines)) (row_then k o (rows_from (k + 1) lines)) ≡ Err (n, End)
-        → (rows_from (k + 1) lines ≡ Err (n, End) → (m : ℕ) × (n ≤ m) × (rows_from (k + 1) (lines ++ more) ≡ Err (m, End)))
-        → (m : ℕ) × (n ≤ m) × (cond b (Ok ([], lines ++ more)) (row_then k o (rows_from (k + 1) (lines ++ more))) ≡ Err (m, End))
+    by : (b : Bool) (o : Option TenantRow) → cond b (Ok ([], lines)) (row_then k o (rows_from room (k + 1) lines)) ≡ Err (n, End)
+        → (rows_from room (k + 1) lines ≡ Err (n, End) → (m : ℕ) × (n ≤ m) × (rows_from room (k + 1) (lines ++ more) ≡ Err (m, End)))
+        → (m : ℕ) × (n ≤ m) × (cond b (Ok ([], lines ++ more)) (row_then k o (rows_from room (k + 1) (lines ++ more))) ≡ Err (m, End))
     by true o here later = absurd (let no : ⊥ = cc in no)
     by false None here later = absurd (let apart : Form ≡ End = ap (λ x. x.1) (err_same here) in cc)
     by false (Some row) here later =
-        let m = later (row_fault_later k row (rows_from (k + 1) lines) (n, End) here) in
+        let m = later (row_fault_later k row (rows_from room (k + 1) lines) (n, End) here) in
         (m.0, m.1, ap (row_then k (Some row)) m.2)
 
 -- a fault of rows, and not that they end, stays
-rows_fault_behind : (k : ℕ) (lines more : List (List ℕ)) (n : ℕ) (f : TextFault) → rows_from k lines ≡ Err (n, f) → f ≢ End → rows_from k (lines ++ more) ≡ Err (n, f)
-rows_fault_behind k [] more n f is other = absurd (other (sym (ap (λ x. x.1) (err_same is))))
-rows_fault_behind k (line ∷ lines) more n f is other = by (bytes_eq line (codes "go")) (row_told (words_of line)) is (λ later. rows_fault_behind (k + 1) lines more n f later other)
+rows_fault_behind : (room : Bool) (k : ℕ) (lines more : List (List ℕ)) (n : ℕ) (f : TextFault) → rows_from room k lines ≡ Err (n, f) → f ≢ End → rows_from room k (lines ++ more) ≡ Err (n, f)
+rows_fault_behind room k [] more n f is other = absurd (other (sym (ap (λ x. x.1) (err_same is))))
+rows_fault_behind room k (line ∷ lines) more n f is other = by (bytes_eq line (codes "go")) (row_told room (words_of line)) is (λ later. rows_fault_behind room (k + 1) lines more n f later other)
   where
-    by : (b : Bool) (o : Option TenantRow) → cond b (Ok ([], lines)) (row_then k o (rows_from (k + 1) lines)) ≡ Err (n, f)
-        → (rows_from (k + 1) lines ≡ Err (n, f) → rows_from (k + 1) (lines ++ more) ≡ Err (n, f))
-        → cond b (Ok ([], lines ++ more)) (row_then k o (rows_from (k + 1) (lines ++ more))) ≡ Err (n, f)
+    by : (b : Bool) (o : Option TenantRow) → cond b (Ok ([], lines)) (row_then k o (rows_from room (k + 1) lines)) ≡ Err (n, f)
+        → (rows_from room (k + 1) lines ≡ Err (n, f) → rows_from room (k + 1) (lines ++ more) ≡ Err (n, f))
+        → cond b (Ok ([], lines ++ more)) (row_then k o (rows_from room (k + 1) (lines ++ more))) ≡ Err (n, f)
     by true o here later = absurd (let no : ⊥ = cc in no)
     by false None here later = here
-    by false (Some row) here later = ap (row_then k (Some row)) (later (row_fault_later k row (rows_from (k + 1) lines) (n, f) here))
+    by false (Some row) here later = ap (row_then k (Some row)) (later (row_fault_later k row (rows_from room (k + 1) lines) (n, f) here))
 
 -- ---- where a fault of the plan comes from
 
@@ -77,8 +78,8 @@ fault_cases : (lines : List (List ℕ)) (fault : ℕ × TextFault) (P : Type 0) 
     → ((first : List ℕ) (after1 : List (List ℕ)) → line_at 1 lines ≡ Ok (first, after1) → at_line 1 (grid_told (words_of first)) ≡ Err fault → P)
     → ((after1 : List (List ℕ)) → line_at 2 after1 ≡ Err fault → P)
     → ((first second : List ℕ) (after1 after2 : List (List ℕ)) (grid : Grid) → line_at 1 lines ≡ Ok (first, after1) → at_line 1 (grid_told (words_of first)) ≡ Ok grid → line_at 2 after1 ≡ Ok (second, after2) → at_line 2 (blocks_told (words_of second)) ≡ Err fault → P)
-    → ((first second : List ℕ) (after1 after2 : List (List ℕ)) (grid : Grid) (blocks : ℕ) → line_at 1 lines ≡ Ok (first, after1) → at_line 1 (grid_told (words_of first)) ≡ Ok grid → line_at 2 after1 ≡ Ok (second, after2) → at_line 2 (blocks_told (words_of second)) ≡ Ok blocks → rows_from 3 after2 ≡ Err fault → P)
-    → ((first second : List ℕ) (after1 after2 after3 : List (List ℕ)) (grid : Grid) (blocks : ℕ) (rows : List TenantRow) → line_at 1 lines ≡ Ok (first, after1) → at_line 1 (grid_told (words_of first)) ≡ Ok grid → line_at 2 after1 ≡ Ok (second, after2) → at_line 2 (blocks_told (words_of second)) ≡ Ok blocks → rows_from 3 after2 ≡ Ok (rows, after3) → checked grid blocks rows ≡ Err fault → P)
+    → ((first second : List ℕ) (after1 after2 : List (List ℕ)) (grid : Grid) (blocks : ℕ) → line_at 1 lines ≡ Ok (first, after1) → at_line 1 (grid_told (words_of first)) ≡ Ok grid → line_at 2 after1 ≡ Ok (second, after2) → at_line 2 (blocks_told (words_of second)) ≡ Ok blocks → rows_from (is_room (words_of second)) 3 after2 ≡ Err fault → P)
+    → ((first second : List ℕ) (after1 after2 after3 : List (List ℕ)) (grid : Grid) (blocks : ℕ) (rows : List TenantRow) → line_at 1 lines ≡ Ok (first, after1) → at_line 1 (grid_told (words_of first)) ≡ Ok grid → line_at 2 after1 ≡ Ok (second, after2) → at_line 2 (blocks_told (words_of second)) ≡ Ok blocks → rows_from (is_room (words_of second)) 3 after2 ≡ Ok (rows, after3) → checked grid blocks rows ≡ Err fault → P)
     → P
 unfolding plan_of
 fault_cases lines fault P is on_first on_grid on_second on_blocks on_rows on_check =
@@ -86,7 +87,7 @@ fault_cases lines fault P is on_first on_grid on_second on_blocks on_rows on_che
     either P (then_read_err (at_line 1 (grid_told (words_of one.0.0))) _ fault one.2) (λ h. on_grid one.0.0 one.0.1 one.1 h) (λ two.
     either P (then_read_err (line_at 2 one.0.1) _ fault two.2) (λ h. on_second one.0.1 h) (λ three.
     either P (then_read_err (at_line 2 (blocks_told (words_of three.0.0))) _ fault three.2) (λ h. on_blocks one.0.0 three.0.0 one.0.1 three.0.1 two.0 one.1 two.1 three.1 h) (λ four.
-    either P (then_read_err (rows_from 3 three.0.1) _ fault four.2) (λ h. on_rows one.0.0 three.0.0 one.0.1 three.0.1 two.0 four.0 one.1 two.1 three.1 four.1 h) (λ five.
+    either P (then_read_err (rows_from (is_room (words_of three.0.0)) 3 three.0.1) _ fault four.2) (λ h. on_rows one.0.0 three.0.0 one.0.1 three.0.1 two.0 four.0 one.1 two.1 three.1 four.1 h) (λ five.
     either P (then_read_err (checked two.0 four.0 five.0.0) _ fault five.2) (λ h. on_check one.0.0 three.0.0 one.0.1 three.0.1 five.0.1 two.0 four.0 five.0.0 one.1 two.1 three.1 four.1 five.1 h) (λ six. absurd (never six.2)))))))
   where
     never : {A : Type 0} {x : A} → ◌≡◌ {A = Reading A} (Ok x) (Err fault) → ⊥
@@ -104,8 +105,20 @@ not_the_end : (fault : Option PlanFault) (plan : CheckedPlan) (n : ℕ) → plan
 not_the_end None plan n is = cc
 not_the_end (Some fault) plan n is = let apart : Check fault ≡ End = ap (λ x. x.1) (err_same is) in cc
 
+-- the second line of a plan says whether it is one with room
+room_is : (lines after1 after2 : List (List ℕ)) (first second : List ℕ) → line_at 1 lines ≡ Ok (first, after1) → line_at 2 after1 ≡ Ok (second, after2) → room_in lines ≡ is_room (words_of second)
+room_is [] after1 after2 first second l1 l2 = cc
+room_is (x ∷ []) after1 after2 first second l1 l2 =
+    let none : [] ≡ after1 = ap (λ p. p.1) (ok_same l1) in
+    let no = subst (λ lines. line_at 2 lines ≡ Ok (second, after2)) (sym none) l2 in
+    absurd (let end : ⊥ = cc in end)
+room_is (x ∷ y ∷ lines) after1 after2 first second l1 l2 =
+    let after : y ∷ lines ≡ after1 = ap (λ p. p.1) (ok_same l1) in
+    let at = subst (λ lines. line_at 2 lines ≡ Ok (second, after2)) (sym after) l2 in
+    ap (λ line. is_room (words_of line)) (ap (λ p. p.0) (ok_same at))
+
 -- a plan that misses lines from the third on still misses some behind more rows
-pub plan_misses : (lines more : List (List ℕ)) (n : ℕ) → plan_of lines ≡ Err (n, End) → 3 ≤ n → MissesGo more → (m : ℕ) × (n ≤ m) × (plan_of (lines ++ more) ≡ Err (m, End))
+pub plan_misses : (lines more : List (List ℕ)) (n : ℕ) → plan_of lines ≡ Err (n, End) → 3 ≤ n → MissesGo (room_in lines) more → (m : ℕ) × (n ≤ m) × (plan_of (lines ++ more) ≡ Err (m, End))
 unfolding plan_of
 plan_misses lines more n is late miss =
     fault_cases lines (n, End) ((m : ℕ) × (n ≤ m) × (plan_of (lines ++ more) ≡ Err (m, End))) is
@@ -114,7 +127,7 @@ plan_misses lines more n is late miss =
     (λ after1 h. let e = (line_missing 2 after1 n End h).0 in absurd (omega arith))
     (λ first second after1 after2 grid l1 g l2 h. let e = here_at 2 (blocks_told (words_of second)) n End h in absurd (omega arith))
     (λ first second after1 after2 grid blocks l1 g l2 b h.
-    let m = rows_miss 3 after2 more n h miss in
+    let m = rows_miss (is_room (words_of second)) 3 after2 more n h (subst (λ r. MissesGo r more) (room_is lines after1 after2 first second l1 l2) miss) in
     (m.0, m.1, rw (line_behind 1 lines more after1 first l1, g, line_behind 2 after1 more after2 second l2, b, m.2) refl))
     (λ first second after1 after2 after3 grid blocks rows l1 g l2 b r h. absurd (not_the_end (plan_fault blocks rows) _ n h))
 
@@ -127,8 +140,8 @@ plan_fault_behind lines more n f is other =
     (λ first after1 l1 h. rw (line_behind 1 lines more after1 first l1, h) refl)
     (λ after1 h. absurd (other (sym (line_missing 2 after1 n f h).1)))
     (λ first second after1 after2 grid l1 g l2 h. rw (line_behind 1 lines more after1 first l1, g, line_behind 2 after1 more after2 second l2, h) refl)
-    (λ first second after1 after2 grid blocks l1 g l2 b h. rw (line_behind 1 lines more after1 first l1, g, line_behind 2 after1 more after2 second l2, b, rows_fault_behind 3 after2 more n f h other) refl)
-    (λ first second after1 after2 after3 grid blocks rows l1 g l2 b r h. rw (line_behind 1 lines more after1 first l1, g, line_behind 2 after1 more after2 second l2, b, rows_behind 3 after2 more after3 rows r, h) refl)
+    (λ first second after1 after2 grid blocks l1 g l2 b h. rw (line_behind 1 lines more after1 first l1, g, line_behind 2 after1 more after2 second l2, b, rows_fault_behind (is_room (words_of second)) 3 after2 more n f h other) refl)
+    (λ first second after1 after2 after3 grid blocks rows l1 g l2 b r h. rw (line_behind 1 lines more after1 first l1, g, line_behind 2 after1 more after2 second l2, b, rows_behind (is_room (words_of second)) 3 after2 more after3 rows r, h) refl)
 
 -- ---- the output
 

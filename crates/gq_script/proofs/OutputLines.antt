@@ -187,19 +187,19 @@ abbrev pub are_named : List TenantRow → Bool
 are_named rows = list_all (λ (row : TenantRow). is_name row.name) rows
 
 -- the rows of an accepted plan have names
-rows_are_named : (n : ℕ) (lines rest : List (List ℕ)) (rows : List TenantRow) → rows_from n lines ≡ Ok (rows, rest) → are_named rows ≡ true
-rows_are_named n [] rest rows is = cc
-rows_are_named n (line ∷ lines) rest rows is = by (bytes_eq line (codes "go")) is (λ more. rows_are_named (n + 1) lines rest more)
+rows_are_named : (room : Bool) (n : ℕ) (lines rest : List (List ℕ)) (rows : List TenantRow) → rows_from room n lines ≡ Ok (rows, rest) → are_named rows ≡ true
+rows_are_named room n [] rest rows is = cc
+rows_are_named room n (line ∷ lines) rest rows is = by (bytes_eq line (codes "go")) is (λ more. rows_are_named room (n + 1) lines rest more)
   where
-    by : (b : Bool) → cond b (Ok ([], lines)) (row_then n (row_told (words_of line)) (rows_from (n + 1) lines)) ≡ Ok (rows, rest)
-        → ((more : List TenantRow) → rows_from (n + 1) lines ≡ Ok (more, rest) → are_named more ≡ true) → are_named rows ≡ true
+    by : (b : Bool) → cond b (Ok ([], lines)) (row_then n (row_told room (words_of line)) (rows_from room (n + 1) lines)) ≡ Ok (rows, rest)
+        → ((more : List TenantRow) → rows_from room (n + 1) lines ≡ Ok (more, rest) → are_named more ≡ true) → are_named rows ≡ true
     by true here later =
         let same : [] ≡ rows = ap (λ x. x.0) (ok_same here) in
         let P : List TenantRow → Type 0 = λ rs. are_named rs ≡ true in
         subst P same refl
     by false there later =
-        let r = row_and_rest n (row_told (words_of line)) (rows_from (n + 1) lines) rows rest there in
-        rw (r.4, row_named (words_of line) r.0 r.2) (later r.1 r.3)
+        let r = row_and_rest n (row_told room (words_of line)) (rows_from room (n + 1) lines) rows rest there in
+        rw (r.4, row_named room (words_of line) r.0 r.2) (later r.1 r.3)
 
 row_name_line : (rows : List TenantRow) (t : ℕ) → are_named rows ≡ true → is_line (unwrap_or (slice_get rows t) nobody).name ≡ true
 row_name_line [] t named = refl
@@ -243,4 +243,4 @@ pub answers_back : (input : List ℕ) (lines : List (List ℕ)) (plan : CheckedP
 answers_back input lines plan read =
     let rows = rows_of_plan (lines_of input) lines plan read in
     let events = map (event_of plan) lines in
-    ap (λ r. lines_of (output_of r)) read ∙ events_back plan (rows_are_named 3 rows.lines rows.rest plan.rows rows.read) events (answers plan events)
+    ap (λ r. lines_of (output_of r)) read ∙ events_back plan (rows_are_named rows.room 3 rows.lines rows.rest plan.rows rows.read) events (answers plan events)

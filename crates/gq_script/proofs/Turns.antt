@@ -28,7 +28,7 @@ use Rattle.gq_script.specs.Out.{answer_lines, out}
 use Rattle.gq_text.specs.Pieces.{Extends}
 use Rattle.gq_script.specs.Watched.{AppendsPrefix, Moves}
 use Rattle.gq_script.specs.Faults.{of_reading}
-use Rattle.gq_script.specs.Stepping.{AnswersEnded, HasAnswered, AllEnded, IsPlanFaultIn, IsFinal, IsLast, IsOfPlan, IsTellFaultOf, MissesGo, of_telling}
+use Rattle.gq_script.specs.Stepping.{AnswersEnded, HasAnswered, AllEnded, IsPlanFaultIn, IsFinal, IsLast, IsOfPlan, IsTellFaultOf, room_in, MissesGo, of_telling}
 use Rattle.gq_script.proofs.Ends.{begun_from}
 use Rattle.gq_script.proofs.Growing.{lines_behind_whole, out_more, out_none, plan_misses, plan_more, plan_fault_behind, outputs_grow}
 
@@ -36,10 +36,10 @@ use Rattle.gq_script.proofs.Growing.{lines_behind_whole, out_more, out_none, pla
 
 -- rows behind lines that miss `go`
 pub rows_later : (text : List ℕ) (done missing : ℕ) → AllEnded (take done text) → 3 ≤ missing → (n : ℕ) × (missing ≤ n) × (plan_of (lines_of (take done text)) ≡ Err (n, End))
-    → MissesGo (lines_of (take (length text - done) (drop done text))) → (n : ℕ) × (missing ≤ n) × (plan_of (lines_of text) ≡ Err (n, End))
+    → MissesGo (room_in (lines_of (take done text))) (lines_of (take (length text - done) (drop done text))) → (n : ℕ) × (missing ≤ n) × (plan_of (lines_of text) ≡ Err (n, End))
 rows_later text done missing ends late before rows =
     let rest = drop done text in
-    let P : List ℕ → Type 0 = λ xs. MissesGo (lines_of xs) in
+    let P : List ℕ → Type 0 = λ xs. MissesGo (room_in (lines_of (take done text))) (lines_of xs) in
     let low : missing ≤ before.0 = before.1 in
     let third : 3 ≤ before.0 = omega arith in
     let m = plan_misses (lines_of (take done text)) (lines_of rest) before.0 before.2 third (subst P (take_rest text done) rows) in

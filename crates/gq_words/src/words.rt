@@ -111,6 +111,9 @@ The input is a plan, and after its line `go` the lines of tenants and servers:
     server N down                       server N stops
     server N up                         server N returns
 
+A plan with `room BLOCKS` in place of `blocks BLOCKS` has up to 67108864 blocks on each server, and a fifth word in each of its
+lines `tenant`: MOST, the most blocks of a file of that tenant, 1 to 16384, in place of 16.
+
 Words are separated by one space. NAME is 1 to 16 letters a to z, and not `server`. HEX is two hexadecimal digits for each
 byte, or `-` for the empty content. The other words in capitals are numbers: 0, or digits of which the first is no 0; at most
 4294967295. Sessions are numbered from 1, servers, volumes, files and messages from 0.

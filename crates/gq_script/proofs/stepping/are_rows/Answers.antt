@@ -13,8 +13,8 @@ pub loop-rest-preserved : goal.loop-rest-preserved
 loop-rest-preserved c =
     let row = some_row c.row_told.result (c.is_none.ensures ∙ ap not c.if-is_none.false) in
     let other = rw c.as_slice.ensures at c.if-eq.ensures in
-    let P : List (List ℕ) → Type 0 = λ lines. MissesGo lines in
+    let P : List (List ℕ) → Type 0 = λ lines. MissesGo c.args.room lines in
     record {
       rows = λ miss. c.loop-rest.invariant.rows (subst P (sym c.first_line.ensures.lines)
-          (misses_more c.first_line.result.0.now _ row.0 (sym other) (sym c.row_told.ensures ∙ row.1) miss));
+          (misses_more c.args.room c.first_line.result.0.now _ row.0 (sym other) (sym c.row_told.ensures ∙ row.1) miss));
     }

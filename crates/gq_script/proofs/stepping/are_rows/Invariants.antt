@@ -5,7 +5,7 @@ use Rattle.gq_script.proofs.stepping.are_rows.Given as goal
 
 -- rows before rows
 abbrev pub invariant-loop-rest : goal.invariant-loop-rest
-invariant-loop-rest l = record { rows : MissesGo (lines_of l.rest) → MissesGo (lines_of l.fn.text) }
+invariant-loop-rest l = record { rows : MissesGo l.room (lines_of l.rest) → MissesGo l.room (lines_of l.fn.text) }
 
 abbrev pub decreases-loop-rest : goal.decreases-loop-rest
 decreases-loop-rest l = length l.rest
