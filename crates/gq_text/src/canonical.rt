@@ -30,12 +30,8 @@ fn put_line(out: &mut Vec<u8>, first: &[u8], words: &[Piece]) -> Result<(), OutO
 fn have_few_blocks(rows: &[TenantRow]) -> bool
     ensures { result ≡ list_all has_few_blocks rows.now }
 {
-    for row in rows {
-        if row.most_blocks != FILE_BLOCKS_WITHOUT_ROOM {
-            return false;
-        }
-    }
-    true
+    rows.iter()
+        .all(|row| row.most_blocks == FILE_BLOCKS_WITHOUT_ROOM)
 }
 
 // Whether the text of the plan is one with `room`.
@@ -58,11 +54,7 @@ fn put_row(out: &mut Vec<u8>, room: bool, row: &TenantRow) -> Result<(), OutOfMe
         return put_line(out, b"tenant", &[name, share, sessions, steps]);
     }
     let most_blocks = Piece::Number(u64::from(row.most_blocks));
-    put_line(
-        out,
-        b"tenant",
-        &[name, share, sessions, steps, most_blocks],
-    )
+    put_line(out, b"tenant", &[name, share, sessions, steps, most_blocks])
 }
 
 // Appends the lines of rows.

@@ -22,7 +22,8 @@ pub use long_numbers::long_number;
 pub use output::{put_done, write_answer, write_next_answer};
 pub use pieces::{Piece, put_digits, put_number, put_sum, put_words};
 pub use plan_text::{
-    BLOCKS_WITHOUT_ROOM, FILE_BLOCKS_WITHOUT_ROOM, PlanText, TextFault, is_room, read_plan, row_told,
+    BLOCKS_WITHOUT_ROOM, FILE_BLOCKS_WITHOUT_ROOM, PlanText, TextFault, is_room, read_plan,
+    row_told,
 };
 pub use quorum_text::QuorumText;
 pub use words::{content, first_word, is_end, next_word, number};
