@@ -40,6 +40,11 @@ join_lines (x ∷ a) more none =
     let parts = none_cons x a none in
     rw (parts.0, join_lines a more parts.1) (before_joined x a (whole_lines more))
 
+-- no line ends where one isn't ended is followed by such bytes
+pub none_behind : (a b : List ℕ) → whole_lines a ≡ [] → whole_lines b ≡ [] → whole_lines (a ++ b) ≡ []
+unfolding joined
+none_behind a b none_a none_b = join_lines a b none_a ∙ ap (joined a) none_b
+
 behind_first : List Line → List Line
 behind_first [] = []
 behind_first (line ∷ lines) = lines

@@ -10,6 +10,7 @@ use Rattle.gq_keeper.specs.Crashes.{Leaves, Elapses}
 use Rattle.gq_keeper.specs.Restarting.{Restarts, RestartsAsEither, RestartsAsOne}
 use Rattle.gq_keeper.specs.Durable.{AllSealed, Durable}
 use Rattle.gq_wire.specs.Texts.{first_text}
+use Rattle.gq_keeper.proofs.Ends.{none_behind}
 use Rattle.gq_keeper.proofs.Running.{runs_append}
 use Rattle.gq_keeper.proofs.Restarts.{restarts_found, sealed_left}
 use Rattle.gq_keeper.proofs.Durability.{durable_none, durable_then, durable_renewed}
@@ -74,6 +75,19 @@ served_more longest steps recalls blank rests first now next plan base synced sh
 
     lines : short_lines longest (s.taken ++ block) ≡ short_lines longest s.taken ++ short_lines longest text
     lines = ap (short_lines longest) (sym (append-nil (s.taken ++ block))) ∙ step [] ∙ ap (λ t. short_lines longest s.taken ++ short_lines longest t) (append-nil text)
+
+-- one read more in which no line ends
+pub served_longer : {M : Type 0} (longest : ℕ) (steps : M → List ℕ → List (List ℕ) → List ℕ → M → Type 0) (recalls : M → List ℕ → M → Type 0) (blank rests : M → M → Type 0) (first now : M) (plan : List Line) (base synced shown : List ℕ) (before after later : Option (List ℕ)) (held block kept : List ℕ) →
+    Served longest steps recalls blank rests first now plan base synced shown before after held → Consumes after later block → whole_lines block ≡ [] →
+    whole_lines kept ≡ [] → ((more : List ℕ) → short_lines longest (kept ++ more) ≡ short_lines longest ((held ++ block) ++ more)) →
+    Served longest steps recalls blank rests first now plan base synced shown before later kept
+served_longer longest steps recalls blank rests first now plan base synced shown before after later held block kept s read no_line none same =
+    let lines : short_lines longest (held ++ block) ≡ [] = no_short longest (held ++ block) (none_behind held block s.none no_line) in
+    served_more longest steps recalls blank rests first now now plan base synced shown synced shown synced before after later held block (held ++ block) (held ++ block) kept s read refl
+    (subst (λ ls. Durable steps recalls blank rests now now plan ls shown synced shown) (sym lines) (durable_none steps recalls blank rests now plan shown synced s.durable.restarts))
+    s.durable.restarts
+    (λ more. ap (λ ls. ls ++ short_lines longest ((held ++ block) ++ more)) (sym lines))
+    none same
 
 -- ---- what a crash leaves
 

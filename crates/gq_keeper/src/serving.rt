@@ -1,6 +1,6 @@
 //! The loop: lines are taken, their facts are synced, and then what rests on them is shown.
 
-ghost use Rattle.std.specs.Prelude.{◌≡◌, ◌⊎◌, ◌+◌, ◌++◌, ◌≤◌, ℕ, List, [], length, min, replicate, IfOk, IfSome, OnOk};
+ghost use Rattle.std.specs.Prelude.{◌≡◌, ◌⊎◌, ◌+◌, ◌++◌, ◌≤◌, ℕ, List, [], false, length, min, replicate, IfOk, IfSome, OnOk};
 ghost use Rattle.std.specs.Io.{ReadsAtMost};
 ghost use Rattle.std.specs.Io.KnownBytes.{ReadConsumes};
 ghost use Rattle.gq_journal.specs.Batches.{Line, whole_lines, batches_of};
@@ -105,6 +105,27 @@ fn kept_end(alloc: Global, longest: usize, end: &[u8]) -> Result<Vec<u8>, OutOfM
     Ok(kept)
 }
 
+// Whether a newline is among the bytes.
+fn ends_a_line(bytes: &[u8]) -> bool
+    ensures { result ≡ false → whole_lines bytes.now ≡ [] }
+{
+    first_whole_line(bytes).is_some()
+}
+
+// Holds more bytes without a newline, so that a line which takes many reads is looked at and copied once: of what is too long for
+// a line as much as shows it.
+fn hold(held: &mut Vec<u8>, longest: usize, bytes: &[u8]) -> Result<(), OutOfMemory>
+    requires held { whole_lines held.old.items ≡ [] }
+    requires bytes { whole_lines bytes.now ≡ [] }
+    ensures none { OnOk result (whole_lines held.new.items ≡ []) }
+    ensures same { OnOk result ((more : List ℕ) → short_lines longest (held.new.items ++ more) ≡ short_lines longest ((held.old.items ++ bytes.now) ++ more)) }
+    ensures small { OnOk result (length held.new.items ≤ longest + 1) }
+{
+    held.grow_by(bytes)?;
+    held.truncate(kept_count(longest, held.len()));
+    Ok(())
+}
+
 // Reads some bytes. A read that a signal ended before it had any is done again.
 fn read_some<R: Read>(input: &mut R, block: &mut [u8]) -> Result<usize, Fault>
     ensures bound { ReadsAtMost result block.new }
@@ -151,8 +172,21 @@ pub fn serve<M: Lasting, R: Read, D: Disk, O: Output>(
         if count == 0 {
             return Ok(());
         }
-        held.grow_by(&block[..count])?;
-        let rest = take_text(alloc, longest, machine, disk, out, &mut number, held.as_slice())?;
+        let bytes = &block[..count];
+        if !ends_a_line(bytes) {
+            hold(&mut held, longest, bytes)?;
+            continue;
+        }
+        held.grow_by(bytes)?;
+        let rest = take_text(
+            alloc,
+            longest,
+            machine,
+            disk,
+            out,
+            &mut number,
+            held.as_slice(),
+        )?;
         held = kept_end(alloc, longest, rest)?;
         renew_if_due(alloc, machine, plan, disk, &mut number, &mut due)?;
     }

@@ -182,7 +182,9 @@ fn answers_from<N: Notice>(
             Err(refused) => Err(PlanText::Memory(refused)),
         },
         Stage::Plan(missing) => {
-            if !is_end && *missing >= FIRST_ROW && are_rows(has_room(&text[..done]), &text[done..])
+            if !is_end
+                && *missing >= FIRST_ROW
+                && are_rows(has_room(&text[..done]), &text[done..])
             {
                 return Ok(Vec::new(alloc));
             }
