@@ -1,6 +1,6 @@
 //! A line that comes to a node.
 
-ghost use Rattle.std.specs.Prelude.{◌≡◌, ◌*◌, ◌<◌, ◌≤◌, length, IfOk};
+ghost use Rattle.std.specs.Prelude.{◌≡◌, ◌*◌, ◌<◌, ◌≤◌, length, nat_lt, IfOk};
 ghost use Rattle.gq_text.specs.Words.{words_of, words_after, number_of};
 ghost use Rattle.gq_text.specs.Input.{place_named};
 ghost use Rattle.gq_wire.specs.Incoming.{is_only, is_tick, from_node, from_tenant, incoming_from, incoming_of_words, incoming_of, most_blocks_of, longest_line, FitsPlan};
@@ -148,6 +148,16 @@ pub fn longest_line(plan: &Plan) -> usize
     MOST_LINE.max(2 * BLOCK_BYTES * most + BESIDE_CONTENT)
 }
 
+// Whether a line of so many bytes is too long. Most are short, whatever the plan.
+fn is_too_long(plan: &Plan, count: usize) -> bool
+    ensures { result ≡ nat_lt (longest_line plan.now) count }
+{
+    if count <= MOST_LINE {
+        return false;
+    }
+    count > longest_line(plan)
+}
+
 /// What the line, which has no newline, is to the node of this number. Only a content takes memory.
 pub fn read_incoming(
     alloc: Global,
@@ -158,7 +168,7 @@ pub fn read_incoming(
     ensures incoming { IfOk result (λ incoming. incoming ≡ incoming_of plan.now here line.now) }
     ensures fits { IfOk result (λ incoming. FitsPlan plan.now incoming) }
 {
-    if line.len() > MOST_LINE && line.len() > longest_line(plan) {
+    if is_too_long(plan, line.len()) {
         return Ok(Incoming::Nothing);
     }
     read_words(alloc, line, plan, here)
