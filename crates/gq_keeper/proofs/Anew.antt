@@ -1,5 +1,5 @@
 -- A journal that is written anew.
-use Rattle.std.proofs.Common.{◌≡◌, ◌⊎◌, ℕ, ◌+◌, ◌^◌, ◌<◌, List, [], ◌∷◌, ◌++◌, length, true, refl, sym, ap, ◌∙◌, subst, arith, inl, inr, ⊎_elim}
+use Rattle.std.proofs.Common.{◌≡◌, ◌⊎◌, ℕ, ◌+◌, ◌^◌, ◌<◌, Bool, List, [], ◌∷◌, ◌++◌, length, true, refl, sym, ap, ◌∙◌, subst, arith, inl, inr, ⊎_elim}
 use Rattle.gq_journal.specs.Batches.{Line, lines_text, whole_lines, ended_line, seal, batch_text, journal_text, CanBeSealed, are_batch_lines}
 use Rattle.gq_journal.specs.Laws.{FitBatches}
 use Rattle.gq_keeper.specs.Plans.{IsPlan, is_plan, facts_in, last_plan}
@@ -30,34 +30,34 @@ last_then : (plan : List Line) (batches : List (List Line)) → is_plan plan ≡
 last_then plan batches is = rw is refl
 
 -- what was appended to nothing
-needed_text : {M : Type 0} (recalls : M → List ℕ → M → Type 0) (blank rests : M → M → Type 0) (machine : M) (before after : List ℕ) (n : Needs recalls blank rests machine before after) → before ≡ [] → after ≡ lines_text n.lines
-needed_text recalls blank rests machine before after n none = n.text ∙ ap (λ b. b ++ lines_text n.lines) none
+needed_text : {M : Type 0} (recalls : M → List ℕ → M → Type 0) (readable : M → List ℕ → Bool) (blank rests : M → M → Type 0) (machine : M) (before after : List ℕ) (n : Needs recalls readable blank rests machine before after) → before ≡ [] → after ≡ lines_text n.lines
+needed_text recalls readable blank rests machine before after n none = n.text ∙ ap (λ b. b ++ lines_text n.lines) none
 
-pub anew_sealed : {M : Type 0} (recalls : M → List ℕ → M → Type 0) (blank rests : M → M → Type 0) (machine : M) (before text plan seen synced : List ℕ) (next : ℕ) → Needs recalls blank rests machine before text → before ≡ [] → IsPlan plan → length plan < 2 ^ 64 → length text < 2 ^ 64 →
+pub anew_sealed : {M : Type 0} (recalls : M → List ℕ → M → Type 0) (readable : M → List ℕ → Bool) (blank rests : M → M → Type 0) (machine : M) (before text plan seen synced : List ℕ) (next : ℕ) → Needs recalls readable blank rests machine before text → before ≡ [] → IsPlan plan → length plan < 2 ^ 64 → length text < 2 ^ 64 →
     seen ≡ new_text plan text → synced ≡ new_text plan text → next ≡ number_after 2 text → AllSealed seen synced next
-anew_sealed recalls blank rests machine before text plan seen synced next n none p short small a b number =
-    let is = needed_text recalls blank rests machine before text n none in
+anew_sealed recalls readable blank rests machine before text plan seen synced next n none p short small a b number =
+    let is = needed_text recalls readable blank rests machine before text n none in
     sealed_of (whole_lines plan ∷ batches_for n.lines) seen synced next (a ∙ sym b) (b ∙ anew_is plan text n.lines p is) (anew_fit plan text n.lines p is short small (open_facts n.lines n.facts))
     (number ∙ ap (number_after 2) is ∙ next_is 2 n.lines ∙ (let e : 2 + length (batches_for n.lines) ≡ 1 + length (whole_lines plan ∷ batches_for n.lines) = omega arith in e))
 
-pub anew_restarts : {M : Type 0} (recalls : M → List ℕ → M → Type 0) (blank rests : M → M → Type 0) (machine : M) (before text plan journal : List ℕ) → Needs recalls blank rests machine before text → before ≡ [] → IsPlan plan → length plan < 2 ^ 64 → length text < 2 ^ 64 →
-    journal ≡ new_text plan text → Restarts recalls blank rests (whole_lines plan) machine journal
-anew_restarts recalls blank rests machine before text plan journal n none p short small is =
-    let text_is = needed_text recalls blank rests machine before text n none in
-    restarts_of recalls blank rests (whole_lines plan) machine (whole_lines plan ∷ batches_for n.lines) journal
-    (subst (Stands recalls blank rests machine) (sym (facts_then (whole_lines plan) (batches_for n.lines) p.plan ∙ facts_in-for n.lines n.facts)) n.stands)
+pub anew_restarts : {M : Type 0} (recalls : M → List ℕ → M → Type 0) (readable : M → List ℕ → Bool) (blank rests : M → M → Type 0) (machine : M) (before text plan journal : List ℕ) → Needs recalls readable blank rests machine before text → before ≡ [] → IsPlan plan → length plan < 2 ^ 64 → length text < 2 ^ 64 →
+    journal ≡ new_text plan text → Restarts recalls readable blank rests (whole_lines plan) machine journal
+anew_restarts recalls readable blank rests machine before text plan journal n none p short small is =
+    let text_is = needed_text recalls readable blank rests machine before text n none in
+    restarts_of recalls readable blank rests (whole_lines plan) machine (whole_lines plan ∷ batches_for n.lines) journal
+    (subst (Stands recalls readable blank rests machine) (sym (facts_then (whole_lines plan) (batches_for n.lines) p.plan ∙ facts_in-for n.lines n.facts)) n.stands)
     p.plan
     (last_then (whole_lines plan) (batches_for n.lines) p.plan ∙ last_plan-for (whole_lines plan) n.lines n.facts)
     (found_whole (whole_lines plan ∷ batches_for n.lines) journal (anew_fit plan text n.lines p text_is short small (open_facts n.lines n.facts)) (is ∙ anew_is plan text n.lines p text_is))
 
 -- while a journal is written anew, the old one is left or the new one
-pub anew_left : {M : Type 0} (recalls : M → List ℕ → M → Type 0) (blank rests : M → M → Type 0) (machine : M) (before text plan synced seen left : List ℕ) → Needs recalls blank rests machine before text → before ≡ [] → IsPlan plan → length plan < 2 ^ 64 → length text < 2 ^ 64 →
-    LeavesReplacing synced seen (new_text plan text) left → Leaves synced seen left ⊎ Restarts recalls blank rests (whole_lines plan) machine left
-anew_left recalls blank rests machine before text plan synced seen left n none p short small l =
-    ⊎_elim (λ old. inl old) (λ new. inr (anew_restarts recalls blank rests machine before text plan left n none p short small new)) l
+pub anew_left : {M : Type 0} (recalls : M → List ℕ → M → Type 0) (readable : M → List ℕ → Bool) (blank rests : M → M → Type 0) (machine : M) (before text plan synced seen left : List ℕ) → Needs recalls readable blank rests machine before text → before ≡ [] → IsPlan plan → length plan < 2 ^ 64 → length text < 2 ^ 64 →
+    LeavesReplacing synced seen (new_text plan text) left → Leaves synced seen left ⊎ Restarts recalls readable blank rests (whole_lines plan) machine left
+anew_left recalls readable blank rests machine before text plan synced seen left n none p short small l =
+    ⊎_elim (λ old. inl old) (λ new. inr (anew_restarts recalls readable blank rests machine before text plan left n none p short small new)) l
 
-pub due_left : {M : Type 0} (recalls : M → List ℕ → M → Type 0) (blank rests : M → M → Type 0) (machine : M) (before text plan synced seen left : List ℕ) (number : ℕ) → Needs recalls blank rests machine before text → before ≡ [] → IsPlan plan → length plan < 2 ^ 64 → length text < 2 ^ 64 →
-    AllSealed seen synced number → Restarts recalls blank rests (whole_lines plan) machine synced → LeavesReplacing synced seen (new_text plan text) left → Restarts recalls blank rests (whole_lines plan) machine left
-due_left recalls blank rests machine before text plan synced seen left number n none p short small s r l =
-    ⊎_elim (λ old. restarts_found recalls blank rests (whole_lines plan) machine synced left r (sealed_left seen synced number left s old))
-    (λ new. anew_restarts recalls blank rests machine before text plan left n none p short small new) l
+pub due_left : {M : Type 0} (recalls : M → List ℕ → M → Type 0) (readable : M → List ℕ → Bool) (blank rests : M → M → Type 0) (machine : M) (before text plan synced seen left : List ℕ) (number : ℕ) → Needs recalls readable blank rests machine before text → before ≡ [] → IsPlan plan → length plan < 2 ^ 64 → length text < 2 ^ 64 →
+    AllSealed seen synced number → Restarts recalls readable blank rests (whole_lines plan) machine synced → LeavesReplacing synced seen (new_text plan text) left → Restarts recalls readable blank rests (whole_lines plan) machine left
+due_left recalls readable blank rests machine before text plan synced seen left number n none p short small s r l =
+    ⊎_elim (λ old. restarts_found recalls readable blank rests (whole_lines plan) machine synced left r (sealed_left seen synced number left s old))
+    (λ new. anew_restarts recalls readable blank rests machine before text plan left n none p short small new) l

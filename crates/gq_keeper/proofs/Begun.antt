@@ -124,11 +124,11 @@ begun_fit seen_old plan last seen synced at number next b =
 same_facts : (bs : List (List Line)) (plan last : List ℕ) → IsPlan plan → facts_in (bs ++ batches_for (added plan last)) ≡ facts_in bs
 same_facts bs plan last p = facts_in-append bs (batches_for (added plan last)) ∙ ap (λ x. facts_in bs ++ x) (added_facts plan last p) ∙ append-nil (facts_in bs)
 
-pub begun_restarts : {M : Type 0} (recalls : M → List ℕ → M → Type 0) (blank rests : M → M → Type 0) (machine : M) (seen_old plan last seen synced : List ℕ) (at number next : ℕ) → Begins seen_old plan last seen synced at number next →
-    Stands recalls blank rests machine (facts_read seen_old) → Restarts recalls blank rests (whole_lines plan) machine synced
-begun_restarts recalls blank rests machine seen_old plan last seen synced at number next b s =
-    restarts_of recalls blank rests (whole_lines plan) machine (batches_of seen_old ++ batches_for (added plan last)) synced
-    (subst (Stands recalls blank rests machine) (sym (same_facts (batches_of seen_old) plan last b.is_plan)) s)
+pub begun_restarts : {M : Type 0} (recalls : M → List ℕ → M → Type 0) (readable : M → List ℕ → Bool) (blank rests : M → M → Type 0) (machine : M) (seen_old plan last seen synced : List ℕ) (at number next : ℕ) → Begins seen_old plan last seen synced at number next →
+    Stands recalls readable blank rests machine (facts_read seen_old) → Restarts recalls readable blank rests (whole_lines plan) machine synced
+begun_restarts recalls readable blank rests machine seen_old plan last seen synced at number next b s =
+    restarts_of recalls readable blank rests (whole_lines plan) machine (batches_of seen_old ++ batches_for (added plan last)) synced
+    (subst (Stands recalls readable blank rests machine) (sym (same_facts (batches_of seen_old) plan last b.is_plan)) s)
     (begins_append (batches_of seen_old) (batches_for (added plan last)) b.begins)
     (last_plan-append [] (batches_of seen_old) (batches_for (added plan last)) ∙ added_last plan last (last_plan [] (batches_of seen_old)) b.is_plan (last_open [] 1 (batches_of seen_old) refl b.ends.fit) b.last_is)
     (found_whole (batches_of seen_old ++ batches_for (added plan last)) synced (begun_fit seen_old plan last seen synced at number next b) (begun_is seen_old plan last seen synced at number next b))

@@ -1,17 +1,50 @@
 -- A journal read batch after batch.
 use Rattle.std.proofs.Common.{◌≡◌, ℕ, ◌+◌, ◌-◌, ◌^◌, ◌<◌, ◌≤◌, List, [], ◌∷◌, ◌++◌, length, take, Bool, true, false, refl, sym, ap, ◌∙◌, subst, append_assoc, append-nil, arith, length-append}
-use Rattle.std.specs.Prelude.{if◌then◌else◌}
+use Rattle.std.specs.Prelude.{◌&&◌, if◌then◌else◌}
+use Rattle.std.specs.List.{list_all}
+use Rattle.std.proofs.lemmas.List.Folds.{list_all-append}
 use Rattle.std.proofs.Math.Seq.{take-append_seam}
 use Rattle.gq_journal.specs.Batches.{Line, ended_line, seal, lines_text, whole_lines, batches_of, batches_at, batch_text, journal_text, CanBeSealed}
 use Rattle.gq_journal.specs.Laws.{FitBatches}
 use Rattle.gq_keeper.specs.Plans.{is_plan, facts_in, last_plan, begins_with_plan}
-use Rattle.gq_keeper.specs.Starting.{facts_read, RecallsAll, EndsAt}
+use Rattle.gq_keeper.specs.Starting.{facts_read, RecallsAll, RefusesLines, EndsAt}
+use Rattle.gq_keeper.specs.declared.machine.Unread.{Unread}
+use Rattle.gq_keeper.specs.declared.machine.Unread.TheVariants.{Memory, Strange}
 use Rattle.gq_keeper.proofs.Planning.{facts_in-append, last_plan-append}
 use Rattle.gq_keeper.proofs.Journals.{journal_append, fit_append}
 
 pub recalls_append : {M : Type 0} (recalls : M → List ℕ → M → Type 0) (a b c : M) (ls ks : List Line) → RecallsAll recalls a ls b → RecallsAll recalls b ks c → RecallsAll recalls a (ls ++ ks) c
 recalls_append recalls a b c [] ks x y = subst (λ m. RecallsAll recalls m ks c) (sym x) y
 recalls_append recalls a b c (l ∷ ls) ks x y = (x.0, x.1, recalls_append recalls x.0 b c ls ks x.2 y)
+
+-- ---- what is readable
+
+-- what is readable doesn't change with lines that were read
+abbrev pub ReadsOn : {M : Type 0} → (M → List ℕ → M → Type 0) → (M → List ℕ → Bool) → Type 0
+ReadsOn {M} recalls readable = (old : M) (line : List ℕ) (new : M) (other : List ℕ) → recalls old line new → readable new other ≡ readable old other
+
+same_reading : {M : Type 0} (recalls : M → List ℕ → M → Type 0) (readable : M → List ℕ → Bool) → ReadsOn recalls readable → (first now : M) (lines : List Line) (other : List ℕ) → RecallsAll recalls first lines now → readable now other ≡ readable first other
+same_reading recalls readable on first now [] other all = ap (λ m. readable m other) (sym all)
+same_reading recalls readable on first now (line ∷ lines) other all = same_reading recalls readable on all.0 now lines other all.2 ∙ on first line all.0 other all.1
+
+same_readings : {M : Type 0} (readable : M → List ℕ → Bool) (first now : M) → ((other : List ℕ) → readable now other ≡ readable first other) → (lines : List Line) → list_all (readable now) lines ≡ list_all (readable first) lines
+same_readings readable first now same [] = refl
+same_readings readable first now same (line ∷ lines) = rw (same line, same_readings readable first now same lines) refl
+
+-- what refuses some of the lines refuses all
+refuses_part : (reads : List ℕ → Bool) (before part after : List Line) (e : Unread) → RefusesLines (list_all reads part) e → RefusesLines (list_all reads (before ++ (part ++ after))) e
+refuses_part reads before part after (Memory refused) is = tt
+refuses_part reads before part after Strange is = rw (list_all-append reads before (part ++ after), list_all-append reads part after, is) (and_false (list_all reads before))
+  where
+    and_false : (b : Bool) → (b && false) ≡ false
+    and_false true = refl
+    and_false false = refl
+
+refuses_first : {M : Type 0} (recalls : M → List ℕ → M → Type 0) (readable : M → List ℕ → Bool) → ReadsOn recalls readable → (first now : M) (before part after : List Line) (e : Unread) → RecallsAll recalls first before now →
+    RefusesLines (list_all (readable now) part) e → RefusesLines (list_all (readable first) (before ++ (part ++ after))) e
+refuses_first recalls readable on first now before part after e all is =
+    refuses_part (readable first) before part after e
+    (subst (λ b. RefusesLines b e) (same_readings readable first now (λ other. same_reading recalls readable on first now before other all) part) is)
 
 -- ---- the lines of a batch
 
@@ -39,6 +72,18 @@ facts_of_plan lines is = rw is refl
 
 facts_of_facts : (lines : List Line) → is_plan lines ≡ false → lines ≡ (if is_plan lines then [] else lines)
 facts_of_facts lines is = rw is refl
+
+-- a line that is refused is one of the text
+pub line_refused : {M : Type 0} (recalls : M → List ℕ → M → Type 0) (readable : M → List ℕ → Bool) → ReadsOn recalls readable → (first now : M) (text rest line after : List ℕ) (e : Unread) → is_plan (whole_lines text) ≡ false →
+    Recovered recalls first text rest now → whole_lines rest ≡ line ∷ whole_lines after → RefusesLines (readable now line) e →
+    RefusesLines (list_all (readable first) (if is_plan (whole_lines text) then [] else whole_lines text)) e
+line_refused recalls readable on first now text rest line after e no_plan r is refused =
+    subst (λ ls. RefusesLines (list_all (readable first) ls) e) (sym (r.read ∙ ap (λ x. r.lines ++ x) is) ∙ facts_of_facts (whole_lines text) no_plan)
+    (refuses_first recalls readable on first now r.lines (line ∷ []) (whole_lines after) e r.recalled (subst (λ b. RefusesLines b e) (sym (and_true (readable now line))) refused))
+  where
+    and_true : (b : Bool) → (b && true) ≡ b
+    and_true true = refl
+    and_true false = refl
 
 pub recalls_plan : {M : Type 0} (recalls : M → List ℕ → M → Type 0) (first : M) (lines : List Line) → is_plan lines ≡ true → RecallsAll recalls first (if is_plan lines then [] else lines) first
 recalls_plan recalls first lines is = subst (λ ls. RecallsAll recalls first ls first) (facts_of_plan lines is) refl
@@ -169,6 +214,16 @@ recalling_more recalls first now next text rest body after n r found fits short 
   where
     more : facts_in (r.taking.batches ++ whole_lines body ∷ []) ≡ facts_in r.taking.batches ++ (if is_plan (whole_lines body) then [] else whole_lines body)
     more = facts_in-append r.taking.batches (whole_lines body ∷ []) ∙ ap (λ x. facts_in r.taking.batches ++ x) (append-nil (if is_plan (whole_lines body) then [] else whole_lines body))
+
+-- a batch that is refused is one of the journal
+pub batch_refused : {M : Type 0} (recalls : M → List ℕ → M → Type 0) (readable : M → List ℕ → Bool) → ReadsOn recalls readable → (first now : M) (text rest body after : List ℕ) (n : ℕ) (e : Unread) → Recalling recalls first text rest n now →
+    Next rest body after n → RefusesLines (list_all (readable now) (if is_plan (whole_lines body) then [] else whole_lines body)) e → RefusesLines (list_all (readable first) (facts_read text)) e
+batch_refused recalls readable on first now text rest body after n e r found refused =
+    subst (λ ls. RefusesLines (list_all (readable first) ls) e) (sym all)
+    (refuses_first recalls readable on first now (facts_in r.taking.batches) (if is_plan (whole_lines body) then [] else whole_lines body) (facts_in (batches_at (n + 1) after)) e r.recalled refused)
+  where
+    all : facts_read text ≡ facts_in r.taking.batches ++ ((if is_plan (whole_lines body) then [] else whole_lines body) ++ facts_in (batches_at (n + 1) after))
+    all = ap facts_in (r.taking.read ∙ ap (λ x. r.taking.batches ++ x) found.read) ∙ facts_in-append r.taking.batches (whole_lines body ∷ batches_at (n + 1) after)
 
 pub recalled_all : {M : Type 0} (recalls : M → List ℕ → M → Type 0) (first now : M) (text rest : List ℕ) (n : ℕ) → Recalling recalls first text rest n now → batches_at n rest ≡ [] → RecallsAll recalls first (facts_read text) now
 recalled_all recalls first now text rest n r none = subst (λ x. RecallsAll recalls first (facts_in x) now) (sym (all_taken text rest n r.taking none)) r.recalled

@@ -1,5 +1,5 @@
 -- The loop, one read behind another.
-use Rattle.std.proofs.Common.{◌≡◌, arith, ℕ, List, [], ◌++◌, length, take, Option, Some, None, refl, sym, ap, ◌∙◌, subst, append_assoc, append-nil, ⊎_elim}
+use Rattle.std.proofs.Common.{◌≡◌, arith, ℕ, Bool, List, [], ◌++◌, length, take, Option, Some, None, refl, sym, ap, ◌∙◌, subst, append_assoc, append-nil, ⊎_elim}
 use Rattle.std.specs.Prelude.{IfSome}
 use Rattle.std.proofs.Math.Seq.{take-append_seam}
 use Rattle.std.specs.Io.KnownBytes.{Consumes, IsAtEnd}
@@ -16,10 +16,10 @@ use Rattle.gq_keeper.proofs.Restarts.{restarts_found, sealed_left}
 use Rattle.gq_keeper.proofs.Durability.{durable_none, durable_then, durable_renewed}
 
 -- this was taken of the input, its lines were served, and what is held is the end that goes on
-pub record Served {M : Type 0} (longest : ℕ) (steps : M → List ℕ → List (List ℕ) → List ℕ → M → Type 0) (recalls : M → List ℕ → M → Type 0) (blank rests : M → M → Type 0) (first now : M) (plan : List Line) (base synced shown : List ℕ) (before after : Option (List ℕ)) (held : List ℕ) : Type 0 where
+pub record Served {M : Type 0} (longest : ℕ) (steps : M → List ℕ → List (List ℕ) → List ℕ → M → Type 0) (recalls : M → List ℕ → M → Type 0) (readable : M → List ℕ → Bool) (blank rests : M → M → Type 0) (first now : M) (plan : List Line) (base synced shown : List ℕ) (before after : Option (List ℕ)) (held : List ℕ) : Type 0 where
   pub taken : List ℕ
   pub input : Consumes before after taken
-  pub durable : Durable steps recalls blank rests first now plan (short_lines longest taken) (base ++ first_text) synced shown
+  pub durable : Durable steps recalls readable blank rests first now plan (short_lines longest taken) (base ++ first_text) synced shown
   pub none : whole_lines held ≡ []
   pub goes_on : (more : List ℕ) → short_lines longest (taken ++ more) ≡ short_lines longest taken ++ short_lines longest (held ++ more)
 
@@ -38,12 +38,12 @@ consumes_all None b xs ys x end = tt
 consumes_all (Some a) None xs ys x end = absurd x
 consumes_all (Some a) (Some b) xs ys x end = x ∙ ap (λ t. xs ++ t) end ∙ append-nil xs
 
-pub served_none : {M : Type 0} (longest : ℕ) (steps : M → List ℕ → List (List ℕ) → List ℕ → M → Type 0) (recalls : M → List ℕ → M → Type 0) (blank rests : M → M → Type 0) (machine : M) (plan : List Line) (base synced shown : List ℕ) (known : Option (List ℕ)) (held : List ℕ) →
-    Restarts recalls blank rests plan machine synced → shown ≡ base ++ first_text → held ≡ [] → Served longest steps recalls blank rests machine machine plan base synced shown known known held
-served_none longest steps recalls blank rests machine plan base synced shown known held r is none = record {
+pub served_none : {M : Type 0} (longest : ℕ) (steps : M → List ℕ → List (List ℕ) → List ℕ → M → Type 0) (recalls : M → List ℕ → M → Type 0) (readable : M → List ℕ → Bool) (blank rests : M → M → Type 0) (machine : M) (plan : List Line) (base synced shown : List ℕ) (known : Option (List ℕ)) (held : List ℕ) →
+    Restarts recalls readable blank rests plan machine synced → shown ≡ base ++ first_text → held ≡ [] → Served longest steps recalls readable blank rests machine machine plan base synced shown known known held
+served_none longest steps recalls readable blank rests machine plan base synced shown known held r is none = record {
   taken = [];
   input = consumes_none known;
-  durable = subst (λ o. Durable steps recalls blank rests machine machine plan [] (base ++ first_text) synced o) (sym is) (durable_none steps recalls blank rests machine plan (base ++ first_text) synced r);
+  durable = subst (λ o. Durable steps recalls readable blank rests machine machine plan [] (base ++ first_text) synced o) (sym is) (durable_none steps recalls readable blank rests machine plan (base ++ first_text) synced r);
   none = ap whole_lines none;
   goes_on = λ more. ap (λ h. short_lines longest (h ++ more)) (sym none);
 }
@@ -52,17 +52,17 @@ pub no_short : (longest : ℕ) (text : List ℕ) → whole_lines text ≡ [] →
 no_short longest text none = rw none refl
 
 -- one read more
-pub served_more : {M : Type 0} (longest : ℕ) (steps : M → List ℕ → List (List ℕ) → List ℕ → M → Type 0) (recalls : M → List ℕ → M → Type 0) (blank rests : M → M → Type 0) (first now next : M) (plan : List Line) (base synced shown synced_turn shown_next synced_next : List ℕ) (before after later : Option (List ℕ)) (held block text rest kept : List ℕ) →
-    Served longest steps recalls blank rests first now plan base synced shown before after held → Consumes after later block → text ≡ held ++ block →
-    Durable steps recalls blank rests now next plan (short_lines longest text) shown synced_turn shown_next → Restarts recalls blank rests plan next synced_next →
+pub served_more : {M : Type 0} (longest : ℕ) (steps : M → List ℕ → List (List ℕ) → List ℕ → M → Type 0) (recalls : M → List ℕ → M → Type 0) (readable : M → List ℕ → Bool) (blank rests : M → M → Type 0) (first now next : M) (plan : List Line) (base synced shown synced_turn shown_next synced_next : List ℕ) (before after later : Option (List ℕ)) (held block text rest kept : List ℕ) →
+    Served longest steps recalls readable blank rests first now plan base synced shown before after held → Consumes after later block → text ≡ held ++ block →
+    Durable steps recalls readable blank rests now next plan (short_lines longest text) shown synced_turn shown_next → Restarts recalls readable blank rests plan next synced_next →
     ((more : List ℕ) → short_lines longest (text ++ more) ≡ short_lines longest text ++ short_lines longest (rest ++ more)) → whole_lines kept ≡ [] → ((more : List ℕ) → short_lines longest (kept ++ more) ≡ short_lines longest (rest ++ more)) →
-    Served longest steps recalls blank rests first next plan base synced_next shown_next before later kept
-served_more longest steps recalls blank rests first now next plan base synced shown synced_turn shown_next synced_next before after later held block text rest kept s read is d r behind none same = record {
+    Served longest steps recalls readable blank rests first next plan base synced_next shown_next before later kept
+served_more longest steps recalls readable blank rests first now next plan base synced shown synced_turn shown_next synced_next before after later held block text rest kept s read is d r behind none same = record {
   taken = s.taken ++ block;
   input = consumes_more before after later s.taken block s.input read;
-  durable = subst (λ ls. Durable steps recalls blank rests first next plan ls (base ++ first_text) synced_next shown_next) (sym lines)
-      (durable_renewed steps recalls blank rests first next plan (short_lines longest s.taken ++ short_lines longest text) (base ++ first_text) synced_turn shown_next synced_next
-      (durable_then steps recalls blank rests first now next plan (short_lines longest s.taken) (short_lines longest text) (base ++ first_text) synced shown synced_turn shown_next s.durable d) r);
+  durable = subst (λ ls. Durable steps recalls readable blank rests first next plan ls (base ++ first_text) synced_next shown_next) (sym lines)
+      (durable_renewed steps recalls readable blank rests first next plan (short_lines longest s.taken ++ short_lines longest text) (base ++ first_text) synced_turn shown_next synced_next
+      (durable_then steps recalls readable blank rests first now next plan (short_lines longest s.taken) (short_lines longest text) (base ++ first_text) synced shown synced_turn shown_next s.durable d) r);
   none = none;
   goes_on = λ more. all more ∙ ap (λ ls. ls ++ short_lines longest (kept ++ more)) (sym lines);
 }
@@ -77,34 +77,34 @@ served_more longest steps recalls blank rests first now next plan base synced sh
     lines = ap (short_lines longest) (sym (append-nil (s.taken ++ block))) ∙ step [] ∙ ap (λ t. short_lines longest s.taken ++ short_lines longest t) (append-nil text)
 
 -- one read more in which no line ends
-pub served_longer : {M : Type 0} (longest : ℕ) (steps : M → List ℕ → List (List ℕ) → List ℕ → M → Type 0) (recalls : M → List ℕ → M → Type 0) (blank rests : M → M → Type 0) (first now : M) (plan : List Line) (base synced shown : List ℕ) (before after later : Option (List ℕ)) (held block kept : List ℕ) →
-    Served longest steps recalls blank rests first now plan base synced shown before after held → Consumes after later block → whole_lines block ≡ [] →
+pub served_longer : {M : Type 0} (longest : ℕ) (steps : M → List ℕ → List (List ℕ) → List ℕ → M → Type 0) (recalls : M → List ℕ → M → Type 0) (readable : M → List ℕ → Bool) (blank rests : M → M → Type 0) (first now : M) (plan : List Line) (base synced shown : List ℕ) (before after later : Option (List ℕ)) (held block kept : List ℕ) →
+    Served longest steps recalls readable blank rests first now plan base synced shown before after held → Consumes after later block → whole_lines block ≡ [] →
     whole_lines kept ≡ [] → ((more : List ℕ) → short_lines longest (kept ++ more) ≡ short_lines longest ((held ++ block) ++ more)) →
-    Served longest steps recalls blank rests first now plan base synced shown before later kept
-served_longer longest steps recalls blank rests first now plan base synced shown before after later held block kept s read no_line none same =
+    Served longest steps recalls readable blank rests first now plan base synced shown before later kept
+served_longer longest steps recalls readable blank rests first now plan base synced shown before after later held block kept s read no_line none same =
     let lines : short_lines longest (held ++ block) ≡ [] = no_short longest (held ++ block) (none_behind held block s.none no_line) in
-    served_more longest steps recalls blank rests first now now plan base synced shown synced shown synced before after later held block (held ++ block) (held ++ block) kept s read refl
-    (subst (λ ls. Durable steps recalls blank rests now now plan ls shown synced shown) (sym lines) (durable_none steps recalls blank rests now plan shown synced s.durable.restarts))
+    served_more longest steps recalls readable blank rests first now now plan base synced shown synced shown synced before after later held block (held ++ block) (held ++ block) kept s read refl
+    (subst (λ ls. Durable steps recalls readable blank rests now now plan ls shown synced shown) (sym lines) (durable_none steps recalls readable blank rests now plan shown synced s.durable.restarts))
     s.durable.restarts
     (λ more. ap (λ ls. ls ++ short_lines longest ((held ++ block) ++ more)) (sym lines))
     none same
 
 -- ---- what a crash leaves
 
-pub as_one : {M : Type 0} (steps : M → List ℕ → List (List ℕ) → List ℕ → M → Type 0) (recalls : M → List ℕ → M → Type 0) (blank rests : M → M → Type 0) (plan : List Line) (first now : M) (dids : List Did) (left : List ℕ) → Runs steps first dids now → Restarts recalls blank rests plan now left → RestartsAsOne steps recalls blank rests plan first left
-as_one steps recalls blank rests plan first now dids left runs r = (now, dids, runs, r)
+pub as_one : {M : Type 0} (steps : M → List ℕ → List (List ℕ) → List ℕ → M → Type 0) (recalls : M → List ℕ → M → Type 0) (readable : M → List ℕ → Bool) (blank rests : M → M → Type 0) (plan : List Line) (first now : M) (dids : List Did) (left : List ℕ) → Runs steps first dids now → Restarts recalls readable blank rests plan now left → RestartsAsOne steps recalls readable blank rests plan first left
+as_one steps recalls readable blank rests plan first now dids left runs r = (now, dids, runs, r)
 
-pub of_turn : {M : Type 0} (steps : M → List ℕ → List (List ℕ) → List ℕ → M → Type 0) (recalls : M → List ℕ → M → Type 0) (blank rests : M → M → Type 0) (plan own : List Line) (first now next : M) (dids : List Did) (left : List ℕ) → Runs steps first dids now → own ≡ plan → RestartsAsEither steps recalls blank rests own now next left → RestartsAsOne steps recalls blank rests plan first left
-of_turn steps recalls blank rests plan own first now next dids left runs same e =
-    ⊎_elim (λ old. as_one steps recalls blank rests plan first now dids left runs (subst (λ p. Restarts recalls blank rests p now left) same old))
-    (λ new. as_one steps recalls blank rests plan first next (dids ++ new.0) left (runs_append steps first now next dids new.0 runs new.1) (subst (λ p. Restarts recalls blank rests p next left) same new.2)) e
+pub of_turn : {M : Type 0} (steps : M → List ℕ → List (List ℕ) → List ℕ → M → Type 0) (recalls : M → List ℕ → M → Type 0) (readable : M → List ℕ → Bool) (blank rests : M → M → Type 0) (plan own : List Line) (first now next : M) (dids : List Did) (left : List ℕ) → Runs steps first dids now → own ≡ plan → RestartsAsEither steps recalls readable blank rests own now next left → RestartsAsOne steps recalls readable blank rests plan first left
+of_turn steps recalls readable blank rests plan own first now next dids left runs same e =
+    ⊎_elim (λ old. as_one steps recalls readable blank rests plan first now dids left runs (subst (λ p. Restarts recalls readable blank rests p now left) same old))
+    (λ new. as_one steps recalls readable blank rests plan first next (dids ++ new.0) left (runs_append steps first now next dids new.0 runs new.1) (subst (λ p. Restarts recalls readable blank rests p next left) same new.2)) e
 
 -- at any instant since the beginning
-pub at_any : {M : Type 0} (steps : M → List ℕ → List (List ℕ) → List ℕ → M → Type 0) (recalls : M → List ℕ → M → Type 0) (blank rests : M → M → Type 0) (plan : List Line) (first : M) (before now : ℕ) (past since : ℕ → List ℕ → Type 0) (seen synced : List ℕ) (number : ℕ) →
-    AllSealed seen synced number → Restarts recalls blank rests plan first synced → ((left : List ℕ) → past before left → Leaves synced seen left) → Elapses before now past since (RestartsAsOne steps recalls blank rests plan first) →
-    (left : List ℕ) → since before left → RestartsAsOne steps recalls blank rests plan first left
-at_any steps recalls blank rests plan first before now past since seen synced number s r only e left may =
-    ⊎_elim (λ old. as_one steps recalls blank rests plan first first [] left refl (restarts_found recalls blank rests plan first synced left r (sealed_left seen synced number left s (only left old)))) (λ new. new)
+pub at_any : {M : Type 0} (steps : M → List ℕ → List (List ℕ) → List ℕ → M → Type 0) (recalls : M → List ℕ → M → Type 0) (readable : M → List ℕ → Bool) (blank rests : M → M → Type 0) (plan : List Line) (first : M) (before now : ℕ) (past since : ℕ → List ℕ → Type 0) (seen synced : List ℕ) (number : ℕ) →
+    AllSealed seen synced number → Restarts recalls readable blank rests plan first synced → ((left : List ℕ) → past before left → Leaves synced seen left) → Elapses before now past since (RestartsAsOne steps recalls readable blank rests plan first) →
+    (left : List ℕ) → since before left → RestartsAsOne steps recalls readable blank rests plan first left
+at_any steps recalls readable blank rests plan first before now past since seen synced number s r only e left may =
+    ⊎_elim (λ old. as_one steps recalls readable blank rests plan first first [] left refl (restarts_found recalls readable blank rests plan first synced left r (sealed_left seen synced number left s (only left old)))) (λ new. new)
     (e.nothing_else before left (omega arith) may)
 
 -- a block that was lent is the bytes that were put there

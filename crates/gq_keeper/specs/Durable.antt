@@ -1,5 +1,5 @@
 -- What is on disk when something is shown.
-use Rattle.std.specs.Prelude.{◌≡◌, ℕ, ◌+◌, List, [], ◌∷◌, ◌++◌, length}
+use Rattle.std.specs.Prelude.{◌≡◌, ℕ, ◌+◌, Bool, List, [], ◌∷◌, ◌++◌, length}
 use Rattle.gq_journal.specs.Batches.{Line, ended_line, seal, batches_of, journal_text}
 use Rattle.gq_journal.specs.Laws.{FitBatches, Begins}
 use Rattle.gq_keeper.specs.Runs.{Did, Runs, lines_of, told_of}
@@ -16,12 +16,12 @@ pub record AllSealed (seen synced : List ℕ) (number : ℕ) : Type 0 where
 -- machine to the last; and a start from what is synced reads the last machine at rest, which is its operations gone. `steps`,
 -- `recalls`, `blank` and `rests` are the machine's own words for a step, for a start, for a machine never started and for one at rest;
 -- `plan` is the lines of the journal's last plan.
-pub record Durable {M : Type 0} (steps : M → List ℕ → List (List ℕ) → List ℕ → M → Type 0) (recalls : M → List ℕ → M → Type 0) (blank rests : M → M → Type 0) (first last : M) (plan lines : List Line) (base synced shown : List ℕ) : Type 0 where
+pub record Durable {M : Type 0} (steps : M → List ℕ → List (List ℕ) → List ℕ → M → Type 0) (recalls : M → List ℕ → M → Type 0) (readable : M → List ℕ → Bool) (blank rests : M → M → Type 0) (first last : M) (plan lines : List Line) (base synced shown : List ℕ) : Type 0 where
   pub dids : List Did
   pub runs : Runs steps first dids last
   pub took : lines_of dids ≡ lines
   pub told : shown ≡ base ++ told_of dids
-  pub restarts : Restarts recalls blank rests plan last synced
+  pub restarts : Restarts recalls readable blank rests plan last synced
 
 -- what is appended for the text of facts: nothing where there are none
 abbrev pub kept_text : ℕ → List ℕ → List ℕ

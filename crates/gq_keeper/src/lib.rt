@@ -19,7 +19,7 @@ mod stream;
 pub use fault::Fault;
 pub use files::{FileDisk, Place};
 pub use log::{Disk, Log};
-pub use machine::{Lasting, Machine};
+pub use machine::{Lasting, Machine, Unread};
 pub use memory::MemoryDisk;
 pub use notes::Notes;
 pub use output::Output;

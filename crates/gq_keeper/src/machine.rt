@@ -1,12 +1,33 @@
 //! What takes the lines.
 
-ghost use Rattle.std.specs.Prelude.{◌≡◌, ℕ, List, true, OnOk};
+ghost use Rattle.std.specs.Prelude.{◌≡◌, ℕ, List, Bool, true, OnOk, IfErr};
+ghost use Rattle.std.specs.List.{list_all};
 ghost use Rattle.gq_keeper.specs.Plans.{are_facts};
 ghost use Rattle.gq_keeper.specs.Runs.{Takes};
-ghost use Rattle.gq_keeper.specs.Starting.{RecallsAll};
+ghost use Rattle.gq_keeper.specs.Starting.{RecallsAll, RefusesLines};
 ghost use Rattle.gq_keeper.specs.Restarting.{Needs};
 
+ghost use Rattle.gq_keeper.specs.declared.machine.Unread.TheVariants.{Memory};
+
 use crate::Fault;
+use gq_memory::OutOfMemory;
+
+/// Why a line of an earlier run is not read.
+#[derive(Debug, Drop)]
+pub enum Unread {
+    /// Memory was wanting.
+    Memory(OutOfMemory),
+    /// The line is none that the machine reads.
+    Strange,
+}
+
+impl From<OutOfMemory> for Unread {
+    ghost from_gives = { λ refused e. e ≡ Memory refused };
+
+    fn from(refused: OutOfMemory) -> Unread {
+        Unread::Memory(refused)
+    }
+}
 
 /// A machine that takes line after line. Of each step it gives the facts that must not be forgotten, as lines, and what is to be
 /// shown, which rests on them.
@@ -17,13 +38,21 @@ pub trait Machine {
     /// Recovered a line of an earlier run may lead from this machine to that one.
     ghost recalls: { Self → List ℕ → Self → Type 0 };
 
-    /// Reads a line of an earlier run's journal. After an `Err` the machine is given up.
-    fn recall(&mut self, line: &[u8]) -> Result<(), Fault>
-        ensures { OnOk result (recalls self.old line.now self.new) };
+    /// Whether this machine reads a line as one of an earlier run.
+    ghost readable: { Self → List ℕ → Bool };
+
+    /// Reads a line of an earlier run's journal. It is refused only where memory is wanting, or where it is none that this machine
+    /// reads. After an `Err` the machine is given up.
+    fn recall(&mut self, line: &[u8]) -> Result<(), Unread>
+        ensures recalled { OnOk result (recalls self.old line.now self.new) }
+        ensures refused { IfErr result (RefusesLines (readable self.old line.now)) };
 
     /// Takes the line, and appends what the step gives. After an `Err` the machine is given up.
     fn take(&mut self, line: &[u8], facts: &mut Vec<u8>, told: &mut Vec<u8>) -> Result<(), Fault>
         ensures { OnOk result (Takes steps self.old line.now facts.old.items facts.new.items told.old.items told.new.items self.new) };
+
+    /// What is readable doesn't change with a line that was read.
+    ghost reads_on: { (old : Self) (line : List ℕ) (new : Self) (other : List ℕ) → recalls old line new → readable new other ≡ readable old other };
 }
 
 /// A machine that a start makes again. Of what it was the start leaves what the facts say: what was going on is gone.
@@ -36,16 +65,22 @@ pub trait Lasting: Machine {
 
     /// Appends the lines of the facts that a start needs.
     fn put_needed(&self, facts: &mut Vec<u8>) -> Result<(), Fault>
-        ensures { OnOk result (Needs Self.recalls blank rests self.now facts.old.items facts.new.items) };
+        ensures { OnOk result (Needs Self.recalls Self.readable blank rests self.now facts.old.items facts.new.items) };
 
     /// The facts of a step are lines of facts.
     ghost gives_facts: { (old : Self) (line : List ℕ) (facts : List (List ℕ)) (told : List ℕ) (new : Self) → Self.steps old line facts told new → are_facts facts ≡ true };
+
+    /// A start reads the facts of a step.
+    ghost gives_readable: { (old : Self) (line : List ℕ) (facts : List (List ℕ)) (told : List ℕ) (new other : Self) → Self.steps old line facts told new → blank old other → list_all (Self.readable other) facts ≡ true };
 
     /// A step doesn't change with what a start begins.
     ghost keeps_blank: { (old : Self) (line : List ℕ) (facts : List (List ℕ)) (told : List ℕ) (new other : Self) → Self.steps old line facts told new → blank new other → blank old other };
 
     /// Recovered the facts of a step makes of the machine before it, at rest, the machine behind it, at rest.
     ghost keeps_rest: { (old : Self) (line : List ℕ) (facts : List (List ℕ)) (told : List ℕ) (new before after : Self) → Self.steps old line facts told new → rests old before → RecallsAll Self.recalls before facts after → rests new after };
+
+    /// What a start read another start reads.
+    ghost reads_again: { (first last new : Self) (lines : List (List ℕ)) → blank first first → RecallsAll Self.recalls first lines last → blank last new → list_all (Self.readable new) lines ≡ true };
 
     /// A machine that a start made is one at rest: another start with the same facts makes it again.
     ghost starts_again: { (first last new again : Self) (lines : List (List ℕ)) → blank first first → RecallsAll Self.recalls first lines last → blank last new → RecallsAll Self.recalls new lines again → rests last again };

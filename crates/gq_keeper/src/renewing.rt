@@ -70,9 +70,9 @@ pub fn renew<M: Lasting, D: Disk>(
 ) -> Result<u64, Fault>
     requires plan { IsPlan plan.now }
     ensures sealed { IfOk result (λ next. AllSealed (D.seen disk.new) (D.synced disk.new) next) }
-    ensures restarts { OnOk result (Restarts M.recalls M.blank M.rests (whole_lines plan.now) machine.now (D.synced disk.new)) }
+    ensures restarts { OnOk result (Restarts M.recalls M.readable M.blank M.rests (whole_lines plan.now) machine.now (D.synced disk.new)) }
     ensures crash { Elapses (D.instant disk.old) (D.instant disk.new) (D.left_since disk.old) (D.left_since disk.new)
-        (λ left. Leaves (D.synced disk.old) (D.seen disk.old) left ⊎ Restarts M.recalls M.blank M.rests (whole_lines plan.now) machine.now left) }
+        (λ left. Leaves (D.synced disk.old) (D.seen disk.old) left ⊎ Restarts M.recalls M.readable M.blank M.rests (whole_lines plan.now) machine.now left) }
 {
     let mut facts = Vec::new(alloc);
     machine.put_needed(&mut facts)?;
@@ -92,11 +92,11 @@ pub(crate) fn renew_if_due<M: Lasting, D: Disk>(
 ) -> Result<(), Fault>
     requires sealed { AllSealed (D.seen disk.old) (D.synced disk.old) number.old }
     requires plan { IsPlan plan.now }
-    requires restarts { Restarts M.recalls M.blank M.rests (whole_lines plan.now) machine.now (D.synced disk.old) }
+    requires restarts { Restarts M.recalls M.readable M.blank M.rests (whole_lines plan.now) machine.now (D.synced disk.old) }
     ensures sealed { OnOk result (AllSealed (D.seen disk.new) (D.synced disk.new) number.new) }
-    ensures restarts { OnOk result (Restarts M.recalls M.blank M.rests (whole_lines plan.now) machine.now (D.synced disk.new)) }
+    ensures restarts { OnOk result (Restarts M.recalls M.readable M.blank M.rests (whole_lines plan.now) machine.now (D.synced disk.new)) }
     ensures crash { Elapses (D.instant disk.old) (D.instant disk.new) (D.left_since disk.old) (D.left_since disk.new)
-        (Restarts M.recalls M.blank M.rests (whole_lines plan.now) machine.now) }
+        (Restarts M.recalls M.readable M.blank M.rests (whole_lines plan.now) machine.now) }
 {
     // its range is a fact once it is read
     let _number = *number;

@@ -57,16 +57,16 @@ pub fn take_text<'x, M: Lasting, L: Log, O: Output>(
     text: &'x [u8],
 ) -> Result<&'x [u8], Fault>
     requires sealed { AllSealed (L.seen log.old) (L.synced log.old) number.old }
-    requires restarts { Restarts M.recalls M.blank M.rests (last_plan [] (batches_of (L.synced log.old))) machine.old (L.synced log.old) }
-    requires may { (last : M) (lines : List Line) (synced shown : List ℕ) → Durable M.steps M.recalls M.blank M.rests machine.old last (last_plan [] (batches_of (L.synced log.old))) lines (O.shown out.old) synced shown → O.allows synced shown }
+    requires restarts { Restarts M.recalls M.readable M.blank M.rests (last_plan [] (batches_of (L.synced log.old))) machine.old (L.synced log.old) }
+    requires may { (last : M) (lines : List Line) (synced shown : List ℕ) → Durable M.steps M.recalls M.readable M.blank M.rests machine.old last (last_plan [] (batches_of (L.synced log.old))) lines (O.shown out.old) synced shown → O.allows synced shown }
     ensures sealed { OnOk result (AllSealed (L.seen log.new) (L.synced log.new) number.new) }
-    ensures durable { OnOk result (Durable M.steps M.recalls M.blank M.rests machine.old machine.new (last_plan [] (batches_of (L.synced log.old))) (short_lines longest text.now) (O.shown out.old) (L.synced log.new) (O.shown out.new)) }
+    ensures durable { OnOk result (Durable M.steps M.recalls M.readable M.blank M.rests machine.old machine.new (last_plan [] (batches_of (L.synced log.old))) (short_lines longest text.now) (O.shown out.old) (L.synced log.new) (O.shown out.new)) }
     ensures idle { OnOk result (L.synced log.new ≡ L.synced log.old → log.new ≡ log.old) }
     ensures rest { IfOk result (λ rest. (front : List ℕ) × (text.now ≡ front ++ rest.now)) }
     ensures left { IfOk result (λ rest. whole_lines rest.now ≡ []) }
     ensures behind { IfOk result (λ rest. (more : List ℕ) → short_lines longest (text.now ++ more) ≡ short_lines longest text.now ++ short_lines longest (rest.now ++ more)) }
     ensures crash { Elapses (L.instant log.old) (L.instant log.new) (L.left_since log.old) (L.left_since log.new)
-        (RestartsAsEither M.steps M.recalls M.blank M.rests (last_plan [] (batches_of (L.synced log.old))) machine.old machine.new) }
+        (RestartsAsEither M.steps M.recalls M.readable M.blank M.rests (last_plan [] (batches_of (L.synced log.old))) machine.old machine.new) }
 {
     // its range is a fact once it is read
     let _number = *number;
@@ -156,11 +156,11 @@ pub fn serve<M: Lasting, R: Read, D: Disk, O: Output>(
 ) -> Result<(), Fault>
     requires sealed { AllSealed (D.seen disk.old) (D.synced disk.old) first }
     requires plan { IsPlan plan.now }
-    requires restarts { Restarts M.recalls M.blank M.rests (whole_lines plan.now) machine.old (D.synced disk.old) }
-    requires may { (last : M) (lines : List Line) (synced shown : List ℕ) → Durable M.steps M.recalls M.blank M.rests machine.old last (whole_lines plan.now) lines (O.shown out.old ++ first_text) synced shown → O.allows synced shown }
+    requires restarts { Restarts M.recalls M.readable M.blank M.rests (whole_lines plan.now) machine.old (D.synced disk.old) }
+    requires may { (last : M) (lines : List Line) (synced shown : List ℕ) → Durable M.steps M.recalls M.readable M.blank M.rests machine.old last (whole_lines plan.now) lines (O.shown out.old ++ first_text) synced shown → O.allows synced shown }
     ensures durable { OnOk result ((taken : List ℕ) × IfSome (R.remaining input.old) (λ all. all ≡ taken)
-        × Durable M.steps M.recalls M.blank M.rests machine.old machine.new (whole_lines plan.now) (short_lines longest taken) (O.shown out.old ++ first_text) (D.synced disk.new) (O.shown out.new)) }
-    ensures any_time { (left : List ℕ) → D.left_since disk.new (D.instant disk.old) left → RestartsAsOne M.steps M.recalls M.blank M.rests (whole_lines plan.now) machine.old left }
+        × Durable M.steps M.recalls M.readable M.blank M.rests machine.old machine.new (whole_lines plan.now) (short_lines longest taken) (O.shown out.old ++ first_text) (D.synced disk.new) (O.shown out.new)) }
+    ensures any_time { (left : List ℕ) → D.left_since disk.new (D.instant disk.old) left → RestartsAsOne M.steps M.recalls M.readable M.blank M.rests (whole_lines plan.now) machine.old left }
 {
     let mut number = first;
     let mut due = 0;

@@ -1,17 +1,18 @@
 //! A start: the journal is read, and its wrong end is cut off.
 
 ghost use Rattle.std.specs.Prelude.{◌≡◌, ◌⊎◌, ◌+◌, ◌≤◌, ◌++◌, ◌∷◌, ◌&&◌, ℕ, List, [], true, false, length, take, drop, IfOk, IfErr, OnOk, MatchOption, if◌then◌else◌};
+ghost use Rattle.std.specs.List.{list_all};
 ghost use Rattle.gq_journal.specs.Batches.{whole_lines, lines_text, batches_of, has_right_batch};
 ghost use Rattle.gq_keeper.specs.Plans.{IsPlan, is_plan, facts_in, last_plan, begins_with_plan, goes_on_from, is_of, new_plan};
 ghost use Rattle.gq_keeper.specs.Crashes.{Leaves, LeavesSyncing, Elapses};
 ghost use Rattle.gq_keeper.specs.Durable.{AllSealed, kept_text, number_after};
-ghost use Rattle.gq_keeper.specs.Starting.{facts_read, RecallsAll, EndsAt, behind, IsDamaged};
-ghost use Rattle.gq_keeper.specs.Started.{ForReady, ForDamage, ForAnother};
+ghost use Rattle.gq_keeper.specs.Starting.{facts_read, RecallsAll, RefusesLines, EndsAt, behind, IsDamaged};
+ghost use Rattle.gq_keeper.specs.Started.{ForReady, ForDamage, ForAnother, ForStrange};
 ghost use Rattle.gq_keeper.specs.Restarting.{Restarts, ReadsAs};
 
 use crate::keeping::keep;
 use crate::plan::{goes_on_from, is_plan};
-use crate::{Disk, Fault, Lasting, Log, Machine, Plan};
+use crate::{Disk, Fault, Lasting, Log, Machine, Plan, Unread};
 use gq_journal::{first_batch, first_whole_line, has_right_batch};
 use gq_memory::{OutOfMemory, slice_copied};
 use std::alloc::Global;
@@ -34,6 +35,8 @@ pub enum Started {
     Damaged(usize),
     /// The journal is of another node or grid, or of a plan from which this one doesn't go on.
     Another,
+    /// The machine doesn't read all lines of the journal's facts.
+    Strange,
 }
 
 // What a journal holds: where its right batches end, the number of the next one, whether it begins with a plan, and the text of the
@@ -87,8 +90,9 @@ fn find(alloc: Global, text: &[u8]) -> Result<Found<'_>, OutOfMemory>
 }
 
 // Reads the lines of a batch of facts; those of a plan are passed over.
-fn recall_lines<M: Machine>(machine: &mut M, text: &[u8]) -> Result<(), Fault>
-    ensures { OnOk result (RecallsAll M.recalls machine.old (if is_plan (whole_lines text.now) then [] else whole_lines text.now) machine.new) }
+fn recall_lines<M: Machine>(machine: &mut M, text: &[u8]) -> Result<(), Unread>
+    ensures recalled { OnOk result (RecallsAll M.recalls machine.old (if is_plan (whole_lines text.now) then [] else whole_lines text.now) machine.new) }
+    ensures refused { IfErr result (RefusesLines (list_all (M.readable machine.old) (if is_plan (whole_lines text.now) then [] else whole_lines text.now))) }
 {
     if is_plan(text) {
         return Ok(());
@@ -102,8 +106,9 @@ fn recall_lines<M: Machine>(machine: &mut M, text: &[u8]) -> Result<(), Fault>
 }
 
 // Reads the facts of a journal.
-fn recall_batches<M: Machine>(alloc: Global, machine: &mut M, text: &[u8]) -> Result<(), Fault>
-    ensures { OnOk result (RecallsAll M.recalls machine.old (facts_read text.now) machine.new) }
+fn recall_batches<M: Machine>(alloc: Global, machine: &mut M, text: &[u8]) -> Result<(), Unread>
+    ensures recalled { OnOk result (RecallsAll M.recalls machine.old (facts_read text.now) machine.new) }
+    ensures refused { IfErr result (RefusesLines (list_all (M.readable machine.old) (facts_read text.now))) }
 {
     let mut rest = text;
     let mut number = 1u64;
@@ -115,10 +120,23 @@ fn recall_batches<M: Machine>(alloc: Global, machine: &mut M, text: &[u8]) -> Re
     Ok(())
 }
 
+// Reads the facts of a journal. Answers whether the machine reads all.
+fn reads_facts<M: Machine>(alloc: Global, machine: &mut M, text: &[u8]) -> Result<bool, OutOfMemory>
+    ensures recalled { IfOk result (λ reads. reads ≡ true → RecallsAll M.recalls machine.old (facts_read text.now) machine.new) }
+    ensures strange { IfOk result (λ reads. reads ≡ false → list_all (M.readable machine.old) (facts_read text.now) ≡ false) }
+{
+    match recall_batches(alloc, machine, text) {
+        Ok(()) => Ok(true),
+        Err(Unread::Strange) => Ok(false),
+        Err(Unread::Memory(refused)) => Err(refused),
+    }
+}
+
 /// Reads the journal of earlier runs, once it is made sure of: the lines of the facts of all its right batches, in order. A wrong
 /// end is cut off. The plan is appended as a batch where it isn't the last one. Where a right batch is anywhere behind a wrong one
 /// it is told that the journal is damaged, and where; and it is told where the journal is of another node or of a plan from which
-/// this one doesn't go on: the journal stays as it was. Whenever it is killed, another start reads the same.
+/// this one doesn't go on, or where the machine doesn't read one of its lines: the journal stays as it was. Whenever it is killed,
+/// another start reads the same.
 pub fn start<M: Lasting, D: Disk, P: Plan>(
     alloc: Global,
     machine: &mut M,
@@ -128,13 +146,14 @@ pub fn start<M: Lasting, D: Disk, P: Plan>(
     requires blank { M.blank machine.old machine.old }
     requires plan { IsPlan (P.text plan.now) }
     ensures sealed { IfOk result (λ found. ForReady found (λ reading. AllSealed (D.seen disk.new) (D.synced disk.new) reading.number)) }
-    ensures restarts { IfOk result (λ found. ForReady found (λ reading. Restarts M.recalls M.blank M.rests (whole_lines (P.text plan.now)) machine.new (D.synced disk.new))) }
+    ensures restarts { IfOk result (λ found. ForReady found (λ reading. Restarts M.recalls M.readable M.blank M.rests (whole_lines (P.text plan.now)) machine.new (D.synced disk.new))) }
     ensures recalled { IfOk result (λ found. ForReady found (λ reading. RecallsAll M.recalls machine.old (facts_read (D.seen disk.old)) machine.new)) }
     ensures goes_on { IfOk result (λ found. ForReady found (λ reading. is_of (P.goes_on plan.now) (P.text plan.now) (batches_of (D.seen disk.old)) ≡ true)) }
     ensures cut { IfOk result (λ found. ForReady found (λ reading. MatchOption reading.cut (behind (D.seen disk.old) ≡ []) (λ at. behind (D.seen disk.old) ≡ drop at (D.seen disk.old)))) }
     ensures none { IfOk result (λ found. ForReady found (λ reading. has_right_batch (behind (D.seen disk.old)) ≡ false)) }
     ensures damaged { IfOk result (λ found. ForDamage found (λ at. IsDamaged (D.seen disk.old) at × (D.seen disk.new ≡ D.seen disk.old))) }
     ensures another { IfOk result (λ found. ForAnother found ((is_of (P.goes_on plan.now) (P.text plan.now) (batches_of (D.seen disk.old)) ≡ false) × (D.seen disk.new ≡ D.seen disk.old))) }
+    ensures strange { IfOk result (λ found. ForStrange found ((list_all (M.readable machine.old) (facts_read (D.seen disk.old)) ≡ false) × (D.seen disk.new ≡ D.seen disk.old))) }
     ensures crash { Elapses (D.instant disk.old) (D.instant disk.new) (D.left_since disk.old) (D.left_since disk.new)
         (λ left. Leaves (D.synced disk.old) (D.seen disk.old) left ⊎ ReadsAs (whole_lines (P.text plan.now)) (D.seen disk.old) left) }
 {
@@ -147,7 +166,9 @@ pub fn start<M: Lasting, D: Disk, P: Plan>(
     if !is_of(plan, found.begins, found.last)? {
         return Ok(Started::Another);
     }
-    recall_batches(alloc, machine, text)?;
+    if !reads_facts(alloc, machine, text)? {
+        return Ok(Started::Strange);
+    }
     let cut = mend(disk, text, found.at)?;
     let number = append_plan(alloc, disk, plan.text(), found.last, found.number)?;
     Ok(Started::Ready(Recovered { number, cut }))

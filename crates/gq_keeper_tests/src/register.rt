@@ -1,12 +1,12 @@
 //! A machine of one register.
 
-ghost use Rattle.std.specs.Prelude.{◌≡◌, ◌&&◌, ◌++◌, [], true, not, OnOk};
+ghost use Rattle.std.specs.Prelude.{◌≡◌, ◌&&◌, ◌++◌, [], true, not, refl, OnOk};
 ghost use Rattle.gq_journal.specs.Batches.{ended_line, is_batch_line};
 ghost use Rattle.gq_keeper.specs.Plans.{is_head};
 ghost use Rattle.gq_keeper_tests.specs.Registers.{is_fact};
 
 use gq_journal::is_batch_line;
-use gq_keeper::{Fault, Lasting, Machine};
+use gq_keeper::{Fault, Lasting, Machine, Unread};
 use gq_memory::{GrowCopies, GrowVec, OutOfMemory};
 use std::alloc::Global;
 use std::marker::Model;
@@ -81,18 +81,22 @@ fn put_line(out: &mut Vec<u8>, line: &[u8]) -> Result<(), OutOfMemory>
 }
 
 impl Machine for Register {
-    ghost use Rattle.gq_keeper_tests.specs.Registers.{StepsTo, held_after};
+    ghost use Rattle.gq_keeper_tests.specs.Registers.{StepsTo, RecallsTo, is_fact};
 
     ghost steps = { StepsTo };
 
-    ghost recalls = { λ old line new. new ≡ held_after old line };
+    ghost recalls = { RecallsTo };
 
-    fn recall(&mut self, line: &[u8]) -> Result<(), Fault> {
-        if is_fact(line) {
-            self.hold(line)?;
+    ghost readable = { λ machine line. is_fact line };
+
+    fn recall(&mut self, line: &[u8]) -> Result<(), Unread> {
+        if !is_fact(line) {
+            return Err(Unread::Strange);
         }
-        Ok(())
+        Ok(self.hold(line)?)
     }
+
+    ghost reads_on = { λ old line new other recalled. refl };
 
     fn take(&mut self, line: &[u8], facts: &mut Vec<u8>, told: &mut Vec<u8>) -> Result<(), Fault> {
         if !is_fact(line) {
@@ -106,7 +110,7 @@ impl Machine for Register {
 }
 
 impl Lasting for Register {
-    ghost use Rattle.gq_keeper_tests.specs.Registers.{gives_facts, keeps_rest, starts_again};
+    ghost use Rattle.gq_keeper_tests.specs.Registers.{gives_facts, gives_readable, keeps_rest, reads_again, starts_again};
 
     ghost blank = { λ machine first. first ≡ [] };
 
@@ -118,9 +122,13 @@ impl Lasting for Register {
 
     ghost gives_facts = { gives_facts };
 
+    ghost gives_readable = { λ old line facts told new other step begins. gives_readable old line facts told new step };
+
     ghost keeps_blank = { λ old line facts told new other step begins. begins };
 
     ghost keeps_rest = { keeps_rest };
+
+    ghost reads_again = { λ first last new lines begins recalled again. reads_again first last lines recalled };
 
     ghost starts_again = { starts_again };
 }

@@ -1,12 +1,14 @@
 -- What a contract sees of a node's machine: its node's tables go on as `gq_parts` says.
-use Rattle.std.specs.Prelude.{◌≡◌, List, ℕ, true}
+use Rattle.std.specs.Prelude.{◌≡◌, List, ℕ, Bool, true}
+use Rattle.std.specs.List.{list_all}
 use Rattle.gq_keeper.specs.Plans.{are_facts}
 use Rattle.gq_keeper.specs.Starting.{RecallsAll}
 use Rattle.gq_node.specs.Tables.{Tables}
-use Rattle.gq_parts.specs.Recalls.{RecallsTo}
+use Rattle.gq_parts.specs.Recalls.{RecallsTo, reads_line}
 use Rattle.gq_parts.specs.Resting.{IsBlank, Rests}
 use Rattle.gq_parts.specs.Steps.{StepsTo}
 use Rattle.gq_parts.proofs.Reading.{on_tables, gives_facts as tables_give_facts}
+use Rattle.gq_parts.proofs.Readable.{reads_on as tables_read_on, reads_again as tables_read_again, gives_readable as tables_give_readable}
 use Rattle.gq_parts.proofs.Resting.{keeps_blank as tables_keep_blank, keeps_rest as tables_keep_rest, starts_again as tables_start_again}
 use Rattle.gq_machine.specs.declared.machine.NodeMachine.{NodeMachine}
 
@@ -20,6 +22,10 @@ MachineSteps old line facts told new = StepsTo (tables_of old) line facts told (
 
 abbrev pub MachineRecalls : NodeMachine → List ℕ → NodeMachine → Type 0
 MachineRecalls old line new = RecallsTo (tables_of old) line (tables_of new)
+
+-- whether it reads the line
+abbrev pub machine_reads : NodeMachine → List ℕ → Bool
+machine_reads m line = reads_line (tables_of m) line
 
 -- the other is that of the same node, never started; the other is that of the same node, at rest
 abbrev pub MachineIsBlank : NodeMachine → NodeMachine → Type 0
@@ -35,6 +41,15 @@ reads lines a b r = on_tables tables_of MachineRecalls (λ x y line recalled. re
 
 pub gives_facts : (old : NodeMachine) (line : List ℕ) (facts : List (List ℕ)) (told : List ℕ) (new : NodeMachine) → MachineSteps old line facts told new → are_facts facts ≡ true
 gives_facts old line facts told new step = tables_give_facts (tables_of old) line facts told (tables_of new) step
+
+pub reads_on : (old : NodeMachine) (line : List ℕ) (new : NodeMachine) (other : List ℕ) → MachineRecalls old line new → machine_reads new other ≡ machine_reads old other
+reads_on old line new other recalled = tables_read_on (tables_of old) line (tables_of new) other recalled
+
+pub gives_readable : (old : NodeMachine) (line : List ℕ) (facts : List (List ℕ)) (told : List ℕ) (new other : NodeMachine) → MachineSteps old line facts told new → MachineIsBlank old other → list_all (machine_reads other) facts ≡ true
+gives_readable old line facts told new other step blank = tables_give_readable (tables_of old) line facts told (tables_of new) (tables_of other) step blank
+
+pub reads_again : (first last new : NodeMachine) (lines : List (List ℕ)) → MachineIsBlank first first → RecallsAll MachineRecalls first lines last → MachineIsBlank last new → list_all (machine_reads new) lines ≡ true
+reads_again first last new lines blank to_last other = tables_read_again (tables_of first) (tables_of last) (tables_of new) lines (reads lines first last to_last) other
 
 pub keeps_blank : (old : NodeMachine) (line : List ℕ) (facts : List (List ℕ)) (told : List ℕ) (new other : NodeMachine) → MachineSteps old line facts told new → MachineIsBlank new other → MachineIsBlank old other
 keeps_blank old line facts told new other step blank = tables_keep_blank (tables_of old) line facts told (tables_of new) (tables_of other) step blank

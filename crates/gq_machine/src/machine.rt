@@ -18,7 +18,7 @@ ghost use Rattle.gq_parts.specs.Steps.{fact_lines, HasAddress, Appended, TookOf,
 
 use crate::ranges::{fact_fits, plan_is_sound};
 use gq_facts::{put_fact, read_fact};
-use gq_keeper::{Fault, Lasting, Machine};
+use gq_keeper::{Fault, Lasting, Machine, Unread};
 use gq_memory::OutOfMemory;
 use gq_model::Line;
 use gq_node::{Answer, Ended, Fact, NeedRefused, Node, Output};
@@ -34,8 +34,6 @@ pub struct NodeMachine {
     node: Node,
     /// How many lines of a journal it read.
     pub facts: u64,
-    /// Whether one of them was strange: it says no fact of this node's plan and volumes. Such a line is not read.
-    pub is_strange: bool,
 }
 
 // Memory was wanting for the node.
@@ -51,13 +49,11 @@ impl NodeMachine {
     pub fn new(alloc: Global, node: Node) -> NodeMachine
         ensures node { tables_of result ≡ node.tables }
         ensures facts { result.facts ≡ 0 }
-        ensures known { result.is_strange ≡ false }
     {
         NodeMachine {
             alloc,
             node,
             facts: 0,
-            is_strange: false,
         }
     }
 
@@ -277,28 +273,26 @@ impl NodeMachine {
 }
 
 impl Machine for NodeMachine {
-    ghost use Rattle.gq_machine.specs.Machines.{MachineSteps, MachineRecalls};
+    ghost use Rattle.gq_machine.specs.Machines.{MachineSteps, MachineRecalls, machine_reads, reads_on};
 
     ghost steps = { MachineSteps };
 
     ghost recalls = { MachineRecalls };
 
-    fn recall(&mut self, line: &[u8]) -> Result<(), Fault> {
-        self.facts = self.facts.saturating_add(1);
-        match read_fact(self.alloc, line, self.node.plan())? {
-            Some(fact) => {
-                if self.node.recall(&fact) {
-                    return Ok(());
-                }
-                self.is_strange = true;
-                Err(Fault::JournalRead)
-            }
-            None => {
-                self.is_strange = true;
-                Err(Fault::JournalRead)
-            }
+    ghost readable = { machine_reads };
+
+    fn recall(&mut self, line: &[u8]) -> Result<(), Unread> {
+        let Some(fact) = read_fact(self.alloc, line, self.node.plan())? else {
+            return Err(Unread::Strange);
+        };
+        if !self.node.recall(&fact) {
+            return Err(Unread::Strange);
         }
+        self.facts = self.facts.saturating_add(1);
+        Ok(())
     }
+
+    ghost reads_on = { reads_on };
 
     fn take(&mut self, line: &[u8], facts: &mut Vec<u8>, told: &mut Vec<u8>) -> Result<(), Fault> {
         plan_is_sound(self.node.plan());
@@ -309,7 +303,7 @@ impl Machine for NodeMachine {
 }
 
 impl Lasting for NodeMachine {
-    ghost use Rattle.gq_machine.specs.Machines.{MachineIsBlank, MachineRests, gives_facts, keeps_blank, keeps_rest, starts_again};
+    ghost use Rattle.gq_machine.specs.Machines.{MachineIsBlank, MachineRests, gives_facts, gives_readable, keeps_blank, keeps_rest, reads_again, starts_again};
 
     ghost blank = { MachineIsBlank };
 
@@ -327,9 +321,13 @@ impl Lasting for NodeMachine {
 
     ghost gives_facts = { gives_facts };
 
+    ghost gives_readable = { gives_readable };
+
     ghost keeps_blank = { keeps_blank };
 
     ghost keeps_rest = { keeps_rest };
+
+    ghost reads_again = { reads_again };
 
     ghost starts_again = { starts_again };
 }

@@ -1,10 +1,11 @@
 -- The facts that a start needs make of a node that was never started the node at rest.
 use Rattle.std.proofs.Common.{◌≡◌, ◌≢◌, ◌∙◌, ℕ, zero, suc, ◌+◌, ◌*◌, ◌<◌, ◌≤◌, Bool, true, false, List, [], ◌∷◌, ◌++◌, length, map, Option, Some, None, refl, sym, ap, subst, arith, inl, inr, append_assoc, append-nil}
 use Rattle.std.specs.Prelude.{nat_lt, ◌==◌, slice_get, slice_index_or, if◌then◌else◌}
-use Rattle.std.specs.List.{flat_map, range_with_len}
+use Rattle.std.specs.List.{list_all, flat_map, range_with_len}
 use Rattle.std.specs.Option.{option_and_then, option_map}
 use Rattle.std.proofs.lemmas.Bool.{cases_eq, cases_lt, cases_Bool, eq-eqb, ne_eqb, eqb-true, lt-ltb, ltb-true, le-leb}
 use Rattle.std.proofs.lemmas.List.{map-append}
+use Rattle.std.proofs.lemmas.List.Folds.{list_all-append}
 use Rattle.std.proofs.lemmas.Option.{slice_get-get_or, slice_get_past, slice_get-map}
 use Rattle.std.proofs.Math.ListN.{get_or-eq_default}
 use Rattle.gq_tag.specs.declared.StoredCopy.{StoredCopy}
@@ -24,7 +25,7 @@ use Rattle.gq_node.specs.declared.output.NeedRefused.{NeedRefused}
 use Rattle.gq_node.specs.declared.output.NeedRefused.TheVariants.{Memory, Unreadable}
 use Rattle.gq_cluster.specs.Facts.{OwnFact, Begun, Numbered, Kept}
 use Rattle.gq_node.specs.Local.{Local, new_local, state_of, recalled, fact_fits, file_fits, file_in}
-use Rattle.gq_node.specs.Recalling.{tenant_of, own_fact}
+use Rattle.gq_node.specs.Recalling.{tenant_of, own_fact, fits_in}
 use Rattle.gq_node.specs.Resting.{recall_one, recall_all, those_of, IsAtRest, AllOfPlan, Needed}
 use Rattle.gq_node.specs.Needing.{begun_facts, number_facts, numbers_facts, seat_facts, copy_facts, place_of, place_facts, files_in, volume_facts, volumes_facts, tenant_facts, all_facts, IsReadable, PlaceReadable, AllReadable, IsRefusedOf, IsRefusedIn}
 use Rattle.gq_node.specs.Seats.{last_in}
@@ -476,6 +477,35 @@ copies_again w t f shaped readable = by (limit_of w.desk (file_of t f)) refl
         let there = limit_there (account_at w.desk t).volumes f.volume f.place bytes is in
         ap (λ xs. greatest (first_copy ∷ xs)) (there_copies w t f there.0 there.1) ∙ own_copy f copy bytes (readable f bytes is)
 
+-- ---- the facts fit
+
+-- how many bytes each file of the tenant may hold
+abbrev tenant_limit : Tables → ℕ → File → Option ℕ
+tenant_limit w t f = limit_of w.desk (file_of t f)
+
+tenant_fit : (w : Tables) (t : ℕ) → AllReadable w t → FactsFit (site_of w.plan w.server t) (tenant_limit w t) (tenant_facts w t)
+tenant_fit w t readable = fit_append site limit (flat_map (seat_facts w t) (range_with_len 1 n)) (volumes_facts w t)
+    (fit_flat site limit (seat_facts w t) 1 n (λ u low high. seat_fit site limit u (seat_at w t u).op (last_in (seat_at w t u)) (inside_is u low high)))
+    (fit_flat site limit (volume_facts w t) 0 (length (account_at w.desk t).volumes) (λ u a b. fit_flat site limit (place_facts w t u) 0 (files_in w t u) (λ p c d. there u p (omega arith) (omega arith))))
+  where
+    n : ℕ
+    n = (row_at w.plan t).sessions
+
+    site : Site
+    site = site_of w.plan w.server t
+
+    limit : File → Option ℕ
+    limit = tenant_limit w t
+
+    there : (u p : ℕ) → u < length (account_at w.desk t).volumes → p < files_in w t u → FactsFit site limit (place_facts w t u p)
+    there u p low small =
+        let bytes : ℕ = BLOCK_BYTES * (slice_index_or (account_at w.desk t).volumes u no_volume).blocks in
+        let is : limit_of w.desk (file_of t (place_of u p)) ≡ Some bytes = there_limit (account_at w.desk t).volumes u p low small in
+        copy_fit site limit (place_of u p) (copy_at w.store (file_of t (place_of u p))) bytes is (readable (place_of u p) bytes is)
+
+    inside_is : (u : ℕ) → 1 ≤ u → u < 1 + n → is_in 1 n u ≡ true
+    inside_is u low high = rw (le-leb 1 u low, le-leb u n (omega arith)) refl
+
 -- ---- the node at rest
 
 pub at_rest : (w : Tables) (t : ℕ) (local : Local) → IsShaped w → AllReadable w t → Agrees w t local →
@@ -510,31 +540,14 @@ at_rest w t local shaped readable agrees = record {
     site : Site
     site = site_of w.plan w.server t
 
-    limit : File → Option ℕ
-    limit f = limit_of w.desk (file_of t f)
-
     fresh : Local
     fresh = new_local w.plan.grid w.server local.volumes
 
     seats_copies : (f : File) → copies_of f s ≡ []
     seats_copies f = flat_none (copies_of f) (copies_split f) (seat_facts w t) 1 n (λ u a b. seat_copies f u (seat_at w t u).op (last_in (seat_at w t u)))
 
-    there : (u p : ℕ) → u < length (account_at w.desk t).volumes → p < files_in w t u → FactsFit site limit (place_facts w t u p)
-    there u p low small =
-        let bytes : ℕ = BLOCK_BYTES * (slice_index_or (account_at w.desk t).volumes u no_volume).blocks in
-        let is : limit_of w.desk (file_of t (place_of u p)) ≡ Some bytes = there_limit (account_at w.desk t).volumes u p low small in
-        copy_fit site limit (place_of u p) (copy_at w.store (file_of t (place_of u p))) bytes is (readable (place_of u p) bytes is)
-
-    inside_is : (u : ℕ) → 1 ≤ u → u < 1 + n → is_in 1 n u ≡ true
-    inside_is u low high = rw (le-leb 1 u low, le-leb u n (omega arith)) refl
-
-    fit : FactsFit site limit (s ++ v)
-    fit = fit_append site limit s v
-        (fit_flat site limit (seat_facts w t) 1 n (λ u low high. seat_fit site limit u (seat_at w t u).op (last_in (seat_at w t u)) (inside_is u low high)))
-        (fit_flat site limit (volume_facts w t) 0 (length (account_at w.desk t).volumes) (λ u a b. fit_flat site limit (place_facts w t u) 0 (files_in w t u) (λ p c d. there u p (omega arith) (omega arith))))
-
     made : Makes fresh (s ++ v) (recall_all site fresh (s ++ v))
-    made = all_make site limit (s ++ v) fresh (λ f. sym (limit_is w t (file_of t f) local refl agrees)) fit
+    made = all_make site (tenant_limit w t) (s ++ v) fresh (λ f. sym (limit_is w t (file_of t f) local refl agrees)) (tenant_fit w t readable)
 
 -- ---- all tenants
 
@@ -568,9 +581,26 @@ plan_flat : (w : Tables) (a n : ℕ) → a + n ≤ length w.plan.rows → AllOfP
 plan_flat w a zero within = tt
 plan_flat w a (suc n) within = plan_append w (map (fact_of a) (tenant_facts w a)) (flat_map (λ t. map (fact_of t) (tenant_facts w t)) (range_with_len (a + 1) n)) (plan_map w a (tenant_facts w a) (omega arith)) (plan_flat w (a + 1) n (omega arith))
 
+fits_itself : (w : Tables) (t : ℕ) (fact : OwnFact) → fact_fits (site_of w.plan w.server t) (tenant_limit w t (file_in fact)) fact ≡ true → fits_in w (fact_of t fact) ≡ true
+fits_itself w t (Begun k op) fits = fits
+fits_itself w t (Numbered k number) fits = fits
+fits_itself w t (Kept file copy) fits = fits
+
+fits_map : (w : Tables) (t : ℕ) (facts : List OwnFact) → FactsFit (site_of w.plan w.server t) (tenant_limit w t) facts → list_all (fits_in w) (map (fact_of t) facts) ≡ true
+fits_map w t [] fit = refl
+fits_map w t (fact ∷ facts) fit = rw (fits_itself w t fact fit.0, fits_map w t facts fit.1) refl
+
+fits_flat : (w : Tables) (a n : ℕ) → ((t : ℕ) → t < length w.plan.rows → AllReadable w t) → a + n ≤ length w.plan.rows → list_all (fits_in w) (flat_map (λ t. map (fact_of t) (tenant_facts w t)) (range_with_len a n)) ≡ true
+fits_flat w a zero readable within = refl
+fits_flat w a (suc n) readable within =
+    let first : list_all (fits_in w) (map (fact_of a) (tenant_facts w a)) ≡ true = fits_map w a (tenant_facts w a) (tenant_fit w a (readable a (omega arith))) in
+    let more : list_all (fits_in w) (flat_map (λ t. map (fact_of t) (tenant_facts w t)) (range_with_len (a + 1) n)) ≡ true = fits_flat w (a + 1) n readable (omega arith) in
+    rw (list_all-append (fits_in w) (map (fact_of a) (tenant_facts w a)) (flat_map (λ t. map (fact_of t) (tenant_facts w t)) (range_with_len (a + 1) n)), first, more) refl
+
 pub all_needed : (w : Tables) → IsShaped w → ((t : ℕ) → t < length w.plan.rows → AllReadable w t) → Needed w (all_facts w)
 all_needed w shaped readable = record {
   within = plan_flat w 0 (length w.plan.rows) (omega arith);
+  fit = fits_flat w 0 (length w.plan.rows) readable (omega arith);
   makes = λ t within local agrees. (
       let are : those_of t (all_facts w) ≡ tenant_facts w t =
       flat_one (those_of t) (those_split t) (λ u. map (fact_of u) (tenant_facts w u)) t 0 (length w.plan.rows) (omega arith) (omega arith) (λ u other. other_facts_are t u (tenant_facts w u) other)

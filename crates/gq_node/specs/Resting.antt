@@ -1,5 +1,6 @@
 -- A part at rest: what a start makes of it, and the facts that a start needs.
 use Rattle.std.specs.Prelude.{◌≡◌, ℕ, ◌<◌, List, [], ◌∷◌, true, ◌==◌, None, length, fold, if◌then◌else◌}
+use Rattle.std.specs.List.{list_all}
 use Rattle.gq_tag.specs.Tag.{File}
 use Rattle.gq_desk.specs.CheckedPlan.{row_at}
 use Rattle.gq_desk.specs.Plans.{is_in}
@@ -8,7 +9,7 @@ use Rattle.gq_cluster.specs.Cluster.{copy_in}
 use Rattle.gq_node.specs.declared.output.Fact.{Fact}
 use Rattle.gq_cluster.specs.Facts.{OwnFact}
 use Rattle.gq_node.specs.Local.{Local, new_local, part_in, recalls}
-use Rattle.gq_node.specs.Recalling.{tenant_of, own_fact}
+use Rattle.gq_node.specs.Recalling.{tenant_of, own_fact, fits_in}
 use Rattle.gq_node.specs.Sites.{Site, site_of}
 use Rattle.gq_node.specs.Tables.{Tables, Agrees}
 
@@ -38,8 +39,10 @@ abbrev pub AllOfPlan : Tables → List Fact → Type 0
 AllOfPlan w [] = Unit {0}
 AllOfPlan w (fact ∷ facts) = (tenant_of fact < length w.plan.rows) × AllOfPlan w facts
 
--- a node that was never started, with the same volumes open, and reads these facts, has each part of the node at rest
+-- a node that was never started, with the same volumes open, and reads these facts, each of which fits, has each part of the node at
+-- rest
 pub record Needed (w : Tables) (facts : List Fact) : Type 0 where
   pub within : AllOfPlan w facts
+  pub fit : list_all (fits_in w) facts ≡ true
   pub makes : (t : ℕ) → t < length w.plan.rows → (local : Local) → Agrees w t local →
       IsAtRest (row_at w.plan t) (recall_all (site_of w.plan w.server t) (new_local w.plan.grid w.server local.volumes) (those_of t facts)) local

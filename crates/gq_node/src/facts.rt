@@ -9,7 +9,7 @@ ghost use Rattle.gq_desk.specs.declared.limits.TheConstants.{MOST_VOLUMES};
 ghost use Rattle.gq_store.specs.Copies.{copy_at};
 ghost use Rattle.gq_node.specs.Local.{recalls};
 ghost use Rattle.gq_node.specs.Needing.{copy_facts, IsReadable, IsRefusedOf, seat_facts, place_facts, files_facts, files_in, volumes_facts, tenant_facts, PlaceReadable, AllReadable, IsRefusedIn};
-ghost use Rattle.gq_node.specs.Recalling.{tenant_of, own_fact};
+ghost use Rattle.gq_node.specs.Recalling.{tenant_of, own_fact, fits_in};
 ghost use Rattle.gq_node.specs.Tables.{fact_of, Leads, seat_at, with_seat};
 ghost use Rattle.std.specs.List.{flat_map, range_with_len};
 ghost use Rattle.gq_node.specs.Resting.{Needed};
@@ -73,6 +73,7 @@ impl Core {
         ensures none { result ≡ false → self.new ≡ self.old }
         ensures recalled { result ≡ true → self.new ≡ with_seat self.old tenant session
             (recalled_seat (seat_at self.old tenant session) (unwrap_or op (seat_at self.old tenant session).op) (unwrap_or number (last_in (seat_at self.old tenant session)))) }
+        ensures desk { self.new.desk ≡ self.old.desk }
     {
         if !self.has(tenant, u32::from(session)) {
             return false;
@@ -85,6 +86,9 @@ impl Core {
     fn recall_copy(&mut self, file: FileId, copy: &StoredCopy) -> bool
         requires { file.tenant < length self.old.plan.rows }
         ensures leads { Leads self.old file.tenant (recalls (own_fact (Fact.Kept file copy.now))) self.new }
+        ensures fits { result ≡ fits_in self.old (Fact.Kept file copy.now) }
+        ensures none { result ≡ false → self.new ≡ self.old }
+        ensures desk { self.new.desk ≡ self.old.desk }
     {
         let Some(limit) = self.desk.limit(file) else {
             return false;
@@ -100,6 +104,9 @@ impl Core {
     pub(crate) fn recall(&mut self, fact: &Fact) -> bool
         requires { tenant_of fact.now < length self.old.plan.rows }
         ensures leads { Leads self.old (tenant_of fact.now) (recalls (own_fact fact.now)) self.new }
+        ensures fits { result ≡ fits_in self.old fact.now }
+        ensures none { result ≡ false → self.new ≡ self.old }
+        ensures desk { self.new.desk ≡ self.old.desk }
     {
         let _server = self.server;
         match fact {

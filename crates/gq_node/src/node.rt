@@ -7,7 +7,7 @@ ghost use Rattle.gq_desk.specs.Volumes.{IsRefusedFor, open_fault, account_at};
 ghost use Rattle.gq_node.specs.Bounds.{IsBounded};
 ghost use Rattle.gq_node.specs.Sites.{address_of};
 ghost use Rattle.gq_node.specs.Local.{new_local, asks, tells_holding, receives, ticks, recalls};
-ghost use Rattle.gq_node.specs.Recalling.{tenant_of, own_fact};
+ghost use Rattle.gq_node.specs.Recalling.{tenant_of, own_fact, fits_in};
 ghost use Rattle.gq_node.specs.Needing.{IsRefusedIn};
 ghost use Rattle.gq_node.specs.Resting.{Needed};
 ghost use Rattle.gq_node.specs.Opening.{Opens};
@@ -85,6 +85,9 @@ impl Node {
     pub fn recall(&mut self, fact: &Fact) -> bool
         requires { tenant_of fact.now < length self.old.tables.plan.rows }
         ensures leads { Leads self.old.tables (tenant_of fact.now) (recalls (own_fact fact.now)) self.new.tables }
+        ensures fits { result ≡ fits_in self.old.tables fact.now }
+        ensures none { result ≡ false → self.new.tables ≡ self.old.tables }
+        ensures desk { self.new.tables.desk ≡ self.old.tables.desk }
         ensures ended { self.new.ended ≡ self.old.ended }
     {
         self.tables.recall(fact)

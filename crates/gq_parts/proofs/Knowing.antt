@@ -21,7 +21,7 @@ use Rattle.gq_parts.specs.Texts.{own_facts}
 
 -- ---- a step
 
-does_volumes : (input : Input) (site : Site) (local : Local) → SameVolumes local (does input site local)
+pub does_volumes : (input : Input) (site : Site) (local : Local) → SameVolumes local (does input site local)
 does_volumes (Asked op line) site local = asks_volumes op line site local
 does_volumes AskedPlan site local = refl
 does_volumes (Brought from letter) site local = receives_volumes from letter site local
@@ -31,7 +31,7 @@ pub all_volumes : (site : Site) (local : Local) (inputs : List Input) → (after
 all_volumes site local [] = refl
 all_volumes site local (input ∷ inputs) = all_volumes site (after_one site local input) inputs ∙ does_volumes input site local
 
-does_keeps : (input : Input) (site : Site) (local : Local) → Keeps site local (does input site local)
+pub does_keeps : (input : Input) (site : Site) (local : Local) → Keeps site local (does input site local)
 does_keeps (Asked op line) site local = all_requests_keep op line site local
 does_keeps AskedPlan site local = refl
 does_keeps (Brought from letter) site local = all_letters_keep from letter site local

@@ -129,19 +129,19 @@ pub record Recalled (plan : CheckedPlan) (here t : ℕ) (start : Local) (facts :
 one_recalled : (plan : CheckedPlan) (here t : ℕ) (start : Local) (fact : Option Fact) (old new : Tables) → IsNodeOf plan here old → Agrees old t start →
     RecallsFact old fact new → Recalled plan here t start (option_to_list fact) new
 one_recalled plan here t start None old new node agrees never = absurd never
-one_recalled plan here t start (Some fact) old new node agrees leads = record {
-  node = record { plan_is = leads.plan ∙ node.plan_is; server_is = leads.server ∙ node.server_is };
+one_recalled plan here t start (Some fact) old new node agrees read = record {
+  node = record { plan_is = read.leads.plan ∙ node.plan_is; server_is = read.leads.server ∙ node.server_is };
   agrees = elim (cases_eq (tenant_of fact) t) [
     | inl same ↦ (
         let at : Agrees old (tenant_of fact) start = subst (λ n. Agrees old n start) (sym same) agrees in
         let P : CheckedPlan → ℕ → Type 0 = λ p h. Agrees new (tenant_of fact) (recalls (own_fact fact) (site_of p h (tenant_of fact)) start).local in
-        let one : P plan here = subst (λ p. P p here) node.plan_is (subst (λ h. P old.plan h) node.server_is (leads.own start at)) in
+        let one : P plan here = subst (λ p. P p here) node.plan_is (subst (λ h. P old.plan h) node.server_is (read.leads.own start at)) in
         let two : Agrees new t (recall_one (site_of plan here t) start (own_fact fact)) = subst (λ n. Agrees new n (recalls (own_fact fact) (site_of plan here n) start).local) same one in
         let is : those_of t (fact ∷ []) ≡ own_fact fact ∷ [] = rw (eq-eqb (tenant_of fact) t same) refl in
         subst (λ z. Agrees new t (recall_all (site_of plan here t) start z)) (sym is) two)
     | inr other ↦ (
         let is : those_of t (fact ∷ []) ≡ [] = rw (ne_eqb (tenant_of fact) t other) refl in
-        subst (λ z. Agrees new t (recall_all (site_of plan here t) start z)) (sym is) (leads.others t (λ e. other (sym e)) start agrees))
+        subst (λ z. Agrees new t (recall_all (site_of plan here t) start z)) (sym is) (read.leads.others t (λ e. other (sym e)) start agrees))
   ];
 }
 
@@ -179,7 +179,7 @@ same_node (line ∷ lines) old new reads =
   where
     by : (fact : Option Fact) (a b : Tables) → RecallsFact a fact b → IsNodeOf a.plan a.server b
     by None a b never = absurd never
-    by (Some fact) a b leads = record { plan_is = leads.plan; server_is = leads.server }
+    by (Some fact) a b read = record { plan_is = read.leads.plan; server_is = read.leads.server }
 
 -- a machine that has tables reads lines as they do
 pub on_tables : {M : Type 0} (tables : M → Tables) (recalls_line : M → List ℕ → M → Type 0) → ((a b : M) (line : List ℕ) → recalls_line a line b → RecallsTo (tables a) line (tables b)) →

@@ -25,7 +25,7 @@ use Rattle.gq_parts.proofs.Reading.{those-by, said_back, Recalled, all_recalled,
 
 -- ---- blank nodes
 
-its_volumes : (w : Tables) (t : ℕ) (local : Local) → Agrees w t local → volumes_at w t ≡ local.volumes
+pub its_volumes : (w : Tables) (t : ℕ) (local : Local) → Agrees w t local → volumes_at w t ≡ local.volumes
 its_volumes w t local agrees = ap (λ (a : Account). a.volumes) agrees.account
 
 -- a node that was never started is blank itself
@@ -63,11 +63,11 @@ keeps_blank old line facts told new other step blank =
 
 -- ---- a choice for each place
 
-of_case : {A : Type 0} (t n : ℕ) → (t < n → A) → A → (nat_lt t n ≡ true) ⊎ (nat_lt t n ≡ false) → A
+pub of_case : {A : Type 0} (t n : ℕ) → (t < n → A) → A → (nat_lt t n ≡ true) ⊎ (nat_lt t n ≡ false) → A
 of_case t n get other (inl below) = get (ltb-true t n below)
 of_case t n get other (inr above) = other
 
-of_case_has : {A : Type 0} (P : A → Type 0) (t n : ℕ) (get : t < n → A) (other : A) → ((h : t < n) → P (get h)) → t < n → (c : (nat_lt t n ≡ true) ⊎ (nat_lt t n ≡ false)) → P (of_case t n get other c)
+pub of_case_has : {A : Type 0} (P : A → Type 0) (t n : ℕ) (get : t < n → A) (other : A) → ((h : t < n) → P (get h)) → t < n → (c : (nat_lt t n ≡ true) ⊎ (nat_lt t n ≡ false)) → P (of_case t n get other c)
 unfolding of_case
 of_case_has P t n get other has within (inl below) = has (ltb-true t n below)
 of_case_has P t n get other has within (inr above) = absurd (let e : true ≡ false = sym (lt-ltb t n within) ∙ above in cc)

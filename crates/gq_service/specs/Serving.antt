@@ -1,5 +1,6 @@
 -- What a node's process writes, by the journal that it found and the lines that came.
 use Rattle.std.specs.Prelude.{◌≡◌, ◌⊎◌, ◌≤◌, ℕ, ◌==◌, List, [], ◌∷◌, Bool, true, false, Option, IfSome, if◌then◌else◌}
+use Rattle.std.specs.List.{list_all}
 use Rattle.gq_desk.specs.declared.volumes.VolumeRow.{VolumeRow}
 use Rattle.gq_journal.specs.Batches.{Line, whole_lines, batches_of}
 use Rattle.gq_keeper.specs.Durable.{Durable}
@@ -10,7 +11,7 @@ use Rattle.gq_node.specs.Tables.{Tables}
 use Rattle.gq_wire.specs.Incoming.{longest_line}
 use Rattle.gq_parts.specs.Resting.{IsNewNode}
 use Rattle.gq_machine.specs.declared.machine.NodeMachine.{NodeMachine}
-use Rattle.gq_machine.specs.Machines.{tables_of, MachineSteps, MachineRecalls, MachineIsBlank, MachineRests}
+use Rattle.gq_machine.specs.Machines.{tables_of, MachineSteps, MachineRecalls, machine_reads, MachineIsBlank, MachineRests}
 use Rattle.gq_setup.specs.declared.openings.Opening.{Opening}
 use Rattle.gq_setup.specs.Setups.{Setup, setup_of, volume_of}
 use Rattle.gq_setup.specs.GoingOn.{goes_on_from_read}
@@ -48,7 +49,7 @@ pub record Serves (setup : Setup) (number : ℕ) (journal : List ℕ) (lines : L
   pub first : NodeMachine
   pub last : NodeMachine
   pub started : IsStarted setup number journal first
-  pub durable : Durable MachineSteps MachineRecalls MachineIsBlank MachineRests first last (whole_lines (node_text number setup)) lines base synced shown
+  pub durable : Durable MachineSteps MachineRecalls machine_reads MachineIsBlank MachineRests first last (whole_lines (node_text number setup)) lines base synced shown
 
 -- At any write: the same of the node of this number, by some plan, journal and lines. Whatever was shown is told by steps whose facts
 -- are synced.
@@ -87,13 +88,19 @@ abbrev pub TellsDamage : (journal : List ℕ) → NodeFault → Type 0
 TellsDamage journal (Damaged at) = IsDamaged journal at
 TellsDamage journal _ = Unit {0}
 
--- where it is told that the journal is of another node or plan, it is, or one of its lines says no fact of this one
-abbrev pub TellsAnother : Setup → (number : ℕ) → (journal : List ℕ) → (strange : Bool) → NodeFault → Type 0
-TellsAnother setup number journal strange Another = (is_its_journal setup number journal ≡ false) ⊎ (strange ≡ true)
-TellsAnother setup number journal strange _ = Unit {0}
+-- a line of the journal says no fact that fits in the node of this number, never started
+pub record IsStrange (setup : Setup) (number : ℕ) (journal : List ℕ) : Type 0 where
+  pub new : NodeMachine
+  pub is_new : IsNewFor setup number (tables_of new)
+  pub strange : list_all (machine_reads new) (facts_read journal) ≡ false
+
+-- where it is told that the journal is of another node or plan, it is, or one of its lines is strange
+abbrev pub TellsAnother : Setup → (number : ℕ) → (journal : List ℕ) → NodeFault → Type 0
+TellsAnother setup number journal Another = (is_its_journal setup number journal ≡ false) ⊎ IsStrange setup number journal
+TellsAnother setup number journal _ = Unit {0}
 
 -- these two leave the journal as it was
-abbrev pub LeavesJournal : (strange : Bool) → (same : Type 0) → NodeFault → Type 0
-LeavesJournal strange same (Damaged at) = same
-LeavesJournal false same Another = same
-LeavesJournal strange same _ = Unit {0}
+abbrev pub LeavesJournal : (same : Type 0) → NodeFault → Type 0
+LeavesJournal same (Damaged at) = same
+LeavesJournal same Another = same
+LeavesJournal same _ = Unit {0}

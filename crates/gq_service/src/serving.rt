@@ -6,7 +6,7 @@ ghost use Rattle.gq_wire.specs.Texts.{first_text};
 ghost use Rattle.gq_keeper.specs.Durable.{AllSealed};
 ghost use Rattle.gq_keeper.specs.Restarting.{Restarts};
 ghost use Rattle.gq_keeper.specs.Starting.{RecallsAll, behind, facts_read};
-ghost use Rattle.gq_machine.specs.Machines.{tables_of, MachineRecalls, MachineIsBlank, MachineRests};
+ghost use Rattle.gq_machine.specs.Machines.{tables_of, MachineRecalls, machine_reads, MachineIsBlank, MachineRests};
 ghost use Rattle.gq_service.specs.Faults.{as_fault};
 ghost use Rattle.gq_service.specs.Serving.{IsNewFor, IsStarted, IsDurable, ServesInput, TellsDamage, TellsAnother, LeavesJournal, journal_found, is_its_journal};
 
@@ -28,20 +28,10 @@ fn begin<D: Disk>(
     disk: &mut D,
 ) -> Result<u64, NodeFault>
     ensures sealed { IfOk result (λ next. AllSealed (D.seen disk.new) (D.synced disk.new) next) }
-    ensures restarts { OnOk result (Restarts MachineRecalls MachineIsBlank MachineRests (whole_lines node.now.plan.text.items) machine.now (D.synced disk.new)) }
+    ensures restarts { OnOk result (Restarts MachineRecalls machine_reads MachineIsBlank MachineRests (whole_lines node.now.plan.text.items) machine.now (D.synced disk.new)) }
     ensures damaged { IfErr result (λ fault. (journal : List ℕ) → TellsDamage journal fault) }
 {
     Ok(renew(alloc, machine, node.plan.text(), disk)?)
-}
-
-// Why a start failed: a strange line is one of another node or plan.
-fn start_fault(machine: &NodeMachine, fault: Fault) -> NodeFault
-    ensures fault { result ≡ (if machine.now.is_strange then NodeFault.Another else as_fault fault) }
-{
-    if machine.is_strange {
-        return NodeFault::Another;
-    }
-    NodeFault::from(fault)
 }
 
 // Reads the journal that is there. Answers the number of the next batch.
@@ -52,24 +42,23 @@ fn go_on<D: Disk, C: Console>(
     machine: &mut NodeMachine,
     disk: &mut D,
 ) -> Result<u64, NodeFault>
-    requires { MachineIsBlank machine.old machine.old }
+    requires { IsNewFor node.now.plan.setup node.now.number (tables_of machine.old) }
     ensures sealed { IfOk result (λ next. AllSealed (D.seen disk.new) (D.synced disk.new) next) }
-    ensures restarts { OnOk result (Restarts MachineRecalls MachineIsBlank MachineRests (whole_lines node.now.plan.text.items) machine.new (D.synced disk.new)) }
+    ensures restarts { OnOk result (Restarts MachineRecalls machine_reads MachineIsBlank MachineRests (whole_lines node.now.plan.text.items) machine.new (D.synced disk.new)) }
     ensures recalled { OnOk result (RecallsAll MachineRecalls machine.old (facts_read (D.seen disk.old)) machine.new) }
     ensures its { OnOk result (is_its_journal node.now.plan.setup node.now.number (D.seen disk.old) ≡ true) }
     ensures whole { OnOk result (has_right_batch (behind (D.seen disk.old)) ≡ false) }
     ensures damaged { IfErr result (TellsDamage (D.seen disk.old)) }
-    ensures another { IfErr result (TellsAnother node.now.plan.setup node.now.number (D.seen disk.old) machine.new.is_strange) }
-    ensures same { IfErr result (LeavesJournal machine.new.is_strange (D.seen disk.new ≡ D.seen disk.old)) }
+    ensures another { IfErr result (TellsAnother node.now.plan.setup node.now.number (D.seen disk.old)) }
+    ensures same { IfErr result (LeavesJournal (D.seen disk.new ≡ D.seen disk.old)) }
 {
-    match start(alloc, machine, disk, &node.plan) {
-        Ok(Started::Ready(recovered)) => {
+    match start(alloc, machine, disk, &node.plan)? {
+        Started::Ready(recovered) => {
             tell_cut(console, recovered.cut);
             Ok(recovered.number)
         }
-        Ok(Started::Damaged(at)) => Err(NodeFault::Damaged(at)),
-        Ok(Started::Another) => Err(NodeFault::Another),
-        Err(fault) => Err(start_fault(machine, fault)),
+        Started::Damaged(at) => Err(NodeFault::Damaged(at)),
+        Started::Another | Started::Strange => Err(NodeFault::Another),
     }
 }
 
@@ -97,13 +86,13 @@ fn begin_or_go_on<D: Disk, C: Console>(
 ) -> Result<u64, NodeFault>
     requires { IsNewFor node.now.plan.setup node.now.number (tables_of machine.old) }
     ensures sealed { IfOk result (λ next. AllSealed (D.seen disk.new) (D.synced disk.new) next) }
-    ensures restarts { OnOk result (Restarts MachineRecalls MachineIsBlank MachineRests (whole_lines node.now.plan.text.items) machine.new (D.synced disk.new)) }
+    ensures restarts { OnOk result (Restarts MachineRecalls machine_reads MachineIsBlank MachineRests (whole_lines node.now.plan.text.items) machine.new (D.synced disk.new)) }
     ensures started { OnOk result (IsStarted node.now.plan.setup node.now.number (journal_found is_new (D.seen disk.old)) machine.new) }
     ensures its { is_new ≡ false → OnOk result (is_its_journal node.now.plan.setup node.now.number (D.seen disk.old) ≡ true) }
     ensures whole { is_new ≡ false → OnOk result (has_right_batch (behind (D.seen disk.old)) ≡ false) }
     ensures damaged { IfErr result (TellsDamage (D.seen disk.old)) }
-    ensures another { is_new ≡ false → IfErr result (TellsAnother node.now.plan.setup node.now.number (D.seen disk.old) machine.new.is_strange) }
-    ensures same { is_new ≡ false → IfErr result (LeavesJournal machine.new.is_strange (D.seen disk.new ≡ D.seen disk.old)) }
+    ensures another { is_new ≡ false → IfErr result (TellsAnother node.now.plan.setup node.now.number (D.seen disk.old)) }
+    ensures same { is_new ≡ false → IfErr result (LeavesJournal (D.seen disk.new ≡ D.seen disk.old)) }
 {
     if is_new {
         begin(alloc, node, machine, disk)
@@ -129,6 +118,7 @@ fn serve_machine<D: Disk, I: Read, O: Output, C: Console>(
     ensures its { is_new ≡ false → OnOk result (is_its_journal node.now.plan.setup node.now.number (D.seen disk.old) ≡ true) }
     ensures whole { is_new ≡ false → OnOk result (has_right_batch (behind (D.seen disk.old)) ≡ false) }
     ensures damaged { IfErr result (TellsDamage (D.seen disk.old)) }
+    ensures another { is_new ≡ false → IfErr result (TellsAnother node.now.plan.setup node.now.number (D.seen disk.old)) }
 {
     let number = begin_or_go_on(alloc, node, is_new, console, machine, disk)?;
     tell_ready(console, node, machine.facts);
@@ -149,7 +139,8 @@ fn serve_machine<D: Disk, I: Read, O: Output, C: Console>(
 /// Starts the node from its journal, or with none where one is to be begun, and takes the lines of the input to its end. `durable`
 /// says all that is known of what is shown, at each write: it is what the node told by steps whose facts are synced. At the end of
 /// the input all its lines were taken so (`served`). The node goes on only from a journal that is its own (`its`), of which no
-/// wrong batch has a right one behind it (`whole`); `Damaged` tells where the first wrong batch begins that has one.
+/// wrong batch has a right one behind it (`whole`); `Damaged` tells where the first wrong batch begins that has one, and `Another`
+/// comes only where the journal is not its own, or a line of it says no fact that fits in this node.
 pub fn serve_node<D: Disk, I: Read, O: Output, C: Console>(
     alloc: Global,
     node: &ThisNode,
@@ -164,6 +155,7 @@ pub fn serve_node<D: Disk, I: Read, O: Output, C: Console>(
     ensures its { is_new ≡ false → OnOk result (is_its_journal node.now.plan.setup node.now.number (D.seen disk.old) ≡ true) }
     ensures whole { is_new ≡ false → OnOk result (has_right_batch (behind (D.seen disk.old)) ≡ false) }
     ensures damaged { IfErr result (TellsDamage (D.seen disk.old)) }
+    ensures another { is_new ≡ false → IfErr result (TellsAnother node.now.plan.setup node.now.number (D.seen disk.old)) }
 {
     let mut machine = NodeMachine::new(alloc, new_node(alloc, node)?);
     serve_machine(alloc, node, is_new, console, &mut machine, disk, input, out)

@@ -2,7 +2,7 @@
 
 use gq_desk::{Name, Plan, TenantRow};
 use gq_grid::Grid;
-use gq_keeper::{Lasting, Machine};
+use gq_keeper::{Lasting, Machine, Unread};
 use gq_machine::NodeMachine;
 use gq_node::Node;
 use std::alloc::Global;
@@ -154,7 +154,6 @@ fn a_start(rt: HostRuntime) -> Result<(), Fail> {
     assert!(rt; m.recall(b"numbered ann 1 1").is_ok());
     assert!(rt; m.recall(b"kept ann 0 0 1 1 ab").is_ok());
     assert!(rt; m.recall(b"began bob 2 7").is_ok());
-    assert!(rt; !m.is_strange);
     assert_eq!(rt; m.facts, 4);
     step(
         &rt,
@@ -180,8 +179,9 @@ fn a_start(rt: HostRuntime) -> Result<(), Fail> {
         b"",
         b"0 0 ann 2 1 1 0 0 copy 1 1 ab\n",
     );
-    assert!(rt; m.recall(b"began eve 1 1").is_err());
-    assert!(rt; m.is_strange);
+    assert!(rt; matches!(m.recall(b"began eve 1 1"), Err(Unread::Strange)));
+    assert!(rt; matches!(m.recall(b"began ann 9 1"), Err(Unread::Strange)));
+    assert_eq!(rt; m.facts, 4);
     Ok(())
 }
 

@@ -12,53 +12,53 @@ use Rattle.gq_keeper.proofs.serving.serve.Goals as goal
 
 pub returns-in_err-count-clause-any_time : goal.returns-in_err-count-clause-any_time
 returns-in_err-count-clause-any_time g c =
-    at_any g.M.Machine.steps g.M.Machine.recalls g.M.Lasting.blank g.M.Lasting.rests (whole_lines c.args.plan.now) c.args.machine.now _ _ _ _ (g.D.Log.seen c.args.disk.now) (g.D.Log.synced c.args.disk.now) c.args.first c.requires.sealed c.requires.restarts (λ left may. g.met.D.Log.only_now c.args.disk.now left may) c.loop.invariant.crash
+    at_any g.M.Machine.steps g.M.Machine.recalls g.M.Machine.readable g.M.Lasting.blank g.M.Lasting.rests (whole_lines c.args.plan.now) c.args.machine.now _ _ _ _ (g.D.Log.seen c.args.disk.now) (g.D.Log.synced c.args.disk.now) c.args.first c.requires.sealed c.requires.restarts (λ left may. g.met.D.Log.only_now c.args.disk.now left may) c.loop.invariant.crash
 
 pub returns-then-count-eq0-clause-any_time : goal.returns-then-count-eq0-clause-any_time
 returns-then-count-eq0-clause-any_time g c =
-    at_any g.M.Machine.steps g.M.Machine.recalls g.M.Lasting.blank g.M.Lasting.rests (whole_lines c.args.plan.now) c.args.machine.now _ _ _ _ (g.D.Log.seen c.args.disk.now) (g.D.Log.synced c.args.disk.now) c.args.first c.requires.sealed c.requires.restarts (λ left may. g.met.D.Log.only_now c.args.disk.now left may) c.loop.invariant.crash
+    at_any g.M.Machine.steps g.M.Machine.recalls g.M.Machine.readable g.M.Lasting.blank g.M.Lasting.rests (whole_lines c.args.plan.now) c.args.machine.now _ _ _ _ (g.D.Log.seen c.args.disk.now) (g.D.Log.synced c.args.disk.now) c.args.first c.requires.sealed c.requires.restarts (λ left may. g.met.D.Log.only_now c.args.disk.now left may) c.loop.invariant.crash
 
 pub returns-in_err-grow_by-clause-any_time : goal.returns-in_err-grow_by-clause-any_time
 returns-in_err-grow_by-clause-any_time g c =
-    at_any g.M.Machine.steps g.M.Machine.recalls g.M.Lasting.blank g.M.Lasting.rests (whole_lines c.args.plan.now) c.args.machine.now _ _ _ _ (g.D.Log.seen c.args.disk.now) (g.D.Log.synced c.args.disk.now) c.args.first c.requires.sealed c.requires.restarts (λ left may. g.met.D.Log.only_now c.args.disk.now left may) c.loop.invariant.crash
+    at_any g.M.Machine.steps g.M.Machine.recalls g.M.Machine.readable g.M.Lasting.blank g.M.Lasting.rests (whole_lines c.args.plan.now) c.args.machine.now _ _ _ _ (g.D.Log.seen c.args.disk.now) (g.D.Log.synced c.args.disk.now) c.args.first c.requires.sealed c.requires.restarts (λ left may. g.met.D.Log.only_now c.args.disk.now left may) c.loop.invariant.crash
 
 pub returns-clause-any_time : goal.returns-clause-any_time
 returns-clause-any_time g c =
-    at_any g.M.Machine.steps g.M.Machine.recalls g.M.Lasting.blank g.M.Lasting.rests (whole_lines c.args.plan.now) c.args.machine.now _ _ _ _ (g.D.Log.seen c.args.disk.now) (g.D.Log.synced c.args.disk.now) c.args.first c.requires.sealed c.requires.restarts (λ left may. g.met.D.Log.only_now c.args.disk.now left may) c.loop.invariant.crash
+    at_any g.M.Machine.steps g.M.Machine.recalls g.M.Machine.readable g.M.Lasting.blank g.M.Lasting.rests (whole_lines c.args.plan.now) c.args.machine.now _ _ _ _ (g.D.Log.seen c.args.disk.now) (g.D.Log.synced c.args.disk.now) c.args.first c.requires.sealed c.requires.restarts (λ left may. g.met.D.Log.only_now c.args.disk.now left may) c.loop.invariant.crash
 
 pub returns-in_err-rest-clause-any_time : goal.returns-in_err-rest-clause-any_time
 returns-in_err-rest-clause-any_time g c =
-    at_any g.M.Machine.steps g.M.Machine.recalls g.M.Lasting.blank g.M.Lasting.rests (whole_lines c.args.plan.now) c.args.machine.now _ _ _ _ (g.D.Log.seen c.args.disk.now) (g.D.Log.synced c.args.disk.now) c.args.first c.requires.sealed c.requires.restarts (λ left may. g.met.D.Log.only_now c.args.disk.now left may) (elapses_then _ _ _ _ _ _ _ _ (RestartsAsOne g.M.Machine.steps g.M.Machine.recalls g.M.Lasting.blank g.M.Lasting.rests (whole_lines c.args.plan.now) c.args.machine.now) c.loop.invariant.crash c.take_text.ensures.crash (λ left x. x) (λ left e. of_turn g.M.Machine.steps g.M.Machine.recalls g.M.Lasting.blank g.M.Lasting.rests (whole_lines c.args.plan.now) (last_plan [] (batches_of (g.D.Log.synced c.loop.disk))) c.args.machine.now c.loop.machine c.take_text.new.machine c.loop.invariant.served.durable.dids left c.loop.invariant.served.durable.runs c.loop.invariant.served.durable.restarts.last e))
+    at_any g.M.Machine.steps g.M.Machine.recalls g.M.Machine.readable g.M.Lasting.blank g.M.Lasting.rests (whole_lines c.args.plan.now) c.args.machine.now _ _ _ _ (g.D.Log.seen c.args.disk.now) (g.D.Log.synced c.args.disk.now) c.args.first c.requires.sealed c.requires.restarts (λ left may. g.met.D.Log.only_now c.args.disk.now left may) (elapses_then _ _ _ _ _ _ _ _ (RestartsAsOne g.M.Machine.steps g.M.Machine.recalls g.M.Machine.readable g.M.Lasting.blank g.M.Lasting.rests (whole_lines c.args.plan.now) c.args.machine.now) c.loop.invariant.crash c.take_text.ensures.crash (λ left x. x) (λ left e. of_turn g.M.Machine.steps g.M.Machine.recalls g.M.Machine.readable g.M.Lasting.blank g.M.Lasting.rests (whole_lines c.args.plan.now) (last_plan [] (batches_of (g.D.Log.synced c.loop.disk))) c.args.machine.now c.loop.machine c.take_text.new.machine c.loop.invariant.served.durable.dids left c.loop.invariant.served.durable.runs c.loop.invariant.served.durable.restarts.last e))
 
 pub returns-in_err-held-clause-any_time : goal.returns-in_err-held-clause-any_time
 returns-in_err-held-clause-any_time g c =
-    at_any g.M.Machine.steps g.M.Machine.recalls g.M.Lasting.blank g.M.Lasting.rests (whole_lines c.args.plan.now) c.args.machine.now _ _ _ _ (g.D.Log.seen c.args.disk.now) (g.D.Log.synced c.args.disk.now) c.args.first c.requires.sealed c.requires.restarts (λ left may. g.met.D.Log.only_now c.args.disk.now left may) (elapses_then _ _ _ _ _ _ _ _ (RestartsAsOne g.M.Machine.steps g.M.Machine.recalls g.M.Lasting.blank g.M.Lasting.rests (whole_lines c.args.plan.now) c.args.machine.now) c.loop.invariant.crash c.take_text.ensures.crash (λ left x. x) (λ left e. of_turn g.M.Machine.steps g.M.Machine.recalls g.M.Lasting.blank g.M.Lasting.rests (whole_lines c.args.plan.now) (last_plan [] (batches_of (g.D.Log.synced c.loop.disk))) c.args.machine.now c.loop.machine c.take_text.new.machine c.loop.invariant.served.durable.dids left c.loop.invariant.served.durable.runs c.loop.invariant.served.durable.restarts.last e))
+    at_any g.M.Machine.steps g.M.Machine.recalls g.M.Machine.readable g.M.Lasting.blank g.M.Lasting.rests (whole_lines c.args.plan.now) c.args.machine.now _ _ _ _ (g.D.Log.seen c.args.disk.now) (g.D.Log.synced c.args.disk.now) c.args.first c.requires.sealed c.requires.restarts (λ left may. g.met.D.Log.only_now c.args.disk.now left may) (elapses_then _ _ _ _ _ _ _ _ (RestartsAsOne g.M.Machine.steps g.M.Machine.recalls g.M.Machine.readable g.M.Lasting.blank g.M.Lasting.rests (whole_lines c.args.plan.now) c.args.machine.now) c.loop.invariant.crash c.take_text.ensures.crash (λ left x. x) (λ left e. of_turn g.M.Machine.steps g.M.Machine.recalls g.M.Machine.readable g.M.Lasting.blank g.M.Lasting.rests (whole_lines c.args.plan.now) (last_plan [] (batches_of (g.D.Log.synced c.loop.disk))) c.args.machine.now c.loop.machine c.take_text.new.machine c.loop.invariant.served.durable.dids left c.loop.invariant.served.durable.runs c.loop.invariant.served.durable.restarts.last e))
 
 pub returns-in_err-renew_if_due-clause-any_time : goal.returns-in_err-renew_if_due-clause-any_time
 returns-in_err-renew_if_due-clause-any_time g c =
-    let turned = elapses_then _ _ _ _ _ _ _ _ (RestartsAsOne g.M.Machine.steps g.M.Machine.recalls g.M.Lasting.blank g.M.Lasting.rests (whole_lines c.args.plan.now) c.args.machine.now) c.loop.invariant.crash c.take_text.ensures.crash (λ left x. x) (λ left e. of_turn g.M.Machine.steps g.M.Machine.recalls g.M.Lasting.blank g.M.Lasting.rests (whole_lines c.args.plan.now) (last_plan [] (batches_of (g.D.Log.synced c.loop.disk))) c.args.machine.now c.loop.machine c.take_text.new.machine c.loop.invariant.served.durable.dids left c.loop.invariant.served.durable.runs c.loop.invariant.served.durable.restarts.last e) in
-    at_any g.M.Machine.steps g.M.Machine.recalls g.M.Lasting.blank g.M.Lasting.rests (whole_lines c.args.plan.now) c.args.machine.now _ _ _ _ (g.D.Log.seen c.args.disk.now) (g.D.Log.synced c.args.disk.now) c.args.first c.requires.sealed c.requires.restarts (λ left may. g.met.D.Log.only_now c.args.disk.now left may) (elapses_then _ _ _ _ _ _ _ _ (RestartsAsOne g.M.Machine.steps g.M.Machine.recalls g.M.Lasting.blank g.M.Lasting.rests (whole_lines c.args.plan.now) c.args.machine.now) turned c.renew_if_due.ensures.crash (λ left x. x) (λ left r. as_one g.M.Machine.steps g.M.Machine.recalls g.M.Lasting.blank g.M.Lasting.rests (whole_lines c.args.plan.now) c.args.machine.now c.take_text.new.machine _ left (runs_append g.M.Machine.steps _ _ _ c.loop.invariant.served.durable.dids c.in_ok-rest.ensures.durable.dids c.loop.invariant.served.durable.runs c.in_ok-rest.ensures.durable.runs) r))
+    let turned = elapses_then _ _ _ _ _ _ _ _ (RestartsAsOne g.M.Machine.steps g.M.Machine.recalls g.M.Machine.readable g.M.Lasting.blank g.M.Lasting.rests (whole_lines c.args.plan.now) c.args.machine.now) c.loop.invariant.crash c.take_text.ensures.crash (λ left x. x) (λ left e. of_turn g.M.Machine.steps g.M.Machine.recalls g.M.Machine.readable g.M.Lasting.blank g.M.Lasting.rests (whole_lines c.args.plan.now) (last_plan [] (batches_of (g.D.Log.synced c.loop.disk))) c.args.machine.now c.loop.machine c.take_text.new.machine c.loop.invariant.served.durable.dids left c.loop.invariant.served.durable.runs c.loop.invariant.served.durable.restarts.last e) in
+    at_any g.M.Machine.steps g.M.Machine.recalls g.M.Machine.readable g.M.Lasting.blank g.M.Lasting.rests (whole_lines c.args.plan.now) c.args.machine.now _ _ _ _ (g.D.Log.seen c.args.disk.now) (g.D.Log.synced c.args.disk.now) c.args.first c.requires.sealed c.requires.restarts (λ left may. g.met.D.Log.only_now c.args.disk.now left may) (elapses_then _ _ _ _ _ _ _ _ (RestartsAsOne g.M.Machine.steps g.M.Machine.recalls g.M.Machine.readable g.M.Lasting.blank g.M.Lasting.rests (whole_lines c.args.plan.now) c.args.machine.now) turned c.renew_if_due.ensures.crash (λ left x. x) (λ left r. as_one g.M.Machine.steps g.M.Machine.recalls g.M.Machine.readable g.M.Lasting.blank g.M.Lasting.rests (whole_lines c.args.plan.now) c.args.machine.now c.take_text.new.machine _ left (runs_append g.M.Machine.steps _ _ _ c.loop.invariant.served.durable.dids c.in_ok-rest.ensures.durable.dids c.loop.invariant.served.durable.runs c.in_ok-rest.ensures.durable.runs) r))
 
 pub show-requires : goal.show-requires
 show-requires g c =
-    c.requires.may c.args.machine.now [] _ _ (durable_none g.M.Machine.steps g.M.Machine.recalls g.M.Lasting.blank g.M.Lasting.rests c.args.machine.now (whole_lines c.args.plan.now) _ _ c.requires.restarts)
+    c.requires.may c.args.machine.now [] _ _ (durable_none g.M.Machine.steps g.M.Machine.recalls g.M.Machine.readable g.M.Lasting.blank g.M.Lasting.rests c.args.machine.now (whole_lines c.args.plan.now) _ _ c.requires.restarts)
 
 pub take_text-requires-clause-may : goal.take_text-requires-clause-may
 take_text-requires-clause-may g c =
     λ last lines synced shown d. c.requires.may last _ synced shown
-    (durable_then g.M.Machine.steps g.M.Machine.recalls g.M.Lasting.blank g.M.Lasting.rests c.args.machine.now c.loop.machine last (whole_lines c.args.plan.now) _ lines _ _ _ synced shown c.loop.invariant.served.durable
-    (subst (λ (p : List Line). Durable g.M.Machine.steps g.M.Machine.recalls g.M.Lasting.blank g.M.Lasting.rests c.loop.machine last p lines (g.O.Output.shown c.loop.out) synced shown) c.loop.invariant.served.durable.restarts.last d))
+    (durable_then g.M.Machine.steps g.M.Machine.recalls g.M.Machine.readable g.M.Lasting.blank g.M.Lasting.rests c.args.machine.now c.loop.machine last (whole_lines c.args.plan.now) _ lines _ _ _ synced shown c.loop.invariant.served.durable
+    (subst (λ (p : List Line). Durable g.M.Machine.steps g.M.Machine.recalls g.M.Machine.readable g.M.Lasting.blank g.M.Lasting.rests c.loop.machine last p lines (g.O.Output.shown c.loop.out) synced shown) c.loop.invariant.served.durable.restarts.last d))
 
 pub loop-preserved : goal.loop-preserved
 loop-preserved g c =
-    let turned = elapses_then _ _ _ _ _ _ _ _ (RestartsAsOne g.M.Machine.steps g.M.Machine.recalls g.M.Lasting.blank g.M.Lasting.rests (whole_lines c.args.plan.now) c.args.machine.now) c.loop.invariant.crash c.take_text.ensures.crash (λ left x. x) (λ left e. of_turn g.M.Machine.steps g.M.Machine.recalls g.M.Lasting.blank g.M.Lasting.rests (whole_lines c.args.plan.now) (last_plan [] (batches_of (g.D.Log.synced c.loop.disk))) c.args.machine.now c.loop.machine c.take_text.new.machine c.loop.invariant.served.durable.dids left c.loop.invariant.served.durable.runs c.loop.invariant.served.durable.restarts.last e) in
+    let turned = elapses_then _ _ _ _ _ _ _ _ (RestartsAsOne g.M.Machine.steps g.M.Machine.recalls g.M.Machine.readable g.M.Lasting.blank g.M.Lasting.rests (whole_lines c.args.plan.now) c.args.machine.now) c.loop.invariant.crash c.take_text.ensures.crash (λ left x. x) (λ left e. of_turn g.M.Machine.steps g.M.Machine.recalls g.M.Machine.readable g.M.Lasting.blank g.M.Lasting.rests (whole_lines c.args.plan.now) (last_plan [] (batches_of (g.D.Log.synced c.loop.disk))) c.args.machine.now c.loop.machine c.take_text.new.machine c.loop.invariant.served.durable.dids left c.loop.invariant.served.durable.runs c.loop.invariant.served.durable.restarts.last e) in
     let taken = take c.in_ok-count.count c.read_some.new.block in
     let full : length c.read_some.new.block ≡ c.loop.block.len = omega (arith, c.as_mut_slice.ensures.len) in
     let back = written_back c.loop.block.len c.read_some.new.block (drop (length c.read_some.new.block) c.loop.block.items) full in
     record {
       sealed = c.in_ok-renew_if_due.ensures.sealed;
-      served = served_more c.args.longest g.M.Machine.steps g.M.Machine.recalls g.M.Lasting.blank g.M.Lasting.rests c.args.machine.now c.loop.machine c.take_text.new.machine (whole_lines c.args.plan.now) (g.O.Output.shown c.args.out.now) _ _ (g.D.Log.synced c.take_text.new.log) (g.O.Output.shown c.take_text.new.out) _ _ _ _ c.loop.held.items taken c.as_slice.result.now c.in_ok-rest.rest.now c.in_ok-held.held.items
-          c.loop.invariant.served c.in_ok-count.ensures.bytes.0 (c.as_slice.ensures.value ∙ c.in_ok-grow_by.ensures.items ∙ ap (λ b. c.loop.held.items ++ b) (ap (take c.in_ok-count.count) (c.deref.ensures.value ∙ back))) (subst (λ (p : List Line). Durable g.M.Machine.steps g.M.Machine.recalls g.M.Lasting.blank g.M.Lasting.rests c.loop.machine c.take_text.new.machine p (short_lines c.args.longest c.as_slice.result.now) (g.O.Output.shown c.loop.out) (g.D.Log.synced c.take_text.new.log) (g.O.Output.shown c.take_text.new.out)) c.loop.invariant.served.durable.restarts.last c.in_ok-rest.ensures.durable) c.in_ok-renew_if_due.ensures.restarts c.in_ok-rest.ensures.behind c.in_ok-held.ensures.none c.in_ok-held.ensures.same;
-      crash = elapses_then _ _ _ _ _ _ _ _ (RestartsAsOne g.M.Machine.steps g.M.Machine.recalls g.M.Lasting.blank g.M.Lasting.rests (whole_lines c.args.plan.now) c.args.machine.now) turned c.renew_if_due.ensures.crash (λ left x. x) (λ left r. as_one g.M.Machine.steps g.M.Machine.recalls g.M.Lasting.blank g.M.Lasting.rests (whole_lines c.args.plan.now) c.args.machine.now c.take_text.new.machine _ left (runs_append g.M.Machine.steps _ _ _ c.loop.invariant.served.durable.dids c.in_ok-rest.ensures.durable.dids c.loop.invariant.served.durable.runs c.in_ok-rest.ensures.durable.runs) r);
+      served = served_more c.args.longest g.M.Machine.steps g.M.Machine.recalls g.M.Machine.readable g.M.Lasting.blank g.M.Lasting.rests c.args.machine.now c.loop.machine c.take_text.new.machine (whole_lines c.args.plan.now) (g.O.Output.shown c.args.out.now) _ _ (g.D.Log.synced c.take_text.new.log) (g.O.Output.shown c.take_text.new.out) _ _ _ _ c.loop.held.items taken c.as_slice.result.now c.in_ok-rest.rest.now c.in_ok-held.held.items
+          c.loop.invariant.served c.in_ok-count.ensures.bytes.0 (c.as_slice.ensures.value ∙ c.in_ok-grow_by.ensures.items ∙ ap (λ b. c.loop.held.items ++ b) (ap (take c.in_ok-count.count) (c.deref.ensures.value ∙ back))) (subst (λ (p : List Line). Durable g.M.Machine.steps g.M.Machine.recalls g.M.Machine.readable g.M.Lasting.blank g.M.Lasting.rests c.loop.machine c.take_text.new.machine p (short_lines c.args.longest c.as_slice.result.now) (g.O.Output.shown c.loop.out) (g.D.Log.synced c.take_text.new.log) (g.O.Output.shown c.take_text.new.out)) c.loop.invariant.served.durable.restarts.last c.in_ok-rest.ensures.durable) c.in_ok-renew_if_due.ensures.restarts c.in_ok-rest.ensures.behind c.in_ok-held.ensures.none c.in_ok-held.ensures.same;
+      crash = elapses_then _ _ _ _ _ _ _ _ (RestartsAsOne g.M.Machine.steps g.M.Machine.recalls g.M.Machine.readable g.M.Lasting.blank g.M.Lasting.rests (whole_lines c.args.plan.now) c.args.machine.now) turned c.renew_if_due.ensures.crash (λ left x. x) (λ left r. as_one g.M.Machine.steps g.M.Machine.recalls g.M.Machine.readable g.M.Lasting.blank g.M.Lasting.rests (whole_lines c.args.plan.now) c.args.machine.now c.take_text.new.machine _ left (runs_append g.M.Machine.steps _ _ _ c.loop.invariant.served.durable.dids c.in_ok-rest.ensures.durable.dids c.loop.invariant.served.durable.runs c.in_ok-rest.ensures.durable.runs) r);
       room = rw back (omega arith);
     }

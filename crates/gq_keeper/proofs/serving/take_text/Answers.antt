@@ -21,42 +21,42 @@ keep-requires g c = c.requires.sealed.all
 
 pub returns-in_err-keep-clause-crash : goal.returns-in_err-keep-clause-crash
 returns-in_err-keep-clause-crash g c =
-    let owes : Owes g.M.Machine.steps g.M.Machine.recalls g.M.Lasting.blank g.M.Lasting.rests = record { gives_facts = g.met.M.Lasting.gives_facts; keeps_blank = g.met.M.Lasting.keeps_blank; keeps_rest = g.met.M.Lasting.keeps_rest } in
+    let owes : Owes g.M.Machine.steps g.M.Machine.recalls g.M.Machine.readable g.M.Lasting.blank g.M.Lasting.rests = record { gives_facts = g.met.M.Lasting.gives_facts; gives_readable = g.met.M.Lasting.gives_readable; keeps_blank = g.met.M.Lasting.keeps_blank; keeps_rest = g.met.M.Lasting.keeps_rest } in
     let small : length c.take_lines.new.facts.items < 2 ^ 64 = omega (arith, c.take_lines.new.facts.small) in
     let took = took_from_none c.args.longest g.M.Machine.steps _ _ _ _ _ _ _ _ c.new-facts.ensures.items c.new-told.ensures.items c.in_ok-rest.ensures.took in
-    elapses_only _ _ _ _ _ _ c.keep.ensures.crash (λ left l. turn_left g.M.Machine.steps g.M.Machine.recalls g.M.Lasting.blank g.M.Lasting.rests owes _ _ _ took.dids _ _ c.args.number.now _ left c.requires.sealed c.requires.restarts took.runs took.facts (omega arith) small l)
+    elapses_only _ _ _ _ _ _ c.keep.ensures.crash (λ left l. turn_left g.M.Machine.steps g.M.Machine.recalls g.M.Machine.readable g.M.Lasting.blank g.M.Lasting.rests owes _ _ _ took.dids _ _ c.args.number.now _ left c.requires.sealed c.requires.restarts took.runs took.facts (omega arith) small l)
 
 pub show-requires : goal.show-requires
 show-requires g c =
-    let owes : Owes g.M.Machine.steps g.M.Machine.recalls g.M.Lasting.blank g.M.Lasting.rests = record { gives_facts = g.met.M.Lasting.gives_facts; keeps_blank = g.met.M.Lasting.keeps_blank; keeps_rest = g.met.M.Lasting.keeps_rest } in
+    let owes : Owes g.M.Machine.steps g.M.Machine.recalls g.M.Machine.readable g.M.Lasting.blank g.M.Lasting.rests = record { gives_facts = g.met.M.Lasting.gives_facts; gives_readable = g.met.M.Lasting.gives_readable; keeps_blank = g.met.M.Lasting.keeps_blank; keeps_rest = g.met.M.Lasting.keeps_rest } in
     let small : length c.take_lines.new.facts.items < 2 ^ 64 = omega (arith, c.take_lines.new.facts.small) in
     let took = took_from_none c.args.longest g.M.Machine.steps _ _ _ _ _ _ _ _ c.new-facts.ensures.items c.new-told.ensures.items c.in_ok-rest.ensures.took in
-    let d = turn_durable c.args.longest g.M.Machine.steps g.M.Machine.recalls g.M.Lasting.blank g.M.Lasting.rests owes _ _ _ _ _ c.args.number.now (g.O.Output.shown c.args.out.now) _ _ _ _ c.requires.sealed c.requires.restarts took (no_short c.args.longest c.in_ok-rest.rest.now c.in_ok-rest.ensures.rest) (omega arith) small in
-    c.requires.may _ _ _ _ (subst (λ (s : List ℕ). Durable g.M.Machine.steps g.M.Machine.recalls g.M.Lasting.blank g.M.Lasting.rests c.args.machine.now c.take_lines.new.machine (last_plan [] (batches_of (g.L.Log.synced c.args.log.now))) (short_lines c.args.longest c.args.text.now) (g.O.Output.shown c.args.out.now) s (g.O.Output.shown c.args.out.now ++ c.as_slice.result.now)) (sym c.in_ok-keep.ensures.synced)
-    (subst (λ (t : List ℕ). Durable g.M.Machine.steps g.M.Machine.recalls g.M.Lasting.blank g.M.Lasting.rests c.args.machine.now c.take_lines.new.machine (last_plan [] (batches_of (g.L.Log.synced c.args.log.now))) (short_lines c.args.longest c.args.text.now) (g.O.Output.shown c.args.out.now) (g.L.Log.synced c.args.log.now ++ kept_text c.args.number.now c.take_lines.new.facts.items) (g.O.Output.shown c.args.out.now ++ t)) (sym c.as_slice.ensures.value) d))
+    let d = turn_durable c.args.longest g.M.Machine.steps g.M.Machine.recalls g.M.Machine.readable g.M.Lasting.blank g.M.Lasting.rests owes _ _ _ _ _ c.args.number.now (g.O.Output.shown c.args.out.now) _ _ _ _ c.requires.sealed c.requires.restarts took (no_short c.args.longest c.in_ok-rest.rest.now c.in_ok-rest.ensures.rest) (omega arith) small in
+    c.requires.may _ _ _ _ (subst (λ (s : List ℕ). Durable g.M.Machine.steps g.M.Machine.recalls g.M.Machine.readable g.M.Lasting.blank g.M.Lasting.rests c.args.machine.now c.take_lines.new.machine (last_plan [] (batches_of (g.L.Log.synced c.args.log.now))) (short_lines c.args.longest c.args.text.now) (g.O.Output.shown c.args.out.now) s (g.O.Output.shown c.args.out.now ++ c.as_slice.result.now)) (sym c.in_ok-keep.ensures.synced)
+    (subst (λ (t : List ℕ). Durable g.M.Machine.steps g.M.Machine.recalls g.M.Machine.readable g.M.Lasting.blank g.M.Lasting.rests c.args.machine.now c.take_lines.new.machine (last_plan [] (batches_of (g.L.Log.synced c.args.log.now))) (short_lines c.args.longest c.args.text.now) (g.O.Output.shown c.args.out.now) (g.L.Log.synced c.args.log.now ++ kept_text c.args.number.now c.take_lines.new.facts.items) (g.O.Output.shown c.args.out.now ++ t)) (sym c.as_slice.ensures.value) d))
 
 pub returns-in_err-show-clause-crash : goal.returns-in_err-show-clause-crash
 returns-in_err-show-clause-crash g c =
-    let owes : Owes g.M.Machine.steps g.M.Machine.recalls g.M.Lasting.blank g.M.Lasting.rests = record { gives_facts = g.met.M.Lasting.gives_facts; keeps_blank = g.met.M.Lasting.keeps_blank; keeps_rest = g.met.M.Lasting.keeps_rest } in
+    let owes : Owes g.M.Machine.steps g.M.Machine.recalls g.M.Machine.readable g.M.Lasting.blank g.M.Lasting.rests = record { gives_facts = g.met.M.Lasting.gives_facts; gives_readable = g.met.M.Lasting.gives_readable; keeps_blank = g.met.M.Lasting.keeps_blank; keeps_rest = g.met.M.Lasting.keeps_rest } in
     let small : length c.take_lines.new.facts.items < 2 ^ 64 = omega (arith, c.take_lines.new.facts.small) in
     let took = took_from_none c.args.longest g.M.Machine.steps _ _ _ _ _ _ _ _ c.new-facts.ensures.items c.new-told.ensures.items c.in_ok-rest.ensures.took in
-    elapses_only _ _ _ _ _ _ c.keep.ensures.crash (λ left l. turn_left g.M.Machine.steps g.M.Machine.recalls g.M.Lasting.blank g.M.Lasting.rests owes _ _ _ took.dids _ _ c.args.number.now _ left c.requires.sealed c.requires.restarts took.runs took.facts (omega arith) small l)
+    elapses_only _ _ _ _ _ _ c.keep.ensures.crash (λ left l. turn_left g.M.Machine.steps g.M.Machine.recalls g.M.Machine.readable g.M.Lasting.blank g.M.Lasting.rests owes _ _ _ took.dids _ _ c.args.number.now _ left c.requires.sealed c.requires.restarts took.runs took.facts (omega arith) small l)
 
 pub returns-clause-sealed : goal.returns-clause-sealed
 returns-clause-sealed g c =
-    let owes : Owes g.M.Machine.steps g.M.Machine.recalls g.M.Lasting.blank g.M.Lasting.rests = record { gives_facts = g.met.M.Lasting.gives_facts; keeps_blank = g.met.M.Lasting.keeps_blank; keeps_rest = g.met.M.Lasting.keeps_rest } in
+    let owes : Owes g.M.Machine.steps g.M.Machine.recalls g.M.Machine.readable g.M.Lasting.blank g.M.Lasting.rests = record { gives_facts = g.met.M.Lasting.gives_facts; gives_readable = g.met.M.Lasting.gives_readable; keeps_blank = g.met.M.Lasting.keeps_blank; keeps_rest = g.met.M.Lasting.keeps_rest } in
     let small : length c.take_lines.new.facts.items < 2 ^ 64 = omega (arith, c.take_lines.new.facts.small) in
     let took = took_from_none c.args.longest g.M.Machine.steps _ _ _ _ _ _ _ _ c.new-facts.ensures.items c.new-told.ensures.items c.in_ok-rest.ensures.took in
-    grown_sealed _ _ c.args.number.now _ _ _ _ _ c.requires.sealed took.facts (omega arith) small (open_facts (facts_of took.dids) (runs_facts g.M.Machine.steps g.M.Machine.recalls g.M.Lasting.blank g.M.Lasting.rests owes _ _ _ took.runs)) c.in_ok-keep.ensures.all c.in_ok-keep.ensures.synced c.in_ok-keep.ensures.number
+    grown_sealed _ _ c.args.number.now _ _ _ _ _ c.requires.sealed took.facts (omega arith) small (open_facts (facts_of took.dids) (runs_facts g.M.Machine.steps g.M.Machine.recalls g.M.Machine.readable g.M.Lasting.blank g.M.Lasting.rests owes _ _ _ took.runs)) c.in_ok-keep.ensures.all c.in_ok-keep.ensures.synced c.in_ok-keep.ensures.number
 
 pub returns-clause-durable : goal.returns-clause-durable
 returns-clause-durable g c =
-    let owes : Owes g.M.Machine.steps g.M.Machine.recalls g.M.Lasting.blank g.M.Lasting.rests = record { gives_facts = g.met.M.Lasting.gives_facts; keeps_blank = g.met.M.Lasting.keeps_blank; keeps_rest = g.met.M.Lasting.keeps_rest } in
+    let owes : Owes g.M.Machine.steps g.M.Machine.recalls g.M.Machine.readable g.M.Lasting.blank g.M.Lasting.rests = record { gives_facts = g.met.M.Lasting.gives_facts; gives_readable = g.met.M.Lasting.gives_readable; keeps_blank = g.met.M.Lasting.keeps_blank; keeps_rest = g.met.M.Lasting.keeps_rest } in
     let small : length c.take_lines.new.facts.items < 2 ^ 64 = omega (arith, c.take_lines.new.facts.small) in
     let took = took_from_none c.args.longest g.M.Machine.steps _ _ _ _ _ _ _ _ c.new-facts.ensures.items c.new-told.ensures.items c.in_ok-rest.ensures.took in
-    let d = turn_durable c.args.longest g.M.Machine.steps g.M.Machine.recalls g.M.Lasting.blank g.M.Lasting.rests owes _ _ _ _ _ c.args.number.now (g.O.Output.shown c.args.out.now) _ _ _ _ c.requires.sealed c.requires.restarts took (no_short c.args.longest c.in_ok-rest.rest.now c.in_ok-rest.ensures.rest) (omega arith) small in
-    subst (λ (s : List ℕ). Durable g.M.Machine.steps g.M.Machine.recalls g.M.Lasting.blank g.M.Lasting.rests c.args.machine.now c.take_lines.new.machine (last_plan [] (batches_of (g.L.Log.synced c.args.log.now))) (short_lines c.args.longest c.args.text.now) (g.O.Output.shown c.args.out.now) s (g.O.Output.shown c.show.new.self)) (sym c.in_ok-keep.ensures.synced)
-    (subst (λ (t : List ℕ). Durable g.M.Machine.steps g.M.Machine.recalls g.M.Lasting.blank g.M.Lasting.rests c.args.machine.now c.take_lines.new.machine (last_plan [] (batches_of (g.L.Log.synced c.args.log.now))) (short_lines c.args.longest c.args.text.now) (g.O.Output.shown c.args.out.now) (g.L.Log.synced c.args.log.now ++ kept_text c.args.number.now c.take_lines.new.facts.items) t) (sym (c.in_ok-show.ensures ∙ ap (λ x. g.O.Output.shown c.args.out.now ++ x) c.as_slice.ensures.value)) d)
+    let d = turn_durable c.args.longest g.M.Machine.steps g.M.Machine.recalls g.M.Machine.readable g.M.Lasting.blank g.M.Lasting.rests owes _ _ _ _ _ c.args.number.now (g.O.Output.shown c.args.out.now) _ _ _ _ c.requires.sealed c.requires.restarts took (no_short c.args.longest c.in_ok-rest.rest.now c.in_ok-rest.ensures.rest) (omega arith) small in
+    subst (λ (s : List ℕ). Durable g.M.Machine.steps g.M.Machine.recalls g.M.Machine.readable g.M.Lasting.blank g.M.Lasting.rests c.args.machine.now c.take_lines.new.machine (last_plan [] (batches_of (g.L.Log.synced c.args.log.now))) (short_lines c.args.longest c.args.text.now) (g.O.Output.shown c.args.out.now) s (g.O.Output.shown c.show.new.self)) (sym c.in_ok-keep.ensures.synced)
+    (subst (λ (t : List ℕ). Durable g.M.Machine.steps g.M.Machine.recalls g.M.Machine.readable g.M.Lasting.blank g.M.Lasting.rests c.args.machine.now c.take_lines.new.machine (last_plan [] (batches_of (g.L.Log.synced c.args.log.now))) (short_lines c.args.longest c.args.text.now) (g.O.Output.shown c.args.out.now) (g.L.Log.synced c.args.log.now ++ kept_text c.args.number.now c.take_lines.new.facts.items) t) (sym (c.in_ok-show.ensures ∙ ap (λ x. g.O.Output.shown c.args.out.now ++ x) c.as_slice.ensures.value)) d)
 
 pub returns-clause-idle : goal.returns-clause-idle
 returns-clause-idle g c = λ same. c.keep.ensures.idle (nothing_kept c.args.number.now (g.L.Log.synced c.args.log.now) _ (sym c.in_ok-keep.ensures.synced ∙ same))
@@ -74,7 +74,7 @@ returns-clause-behind g c =
 
 pub returns-clause-crash : goal.returns-clause-crash
 returns-clause-crash g c =
-    let owes : Owes g.M.Machine.steps g.M.Machine.recalls g.M.Lasting.blank g.M.Lasting.rests = record { gives_facts = g.met.M.Lasting.gives_facts; keeps_blank = g.met.M.Lasting.keeps_blank; keeps_rest = g.met.M.Lasting.keeps_rest } in
+    let owes : Owes g.M.Machine.steps g.M.Machine.recalls g.M.Machine.readable g.M.Lasting.blank g.M.Lasting.rests = record { gives_facts = g.met.M.Lasting.gives_facts; gives_readable = g.met.M.Lasting.gives_readable; keeps_blank = g.met.M.Lasting.keeps_blank; keeps_rest = g.met.M.Lasting.keeps_rest } in
     let small : length c.take_lines.new.facts.items < 2 ^ 64 = omega (arith, c.take_lines.new.facts.small) in
     let took = took_from_none c.args.longest g.M.Machine.steps _ _ _ _ _ _ _ _ c.new-facts.ensures.items c.new-told.ensures.items c.in_ok-rest.ensures.took in
-    elapses_only _ _ _ _ _ _ c.keep.ensures.crash (λ left l. turn_left g.M.Machine.steps g.M.Machine.recalls g.M.Lasting.blank g.M.Lasting.rests owes _ _ _ took.dids _ _ c.args.number.now _ left c.requires.sealed c.requires.restarts took.runs took.facts (omega arith) small l)
+    elapses_only _ _ _ _ _ _ c.keep.ensures.crash (λ left l. turn_left g.M.Machine.steps g.M.Machine.recalls g.M.Machine.readable g.M.Lasting.blank g.M.Lasting.rests owes _ _ _ took.dids _ _ c.args.number.now _ left c.requires.sealed c.requires.restarts took.runs took.facts (omega arith) small l)

@@ -1,5 +1,6 @@
 use Rattle.std.proofs.Common.{◌≡◌, ℕ, List, [], ◌++◌, take, drop, refl, sym, ap, ◌∙◌, subst, arith}
 use Rattle.std.specs.Prelude.{MatchOption}
+use Rattle.std.specs.List.{list_all}
 use Rattle.std.proofs.lemmas.Bool.{and_parts}
 use Rattle.gq_journal.specs.Batches.{lines_text, whole_lines, batches_of, journal_text, has_right_batch}
 use Rattle.gq_keeper.specs.Plans.{IsPlan, last_plan, begins_with_plan, new_plan}
@@ -48,8 +49,18 @@ pub returns-then-not-branch-clause-crash : goal.returns-then-not-branch-clause-c
 returns-then-not-branch-clause-crash g c =
     elapses_only _ _ _ _ _ _ c.read.ensures.crash (λ left l. read_left (whole_lines (g.P.Plan.text c.args.plan.now)) (g.D.Log.synced c.args.disk.now) (g.D.Log.seen c.args.disk.now) left l)
 
-pub returns-in_err-recall_batches-clause-crash : goal.returns-in_err-recall_batches-clause-crash
-returns-in_err-recall_batches-clause-crash g c =
+pub returns-in_err-reads_facts-clause-crash : goal.returns-in_err-reads_facts-clause-crash
+returns-in_err-reads_facts-clause-crash g c =
+    elapses_only _ _ _ _ _ _ c.read.ensures.crash (λ left l. read_left (whole_lines (g.P.Plan.text c.args.plan.now)) (g.D.Log.synced c.args.disk.now) (g.D.Log.seen c.args.disk.now) left l)
+
+-- the machine doesn't read all lines of the journal that was read
+pub returns-then-not-branch-2-clause-strange : goal.returns-then-not-branch-2-clause-strange
+returns-then-not-branch-2-clause-strange g c =
+    let same = c.as_slice-text.ensures.value ∙ c.in_ok-journal.ensures.bytes in
+    (ap (λ t. list_all (g.M.Machine.readable c.args.machine.now) (facts_read t)) (sym same) ∙ c.in_ok-reads_facts.ensures.strange c.if-not-branch-2.true, c.read.ensures.seen)
+
+pub returns-then-not-branch-2-clause-crash : goal.returns-then-not-branch-2-clause-crash
+returns-then-not-branch-2-clause-crash g c =
     elapses_only _ _ _ _ _ _ c.read.ensures.crash (λ left l. read_left (whole_lines (g.P.Plan.text c.args.plan.now)) (g.D.Log.synced c.args.disk.now) (g.D.Log.seen c.args.disk.now) left l)
 
 pub mend-requires-clause-seen : goal.mend-requires-clause-seen
@@ -109,14 +120,14 @@ returns-clause-restarts g c =
       kept = c.in_ok-number.ensures.synced ∙ ap (λ s. s ++ kept_text c.in_ok-found.found.number (new_plan c.text.result.now c.in_ok-found.found.last.now)) (c.in_ok-cut.ensures.synced ∙ ap (take c.in_ok-found.found.at) same);
       next_is = c.in_ok-number.ensures.number;
     } in
-    let recalled = subst (λ (t : List ℕ). RecallsAll g.M.Machine.recalls c.args.machine.now (facts_read t) c.recall_batches.new.machine) same c.in_ok-recall_batches.ensures in
-    subst (λ (p : List ℕ). Restarts g.M.Machine.recalls g.M.Lasting.blank g.M.Lasting.rests (whole_lines p) c.recall_batches.new.machine (g.D.Log.synced c.append_plan.new.log)) c.text.ensures
-    (begun_restarts g.M.Machine.recalls g.M.Lasting.blank g.M.Lasting.rests c.recall_batches.new.machine _ _ _ _ _ _ _ _ begun (record { again = λ new last begins all. g.met.M.Lasting.starts_again c.args.machine.now c.recall_batches.new.machine new last (facts_read (g.D.Log.seen c.args.disk.now)) c.requires.blank recalled begins all }))
+    let recalled = subst (λ (t : List ℕ). RecallsAll g.M.Machine.recalls c.args.machine.now (facts_read t) c.reads_facts.new.machine) same (c.in_ok-reads_facts.ensures.recalled c.if-not-branch-2.false) in
+    subst (λ (p : List ℕ). Restarts g.M.Machine.recalls g.M.Machine.readable g.M.Lasting.blank g.M.Lasting.rests (whole_lines p) c.reads_facts.new.machine (g.D.Log.synced c.append_plan.new.log)) c.text.ensures
+    (begun_restarts g.M.Machine.recalls g.M.Machine.readable g.M.Lasting.blank g.M.Lasting.rests c.reads_facts.new.machine _ _ _ _ _ _ _ _ begun (record { read = λ new begins. g.met.M.Lasting.reads_again c.args.machine.now c.reads_facts.new.machine new (facts_read (g.D.Log.seen c.args.disk.now)) c.requires.blank recalled begins; again = λ new last begins all. g.met.M.Lasting.starts_again c.args.machine.now c.reads_facts.new.machine new last (facts_read (g.D.Log.seen c.args.disk.now)) c.requires.blank recalled begins all }))
 
 pub returns-clause-recalled : goal.returns-clause-recalled
 returns-clause-recalled g c =
     let same = c.as_slice-text.ensures.value ∙ c.in_ok-journal.ensures.bytes in
-    subst (λ (t : List ℕ). RecallsAll g.M.Machine.recalls c.args.machine.now (facts_read t) c.recall_batches.new.machine) same c.in_ok-recall_batches.ensures
+    subst (λ (t : List ℕ). RecallsAll g.M.Machine.recalls c.args.machine.now (facts_read t) c.reads_facts.new.machine) same (c.in_ok-reads_facts.ensures.recalled c.if-not-branch-2.false)
 
 pub returns-clause-goes_on : goal.returns-clause-goes_on
 returns-clause-goes_on g c =

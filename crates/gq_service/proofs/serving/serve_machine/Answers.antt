@@ -4,7 +4,7 @@ use Rattle.gq_journal.specs.Batches.{whole_lines}
 use Rattle.gq_keeper.specs.Durable.{Durable}
 use Rattle.gq_keeper.specs.Lines.{short_lines}
 use Rattle.gq_machine.specs.declared.machine.NodeMachine.{NodeMachine}
-use Rattle.gq_machine.specs.Machines.{MachineSteps, MachineRecalls, MachineIsBlank, MachineRests}
+use Rattle.gq_machine.specs.Machines.{MachineSteps, MachineRecalls, machine_reads, MachineIsBlank, MachineRests}
 use Rattle.gq_setup.specs.Setups.{Setup}
 use Rattle.gq_setup.specs.Texts.{node_text}
 use Rattle.gq_wire.specs.Incoming.{longest_line}
@@ -24,7 +24,7 @@ serve-requires-clause-may g c = λ last lines synced shown d.
         first = first;
         last = last;
         started = c.in_ok-number.ensures.started;
-        durable = subst (λ (t : List ℕ). Durable MachineSteps MachineRecalls MachineIsBlank MachineRests first last (whole_lines t) lines (g.O.Output.shown c.args.out.now ++ first_text) synced shown) text d;
+        durable = subst (λ (t : List ℕ). Durable MachineSteps MachineRecalls machine_reads MachineIsBlank MachineRests first last (whole_lines t) lines (g.O.Output.shown c.args.out.now ++ first_text) synced shown) text d;
       };
     })
 
@@ -41,7 +41,7 @@ returns-clause-served g c =
         first = first;
         last = c.serve.new.machine;
         started = c.in_ok-number.ensures.started;
-        durable = subst (λ n. Durable MachineSteps MachineRecalls MachineIsBlank MachineRests first c.serve.new.machine (whole_lines (node_text c.args.node.now.number c.args.node.now.plan.setup)) (short_lines n d.0) (g.O.Output.shown c.args.out.now ++ first_text) (g.D.Log.synced c.serve.new.disk) (g.O.Output.shown c.serve.new.out)) longest
-            (subst (λ (t : List ℕ). Durable MachineSteps MachineRecalls MachineIsBlank MachineRests first c.serve.new.machine (whole_lines t) (short_lines c.longest_line.result d.0) (g.O.Output.shown c.args.out.now ++ first_text) (g.D.Log.synced c.serve.new.disk) (g.O.Output.shown c.serve.new.out)) text d.2);
+        durable = subst (λ n. Durable MachineSteps MachineRecalls machine_reads MachineIsBlank MachineRests first c.serve.new.machine (whole_lines (node_text c.args.node.now.number c.args.node.now.plan.setup)) (short_lines n d.0) (g.O.Output.shown c.args.out.now ++ first_text) (g.D.Log.synced c.serve.new.disk) (g.O.Output.shown c.serve.new.out)) longest
+            (subst (λ (t : List ℕ). Durable MachineSteps MachineRecalls machine_reads MachineIsBlank MachineRests first c.serve.new.machine (whole_lines t) (short_lines c.longest_line.result d.0) (g.O.Output.shown c.args.out.now ++ first_text) (g.D.Log.synced c.serve.new.disk) (g.O.Output.shown c.serve.new.out)) text d.2);
       };
     }

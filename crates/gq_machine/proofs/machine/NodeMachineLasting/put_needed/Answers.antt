@@ -12,6 +12,7 @@ use Rattle.gq_facts.specs.Laws.{FitsFact}
 use Rattle.gq_parts.specs.Steps.{fact_lines}
 use Rattle.gq_parts.proofs.Taking.{texts_are, all_of_plan}
 use Rattle.gq_parts.proofs.Reading.{lines_are_facts}
+use Rattle.gq_parts.proofs.Readable.{lines_read}
 use Rattle.gq_parts.proofs.Resting.{needed_rests}
 use Rattle.gq_machine.specs.Machines.{reads}
 use Rattle.gq_machine.proofs.machine.NodeMachineLasting.put_needed.Goals as goal
@@ -34,5 +35,5 @@ returns-in_ok-put_facts-in-Ok c =
       lines = fact_lines w.plan facts;
       text = c.in_ok-put_facts-in-Ok.ensures.facts ∙ ap (λ xs. old ++ flat_map (fact_text w.plan) xs) c.as_slice.ensures.value ∙ ap (λ z. old ++ z) (texts_are w.plan facts);
       facts = lines_are_facts w.plan is facts fit;
-      stands = record { again = λ new last blank read. needed_rests w facts is c.in_ok-goes.ensures needed fit new.node.tables last.node.tables blank (reads (fact_lines w.plan facts) new last read) };
+      stands = record { read = λ new blank. lines_read w new.node.tables blank is facts fit needed.fit; again = λ new last blank read. needed_rests w facts is c.in_ok-goes.ensures needed fit new.node.tables last.node.tables blank (reads (fact_lines w.plan facts) new last read) };
     }

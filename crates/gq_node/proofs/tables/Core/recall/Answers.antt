@@ -1,10 +1,10 @@
 -- What the start reads is recalled, where it fits.
-use Rattle.std.proofs.Common.{◌∙◌, ℕ, ◌<◌, length, sym, subst, inl, inr}
+use Rattle.std.proofs.Common.{◌≡◌, ◌∙◌, ℕ, ◌<◌, length, ap, sym, subst, inl, inr}
 use Rattle.std.proofs.lemmas.Bool.{cases_Bool}
 use Rattle.gq_node.specs.declared.output.Fact.{Fact}
 use Rattle.gq_cluster.specs.Facts.{Begun, Numbered}
 use Rattle.gq_node.specs.Local.{recalls}
-use Rattle.gq_node.specs.Recalling.{tenant_of, own_fact}
+use Rattle.gq_node.specs.Recalling.{tenant_of, own_fact, fits_in}
 use Rattle.gq_node.specs.Shape.{IsShaped}
 use Rattle.gq_node.specs.Tables.{Tables, Leads}
 use Rattle.gq_node.proofs.Recalling.{begun_leads, no_begun_leads, number_leads, no_number_leads}
@@ -24,7 +24,7 @@ returns-in-Began c =
       | inl is ↦ (subst P (sym (c.recall_session.ensures.recalled is)) (begun_leads w t k op shaped within (sym c.recall_session.ensures.fits ∙ is)))
       | inr is ↦ (subst P (sym (c.recall_session.ensures.none is)) (no_begun_leads w t k op (sym c.recall_session.ensures.fits ∙ is)))
     ] in
-    record { leads = subst F (sym c.in-Began.is) leads' }
+    record { leads = subst F (sym c.in-Began.is) leads'; fits = c.recall_session.ensures.fits ∙ ap (fits_in w) (sym c.in-Began.is); none = c.recall_session.ensures.none; desk = c.recall_session.ensures.desk }
 
 pub returns-in-Numbered : goal.returns-in-Numbered
 returns-in-Numbered c =
@@ -40,4 +40,4 @@ returns-in-Numbered c =
       | inl is ↦ (subst P (sym (c.recall_session-in-Numbered.ensures.recalled is)) (number_leads w t k number shaped within (sym c.recall_session-in-Numbered.ensures.fits ∙ is)))
       | inr is ↦ (subst P (sym (c.recall_session-in-Numbered.ensures.none is)) (no_number_leads w t k number (sym c.recall_session-in-Numbered.ensures.fits ∙ is)))
     ] in
-    record { leads = subst F (sym c.in-Numbered.is) leads' }
+    record { leads = subst F (sym c.in-Numbered.is) leads'; fits = c.recall_session-in-Numbered.ensures.fits ∙ ap (fits_in w) (sym c.in-Numbered.is); none = c.recall_session-in-Numbered.ensures.none; desk = c.recall_session-in-Numbered.ensures.desk }

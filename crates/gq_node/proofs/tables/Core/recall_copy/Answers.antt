@@ -7,7 +7,9 @@ use Rattle.gq_tag.specs.Tag.{file_place, newer_of}
 use Rattle.gq_desk.specs.Volumes.{limit_of}
 use Rattle.gq_store.specs.Copies.{StoreCopies, copy_at}
 use Rattle.gq_cluster.specs.Facts.{Kept}
+use Rattle.gq_node.specs.declared.output.Fact.TheVariants.{Kept as IsKept}
 use Rattle.gq_node.specs.Local.{recalls, file_fits}
+use Rattle.gq_node.specs.Recalling.{fits_in}
 use Rattle.gq_node.specs.Tables.{Tables, Leads}
 use Rattle.gq_node.proofs.Recalling.{copy_leads}
 use Rattle.gq_node.proofs.tables.Core.recall_copy.Goals as goal
@@ -22,4 +24,9 @@ returns c =
     let there : limit_of v.desk file ≡ Some c.in-Some.limit = sym c.limit.ensures ∙ c.in-Some.is in
     let fits : file_fits (limit_of v.desk file) (Store copy) ≡ true = ap (λ limit. file_fits limit (Store copy)) there ∙ sym c.if-not-copy_fits.ensures in
     let put : copy_at c.put-put.new.self file ≡ newer_of (copy_at v.store file) copy = c.put-put.ensures.copy ∙ ap (λ bytes. newer_of (copy_at v.store file) (record { tag = copy.tag; bytes = bytes })) c.as_slice.ensures in
-    record { leads = subst (λ (x : Tables). Leads x file.tenant (recalls (Kept (file_place file) copy)) (V c.put-put.new.self)) is (copy_leads v file copy c.put-put.new.self fits put c.put-put.ensures.others) }
+    record {
+      leads = subst (λ (x : Tables). Leads x file.tenant (recalls (Kept (file_place file) copy)) (V c.put-put.new.self)) is (copy_leads v file copy c.put-put.new.self fits put c.put-put.ensures.others);
+      fits = sym (ap (λ (x : Tables). fits_in x (IsKept file copy)) (sym is) ∙ fits);
+      none = λ never. cc;
+      desk = ap (λ (x : Tables). x.desk) is;
+    }
