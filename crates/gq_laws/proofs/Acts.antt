@@ -332,10 +332,10 @@ up_own grid row p line = by (is_refusal (step_at grid row p (Own line)).told)
     by false = refl
 
 -- the servers that are up after a server line
-abbrev next_up : Grid → Servers → ServerLine → Servers
+abbrev pub next_up : Grid → Servers → ServerLine → Servers
 next_up grid before line = if is_refusal (server_told grid before line) then before else up_by (Serving line) before
 
-next_up_is : (grid : Grid) (row : TenantRow) (p : Past) (line : ServerLine) → up (after grid row p (Serving line)).trace ≡ next_up grid (up p.trace) line
+pub next_up_is : (grid : Grid) (row : TenantRow) (p : Past) (line : ServerLine) → up (after grid row p (Serving line)).trace ≡ next_up grid (up p.trace) line
 next_up_is grid row p line = by (is_refusal (server_told grid (up p.trace) line))
   where
     by : (b : Bool) → up (if b then p.trace else entry_of (questions p.trace) (Serving line) (step_at grid row p (Serving line)) ∷ p.trace) ≡ (if b then up p.trace else up_by (Serving line) (up p.trace))

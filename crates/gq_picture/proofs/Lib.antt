@@ -2,6 +2,7 @@ pub mod Bars
 pub mod Counts
 pub mod Drawings
 pub mod Latest
+pub mod Outages
 pub mod Rising
 pub mod Sides
 pub mod Steps

@@ -1,5 +1,9 @@
 -- A drawing of a legal order tells no lie.
-use Rattle.std.specs.Prelude.{◌≡◌, ◌≢◌, ◌↔◌, ◌<◌, ◌≤◌, ℕ, List, [], ◌∷◌, true, false, Some, None, Contains, length, map, slice_get}
+use Rattle.std.specs.Prelude.{◌≡◌, ◌≢◌, ◌↔◌, ◌<◌, ◌≤◌, ℕ, ◌*◌, List, [], ◌∷◌, ◌++◌, true, false, Some, None, Contains, length, map, slice_get}
+use Rattle.gq_desk.specs.CheckedPlan.{CheckedPlan}
+use Rattle.gq_model.specs.declared.events.Event.{Event}
+use Rattle.gq_model.specs.Trace.{up}
+use Rattle.gq_model.specs.Events.{past_at}
 use Rattle.gq_laws.specs.declared.ops.Op.{Op}
 use Rattle.gq_laws.specs.Operations.{At, Gives, Legal, Precedes, is_write}
 use Rattle.gq_picture.specs.declared.absences.Absence.{Absence}
@@ -7,6 +11,7 @@ use Rattle.gq_picture.specs.declared.drawing.Bar.{Bar}
 use Rattle.gq_picture.specs.declared.drawing.Outage.{Outage}
 use Rattle.gq_picture.specs.declared.drawing.Value.{Value}
 use Rattle.gq_picture.specs.declared.drawing.Drawing.{Drawing}
+use Rattle.gq_picture.specs.Absences.{absences, counted_from}
 use Rattle.gq_picture.specs.Drawing.{IsDrawing, is_write_at}
 use Rattle.gq_picture.specs.Register.{written_by}
 
@@ -84,3 +89,20 @@ pub record TellsNoLie (ops : List Op) (order : List ℕ) (absences : List Absenc
 -- so it is with each drawing of operations in a legal order
 abbrev pub DrawingsAreTrue : Type 0
 DrawingsAreTrue = (ops : List Op) (order : List ℕ) (absences : List Absence) (d : Drawing) → IsDrawing ops order absences d → Legal ops order → TellsNoLie ops order absences d
+
+-- ---- when servers were down
+
+-- an absence of the server is told that lasts at the place: it began there or before, and ended behind it, if it did
+pub record IsAbsentAt (absences : List Absence) (server place : ℕ) : Type 0 where
+  pub absence : Absence
+  pub told : Contains absences absence
+  pub of_it : absence.server ≡ server
+  pub from : absence.from ≤ place
+  pub lasts : (until : ℕ) → absence.until ≡ Some until → place < until
+
+-- a server of the grid is down, in the model's run of any tenant, after an event and those before it exactly where an absence of it
+-- lasts at the place of that event
+abbrev pub AbsencesAreTrue : Type 0
+AbsencesAreTrue = (plan : CheckedPlan) (t server : ℕ) (before after : List Event) (event : Event) → server < plan.grid.rows * plan.grid.cols →
+    ((up (past_at plan t (before ++ event ∷ [])).trace server ≡ false)
+    ↔ IsAbsentAt (absences (plan.grid.rows * plan.grid.cols) (counted_from 0 (before ++ event ∷ after)) (before ++ event ∷ after)) server (length before))
