@@ -1,6 +1,6 @@
 //! The loop: lines are taken, their facts are synced, and then what rests on them is shown.
 
-ghost use Rattle.std.specs.Prelude.{◌≡◌, ◌⊎◌, ◌+◌, ◌++◌, ◌≤◌, ℕ, List, [], false, length, min, replicate, IfOk, IfSome, OnOk};
+ghost use Rattle.std.specs.Prelude.{◌≡◌, ◌⊎◌, ◌+◌, ◌++◌, ◌≤◌, ℕ, List, [], true, length, min, replicate, IfOk, IfSome, OnOk};
 ghost use Rattle.std.specs.Io.{ReadsAtMost};
 ghost use Rattle.std.specs.Io.KnownBytes.{ReadConsumes};
 ghost use Rattle.gq_journal.specs.Batches.{Line, whole_lines, batches_of};
@@ -105,11 +105,11 @@ fn kept_end(alloc: Global, longest: usize, end: &[u8]) -> Result<Vec<u8>, OutOfM
     Ok(kept)
 }
 
-// Whether a newline is among the bytes.
-fn ends_a_line(bytes: &[u8]) -> bool
-    ensures { result ≡ false → whole_lines bytes.now ≡ [] }
+// Whether no newline is among the bytes.
+fn ends_no_line(bytes: &[u8]) -> bool
+    ensures { result ≡ true → whole_lines bytes.now ≡ [] }
 {
-    first_whole_line(bytes).is_some()
+    first_whole_line(bytes).is_none()
 }
 
 // Holds more bytes without a newline, so that a line which takes many reads is looked at and copied once: of what is too long for
@@ -173,7 +173,7 @@ pub fn serve<M: Lasting, R: Read, D: Disk, O: Output>(
             return Ok(());
         }
         let bytes = &block[..count];
-        if !ends_a_line(bytes) {
+        if ends_no_line(bytes) {
             hold(&mut held, longest, bytes)?;
             continue;
         }

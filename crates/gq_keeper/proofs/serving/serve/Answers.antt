@@ -1,4 +1,4 @@
-use Rattle.std.proofs.Common.{◌≡◌, List, [], ◌++◌, take, drop, length, ap, ◌∙◌, subst, arith}
+use Rattle.std.proofs.Common.{◌≡◌, List, [], ◌++◌, take, drop, length, ap, ◌∙◌, sym, subst, arith}
 use Rattle.gq_journal.specs.Batches.{Line, whole_lines, batches_of}
 use Rattle.gq_keeper.specs.Lines.{short_lines}
 use Rattle.gq_keeper.specs.Plans.{last_plan}
@@ -7,7 +7,7 @@ use Rattle.gq_keeper.specs.Durable.{Durable}
 use Rattle.gq_keeper.proofs.Instants.{elapses_then}
 use Rattle.gq_keeper.proofs.Running.{runs_append}
 use Rattle.gq_keeper.proofs.Durability.{durable_none, durable_then}
-use Rattle.gq_keeper.proofs.Readings.{written_back, served_more, as_one, of_turn, at_any}
+use Rattle.gq_keeper.proofs.Readings.{written_back, served_more, served_longer, as_one, of_turn, at_any}
 use Rattle.gq_keeper.proofs.serving.serve.Goals as goal
 
 pub returns-in_err-count-clause-any_time : goal.returns-in_err-count-clause-any_time
@@ -17,6 +17,10 @@ returns-in_err-count-clause-any_time g c =
 pub returns-then-count-eq0-clause-any_time : goal.returns-then-count-eq0-clause-any_time
 returns-then-count-eq0-clause-any_time g c =
     at_any g.M.Machine.steps g.M.Machine.recalls g.M.Machine.readable g.M.Lasting.blank g.M.Lasting.rests (whole_lines c.args.plan.now) c.args.machine.now _ _ _ _ (g.D.Log.seen c.args.disk.now) (g.D.Log.synced c.args.disk.now) c.args.first c.requires.sealed c.requires.restarts (λ left may. g.met.D.Log.only_now c.args.disk.now left may) c.loop.invariant.crash
+
+pub returns-in_err-hold-clause-any_time : goal.returns-in_err-hold-clause-any_time
+returns-in_err-hold-clause-any_time g c =
+    at_any g.M.Machine.steps g.M.Machine.recalls g.M.Lasting.blank g.M.Lasting.rests (whole_lines c.args.plan.now) c.args.machine.now _ _ _ _ (g.D.Log.seen c.args.disk.now) (g.D.Log.synced c.args.disk.now) c.args.first c.requires.sealed c.requires.restarts (λ left may. g.met.D.Log.only_now c.args.disk.now left may) c.loop.invariant.crash
 
 pub returns-in_err-grow_by-clause-any_time : goal.returns-in_err-grow_by-clause-any_time
 returns-in_err-grow_by-clause-any_time g c =
@@ -48,6 +52,21 @@ take_text-requires-clause-may g c =
     λ last lines synced shown d. c.requires.may last _ synced shown
     (durable_then g.M.Machine.steps g.M.Machine.recalls g.M.Machine.readable g.M.Lasting.blank g.M.Lasting.rests c.args.machine.now c.loop.machine last (whole_lines c.args.plan.now) _ lines _ _ _ synced shown c.loop.invariant.served.durable
     (subst (λ (p : List Line). Durable g.M.Machine.steps g.M.Machine.recalls g.M.Machine.readable g.M.Lasting.blank g.M.Lasting.rests c.loop.machine last p lines (g.O.Output.shown c.loop.out) synced shown) c.loop.invariant.served.durable.restarts.last d))
+
+pub loop-preserved-then-ends_no_line : goal.loop-preserved-then-ends_no_line
+loop-preserved-then-ends_no_line g c =
+    let taken = take c.in_ok-count.count c.read_some.new.block in
+    let full : length c.read_some.new.block ≡ c.loop.block.len = omega (arith, c.as_mut_slice.ensures.len) in
+    let back = written_back c.loop.block.len c.read_some.new.block (drop (length c.read_some.new.block) c.loop.block.items) full in
+    let same : take c.in_ok-count.count c.deref.result.now ≡ taken = ap (take c.in_ok-count.count) (c.deref.ensures.value ∙ back) in
+    record {
+      sealed = c.loop.invariant.sealed;
+      served = served_longer c.args.longest g.M.Machine.steps g.M.Machine.recalls g.M.Lasting.blank g.M.Lasting.rests c.args.machine.now c.loop.machine (whole_lines c.args.plan.now) (g.O.Output.shown c.args.out.now) _ _ _ _ _ c.loop.held.items taken c.hold.new.held.items
+          c.loop.invariant.served c.in_ok-count.ensures.bytes.0 (ap whole_lines (sym same) ∙ c.ends_no_line.ensures c.if-ends_no_line.true) c.in_ok-hold.ensures.none
+          (λ more. c.in_ok-hold.ensures.same more ∙ ap (λ b. short_lines c.args.longest ((c.loop.held.items ++ b) ++ more)) same);
+      crash = c.loop.invariant.crash;
+      room = rw back (omega arith);
+    }
 
 pub loop-preserved : goal.loop-preserved
 loop-preserved g c =
