@@ -20,7 +20,7 @@ returns-then-count-eq0-clause-any_time g c =
 
 pub returns-in_err-hold-clause-any_time : goal.returns-in_err-hold-clause-any_time
 returns-in_err-hold-clause-any_time g c =
-    at_any g.M.Machine.steps g.M.Machine.recalls g.M.Lasting.blank g.M.Lasting.rests (whole_lines c.args.plan.now) c.args.machine.now _ _ _ _ (g.D.Log.seen c.args.disk.now) (g.D.Log.synced c.args.disk.now) c.args.first c.requires.sealed c.requires.restarts (λ left may. g.met.D.Log.only_now c.args.disk.now left may) c.loop.invariant.crash
+    at_any g.M.Machine.steps g.M.Machine.recalls g.M.Machine.readable g.M.Lasting.blank g.M.Lasting.rests (whole_lines c.args.plan.now) c.args.machine.now _ _ _ _ (g.D.Log.seen c.args.disk.now) (g.D.Log.synced c.args.disk.now) c.args.first c.requires.sealed c.requires.restarts (λ left may. g.met.D.Log.only_now c.args.disk.now left may) c.loop.invariant.crash
 
 pub returns-in_err-grow_by-clause-any_time : goal.returns-in_err-grow_by-clause-any_time
 returns-in_err-grow_by-clause-any_time g c =
@@ -61,7 +61,7 @@ loop-preserved-then-ends_no_line g c =
     let same : take c.in_ok-count.count c.deref.result.now ≡ taken = ap (take c.in_ok-count.count) (c.deref.ensures.value ∙ back) in
     record {
       sealed = c.loop.invariant.sealed;
-      served = served_longer c.args.longest g.M.Machine.steps g.M.Machine.recalls g.M.Lasting.blank g.M.Lasting.rests c.args.machine.now c.loop.machine (whole_lines c.args.plan.now) (g.O.Output.shown c.args.out.now) _ _ _ _ _ c.loop.held.items taken c.hold.new.held.items
+      served = served_longer c.args.longest g.M.Machine.steps g.M.Machine.recalls g.M.Machine.readable g.M.Lasting.blank g.M.Lasting.rests c.args.machine.now c.loop.machine (whole_lines c.args.plan.now) (g.O.Output.shown c.args.out.now) _ _ _ _ _ c.loop.held.items taken c.hold.new.held.items
           c.loop.invariant.served c.in_ok-count.ensures.bytes.0 (ap whole_lines (sym same) ∙ c.ends_no_line.ensures c.if-ends_no_line.true) c.in_ok-hold.ensures.none
           (λ more. c.in_ok-hold.ensures.same more ∙ ap (λ b. short_lines c.args.longest ((c.loop.held.items ++ b) ++ more)) same);
       crash = c.loop.invariant.crash;
