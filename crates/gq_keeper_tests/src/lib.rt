@@ -8,7 +8,7 @@ mod register;
 mod shown;
 mod terms;
 
-pub use living::{Lived, begin, live};
+pub use living::{LONGEST, Lived, begin, live};
 pub use register::Register;
 pub use shown::Shown;
 pub use terms::Terms;

@@ -2,7 +2,7 @@
 
 ghost use Rattle.std.specs.Prelude.{◌≡◌};
 
-use crate::{Lived, Register, Shown, Terms, begin, live};
+use crate::{LONGEST, Lived, Register, Shown, Terms, begin, live};
 use gq_keeper::{Fault, MemoryDisk};
 use gq_memory::{GrowCopies, slice_copied};
 use std::alloc::Global;
