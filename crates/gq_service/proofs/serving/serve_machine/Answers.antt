@@ -32,7 +32,7 @@ pub returns-clause-served : goal.returns-clause-served
 returns-clause-served g c =
     let first : NodeMachine = c.begin_or_go_on.new.machine in
     let text : c.text.result.now ≡ node_text c.args.node.now.number c.args.node.now.plan.setup = c.text.ensures ∙ c.args.node.now.text in
-    let longest : c.longest_line.result ≡ longest_line c.args.node.now.plan.setup.plan = c.longest_line.ensures.value ∙ ap longest_line (c.plan.ensures ∙ ap (λ (s : Setup). s.plan) c.setup.ensures) in
+    let longest : c.longest_line-longest.result ≡ longest_line c.args.node.now.plan.setup.plan = c.longest_line-longest.ensures.value ∙ ap longest_line (c.plan.ensures ∙ ap (λ (s : Setup). s.plan) c.setup.ensures) in
     let d = c.in_ok-serve.ensures.durable in
     record {
       bytes = d.0;
@@ -42,6 +42,6 @@ returns-clause-served g c =
         last = c.serve.new.machine;
         started = c.in_ok-number.ensures.started;
         durable = subst (λ n. Durable MachineSteps MachineRecalls machine_reads MachineIsBlank MachineRests first c.serve.new.machine (whole_lines (node_text c.args.node.now.number c.args.node.now.plan.setup)) (short_lines n d.0) (g.O.Output.shown c.args.out.now ++ first_text) (g.D.Log.synced c.serve.new.disk) (g.O.Output.shown c.serve.new.out)) longest
-            (subst (λ (t : List ℕ). Durable MachineSteps MachineRecalls machine_reads MachineIsBlank MachineRests first c.serve.new.machine (whole_lines t) (short_lines c.longest_line.result d.0) (g.O.Output.shown c.args.out.now ++ first_text) (g.D.Log.synced c.serve.new.disk) (g.O.Output.shown c.serve.new.out)) text d.2);
+            (subst (λ (t : List ℕ). Durable MachineSteps MachineRecalls machine_reads MachineIsBlank MachineRests first c.serve.new.machine (whole_lines t) (short_lines c.longest_line-longest.result d.0) (g.O.Output.shown c.args.out.now ++ first_text) (g.D.Log.synced c.serve.new.disk) (g.O.Output.shown c.serve.new.out)) text d.2);
       };
     }
