@@ -17,6 +17,8 @@ pub enum Lived {
     Damaged(usize),
     /// The journal is of another plan.
     Another,
+    /// The register doesn't read a line of the journal.
+    Strange,
 }
 
 /// The most bytes of a line.
@@ -58,5 +60,6 @@ pub fn live<D: Disk, P: Plan, R: Read, O: Output>(
         }
         Started::Damaged(at) => Ok(Lived::Damaged(at)),
         Started::Another => Ok(Lived::Another),
+        Started::Strange => Ok(Lived::Strange),
     }
 }

@@ -19,6 +19,9 @@ const SECOND: &[u8] = b"put a\nput b\nsync 2 12 4e4fe65a7733530c\n";
 
 const THIRD: &[u8] = b"put c\nsync 3 6 efa8316c08428f63\n";
 
+// Its second line begins a plan, and no fact does.
+const STRANGE_THIRD: &[u8] = b"put c\nnode d\nsync 3 13 8a1185060b641d81\n";
+
 const LONGER: &[u8] = b"node 0 of 1 by 1\nann\nbob\n";
 
 const LONGER_THIRD: &[u8] = b"node 0 of 1 by 1\nann\nbob\nsync 3 25 f2cf4f7f0dc73e74\n";
@@ -243,6 +246,16 @@ fn tells_damage_from_a_torn_end(rt: HostRuntime) {
         assert!(rt; cut == if k == third { None } else { Some(third) });
         assert!(rt; started.journal.bytes() == two.as_slice());
     }
+}
+
+#[test]
+fn refuses_a_strange_line(rt: HostRuntime) {
+    let alloc = rt.alloc();
+    let three = joined(&rt, alloc, &[FIRST, SECOND, STRANGE_THIRD]);
+    let started = whole(&rt, alloc, three.as_slice(), b"put e\n");
+    assert!(rt; matches!(&started.lived, Ok(Lived::Strange)));
+    assert!(rt; started.journal.bytes() == three.as_slice());
+    assert!(rt; started.shown.bytes().is_empty());
 }
 
 #[test]
