@@ -6,7 +6,6 @@ ghost use Rattle.gq_keeper.specs.Plans.{are_facts};
 ghost use Rattle.gq_keeper.specs.Runs.{Takes};
 ghost use Rattle.gq_keeper.specs.Starting.{RecallsAll, RefusesLines};
 ghost use Rattle.gq_keeper.specs.Restarting.{Needs};
-
 ghost use Rattle.gq_keeper.specs.declared.machine.Unread.TheVariants.{Memory};
 
 use crate::Fault;

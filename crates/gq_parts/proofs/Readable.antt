@@ -108,7 +108,7 @@ reads_rest [] a last new r blank = refl
 reads_rest (line ∷ lines) a last new r blank =
     let same : IsSame a last = all_same (line ∷ lines) a last r in
     let first : reads_line new line ≡ true =
-        ap (λ p. reads_fact new (fact_of_line p line)) (blank.node.plan_is ∙ same.plan) ∙ fact_again a r.0 last new (fact_of_line a.plan line) r.1 same blank in
+    ap (λ p. reads_fact new (fact_of_line p line)) (blank.node.plan_is ∙ same.plan) ∙ fact_again a r.0 last new (fact_of_line a.plan line) r.1 same blank in
     rw (first, reads_rest lines r.0 last new r.2 blank) refl
 
 pub reads_again : (first last new : Tables) (lines : List (List ℕ)) → RecallsAll RecallsTo first lines last → IsBlank last new → list_all (reads_line new) lines ≡ true
@@ -123,7 +123,7 @@ lines_read a new blank sound (fact ∷ facts) fit fits =
     let its : FitsFact a.plan fact = fit 0 fact (omega arith) in
     let parts = and_parts (fits_in a fact) (list_all (fits_in a) facts) fits in
     let said : reads_line new (fact_line a.plan fact) ≡ reads_fact new (Some fact) =
-        ap (λ p. reads_fact new (fact_of_line p (fact_line a.plan fact))) blank.node.plan_is ∙ ap (reads_fact new) (facts_read_back a.plan fact sound its) in
+    ap (λ p. reads_fact new (fact_of_line p (fact_line a.plan fact))) blank.node.plan_is ∙ ap (reads_fact new) (facts_read_back a.plan fact sound its) in
     let first : reads_line new (fact_line a.plan fact) ≡ true = said ∙ blank_fits a new blank fact its.tenant ∙ parts.0 in
     rw (first, lines_read a new blank sound facts (λ i d below. fit (suc i) d (omega arith)) parts.1) refl
 
@@ -144,7 +144,7 @@ inputs_fit site local (input ∷ inputs) =
     let doing : Doing = does input site local in
     let one : list_all (fits_part site local.volumes) (option_to_list doing.fact) ≡ true = doing_fits site local doing.fact (part_in doing.local) (does_keeps input site local) in
     let more : list_all (fits_part site local.volumes) (own_facts site doing.local inputs) ≡ true =
-        subst (λ v. list_all (fits_part site v) (own_facts site doing.local inputs) ≡ true) (does_volumes input site local) (inputs_fit site doing.local inputs) in
+    subst (λ v. list_all (fits_part site v) (own_facts site doing.local inputs) ≡ true) (does_volumes input site local) (inputs_fit site doing.local inputs) in
     rw (list_all-append (fits_part site local.volumes) (option_to_list doing.fact) (own_facts site doing.local inputs), one, more) refl
 
 map_fits : (w : Tables) (t : ℕ) (facts : List OwnFact) → list_all (fits_part (site_of w.plan w.server t) (volumes_at w t)) facts ≡ true → list_all (fits_in w) (map (fact_of t) facts) ≡ true

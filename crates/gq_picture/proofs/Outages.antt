@@ -260,12 +260,12 @@ out_all servers s (b ∷ before) after event c was (inr absent) = elim (Contains
 
 pub absences_are_true : AbsencesAreTrue
 absences_are_true plan t s before after event small = (
-      (λ down. elim (all_out servers s small before after event 0 true (sym model ∙ down)) [
-        | inl out ↦ (absurd (let bad : true ≡ false = out.0 in cc))
-        | inr absent ↦ (subst (IsAbsentAt (all_of servers 0 (before ++ event ∷ after)) s) place absent)
-      ]),
-      (λ absent. model ∙ out_all servers s before after event 0 true (inr (subst (IsAbsentAt (all_of servers 0 (before ++ event ∷ after)) s) (sym place) absent))),
-    )
+  (λ down. elim (all_out servers s small before after event 0 true (sym model ∙ down)) [
+    | inl out ↦ (absurd (let bad : true ≡ false = out.0 in cc))
+    | inr absent ↦ (subst (IsAbsentAt (all_of servers 0 (before ++ event ∷ after)) s) place absent)
+  ]),
+  (λ absent. model ∙ out_all servers s before after event 0 true (inr (subst (IsAbsentAt (all_of servers 0 (before ++ event ∷ after)) s) (sym place) absent))),
+)
   where
     servers : ℕ
     servers = plan.grid.rows * plan.grid.cols
