@@ -14,17 +14,17 @@ that takes. It tells how many there are, and how many ways clients went.
 """
 
 import argparse
+import collections
 import dataclasses
 import functools
-import os
 import sys
 import time
 import types
 from typing import NamedTuple
 
 sys.dont_write_bytecode = True
-HERE = os.path.dirname(os.path.abspath(__file__))
-sys.path[:0] = [HERE, os.path.join(HERE, "..", "..", "clients", "python")]
+from histories import Killed
+
 from gridfs_client import Copy, Layout, NamedFiles, NoSuchName, OneByOne, Row, Tag, Unanswered, Volume
 from gridfs_client.buckets import Bucket
 from gridfs_client.pages import Inline, parse_page
@@ -34,10 +34,6 @@ LAYOUT = Layout(1, (Volume(2, 16), Volume(1, 1)))
 TABLE, PAGE = LAYOUT.table(1), LAYOUT.page(1, 0)
 NAME = "a"
 MOST_REMOVALS = 2  # that are remembered of those that may still take effect: fewer make the judge stricter
-
-
-class Killed(BaseException):
-    """What ends a client in the middle of whatever it does."""
 
 
 class Wrong(Exception):
@@ -224,12 +220,6 @@ def in_turn(done, removals):
 # One client
 
 
-class Ended(NamedTuple):
-    """How a client went: the world that it leaves, or None where it was told to die with more writes pending than there may be."""
-
-    world: World | None
-
-
 class Client:
     """The session of a client in a world. `choose` says what happens: it is given how many things may, and tells the number of one."""
 
@@ -344,28 +334,24 @@ def lives(world, kind, most_pending, operations):
         path[-1] += 1
 
 
-def search(kind=NamedFiles, most_pending=2, operations=1, most_ways=None):
-    """Goes through all worlds: how many there are, and how many ways clients went. Wrong where one shows a fault."""
+def search(kind=NamedFiles, most_pending=2, operations=1):
+    """Goes through all worlds: how many there are, and how many ways clients went. Wrong where one is not that of a register."""
     first = World()
-    known, left, ways = {first}, [first], 0
+    known, left, ways = {first}, collections.deque([first]), 0
     while left:
-        world = left.pop()
-        for following in lives(world, kind, most_pending, operations):
+        for following in lives(left.popleft(), kind, most_pending, operations):
             ways += 1
             following = renamed(following)
             if following not in known:
                 known.add(following)
                 left.append(following)
-        if most_ways and ways > most_ways:
-            break
-    return len(known), ways, len(left)
+    return len(known), ways
 
 
 def main(words):
     parser = argparse.ArgumentParser(description=__doc__, formatter_class=argparse.RawDescriptionHelpFormatter)
-    parser.add_argument("--pending", type=int, default=2)
-    parser.add_argument("--operations", type=int, default=1)
-    parser.add_argument("--most-ways", type=int)
+    parser.add_argument("--pending", type=int, default=2, metavar="N", help="at most so many writes are pending at a time (2)")
+    parser.add_argument("--operations", type=int, default=1, metavar="N", help="of a client; from 2 on it may get no answer and go on (1)")
     parser.add_argument("--bug", metavar="NAME", help="clients with a bug of planted.py")
     asked = parser.parse_args(words)
     kind = NamedFiles
@@ -373,12 +359,15 @@ def main(words):
         import planted
 
         kind = getattr(planted, asked.bug)
-    start = time.monotonic()
+    begun = time.monotonic()
     try:
-        print(search(kind, asked.pending, asked.operations, asked.most_ways), f"{time.monotonic() - start:.1f} s")
-    except Wrong:
-        print("wrong", f"{time.monotonic() - start:.1f} s")
+        count, ways = search(kind, asked.pending, asked.operations)
+    except Wrong as wrong:
+        print(f"what was seen is not that of one register:\n{wrong}")
+        return 1
+    print(f"{count} worlds, {ways} ways, {time.monotonic() - begun:.0f} seconds: all is as of one register")
+    return 0
 
 
 if __name__ == "__main__":
-    main(sys.argv[1:])
+    sys.exit(main(sys.argv[1:]))

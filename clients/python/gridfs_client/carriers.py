@@ -97,8 +97,8 @@ class LineCarrier(Carrier):
                         written -= len(parts.pop(0))
                     if parts:
                         parts[0] = parts[0][written:]
-        except OSError as fault:
-            self.stop(str(fault))
+        except OSError:
+            self.stop("the lines have ended")
 
     def close(self) -> None:
         try:

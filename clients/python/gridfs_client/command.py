@@ -253,7 +253,8 @@ def run(words: list[str]) -> None:
 
         signal.signal(signal.SIGINT, interrupt)
         signal.signal(signal.SIGTERM, interrupt)
-        with closing(OpenSessions(settings, ask_plan(carrier, settings.pace()), carrier)) as sessions:
+        name = vars(args).get("name") or vars(args).get("names", [""])[0]
+        with closing(OpenSessions(settings, ask_plan(carrier, settings.pace()), carrier, name)) as sessions:
             args.call(Opened(sessions, Progress(sys.stderr) if sys.stderr.isatty() and not args.quiet else None), args)
 
 

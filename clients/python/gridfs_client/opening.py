@@ -1,5 +1,6 @@
 """The sessions that a command has."""
 
+import hashlib
 import time
 from collections.abc import Iterator
 from dataclasses import replace
@@ -15,11 +16,17 @@ HELPER_TIMEOUT = 2  # seconds: a content is moved without those that don't answe
 
 
 class OpenSessions:
-    """Sessions of the tenant that no other command on this machine uses, by locks that end with the process."""
+    """Sessions of the tenant that no other command on this machine uses, by locks that end with the process.
 
-    def __init__(self, settings: Settings, told: PlanTold, carrier: Carrier):
+    The first one that is tried depends on the name that the command is about: so names are spread over the pages of all sessions, and the
+    changes of one mostly stand in one page.
+    """
+
+    def __init__(self, settings: Settings, told: PlanTold, carrier: Carrier, name: str = ""):
         self.settings, self.told, self.carrier = settings, told, carrier
-        self.pace, self.numbers = settings.pace(), settings.session_numbers(told.sessions)
+        numbers = settings.session_numbers(told.sessions)
+        first = int.from_bytes(hashlib.sha256(name.encode(errors="surrogateescape")).digest()[-8:], "big") % len(numbers)
+        self.pace, self.numbers = settings.pace(), [*numbers[first:], *numbers[:first]]
         self.locks: dict[int, IO[str]] = {}
 
     def first(self) -> Session:
