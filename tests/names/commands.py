@@ -217,7 +217,7 @@ class Commands:
         bobs = words["--password-file"].replace("ann", "bob")
         for name, other, status, why in (
             ("a wrong password", {"GRIDFS_PASSWORD_FILE": bobs}, 6, "not authorised"),
-            ("a certificate of another authority", {"GRIDFS_CA_FILE": "/etc/ssl/certs/ca-certificates.crt"}, 6, "unable to get local issuer"),
+            ("a certificate of another authority", {"GRIDFS_CA_FILE": "/etc/ssl/certs/ca-certificates.crt"}, 6, "certificate"),
             ("a certificate of another host", {"GRIDFS_BROKER": words["--broker"].replace("localhost", "localhost.localdomain")}, 6, ""),
             ("a broker that is not there", {"GRIDFS_BROKER": nobody}, 6, "Connection refused"),
             ("a broker without a port", {"GRIDFS_BROKER": "localhost"}, 6, "HOST:PORT"),
