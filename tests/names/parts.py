@@ -60,7 +60,7 @@ def bugs():
         with contextlib.suppress(worlds.Wrong):
             worlds.search(bug)
             missed.append(bug.__name__)
-    return f"{len(planted.FOUND) + len(planted.FOUND_IN_WORLDS)} bugs", [f"{name} is not found" for name in missed]
+    return f"{len({*planted.FOUND, *planted.FOUND_IN_WORLDS})} bugs", [f"{name} is not found" for name in missed]
 
 
 def search(most_pending, operations):
