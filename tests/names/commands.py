@@ -98,7 +98,7 @@ class Commands:
         self.told("read", ["read", "5", "63"], b"hi\n")
         rows = json.loads(self.run("list", "5", "--json")[1])
         self.held("list", (len(rows), rows[63]), (64, {"file": 63, "length": 3, "tag": tag}))
-        self.refused("a content that is too long", ["write", "5", "62", "-"], 3, "129 bytes are too long", given=bytes(129))
+        self.refused("a content that is too long", ["write", "5", "62", "-"], 3, "more than 128 bytes are too long", given=bytes(5_000))
         self.refused("a volume that is not there", ["read", "9", "0"], 3, "there is no volume 9")
         self.refused("a file that is not there", ["read", "5", "64"], 3, "there is no file 64 of volume 5")
         has = json.loads(self.run("plan", "--json")[1])

@@ -10,17 +10,20 @@ import tempfile
 import time
 from collections.abc import Callable
 from contextlib import closing
+from functools import cached_property
 from pathlib import Path
 from typing import IO, Any, TypeVar
 
 from .asking import ask_plan
-from .errors import ClientError
-from .layout import layout_of
+from .errors import ClientError, Refused
+from .layout import BLOCK, layout_of
 from .names import Entry, NamedFiles
 from .opening import OpenSessions
+from .sessions import Session
 from .settings import SETTINGS, Settings, default_file
 
 Told = TypeVar("Told")
+MOST_NUMBER = 4_294_967_295  # in a line of a node
 EPILOG = f"""\
 examples:
   gridfs-client put report.pdf reports/may        a file under a name
@@ -77,10 +80,20 @@ class Opened:
 
     def __init__(self, sessions: OpenSessions, progress: Progress | None):
         self.sessions, self.progress = sessions, progress
-        self.session = sessions.first()
+
+    @cached_property
+    def session(self) -> Session:
+        return self.sessions.first()
 
     def names(self) -> NamedFiles:
         return NamedFiles(self.session, layout_of(self.sessions.told), self.progress, self.sessions.helpers)
+
+
+def number_of(word: str) -> int:
+    """The number that a word is, as volumes and files have them."""
+    if not word.isascii() or not word.isdecimal() or int(word) > MOST_NUMBER:
+        raise argparse.ArgumentTypeError(f"{word!r} is no number from 0 to {MOST_NUMBER}")
+    return int(word)
 
 
 def parser() -> argparse.ArgumentParser:
@@ -106,7 +119,7 @@ def parser() -> argparse.ArgumentParser:
         sub.set_defaults(call=call)
 
     name: dict[str, Any] = dict(metavar="NAME", help="1 to 255 bytes of UTF-8, without control characters and with no / at an end")
-    number: dict[str, Any] = dict(type=int, help="a number from 0")
+    number: dict[str, Any] = dict(type=number_of, help="a number from 0")
     source: dict[str, Any] = dict(metavar="FILE", help="a file, or - for standard input")
     target: dict[str, Any] = dict(metavar="FILE", nargs="?", default="-", help="a file, or - for standard output, as if left out")
     word("put", put, "give a name a content", path=source, name=name)
@@ -208,8 +221,13 @@ def stat(opened: Opened, args: argparse.Namespace) -> None:
 
 
 def write(opened: Opened, args: argparse.Namespace) -> None:
-    with content_of(args.path) as content:
-        tag = opened.session.write(args.volume, args.file, content.read())
+    volumes = opened.sessions.told.volumes
+    room = BLOCK * volumes[args.volume][1] if args.volume < len(volumes) else 0
+    with content_of(args.path) as file:
+        content = file.read(room + 1)
+    if len(content) > room > 0:  # (a node gives no answer to a line that is too long)
+        raise Refused(f"more than {room} bytes are too long for file {args.file} of volume {args.volume}")
+    tag = opened.session.write(args.volume, args.file, content)
     tell(args, {"tag": [tag.number, tag.session]}, f"tag {tag.number}.{tag.session}")
 
 
