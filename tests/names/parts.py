@@ -66,8 +66,8 @@ def bugs():
 def search(most_pending, operations):
     try:
         count, ways = worlds.search(most_pending=most_pending, operations=operations)
-    except worlds.Wrong:
-        return "not whole", ["a way of clients was seen that no register has: worlds.py tells it"]
+    except worlds.Wrong as wrong:
+        return "not whole", ["what is seen is not that of one register: " + "; ".join(wrong.args[0])]
     return f"{count} worlds of at most {most_pending} pending writes, {ways} ways of a client of {operations} operations", []
 
 

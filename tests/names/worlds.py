@@ -15,6 +15,7 @@ that takes. It tells how many there are, and how many ways clients went.
 
 import argparse
 import collections
+import contextlib
 import dataclasses
 import functools
 import sys
@@ -37,7 +38,7 @@ MOST_REMOVALS = 2  # that are remembered of those that may still take effect: fe
 
 
 class Wrong(Exception):
-    """What was seen is not that of one register."""
+    """What was seen is not that of one register: the events that led there."""
 
 
 class Register(NamedTuple):
@@ -103,7 +104,7 @@ class Seen(NamedTuple):
     def kept(self, ways):
         ways = frozenset(ways)
         if not ways:
-            raise Wrong
+            raise Wrong([])
         return Seen(ways, self.begun)
 
 
@@ -155,7 +156,7 @@ def renamed(world):
 
     Of versions the session's own next one is above all, and no other session has any. A claim's base is a copy that can
     still be read, or another; its number is a page's, or another's."""
-    contents = {place: [getattr(world, name).content for name in [FIELDS[place]]] for place in FIELDS}
+    contents = {PAGE: [world.page.content], TABLE: [world.table.content]}
     for write in world.pending:
         contents[write.place].append(write.content)
     told = [page_of(content).claim for content in contents[PAGE]]
@@ -189,9 +190,6 @@ def renamed(world):
         tuple(Pending(each.place, new[each.place](each.content)) for each in world.pending),
         Seen(ways, frozenset(Change(changes[each.number], each.is_removal) for each in seen.begun)),
     )
-
-
-FIELDS = {PAGE: "page", TABLE: "table"}
 
 
 def forgotten(seen, named):
@@ -229,12 +227,18 @@ class Client:
         self.choose, self.most_pending = choose, most_pending
         self.files = {PAGE: world.page, TABLE: world.table}
         self.pending, self.seen = list(world.pending), world.seen
+        self.events = []
+
+    def tell(self, what, place, content):
+        name = "page" if place == PAGE else "table"
+        self.events.append(f"{what} {name}: " + content.decode().replace("\n", " | "))
 
     def world(self):
         seen = self.seen.look(held_in(self.files[PAGE].content))
         return World(self.files[PAGE], self.files[TABLE], tuple(self.pending), seen)
 
     def take(self, place, content):
+        self.tell("there is in the", place, content)
         self.files[place] = Register(self.files[place].number + 1, content)
         if place == PAGE:
             self.seen = self.seen.look(held_in(content))
@@ -253,6 +257,7 @@ class Client:
     def read(self, volume, file):
         self.surface((volume, file))
         register = self.files[volume, file]
+        self.tell("reads the", (volume, file), register.content)
         return Copy(Tag(register.number, 1), register.content)
 
     def list(self, volume):
@@ -262,6 +267,7 @@ class Client:
 
     def write(self, volume, file, content):
         place, what = (volume, file), self.choose(FATES if self.may_go_on else FATES - 1)
+        self.tell(f"{WORDS[what]} the", place, content)
         for _ in range(COPIES[what]):
             if len(self.pending) == self.most_pending:
                 raise TooMany
@@ -279,6 +285,7 @@ class Client:
 # What becomes of a write, and how many copies of it are left pending. (One that is asked for twice and answered is as one that was answered.)
 ANSWERED, DIES, DIES_TWICE, UNANSWERED = range(4)
 FATES, COPIES = 4, (0, 1, 2, 1)
+WORDS = "writes", "dies writing", "dies writing twice", "is not answered writing"
 
 
 class TooMany(BaseException):
@@ -288,6 +295,7 @@ class TooMany(BaseException):
 def change_name(client, files, number, is_removal):
     """A client's operation, with what was seen of it."""
     change = Change(number, is_removal)
+    client.events.append("a client takes the name away" if is_removal else f"a client puts {number}")
     client.seen = client.seen.begin(change)
     try:
         if is_removal:
@@ -303,7 +311,7 @@ def change_name(client, files, number, is_removal):
 
 
 def lives(world, kind, most_pending, operations):
-    """The worlds that one more client may leave, each way that it may go: it ends, or dies, at once where `operations` is 0."""
+    """The worlds that one more client may leave, each way that it may go, with the events of each way."""
     pages = [world.page.content, *(write.content for write in world.pending if write.place == PAGE)]
     number = 1 + max([0, *(each.number for each in world.seen.begun), *(each for content in pages for each in in_order(content))])
     path = []
@@ -320,13 +328,14 @@ def lives(world, kind, most_pending, operations):
         client.may_go_on = operations > 1
         files = kind(client, LAYOUT, team=OneByOne())
         try:
-            for each in range(operations):
-                change_name(client, files, number + each, choose(2) == 1)
-            yield client.world()
-        except Killed:
-            yield client.world()
+            with contextlib.suppress(Killed):
+                for each in range(operations):
+                    change_name(client, files, number + each, choose(2) == 1)
+            yield client.world(), client.events
         except TooMany:
             pass
+        except Wrong:
+            raise Wrong(client.events) from None
         while path and path[-1] + 1 == taken[len(path) - 1]:
             path.pop()
         if not path:
@@ -337,14 +346,22 @@ def lives(world, kind, most_pending, operations):
 def search(kind=NamedFiles, most_pending=2, operations=1):
     """Goes through all worlds: how many there are, and how many ways clients went. Wrong where one is not that of a register."""
     first = World()
-    known, left, ways = {first}, collections.deque([first]), 0
+    known, left, ways = {first: None}, collections.deque([first]), 0  # how each world came about: the one before, and the events
     while left:
-        for following in lives(left.popleft(), kind, most_pending, operations):
-            ways += 1
-            following = renamed(following)
-            if following not in known:
-                known.add(following)
-                left.append(following)
+        world = left.popleft()
+        try:
+            for following, events in lives(world, kind, most_pending, operations):
+                ways += 1
+                following = renamed(following)
+                if following not in known:
+                    known[following] = world, events
+                    left.append(following)
+        except Wrong as wrong:
+            (events,) = wrong.args
+            while known[world]:
+                world, before = known[world]
+                events = before + events
+            raise Wrong(events) from None
     return len(known), ways
 
 
@@ -363,7 +380,8 @@ def main(words):
     try:
         count, ways = search(kind, asked.pending, asked.operations)
     except Wrong as wrong:
-        print(f"what was seen is not that of one register:\n{wrong}")
+        print("what is seen is not that of one register (numbers of claims and contents may change from client to client):")
+        print("\n".join(wrong.args[0]))
         return 1
     print(f"{count} worlds, {ways} ways, {time.monotonic() - begun:.0f} seconds: all is as of one register")
     return 0
