@@ -25,6 +25,7 @@ from gridfs_client import ClientError
 
 TOP = os.path.join(HERE, "..", "..")
 DEPLOY = os.path.join(TOP, "deploy", "mqtt")
+LONG, MOST_MEMORY = 100, 84  # MiB of a content, and of a process that moves it and plays the nodes too
 SHAPES = ("MIXED", "CROWDED", "LENDING", "REMOVING", "DYING", "UNSURE")
 
 
@@ -52,6 +53,12 @@ def random_histories(shape, first, count):
 
 def told_of(counts):
     return ", ".join(f"{number} {what}" for what, number in counts.items())
+
+
+def memory():
+    words = [sys.executable, "-B", os.path.join(HERE, "long_contents.py"), str(LONG)]
+    used = int(subprocess.run(words, stdout=subprocess.PIPE, check=True).stdout) // 1024
+    return f"{LONG} MiB put twice and got: {used} MiB of memory, nodes in the same process", ["too much memory"] if used > MOST_MEMORY else []
 
 
 def bugs():
