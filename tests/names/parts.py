@@ -24,7 +24,7 @@ from processes import interrupt, room, workers
 from gridfs_client import ClientError
 
 TOP = os.path.join(HERE, "..", "..")
-DEPLOY = os.path.join(TOP, "deploy", "mqtt")
+DEPLOY, PACKAGE = os.path.join(TOP, "deploy", "mqtt"), os.path.join(TOP, "clients", "python")
 LONG, MOST_MEMORY = 100, 84  # MiB of a content, and of a process that moves it and plays the nodes too
 SHAPES = ("MIXED", "CROWDED", "LENDING", "REMOVING", "DYING", "UNSURE")
 
@@ -115,23 +115,32 @@ def commands_over_a_broker(program):
 
 def package():
     wrong, done = [], []
-    package, page = os.path.join(TOP, "clients", "python"), os.path.join(TOP, "docs", "gridfs-client.1")
-    for words, where in ((["mypy", "--strict", "--cache-dir", os.devnull, "gridfs_client"], package), (["mandoc", "-Tlint", page], ".")):
+    for words, where in (
+        (["mypy", "--strict", "--cache-dir", os.devnull, "gridfs_client"], PACKAGE),
+        (["mandoc", "-Tlint", os.path.join(TOP, "docs", "gridfs-client.1")], "."),
+        ([os.path.join(TOP, "tools", "install"), "--client", os.path.abspath("installed")], "."),
+    ):
         if not shutil.which(words[0]):
             print(f"names: package: {words[0]} is left out: it is not installed", flush=True)
             continue
         told = subprocess.run(words, cwd=where, capture_output=True, text=True)
         wrong += [f"{words[0]}: {told.stdout}{told.stderr}"] if told.returncode else []
-        done.append(words[0])
+        done.append(os.path.basename(words[0]))
+    wrong += helped("installed/bin/gridfs-client")
     if shutil.which("pip") and importlib.util.find_spec("venv"):
-        shutil.copytree(package, "package")
+        shutil.copytree(PACKAGE, "package")
         subprocess.run([sys.executable, "-m", "venv", "--without-pip", "venv"], check=True)
         words = ["pip", "--python", "venv/bin/python", "install", "-q", "--no-index", "--disable-pip-version-check", "./package"]
         told = subprocess.run(words, capture_output=True, text=True)
-        status = subprocess.run(["venv/bin/gridfs-client", "--help"], stdout=subprocess.DEVNULL).returncode if not told.returncode else 1
-        wrong += [f"pip: {told.stderr}"] if status else []
+        wrong += [f"pip: {told.stderr}"] if told.returncode else helped("venv/bin/gridfs-client")
         done.append("pip")
     return ", ".join(done), wrong
+
+
+def helped(command):
+    """What is wrong of an installed command, which has to tell its words."""
+    told = subprocess.run([os.path.abspath(command), "--help"], stdout=subprocess.PIPE)
+    return [] if told.returncode == 0 and b"put" in told.stdout else [f"{command} --help: status {told.returncode}"]
 
 
 def missing():
