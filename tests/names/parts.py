@@ -83,6 +83,13 @@ def in_pipes(program, seconds, kills):
     return f"in pipes, {seconds} seconds: {told_of(counts)}", wrong
 
 
+def bug_in_pipes(program, seconds):
+    """A client with a bug, over nodes, has to be found."""
+    bug = planted.VersionsNotRaised.__name__
+    counts, wrong = trial.run(trial.Pipes(os.getcwd(), program), seconds, {}, bug)
+    return f"{bug} in pipes: {len(wrong)} wrong of {counts['operations']} operations", [] if wrong else [f"{bug} is not found"]
+
+
 def carrier():
     path = os.path.abspath("carry")
     subprocess.run(["make", "-s", "-C", DEPLOY, f"OUT={path}"], check=True)
