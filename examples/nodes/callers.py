@@ -1,7 +1,7 @@
 """Clients of the grid at a socket of this machine. They send and are sent lines `TO FROM BODY`, as nodes are.
 
-Who may open the socket's folder may speak as any tenant. A client is the tenant that its first line is from; lines of it that are from
-another are passed over.
+The socket is its owner's alone, and who opens it may speak as any tenant: a client is the tenant that its first line is from, and lines of it
+that are from another are passed over.
 """
 
 import os
