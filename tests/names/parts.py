@@ -70,12 +70,13 @@ def bugs():
     return f"{len({*planted.FOUND, *planted.FOUND_IN_WORLDS})} bugs", [f"{name} is not found" for name in missed]
 
 
-def search(most_pending, operations):
+def search(most_pending, operations, removes=True):
     try:
-        count, ways = worlds.search(most_pending=most_pending, operations=operations)
+        count, ways = worlds.search(most_pending=most_pending, operations=operations, removes=removes)
     except worlds.Wrong as wrong:
         return "not whole", ["what is seen is not that of one register: " + "; ".join(wrong.args[0])]
-    return f"{count} worlds of at most {most_pending} pending writes, {ways} ways of a client of {operations} operations", []
+    what = "puts and removals" if removes else "puts alone"
+    return f"{count} worlds of {what} with at most {most_pending} pending writes, {ways} ways of a client of {operations} operations", []
 
 
 def in_pipes(program, seconds, kills):

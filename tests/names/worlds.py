@@ -1,6 +1,6 @@
 """A small world of one session's page, searched whole: its claims, its announcements, and the pending writes of clients that died.
 
-    worlds.py [--pending N] [--operations N] [--bug NAME]
+    worlds.py [--pending N] [--operations N] [--puts] [--bug NAME]
 
 One session has a slot table and one page, and clients one after another. Each gives a name a content of its own or takes the name away,
 through the calls of gridfs_client, and may die at each of its writes. A write whose client died is pending: it takes effect at any later
@@ -310,7 +310,7 @@ def change_name(client, files, number, is_removal):
         client.seen = client.seen.end(change, True)
 
 
-def lives(world, kind, most_pending, operations):
+def lives(world, kind, most_pending, operations, removes=True):
     """The worlds that one more client may leave, each way that it may go, with the events of each way."""
     pages = [world.page.content, *(write.content for write in world.pending if write.place == PAGE)]
     number = 1 + max([0, *(each.number for each in world.seen.begun), *(each for content in pages for each in in_order(content))])
@@ -330,7 +330,7 @@ def lives(world, kind, most_pending, operations):
         try:
             with contextlib.suppress(Killed):
                 for each in range(operations):
-                    change_name(client, files, number + each, choose(2) == 1)
+                    change_name(client, files, number + each, removes and choose(2) == 1)
             yield client.world(), client.events
         except TooMany:
             pass
@@ -343,14 +343,14 @@ def lives(world, kind, most_pending, operations):
         path[-1] += 1
 
 
-def search(kind=NamedFiles, most_pending=2, operations=1):
-    """Goes through all worlds: how many there are, and how many ways clients went. Wrong where one is not that of a register."""
+def search(kind=NamedFiles, most_pending=2, operations=1, removes=True):
+    """Goes through all worlds, of puts alone or of removals too: how many there are, and how many ways clients went. Wrong where one is not that of a register."""
     first = World()
     known, left, ways = {first: None}, collections.deque([first]), 0  # how each world came about: the one before, and the events
     while left:
         world = left.popleft()
         try:
-            for following, events in lives(world, kind, most_pending, operations):
+            for following, events in lives(world, kind, most_pending, operations, removes):
                 ways += 1
                 following = renamed(following)
                 if following not in known:
@@ -369,6 +369,7 @@ def main(words):
     parser = argparse.ArgumentParser(description=__doc__, formatter_class=argparse.RawDescriptionHelpFormatter)
     parser.add_argument("--pending", type=int, default=2, metavar="N", help="at most so many writes are pending at a time (2)")
     parser.add_argument("--operations", type=int, default=1, metavar="N", help="of a client; from 2 on it may get no answer and go on (1)")
+    parser.add_argument("--puts", action="store_true", help="of puts alone, without removals")
     parser.add_argument("--bug", metavar="NAME", help="clients with a bug of planted.py")
     asked = parser.parse_args(words)
     kind = NamedFiles
@@ -378,7 +379,7 @@ def main(words):
         kind = getattr(planted, asked.bug)
     begun = time.monotonic()
     try:
-        count, ways = search(kind, asked.pending, asked.operations)
+        count, ways = search(kind, asked.pending, asked.operations, not asked.puts)
     except Wrong as wrong:
         print("what is seen is not that of one register (numbers of claims and contents may change from client to client):")
         print("\n".join(wrong.args[0]))
