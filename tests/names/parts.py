@@ -62,12 +62,17 @@ def memory():
 
 
 def bugs():
-    missed = [bug.__name__ for bug, (seed, shape) in planted.FOUND.items() if not registers.is_found(bug, seed, shape=shape)]
-    for bug in planted.FOUND_IN_WORLDS:
+    missed = [bug for bug, (seed, shape) in planted.FOUND.items() if not registers.is_found(bug, seed, shape=shape)]
+    return f"{len(planted.FOUND)} bugs in histories", [f"{bug.__name__} is not found" for bug in missed]
+
+
+def bugs_in_worlds():
+    missed = []
+    for bug, most_pending in planted.FOUND_IN_WORLDS.items():
         with contextlib.suppress(worlds.Wrong):
-            worlds.search(bug)
-            missed.append(bug.__name__)
-    return f"{len({*planted.FOUND, *planted.FOUND_IN_WORLDS})} bugs", [f"{name} is not found" for name in missed]
+            worlds.search(bug, most_pending, removes=False)
+            missed.append(f"{bug.__name__} is not found")
+    return f"{len(planted.FOUND_IN_WORLDS)} bugs in worlds", missed
 
 
 def search(most_pending, operations, removes=True):
