@@ -51,9 +51,19 @@ class Writer:
 
     def claim(self, bucket: Bucket) -> Claim:
         """Claims the session's page of a bucket, as it was read last."""
+        if self.keeper.is_full(bucket.number):
+            self.write_claimed()
         claim = self.keeper.claim(bucket.number, bucket.mine)
         bucket.claim = claim.number
         return claim
+
+    def write_claimed(self) -> None:
+        """Writes each page that a client claimed and died before it wrote it: so these claims can go."""
+        for page in sorted(self.keeper.needed().claims):
+            bucket = self.bucket(page)
+            self.settle(bucket)
+            if not bucket.is_owned:
+                self.write(bucket, bucket.mine)
 
     def announcement(self, bucket: Bucket, line: Line) -> Page | None:
         """The page that announces a line, once lines that can go have made room where it is needed; None for no room.
