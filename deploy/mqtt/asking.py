@@ -13,7 +13,6 @@ import time
 import paho.mqtt.client as mqtt
 
 HERE = os.path.dirname(os.path.realpath(__file__))
-# (in a checkout, and where `make install` puts both)
 sys.path[:0] = [os.path.join(HERE, "..", "..", "examples", "nodes"), HERE]
 from tenant import AGAIN
 

@@ -77,6 +77,7 @@ class Carrier:
         self.nodes, self.hear, self.fall = nodes, hear, fall
         self.tick, self.next_tick = tick, time.monotonic() + tick
         self.carried = 0  # lines that were given to nodes
+        self.callers = None  # clients at a socket (callers.py), where there is one
 
     def kill(self, node):
         """Ends the node's process by the signal that none can delay (kill -9). What it wrote and was not read is lost."""
@@ -119,11 +120,14 @@ class Carrier:
         up = [node for node in self.nodes if node.child]
         wanted = {node.child.stdout: node for node in up}
         waited = {node.child.stdin: node for node in up if node.waiting}
+        calls, answers = (self.callers.read_from(), self.callers.written_to()) if self.callers else ({}, {})
         seconds = max(0, min(seconds, self.next_tick - time.monotonic()))
-        read, written, _ = select.select([*wanted, *([] if more is None else [more])], [*waited], [], seconds)
+        read, written, _ = select.select([*wanted, *calls, *([] if more is None else [more])], [*waited, *answers], [], seconds)
         for pipe in written:
-            waited[pipe].give()
+            answers[pipe]() if pipe in answers else waited[pipe].give()
         for pipe in read:
             if pipe in wanted:
                 self.take_from(wanted[pipe])
+            elif pipe in calls:
+                calls[pipe]()
         return more in read

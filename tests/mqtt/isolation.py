@@ -34,7 +34,7 @@ def context_of(grid):
 
 
 def speaker(grid, user, name=None):
-    return Speaker(grid.port + (not str(user).isdecimal()), str(user), password(grid, user), name, context_of(grid))
+    return Speaker(grid.port + (not str(user).isdecimal()), str(user), password(grid, user), name or f"gridfs-{user}", context_of(grid))
 
 
 def asked(grid, *words):
@@ -59,7 +59,7 @@ def told_apart(grid):
     for number in (2, 3):
         grid.processes[number].terminate()
         grid.processes[number].wait()
-    ann, node = speaker(grid, "ann", "spare"), speaker(grid, 3, "spare3")
+    ann, node = speaker(grid, "ann", "gridfs-spare"), speaker(grid, 3, "gridfs-spare3")
     node.listen_to("gridfs/3/+")
     ann.listen_to("gridfs/ann/+")
     time.sleep(HEARD)
@@ -71,7 +71,7 @@ def told_apart(grid):
     }
     for topic, body in said:
         bob.say(topic, body)
-    other = speaker(grid, 2, "spare2")
+    other = speaker(grid, 2, "gridfs-spare2")
     other.say("gridfs/3/0", b"ann 1 78 2 0 0 store 9 1 66")
     other.say("gridfs/3/2", b"this is right")
     if not wait_for(lambda: ("gridfs/3/2", b"this is right") in node.heard):

@@ -1,0 +1,161 @@
+"""What the command has to know: from its options, else the environment, else a file, else as it stands here."""
+
+import configparser
+import fcntl
+import os
+import re
+import shlex
+from collections.abc import Mapping
+from pathlib import Path
+from typing import IO
+
+from .carriers import Carrier, ProcessCarrier, SocketCarrier
+from .errors import BadSettings
+from .sessions import Pace
+
+SECTION = "gridfs"
+# Each setting, what it is without any, and what it means.
+SETTINGS: dict[str, tuple[str | None, str]] = {
+    "tenant": (None, "the tenant's name"),
+    "broker": ("localhost:8884", "HOST:PORT of the MQTT broker, for tenants"),
+    "ca-file": (None, "a file of certificates of authorities: use TLS, and trust these"),
+    "password-file": (None, "the first line of this file is the tenant's password; others may not read it"),
+    "socket": (None, "a socket of examples/grid, in place of a broker"),
+    "via": (None, "a command that carries lines TO FROM BODY, in place of a broker"),
+    "session": ("all", "N, FIRST-LAST or all: the first of these that no other command here uses and whose home answers is used"),
+    "helpers": ("3", "how many more of these move a content in many pieces, besides"),
+    "timeout": ("30", "seconds to wait for an answer"),
+    "locks": (None, "the folder of the files by which commands tell each other the sessions they use"),
+}
+NAME = re.compile(r"(?!server\Z)[a-z]{1,16}\Z")
+
+
+def default_file() -> Path:
+    return Path(os.environ.get("XDG_CONFIG_HOME") or Path.home() / ".config") / "gridfs" / "client.ini"
+
+
+def default_locks() -> Path:
+    return Path(os.environ.get("XDG_RUNTIME_DIR") or Path.home() / ".cache") / "gridfs"
+
+
+def read_file(path: Path) -> dict[str, str]:
+    """The settings of a file; a FileNotFoundError where there is none, BadSettings where it has no form."""
+    parser = configparser.ConfigParser(interpolation=None)
+    try:
+        with open(path, encoding="utf-8") as text:
+            parser.read_file(text)
+    except FileNotFoundError:
+        raise
+    except OSError as fault:
+        raise BadSettings(f"{path}: {fault.strerror}") from None
+    except (configparser.Error, UnicodeDecodeError) as fault:
+        raise BadSettings(f"{path}: {str(fault).splitlines()[0]}") from None
+    found = dict(parser[SECTION]) if parser.has_section(SECTION) else {}
+    if unknown := found.keys() - SETTINGS.keys():
+        raise BadSettings(f"{path}: there is no setting {sorted(unknown)[0]}")
+    return found
+
+
+def read_password(path: str) -> str:
+    """The password on the first line of a file; BadSettings where it has none, or others may read or write it."""
+    try:
+        with open(path, encoding="utf-8") as file:
+            if os.fstat(file.fileno()).st_mode & 0o006:
+                raise BadSettings(f"{path}: others may read or write it")
+            word = file.readline().rstrip("\r\n")
+    except OSError as fault:
+        raise BadSettings(f"{path}: {fault.strerror}") from None
+    except UnicodeDecodeError:
+        raise BadSettings(f"{path}: no text") from None
+    if not word:
+        raise BadSettings(f"{path}: no password on its first line")
+    return word
+
+
+class Settings:
+    """The settings of one command. BadSettings where one is wanted that isn't there or has no form."""
+
+    def __init__(self, values: Mapping[str, str]):
+        self.values = values
+
+    @classmethod
+    def gather(cls, options: Mapping[str, str | None], environment: Mapping[str, str]) -> "Settings":
+        """From the options, the environment (GRIDFS_TENANT ..) and the file that one of them names."""
+        named = options.get("config") or environment.get("GRIDFS_CONFIG")
+        values = {key: default for key, (default, _) in SETTINGS.items() if default is not None}
+        try:
+            values.update(read_file(Path(named) if named else default_file()))
+        except FileNotFoundError:
+            if named:
+                raise BadSettings(f"{named}: no such file") from None
+        for key in SETTINGS:
+            given = options.get(key) or environment.get("GRIDFS_" + key.upper().replace("-", "_"))
+            if given:
+                values[key] = given
+        return cls(values)
+
+    def need(self, key: str) -> str:
+        if key not in self.values:
+            raise BadSettings(f"{key} is not set: {SETTINGS[key][1]}")
+        return self.values[key]
+
+    def number(self, key: str) -> int:
+        text = self.need(key)
+        if not re.fullmatch(r"0|[1-9][0-9]{0,9}", text):
+            raise BadSettings(f"{key}: {text!r} is no number")
+        return int(text)
+
+    def seconds(self, key: str) -> float:
+        try:
+            seconds = float(self.need(key))
+        except ValueError:
+            seconds = 0
+        if not 0 < seconds < 1e6:
+            raise BadSettings(f"{key}: {self.need(key)!r} is no number of seconds")
+        return seconds
+
+    @property
+    def tenant(self) -> str:
+        name = self.need("tenant")
+        if not NAME.match(name):
+            raise BadSettings(f"tenant: {name!r} is no name: 1 to 16 letters from a to z, and not the word server")
+        return name
+
+    def pace(self) -> Pace:
+        return Pace(timeout=self.seconds("timeout"))
+
+    def carrier(self) -> Carrier:
+        """What carries the tenant's lines. CarrierFault where it can't be had."""
+        tenant, patience = self.tenant, self.seconds("timeout")
+        if "via" in self.values:
+            return ProcessCarrier(tenant, shlex.split(self.values["via"]))
+        if "socket" in self.values:
+            return SocketCarrier(tenant, self.values["socket"])
+        try:
+            from .broker import MqttCarrier
+        except ImportError:
+            raise BadSettings("a broker wants the library paho-mqtt (Debian: python3-paho-mqtt)") from None
+        password = read_password(self.values["password-file"]) if "password-file" in self.values else None
+        return MqttCarrier(tenant, self.need("broker"), password, self.values.get("ca-file"), patience)
+
+    def session_numbers(self, sessions: int) -> range:
+        """The sessions that may be used, of so many."""
+        if self.need("session") == "all":
+            return range(1, sessions + 1)
+        found = re.fullmatch(r"([1-9][0-9]{0,3})(?:-([1-9][0-9]{0,3}))?", self.need("session"))
+        first, last = (int(found[1]), int(found[2] or found[1])) if found else (0, 0)
+        if not 1 <= first <= last <= sessions:
+            raise BadSettings(f"session: {self.need('session')!r} is not of the sessions 1 to {sessions}")
+        return range(first, last + 1)
+
+    def lock(self, number: int) -> IO[str] | None:
+        """An open file as long as which no other command on this machine uses the session; None where another one does."""
+        folder = Path(self.values["locks"]) if "locks" in self.values else default_locks()
+        folder.mkdir(parents=True, exist_ok=True)
+        lock = open(folder / f"{self.tenant}-{number}.lock", "w")
+        try:
+            fcntl.flock(lock, fcntl.LOCK_EX | fcntl.LOCK_NB)
+            return lock
+        except BlockingIOError:
+            lock.close()
+            return None

@@ -1,0 +1,275 @@
+"""The command over real nodes: what each word tells, what bad input comes to, and what an interrupted command leaves."""
+
+import base64
+import contextlib
+import fcntl
+import hashlib
+import json
+import os
+import pty
+import signal
+import socket
+import subprocess
+import time
+
+from histories import HERE
+
+TOP = os.path.join(HERE, "..", "..")
+CLIENT = os.path.join(TOP, "clients", "python", "gridfs-client")
+PYTHON = "/usr/bin/python3"  # (which finds the library for MQTT that Debian has)
+# ann has room, and bob next to none.
+PLAN = """grid 2 2
+blocks 4096
+tenant ann 2432 4 1
+tenant bob 96 2 1
+go
+ann open 8 16
+ann open 8 16
+ann open 8 16
+ann open 64 15
+ann open 64 15
+ann open 64 2
+bob open 4 16
+bob open 8 4
+"""
+SECONDS = 60
+STOPS = 6  # interrupted puts
+
+
+class Commands:
+    """Runs of the command, each compared with what it has to do. `settings` are those of a tenant."""
+
+    def __init__(self, settings):
+        self.settings, self.tried, self.wrong = settings, 0, []
+
+    def held(self, name, seen, wanted):
+        self.tried += 1
+        if seen != wanted:
+            self.wrong.append(f"{name}: {seen!r}, not {wanted!r}")
+
+    def environment(self, tenant="ann", **more):
+        return {**os.environ, "GRIDFS_CONFIG": f"grid/{tenant}.ini", "GRIDFS_LOCKS": "locks", **self.settings, **more}
+
+    def run(self, *words, given=b"", **more):
+        done = subprocess.run([PYTHON, "-B", CLIENT, *words], input=given, capture_output=True, env=self.environment(**more), timeout=SECONDS)
+        return done.returncode, done.stdout, done.stderr.decode(errors="replace")
+
+    def told(self, name, words, told, given=b"", **more):
+        """A command that has to end well, without a word on standard error."""
+        self.held(name, self.run(*words, given=given, **more), (0, told, ""))
+
+    def refused(self, name, words, status, why, given=b"", **more):
+        """A command that has to end with this status, and a line that has these words."""
+        seen = self.run(*words, given=given, **more)
+        is_one_line = seen[2].startswith("gridfs-client: ") and seen[2].count("\n") == 1 and seen[2].endswith("\n")
+        self.held(name, (seen[0], seen[1], is_one_line and why in seen[2] or seen[2]), (status, b"", True))
+
+    # Names
+
+    def names(self):
+        content = os.urandom(20_000)
+        with open("content", "wb") as out:
+            out.write(content)
+        self.told("put of standard input", ["put", "-", "ä b"], b"", given=content)
+        self.told("get to standard output", ["get", "ä b"], content)
+        self.told("get to a file", ["get", "ä b", "copy"], b"")
+        with open("copy", "rb") as copy:
+            self.held("the file", copy.read(), content)
+        status, told, _ = self.run("put", "content", "x/y", "--json")
+        entry = json.loads(told)
+        digest = hashlib.sha256(content).hexdigest()
+        self.held("put --json", (status, entry["name"], entry["version"], entry["size"], entry["sha256"]), (0, "x/y", 1, 20_000, digest))
+        self.held("stat --json", json.loads(self.run("stat", "x/y", "--json")[1]), entry)
+        self.held("stat", self.run("stat", "x/y")[1].splitlines()[0], b"name: x/y")
+        self.held("get --json", base64.b64decode(json.loads(self.run("get", "--json", "x/y")[1])["content"]), content)
+        self.held("ls --json", [each["name"] for each in json.loads(self.run("ls", "--json")[1])], ["x/y", "ä b"])
+        self.held("ls of a prefix", self.run("ls", "ä")[1].split()[::2], [b"20000", "ä".encode()])
+        self.told("put of nothing", ["put", "-", "x/y"], b"")
+        self.told("get of nothing", ["get", "x/y"], b"")
+        self.told("rm", ["rm", "x/y", "ä b"], b"")
+        self.told("ls of nothing", ["ls"], b"")
+        for word in ("get", "stat", "rm"):
+            self.refused(f"{word} of no name", [word, "x/y"], 1, "x/y: no such name")
+
+    def numbered_files(self):
+        status, told, _ = self.run("write", "5", "63", "-", "--json", given=b"hi\n", GRIDFS_SESSION="4")
+        tag = json.loads(told)["tag"]
+        self.held("write", (status, tag[1]), (0, 4))
+        self.told("read", ["read", "5", "63"], b"hi\n")
+        rows = json.loads(self.run("list", "5", "--json")[1])
+        self.held("list", (len(rows), rows[63]), (64, {"file": 63, "length": 3, "tag": tag}))
+        self.refused("a content that is too long", ["write", "5", "62", "-"], 3, "more than 128 bytes are too long", given=bytes(5_000))
+        self.refused("a volume that is not there", ["read", "9", "0"], 3, "there is no volume 9")
+        self.refused("a file that is not there", ["read", "5", "64"], 3, "there is no file 64 of volume 5")
+        has = json.loads(self.run("plan", "--json")[1])
+        self.held("plan", (has["nodes"], has["sessions"], has["share"], has["volumes"][5]), (4, 4, 2432, {"files": 64, "blocks": 2}))
+
+    # Bad input
+
+    def bad_input(self):
+        for name, why in (("", "1 to 255 bytes, not 0"), ("x" * 256, "not 256"), (b"\xff", "UTF-8"), ("a\nb", "control"), ("/a", "/ at"), ("a/", "/ at")):
+            self.refused(f"put of the name {name!r:.9}", ["put", "-", name], 2, why)
+        for word in ("get", "rm", "stat"):
+            self.refused(f"{word} of a name that is none", [word, "a/"], 2, "no / at an end")
+        self.refused("a file that is not there", ["put", "nothing", "x"], 6, "nothing: No such file")
+        self.refused("a folder in place of a file", ["put", ".", "x"], 6, ".: Is a directory")
+        self.told("a name for what follows", ["put", "-", "here"], b"", given=b"here")
+        self.refused("a target in no folder", ["get", "here", "no/copy"], 6, "no/copy: No such file")
+        os.makedirs("folder", exist_ok=True)
+        before = set(os.listdir("."))
+        self.refused("a target that is a folder", ["get", "here", "folder"], 6, "Is a directory")
+        self.refused("a target for no name", ["get", "nowhere", "new"], 1, "no such name")
+        self.held("nothing half written is left", set(os.listdir(".")), before)
+        if os.getuid():
+            os.makedirs("closed", 0o500, exist_ok=True)
+            self.refused("a target that can't be written", ["get", "here", "closed/copy"], 6, "closed/copy: Permission denied")
+        self.told("rm of it", ["rm", "here"], b"")
+        words = self.run("put", "x")
+        self.held("words that are no request", (words[0], words[1]), (2, b""))
+        self.held("--help", (self.run("--help")[0], b"may a change still take effect?" in self.run("--help")[1]), (0, True))
+        self.refused("a file of settings that is not there", ["ls"], 2, "grid/nobody.ini: no such file", tenant="nobody")
+        self.refused("a tenant that has no form", ["ls"], 2, "tenant: 'Ann'", GRIDFS_TENANT="Ann")
+        self.refused("a session that is not there", ["ls"], 2, "sessions 1 to 4", GRIDFS_SESSION="5")
+        with open("grid/ann.ini", encoding="utf-8") as own, open("grid/spoilt.ini", "w", encoding="utf-8") as out:
+            out.write(own.read() + "tenent = x\n")
+        self.refused("a setting of no meaning", ["ls"], 2, "there is no setting tenent", tenant="spoilt")
+
+    def full(self):
+        self.refused("a content for which there are no slots", ["put", "-", "big"], 3, "no room: ", given=bytes(5_000), tenant="bob")
+        self.told("one for which there are", ["put", "-", "small"], b"", given=bytes(700), tenant="bob")
+        self.refused("the next one", ["put", "-", "other"], 3, "no room: ", given=bytes(900), tenant="bob", GRIDFS_SESSION="1", GRIDFS_HELPERS="0")
+        for number in range(40):
+            status, _, why = self.run("put", "-", f"a name of some length, {number}", given=b"x", tenant="bob", GRIDFS_SESSION="1")
+            if status:
+                break
+        self.held("a page that is full", (status, "page 0 of session 1 has no room for one more line" in why), (3, True))
+        self.held("names that it holds", len(json.loads(self.run("ls", "--json", "a", tenant="bob")[1])), number)
+        self.told("rm from a full page", ["rm", "a name of some length, 0"], b"", tenant="bob")
+        self.told("get from it", ["get", "small"], bytes(700), tenant="bob")
+
+    def carriers(self):
+        # (what says how a broker or a socket is found stands in the settings, and what says otherwise before it)
+        self.refused("a command that is not there", ["ls"], 6, "/nowhere: No such file", GRIDFS_VIA="/nowhere")
+        self.refused("one that ends", ["ls"], 6, "the lines have ended", GRIDFS_VIA="true")
+        self.refused("one that says nothing", ["ls"], 4, "no node answered in 0.5 s", GRIDFS_VIA="sleep 5", GRIDFS_TIMEOUT="0.5")
+
+    def sessions(self):
+        os.makedirs("locks", exist_ok=True)
+        with open("locks/ann-3.lock", "w") as lock:
+            fcntl.flock(lock, fcntl.LOCK_EX)
+            self.refused("a session that is used", ["ls"], 7, "session 3 is used", GRIDFS_SESSION="3", GRIDFS_TIMEOUT="0.5")
+            self.told("another one", ["ls"], b"", GRIDFS_SESSION="3-4")
+        with open("content", "wb") as out:
+            out.write(os.urandom(5_000))
+        several = [subprocess.Popen([PYTHON, "-B", CLIENT, "put", "content", f"at once {number}"], env=self.environment()) for number in range(4)]
+        self.held("four at once", [each.wait(SECONDS) for each in several], [0] * 4)
+        self.held("what they put", len(json.loads(self.run("ls", "--json", "at once")[1])), 4)
+        self.told("rm of it", ["rm", *(f"at once {number}" for number in range(4))], b"")
+
+    # Interrupts, terminals
+
+    def interrupts(self):
+        """What an interrupted put leaves is finished or taken back by the next command, and no slot is lost."""
+        contents = [bytes([number]) * 15_000 for number in range(STOPS)]
+        held, seen = {None}, []
+        for number, content in enumerate(contents):
+            put = subprocess.Popen([PYTHON, "-B", CLIENT, "put", "-", "torn"], stdin=subprocess.PIPE, stderr=subprocess.PIPE, env=self.environment())
+            with contextlib.suppress(BrokenPipeError):
+                put.stdin.write(content)
+                put.stdin.close()
+            time.sleep(0.1 + 0.06 * number)
+            put.send_signal(signal.SIGINT if number % 2 else signal.SIGTERM)
+            status = put.wait(SECONDS)
+            said = put.stderr.read()
+            put.stderr.close()
+            seen.append(status)
+            # (before its own words stand, Python says its own)
+            if status not in (0, 130, 143, -2, -15) or (status == 143 and said):
+                self.wrong.append(f"an interrupted put: status {status}, {said!r}")
+            held = {content} if status == 0 else held | {content}
+            told = self.run("get", "torn")
+            held &= {told[1] if told[0] == 0 else None}
+            self.held(f"what is held behind interrupt {number}", len(held), 1)
+        self.held("some were interrupted", any(seen), True)
+        self.told("put of nothing in its place", ["put", "-", "torn"], b"", given=b"")
+        self.told("all slots are free", ["put", "-", "all"], b"", given=bytes(100_000), GRIDFS_HELPERS="3")
+        self.told("rm of it", ["rm", "all", "torn"], b"")
+
+    def terminal(self):
+        """A bar of progress stands on a terminal, and only behind a second."""
+        main, other = pty.openpty()
+        words = [PYTHON, "-B", "-c", PROGRESS]
+        environment = {**os.environ, "PYTHONPATH": os.path.join(TOP, "clients", "python")}
+        subprocess.run(words, stderr=other, env=environment, check=True, timeout=SECONDS)
+        told = os.read(main, 1000)
+        os.close(main)
+        os.close(other)
+        self.held("progress", told, b"\rput [###############               ] 2 of 4 pieces\rput [##############################] 4 of 4 pieces\r\n")
+
+    # A broker
+
+    def broker(self, grid):
+        """What a broker refuses, and one that isn't there."""
+        words = dict(zip(grid.words_for("ann")[::2], grid.words_for("ann")[1::2]))
+        own = {"GRIDFS_" + word.strip("-").upper().replace("-", "_"): value for word, value in words.items()}
+        with socket.create_server(("127.0.0.1", 0)) as listener:
+            nobody = f"localhost:{listener.getsockname()[1]}"
+        with open("open", "w", encoding="ascii") as out:
+            out.write("word\n")
+        os.chmod("open", 0o644)
+        bobs = words["--password-file"].replace("ann", "bob")
+        for name, other, status, why in (
+            ("a wrong password", {"GRIDFS_PASSWORD_FILE": bobs}, 6, "not authorised"),
+            ("a certificate of another authority", {"GRIDFS_CA_FILE": "/etc/ssl/certs/ca-certificates.crt"}, 6, "certificate"),
+            ("a certificate of another host", {"GRIDFS_BROKER": words["--broker"].replace("localhost", "localhost.localdomain")}, 6, ""),
+            ("a broker that is not there", {"GRIDFS_BROKER": nobody}, 6, "Connection refused"),
+            ("a broker without a port", {"GRIDFS_BROKER": "localhost"}, 6, "HOST:PORT"),
+            ("no such file of authorities", {"GRIDFS_CA_FILE": "none"}, 6, "none: No such file"),
+            ("no such password file", {"GRIDFS_PASSWORD_FILE": "none"}, 2, "none: No such file"),
+            ("a password file that others may read", {"GRIDFS_PASSWORD_FILE": "open"}, 2, "others may read"),
+        ):
+            self.refused(name, ["ls"], status, why, **{**own, "GRIDFS_TIMEOUT": "1", **other})
+
+
+PROGRESS = """
+import sys
+from gridfs_client.command import Progress
+progress = Progress(sys.stderr)
+progress("put", 1, 4)
+progress.begun -= 2
+progress("put", 2, 4)
+progress("put", 4, 4)
+Progress(sys.stderr)("put", 4, 4)
+"""
+
+
+@contextlib.contextmanager
+def served(program):
+    """examples/grid for clients, in the folder `grid`."""
+    with open("plan", "w", encoding="ascii") as out:
+        out.write(PLAN)
+    with open("told", "wb") as told:
+        words = [PYTHON, "-B", os.path.join(TOP, "examples", "grid"), "--serve", "--program", program, "--plan", "plan", "grid"]
+        grid = subprocess.Popen(words, stdin=subprocess.DEVNULL, stdout=told, stderr=told)
+    try:
+        until = time.monotonic() + SECONDS
+        while not os.path.exists("grid/bob.ini") or not os.path.exists("grid/ann.ini"):
+            if grid.poll() is not None or time.monotonic() > until:
+                raise OSError("examples/grid --serve did not start")
+            time.sleep(0.02)
+        yield
+    finally:
+        grid.terminate()
+        grid.wait()
+
+
+PARTS = (["names", "numbered_files", "full", "carriers", "sessions", "terminal"], ["bad_input", "interrupts"])
+
+
+def try_commands(program, parts):
+    """The command over nodes in pipes: how much was compared, and what is wrong."""
+    commands = Commands({})
+    with served(program):
+        for part in parts:
+            getattr(commands, part)()
+    return f"{commands.tried} compared: {', '.join(parts)}", commands.wrong

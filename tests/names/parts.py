@@ -1,0 +1,222 @@
+"""What tests/names tries: each call gives what was counted, and what is wrong."""
+
+import contextlib
+import importlib.util
+import io
+import os
+import shutil
+import signal
+import subprocess
+import sys
+import time
+import unittest
+
+from histories import HERE
+
+sys.path.insert(0, os.path.join(HERE, "..", "nodes"))
+import commands
+import planted
+import registers
+import trial
+import worlds
+from processes import interrupt, room, workers
+
+from gridfs_client import ClientError
+
+TOP = os.path.join(HERE, "..", "..")
+DEPLOY, PACKAGE = os.path.join(TOP, "deploy", "mqtt"), os.path.join(TOP, "clients", "python")
+LONG, MOST_MEMORY = 100, 84  # MiB of a content, and of a process that moves it and plays the nodes too
+SHAPES = ("MIXED", "CROWDED", "LENDING", "REMOVING", "DYING", "UNSURE")
+
+
+def steps():
+    loader, told = unittest.TestLoader(), io.StringIO()
+    suite = loader.loadTestsFromNames(["test_parts", "test_sessions", "test_names"])
+    result = unittest.TextTestRunner(told, verbosity=0).run(suite)
+    return f"{result.testsRun} tests", [f"{test}: {text.splitlines()[-1]}" for test, text in result.failures + result.errors]
+
+
+def random_histories(shape, first, count):
+    total, wrong = {}, []
+    for seed in range(first, first + count):
+        try:
+            history, world = registers.try_registers(seed, shape=getattr(registers, shape))
+        except ClientError as fault:
+            wrong.append(f"seed {seed} of {shape}: {type(fault).__name__}: {fault}")
+            continue
+        for what, number in {"operations": sum(history.counts.values()), "clients killed": world.killed}.items():
+            total[what] = total.get(what, 0) + number
+        for name in sum(history.wrong(), []):
+            wrong.append(f"seed {seed} of {shape}: no order of {name} was found")
+    return f"{count} seeds of {shape}: {told_of(total)}", wrong
+
+
+def told_of(counts):
+    return ", ".join(f"{number} {what}" for what, number in counts.items())
+
+
+def memory():
+    words = [sys.executable, "-B", os.path.join(HERE, "long_contents.py"), str(LONG)]
+    used = int(subprocess.run(words, stdout=subprocess.PIPE, check=True).stdout) // 1024
+    return f"{LONG} MiB put twice and got: {used} MiB of memory, nodes in the same process", ["too much memory"] if used > MOST_MEMORY else []
+
+
+def bugs():
+    """Each bug is found by the history of its seed, in which nothing is wrong without it."""
+    missed = []
+    for bug, (seed, shape) in planted.FOUND.items():
+        if not registers.is_found(bug, seed, shape=shape) or registers.is_found(registers.NamedFiles, seed, shape=shape):
+            missed.append(f"{bug.__name__} is not found")
+    return f"{len(planted.FOUND)} bugs in histories", missed
+
+
+def bugs_in_worlds():
+    missed = []
+    for bug, most_pending in planted.FOUND_IN_WORLDS.items():
+        with contextlib.suppress(worlds.Wrong):
+            worlds.search(bug, most_pending, removes=False)
+            missed.append(f"{bug.__name__} is not found")
+    return f"{len(planted.FOUND_IN_WORLDS)} bugs in worlds", missed
+
+
+def search(most_pending, operations, removes=True):
+    try:
+        count, ways = worlds.search(most_pending=most_pending, operations=operations, removes=removes)
+    except worlds.Wrong as wrong:
+        return "not whole", ["what is seen is not that of one register: " + "; ".join(wrong.args[0])]
+    what = "puts and removals" if removes else "puts alone"
+    return f"{count} worlds of {what} with at most {most_pending} pending writes, {ways} ways of a client of {operations} operations", []
+
+
+def in_pipes(program, seconds, kills):
+    counts, wrong = trial.run(trial.Pipes(os.getcwd(), program), seconds, kills)
+    return f"in pipes, {seconds} seconds: {told_of(counts)}", wrong
+
+
+def bug_in_pipes(program, seconds):
+    """A client with a bug, over nodes, has to be found."""
+    bug = planted.VersionsNotRaised.__name__
+    counts, wrong = trial.run(trial.Pipes(os.getcwd(), program), seconds, {}, bug)
+    return f"{bug} in pipes: {len(wrong)} wrong of {counts['operations']} operations", [] if wrong else [f"{bug} is not found"]
+
+
+def carrier():
+    path = os.path.abspath("carry")
+    subprocess.run(["make", "-s", "-C", DEPLOY, f"OUT={path}"], check=True)
+    return path
+
+
+def over_a_broker(program, seconds, kills):
+    counts, wrong = trial.run(trial.Broker(os.getcwd(), program, carrier(), "broker"), seconds, kills)
+    return f"over mosquitto, {seconds} seconds: {told_of(counts)}", wrong
+
+
+def commands_over_a_broker(program):
+    grid = trial.Grid(os.getcwd(), program, carrier(), "broker")
+    with open(grid.plan, "w", encoding="ascii") as out:
+        out.write(commands.PLAN)
+    grid.set_up("--connections", "many")
+    settings = {"GRIDFS_" + word.strip("-").upper().replace("-", "_"): value for word, value in zip(*[iter(grid.words_for("ann"))] * 2)}
+    os.mkdir("grid")
+    with open("grid/ann.ini", "w", encoding="ascii") as out:
+        out.write("[gridfs]\ntenant = ann\n")
+    tried = commands.Commands(settings)
+    try:
+        grid.start()
+        for part in (tried.names, tried.sessions, lambda: tried.broker(grid)):
+            part()
+    finally:
+        grid.end()
+    return f"{tried.tried} compared", tried.wrong
+
+
+def package():
+    wrong, done = [], []
+    for words, where in (
+        (["mypy", "--strict", "--cache-dir", os.devnull, "gridfs_client"], PACKAGE),
+        (["mandoc", "-Tlint", os.path.join(TOP, "docs", "gridfs-client.1")], "."),
+        ([os.path.join(TOP, "tools", "install"), "--client", os.path.abspath("installed")], "."),
+    ):
+        if not shutil.which(words[0]):
+            print(f"names: package: {words[0]} is left out: it is not installed", flush=True)
+            continue
+        told = subprocess.run(words, cwd=where, capture_output=True, text=True)
+        wrong += [f"{words[0]}: {told.stdout}{told.stderr}"] if told.returncode else []
+        done.append(os.path.basename(words[0]))
+    wrong += helped("installed/bin/gridfs-client")
+    if shutil.which("pip") and importlib.util.find_spec("venv"):
+        shutil.copytree(PACKAGE, "package")
+        subprocess.run([sys.executable, "-m", "venv", "--without-pip", "venv"], check=True)
+        words = ["pip", "--python", "venv/bin/python", "install", "-q", "--no-index", "--disable-pip-version-check", "./package"]
+        told = subprocess.run(words, capture_output=True, text=True)
+        wrong += [f"pip: {told.stderr}"] if told.returncode else helped("venv/bin/gridfs-client")
+        done.append("pip")
+    return ", ".join(done), wrong
+
+
+def helped(command):
+    """What is wrong of an installed command, which has to tell its words."""
+    told = subprocess.run([os.path.abspath(command), "--help"], stdout=subprocess.PIPE)
+    return [] if told.returncode == 0 and b"put" in told.stdout else [f"{command} --help: status {told.returncode}"]
+
+
+def missing():
+    """What a broker wants and is not installed."""
+    header = [os.environ.get("CC", "cc"), "-fsyntax-only", "-x", "c", "-"]
+    os.environ["PATH"] += ":/usr/sbin"
+    found = {
+        "mosquitto": shutil.which("mosquitto") is not None,
+        "libmosquitto-dev": subprocess.run(header, input=b"#include <mosquitto.h>\n", stderr=subprocess.DEVNULL).returncode == 0,
+        "python3-paho-mqtt": importlib.util.find_spec("paho") is not None,
+        "openssl": shutil.which("openssl") is not None,
+    }
+    return [name for name, is_found in found.items() if not is_found]
+
+
+def in_a_room(job):
+    """Does a job in a folder of its own: its part, what was counted, what is wrong, and how long it took."""
+    part, (call, *words) = job
+    signal.signal(signal.SIGTERM, interrupt)
+    begun = time.monotonic()
+    with room() as folder:
+        os.chdir(folder)
+        try:
+            counted, wrong = call(*words)
+        except (OSError, ValueError, LookupError, trial.NotStarted, subprocess.SubprocessError) as fault:
+            counted, wrong = "", [repr(fault)]
+        except KeyboardInterrupt:
+            sys.exit(130)
+        finally:
+            os.chdir("/")
+            signal.signal(signal.SIGTERM, signal.SIG_DFL)
+    return part, counted, wrong, time.monotonic() - begun
+
+
+def told(results):
+    """Tells what came of jobs; how much is wrong."""
+    count = 0
+    for part, counted, wrong, seconds in results:
+        print(f"names: {part}: {counted}; {seconds:.0f} seconds", flush=True)
+        for fault in wrong:
+            print(f"names: {part}: {fault}", file=sys.stderr, flush=True)
+        count += len(wrong)
+    return count
+
+
+def main(jobs, parts, words, usage):
+    """Does the jobs of the parts that the words name, or of all, side by side; the status."""
+    chosen = []
+    while words and words[0] in parts:
+        chosen, words = [*chosen, words[0]], words[1:]
+    if len(words) != 1 or words[0].startswith("-"):
+        sys.exit(usage)
+    chosen = chosen or parts
+    wanted = missing() if "broker" in chosen else []
+    if wanted:
+        print(f"names: broker is left out, for want of {', '.join(wanted)}", flush=True)
+        chosen = [part for part in chosen if part != "broker"]
+    begun, all_jobs = time.monotonic(), jobs(os.path.abspath(words[0]))
+    with workers() as pool:
+        count = told(pool.imap_unordered(in_a_room, [(part, job) for part in chosen for job in all_jobs[part]]))
+    print(f"names: {count} wrong; {time.monotonic() - begun:.0f} seconds")
+    return min(1, count)
