@@ -10,8 +10,8 @@ import select
 import subprocess
 import time
 
-READ = 65_536  # bytes of one read, which are more than a line may have
-MOST_WAITING = 1 << 22  # bytes that may wait for one node
+READ = 65_536  # bytes of one read; a line may take several
+MOST_WAITING = 1 << 22  # bytes that may wait for one node, or some of the longest lines
 PATIENCE = 5  # seconds that a node has to end by itself
 
 
@@ -56,9 +56,16 @@ class Node:
         except BrokenPipeError:
             self.waiting.clear()  # (the end of its output is near)
 
+    def pass_output(self):
+        """Reads what the process writes until it ends, and drops it: with more than a pipe holds it would wait for us."""
+        pipe, until = self.child.stdout.fileno(), time.monotonic() + PATIENCE
+        while select.select([pipe], [], [], max(0, until - time.monotonic()))[0] and os.read(pipe, READ):
+            pass
+
     def gone(self):
         """Waits for the end of the process, which is near, and gives its status."""
         self.child.stdin.close()
+        self.pass_output()
         try:
             status = self.child.wait(PATIENCE)
         except subprocess.TimeoutExpired:
@@ -75,8 +82,13 @@ class Carrier:
 
     def __init__(self, nodes, hear, fall, tick):
         self.nodes, self.hear, self.fall = nodes, hear, fall
+        self.most_waiting = MOST_WAITING
         self.tick, self.next_tick = tick, time.monotonic() + tick
         self.carried = 0  # lines that were given to nodes
+
+    def carry_lines_of(self, longest, tick):
+        """Some lines of so many bytes may wait for a node, and ticks come this often."""
+        self.most_waiting, self.tick = max(MOST_WAITING, 16 * longest), tick
 
     def kill(self, node):
         """Ends the node's process by the signal that none can delay (kill -9). What it wrote and was not read is lost."""
@@ -87,7 +99,7 @@ class Carrier:
         """Takes a line, without LF, to the node that it names, if that is up and reads."""
         to = line.split(b" ", 1)[0]
         node = self.nodes[int(to)] if to.isdigit() and int(to) < len(self.nodes) else None
-        if node and node.child and len(node.waiting) + len(line) < MOST_WAITING:
+        if node and node.child and len(node.waiting) + len(line) < self.most_waiting:
             node.waiting += line + b"\n"
             self.carried += 1
 
