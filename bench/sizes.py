@@ -149,7 +149,7 @@ def start(program, folder):
 
 def write_journal(folder, facts, times):
     """A journal of so many facts of 1 MiB, so many of each file."""
-    files = facts // times
+    files = max(1, facts // times)
     plan = f"grid 2 2\nroom {16384 * files}\ntenant ann {16384 * files} 4 1 16384\ngo\n"
     plan += "".join(f"ann open {min(64, files - at)} 16384\n" for at in range(0, files, 64))
     with open(os.path.join(folder, "plan"), "w", encoding="ascii") as out:

@@ -19,6 +19,17 @@ def journal_of(folder, number):
     return os.path.join(folder, f"node{number}.journal")
 
 
+def whole_lines(begun, read):
+    """The lines that end in this read, without their LF. What is begun is kept in parts: a line of many reads is put together once."""
+    first, *more = read.split(b"\n")
+    begun.append(first)
+    if not more:
+        return []
+    lines = [b"".join(begun), *more[:-1]]
+    begun[:] = more[-1:]
+    return lines
+
+
 class Node:
     """The process of a node, what waits to be written to it, and the beginning of a line that was read of it."""
 
@@ -26,7 +37,7 @@ class Node:
         self.words = [program, "node", str(number), "--plan", plan, "--journal", journal]
         self.number, self.journal = number, journal
         self.child, self.is_ready = None, False
-        self.waiting, self.begun = bytearray(), b""
+        self.waiting, self.begun = bytearray(), []
 
     def start(self, is_new=False, **more):
         """Starts the process, whose standard error is ours. A signal from the terminal does not reach it."""
@@ -34,7 +45,7 @@ class Node:
         self.child = subprocess.Popen(words, stdin=subprocess.PIPE, stdout=subprocess.PIPE, bufsize=0, start_new_session=True, **more)
         for pipe in (self.child.stdin, self.child.stdout):
             os.set_blocking(pipe.fileno(), False)
-        self.waiting, self.begun, self.is_ready = bytearray(), b"", False
+        self.waiting, self.begun, self.is_ready = bytearray(), [], False
 
     def lines(self):
         """The whole lines that can be read now, without their LF. None at the end of its output."""
@@ -44,8 +55,7 @@ class Node:
             return []
         if not read:
             return None
-        *lines, self.begun = (self.begun + read).split(b"\n")
-        return lines
+        return whole_lines(self.begun, read)
 
     def give(self):
         """Writes of what waits as much as goes into the pipe."""
