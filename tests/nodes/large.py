@@ -136,17 +136,17 @@ def lengths(program, folder):
 def torn(program, folder, draw):
     """A journal that is cut within the batch of a large content, at its seal too, or of which a byte is turned there."""
     alone, wrong, tried = Alone(program, folder), [], 0
-    facts = [b"began ann 1 1\n", b"kept ann 0 0 7 4 " + digits(2) + b"\n", b"kept ann 0 1 8 4 " + digits(3) + b"\n"]
+    facts = [b"began ann 1 1\n", b"kept ann 0 0 7 4 " + digits(2, 65_536) + b"\n", b"kept ann 0 1 8 4 " + digits(3) + b"\n"]
     whole, ends = sealed(1, HEAD), [len(sealed(1, HEAD))]
     for at, fact in enumerate(facts, 2):
         whole += sealed(at, fact)
         ends.append(len(whole))
     question = b"0 3 ann 4 9 1 0 0 ask\n0 3 ann 4 9 1 0 1 ask\n"
-    copies = [b"7 4 " + digits(2), b"8 4 " + digits(3)]
+    copies = [b"7 4 " + digits(2, 65_536), b"8 4 " + digits(3)]
     trials = [(place, whole[:place]) for place in {ends[1], ends[2] + 1, ends[3] - 1, ends[3] - 20, ends[3] - 40, ends[3]}]
     trials += [(place, whole[:place]) for place in (draw.randint(ends[1], ends[3]) for _ in range(CUTS))]
-    for _ in range(TURNS):
-        place = draw.randrange(ends[1], ends[3])
+    for at in range(TURNS):
+        place = draw.randrange(ends[1 + at % 2], ends[2 + at % 2])
         trials.append((place, whole[:place] + bytes([whole[place] ^ draw.randint(1, 255)]) + whole[place + 1 :]))
     for place, text in trials:
         tried += 1
