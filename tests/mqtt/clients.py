@@ -15,6 +15,12 @@ CLIENT = os.path.join(DEPLOY, "client")
 DONE, MEND, WORDS, SILENT, GONE, REFUSED = 0, 1, 2, 3, 4, 5
 
 
+def shown(value):
+    """(A large content is told by its beginning.)"""
+    text = repr(value)
+    return text if len(text) < 2_000 else f"{text[:500]}.. of {len(text)} letters"
+
+
 class Clients:
     """Runs of the client, each compared with what it has to do."""
 
@@ -30,7 +36,7 @@ class Clients:
     def held(self, name, seen, wanted):
         self.tried += 1
         if seen != wanted:
-            self.wrong.append(f"{name}: {seen!r}, not {wanted!r}")
+            self.wrong.append(f"{name}: {shown(seen)}, not {shown(wanted)}")
 
     def words(self, *words, name="ann", options=None):
         options = self.grid.words_for(name) if options is None else options

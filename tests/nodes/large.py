@@ -20,6 +20,7 @@ MARKER = "tenant mark 1 1 1 1\n"
 SHORT, LARGE = [0, 1, 3, 3, 64, 65], [4_096, 32_768, 65_535, 65_536, 200_000, 262_144, MOST_BYTES]
 PLAN = f"grid 2 2\nroom 70000\ntenant ann {4 * MOST_BLOCKS} 4 1 {MOST_BLOCKS}\n{MARKER}go\nann open 4 {MOST_BLOCKS}\n".encode()
 HEAD = b"node 0 of 2 by 2\n" + PLAN
+AT_ONCE = 0.15
 CUTS, TURNS = 12, 6
 STORES, ONE_ALONE = 16, 14  # the first of these are all of one file
 
@@ -84,7 +85,9 @@ class LargeStorm(Storm):
         return line + b"a" * (LONGEST + self.draw.choice([-1, 0, 1, 2, 70_000]) - len(line))
 
     def take(self, number, wrote, lives):
-        super().take(number, wrote, lives)
+        """A node that has just acknowledged a large content is often killed at once."""
+        has_large = len(self.lives[number][-1].given[-1]) > 2 * 32_768 and b" stored\n" in wrote
+        super().take(number, wrote, lives and not (has_large and self.draw.random() < AT_ONCE))
         for life in self.lives[number]:
             life.given.clear()
             life.wrote.clear()
@@ -166,6 +169,14 @@ def torn(program, folder, draw):
     return tried, wrong
 
 
+def asks(last):
+    return b"".join(b"0 3 ann 4 9 1 0 %d ask\n" % file for file in last)
+
+
+def copies(last):
+    return b"".join(b"3 0 ann 4 9 1 0 %d copy %d 4 %s\n" % (file, *copy) for file, copy in last.items())
+
+
 def written_anew(program, folder, draw):
     """Stores of large contents, and short lines among them, while the journal is written anew again and again, and the node is killed now
     and then: what it said to be stored is there. How many stores there were."""
@@ -175,7 +186,7 @@ def written_anew(program, folder, draw):
         for at in range(1, STORES + 1):
             file, content = at // ONE_ALONE, digits(at)
             short = b"".join(b"0 3 ann 4 %d 2 0 2 store %d 4 %s\n" % (number, number, digits(number, 9)) for number in range(10 * at, 10 * at + 3))
-            wrote, lives = node.step(short + store(at, file, content) + short)
+            wrote, lives = node.step(short + short + store(at, file, content))
             if not lives or wrote.count(b" stored\n") != 7:
                 raise Wrong(f"seven stores are answered {wrote[:300]!r}")
             last |= {file: (at, content), 2: (10 * at + 2, digits(10 * at + 2, 9))}
@@ -187,14 +198,15 @@ def written_anew(program, folder, draw):
             if draw.random() < 0.25:
                 node.kill()
                 node = Streamed(words_of(program, 0, "plan", "journal"), 0, folder)
+                wrote, lives = node.step(asks(last))
+                if not lives or wrote != b" ?\n" + copies(last):
+                    raise Wrong(f"behind a kill the node has not what it said to be stored: {wrote[:200]!r}")
     finally:
         status = node.kill()
     if status != -signal.SIGKILL or not times:
         raise Wrong(f"the node has ended with {status}, and its journal was written anew {times} times")
-    given = b"".join(b"0 3 ann 4 9 1 0 %d ask\n" % file for file in last)
-    wanted = b" ?\n" + b"".join(b"3 0 ann 4 9 1 0 %d copy %d 4 %s\n" % (file, *copy) for file, copy in last.items())
-    status, told, wrote = alone.start(given)
-    if status != 0 or wrote != wanted:
+    status, told, wrote = alone.start(asks(last))
+    if status != 0 or wrote != b" ?\n" + copies(last):
         raise Wrong(f"a start behind {STORES} large stores: status {status}, {told!r}, {wrote[:200]!r}")
     if not all(batch.endswith(b"\n") for batch in batches(get(f"{folder}/journal"))[0]):
         raise Wrong("the journal has a batch without a form")
