@@ -27,7 +27,7 @@
 enum {
     NAME = 16,                  /* letters of a tenant's name */
     NAMES = 256,                /* most names whose lines wait at one time, in each direction */
-    LONGEST = 4095,             /* bytes of a line without its LF; and the most that --longest takes */
+    LONGEST = 4095,             /* bytes of a line without its LF, or of a plan with larger files more; and the most of any */
     LONGEST_EVER = 2097407,
     CHUNK = 65536,              /* bytes of a read, of a message, of a write of a longer line */
     WRITE = 4096,               /* bytes of other writes to the node: whole lines, that a pipe takes whole (PIPE_BUF) */
@@ -52,7 +52,7 @@ struct queues {
 static const char *me, *host, *password_file, *ca_file, *certificate, *key;
 static int port;
 static char prefix[sizeof "gridfs/NN/"];        /* of topics of lines to the node */
-static double tick_time = 0.25;
+static double tick_time;
 static size_t own, longest = LONGEST;           /* own: how long the number is */
 static size_t bound = 1 << 20, rate = 8 << 20;  /* most bytes that wait for or from one name; a tenant's in a second */
 static const double burst = 0.02;               /* seconds of its rate that a tenant may use at once */
@@ -541,10 +541,11 @@ static bool make_broker(void) {
 
 static const char usage[] =
     "usage: carry --broker HOST:PORT [--ca-file FILE] [--certificate FILE --key FILE] --password-file FILE\n"
-    "             [--tick SECONDS] [--longest BYTES] NUMBER -- COMMAND [ARG ..]\n"
+    "             [--tick SECONDS] [--plan FILE | --longest BYTES] NUMBER -- COMMAND [ARG ..]\n"
     "Runs COMMAND as node NUMBER and carries its lines over an MQTT broker: with TLS where --ca-file says whom to\n"
     "trust; as the user NUMBER with the first line of the password file (not wanted with a certificate); a tick each\n"
-    "0.25 s; lines of at most 4095 bytes without their end. SIGTERM ends the command's input and waits for its end;\n"
+    "0.25 s; lines of at most 4095 bytes without their end. Where the plan, or --longest, has longer lines, these are\n"
+    "carried, and ticks come less often, each 2.25 s for lines of 2 MiB. SIGTERM ends the command's input and waits for its end;\n"
     "SIGUSR1 prints the counts. Status: the command's (128 and the signal's number where one ended it), or 1 where a\n"
     "file can't be used or the first connection is refused, by the broker or by TLS, 2 a wrong word, 3 out of memory.\n";
 
@@ -569,11 +570,28 @@ static void set_host(const char *word) {
     if (!(host = strndup(word + six, (size_t)(colon - word) - 2 * six))) wrong("--broker", strerror(errno));
 }
 
+/* The longest line of a plan: 255 bytes and 128 for each block that a file of some tenant may have. The node tells what
+   else is wrong with the plan. */
+static size_t longest_of(const char *plan) {
+    char row[256];
+    size_t found = LONGEST;
+    FILE *file = fopen(plan, "re");
+    if (!file) say("%s: %s", plan, strerror(errno)), exit(1);
+    while (fgets(row, sizeof row, file) && strcmp(row, "go\n")) {
+        unsigned long most;
+        if (sscanf(row, "tenant %*s %*s %*s %*s %lu", &most) == 1 && most <= (LONGEST_EVER - 255) / 128 && 128 * most + 255 > found)
+            found = 128 * most + 255;
+    }
+    fclose(file);
+    return found;
+}
+
 static char **read_words(char **at) {
-    const char *place = NULL, *tick = NULL, *length = NULL;
+    const char *place = NULL, *tick = NULL, *length = NULL, *plan = NULL;
     struct { const char *word, **to; } words[] = {
         {"--broker", &place}, {"--ca-file", &ca_file}, {"--certificate", &certificate}, {"--key", &key},
-        {"--password-file", &password_file}, {"--tick", &tick}, {"--longest", &length}};
+        {"--password-file", &password_file}, {"--tick", &tick}, {"--longest", &length},
+        {"--plan", &plan}};
     size_t many = sizeof words / sizeof *words, i;
     for (at++; *at && !strncmp(*at, "--", 2); at += 2) {
         if (!strcmp(*at, "--help")) exit(fputs(usage, stdout) < 0);
@@ -583,8 +601,9 @@ static char **read_words(char **at) {
     }
     if (!place) wrong("--broker", "is wanting");
     set_host(place);
-    if (tick) tick_time = number("--tick", tick, 0.01, 3600);
+    if (plan) longest = longest_of(plan);
     if (length) longest = (size_t)number("--longest", length, LONGEST, LONGEST_EVER);
+    tick_time = tick ? number("--tick", tick, 0.01, 3600) : 0.25 + (double)(longest - LONGEST) / (1 << 20);
     if (!certificate != !key || (certificate && !ca_file)) wrong("--certificate", "goes with --key and --ca-file");
     if (!password_file && !certificate) wrong("--password-file", "is wanting");
     if (!at[0] || !at[1] || strcmp(at[1], "--") || !at[2]) wrong("NUMBER -- COMMAND", "is wanting");

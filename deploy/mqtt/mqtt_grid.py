@@ -100,7 +100,7 @@ class Grid:
         """Starts a node with its carrier. A journal is begun at the grid's first start alone: a node whose journal is lost must not start."""
         journal = journal_of(self.folder, number)
         node = [self.program, "node", str(number), "--plan", self.plan, "--journal", journal]
-        self.run(number, [self.carry, *self.words_for(number), str(number), "--", *node] + ["--new"] * is_new)
+        self.run(number, [self.carry, *self.words_for(number), "--plan", self.plan, str(number), "--", *node] + ["--new"] * is_new)
 
     def start(self):
         """Starts the broker and all nodes, and waits until each is connected."""

@@ -10,13 +10,24 @@ import select
 import subprocess
 import time
 
-READ = 65_536  # bytes of one read, which are more than a line may have
-MOST_WAITING = 1 << 22  # bytes that may wait for one node
+READ = 65_536  # bytes of one read; a line may take several
+MOST_WAITING = 1 << 22  # bytes that may wait for one node, or some of the longest lines
 PATIENCE = 5  # seconds that a node has to end by itself
 
 
 def journal_of(folder, number):
     return os.path.join(folder, f"node{number}.journal")
+
+
+def whole_lines(begun, read):
+    """The lines that end in this read, without their LF. What is begun is kept in parts: a line of many reads is put together once."""
+    first, *more = read.split(b"\n")
+    begun.append(first)
+    if not more:
+        return []
+    lines = [b"".join(begun), *more[:-1]]
+    begun[:] = more[-1:]
+    return lines
 
 
 class Node:
@@ -26,7 +37,7 @@ class Node:
         self.words = [program, "node", str(number), "--plan", plan, "--journal", journal]
         self.number, self.journal = number, journal
         self.child, self.is_ready = None, False
-        self.waiting, self.begun = bytearray(), b""
+        self.waiting, self.begun = bytearray(), []
 
     def start(self, is_new=False, **more):
         """Starts the process, whose standard error is ours. A signal from the terminal does not reach it."""
@@ -34,7 +45,7 @@ class Node:
         self.child = subprocess.Popen(words, stdin=subprocess.PIPE, stdout=subprocess.PIPE, bufsize=0, start_new_session=True, **more)
         for pipe in (self.child.stdin, self.child.stdout):
             os.set_blocking(pipe.fileno(), False)
-        self.waiting, self.begun, self.is_ready = bytearray(), b"", False
+        self.waiting, self.begun, self.is_ready = bytearray(), [], False
 
     def lines(self):
         """The whole lines that can be read now, without their LF. None at the end of its output."""
@@ -44,8 +55,7 @@ class Node:
             return []
         if not read:
             return None
-        *lines, self.begun = (self.begun + read).split(b"\n")
-        return lines
+        return whole_lines(self.begun, read)
 
     def give(self):
         """Writes of what waits as much as goes into the pipe."""
@@ -56,9 +66,16 @@ class Node:
         except BrokenPipeError:
             self.waiting.clear()  # (the end of its output is near)
 
+    def pass_output(self):
+        """Reads what the process writes until it ends, and drops it: with more than a pipe holds it would wait for us."""
+        pipe, until = self.child.stdout.fileno(), time.monotonic() + PATIENCE
+        while select.select([pipe], [], [], max(0, until - time.monotonic()))[0] and os.read(pipe, READ):
+            pass
+
     def gone(self):
         """Waits for the end of the process, which is near, and gives its status."""
         self.child.stdin.close()
+        self.pass_output()
         try:
             status = self.child.wait(PATIENCE)
         except subprocess.TimeoutExpired:
@@ -75,9 +92,14 @@ class Carrier:
 
     def __init__(self, nodes, hear, fall, tick):
         self.nodes, self.hear, self.fall = nodes, hear, fall
+        self.most_waiting = MOST_WAITING
         self.tick, self.next_tick = tick, time.monotonic() + tick
         self.carried = 0  # lines that were given to nodes
         self.callers = None  # clients at a socket (callers.py), where there is one
+
+    def carry_lines_of(self, longest, tick):
+        """Some lines of so many bytes may wait for a node, and ticks come this often."""
+        self.most_waiting, self.tick = max(MOST_WAITING, 16 * longest), tick
 
     def kill(self, node):
         """Ends the node's process by the signal that none can delay (kill -9). What it wrote and was not read is lost."""
@@ -88,7 +110,7 @@ class Carrier:
         """Takes a line, without LF, to the node that it names, if that is up and reads."""
         to = line.split(b" ", 1)[0]
         node = self.nodes[int(to)] if to.isdigit() and int(to) < len(self.nodes) else None
-        if node and node.child and len(node.waiting) + len(line) < MOST_WAITING:
+        if node and node.child and len(node.waiting) + len(line) < self.most_waiting:
             node.waiting += line + b"\n"
             self.carried += 1
 

@@ -10,6 +10,8 @@ import collections
 
 AGAIN = 0.5  # seconds until a request is sent again; each time doubled
 LONGEST_AGAIN = 4
+SHORT_LINE = 4_095  # bytes that a line of any plan may have
+SLOWEST = 1 << 18  # bytes of a request that go on their way in a second, at least: so much longer it is waited for the answer
 FIRST_TOO_HIGH, LAST_NUMBER = 1 << 31, (1 << 32) - 1
 
 
@@ -19,6 +21,18 @@ def homes(plan):
     tenants = [line.split() for line in plan.partition("\ngo\n")[0].split("\n") if line.startswith("tenant ")]
     sessions = [(words[1], session) for words in tenants for session in range(1, int(words[3]) + 1)]
     return rows * cols, {session: place % (rows * cols) for place, session in enumerate(sessions)}
+
+
+def longest_line(plan):
+    """The most bytes of a line, without its LF, that nodes of the plan take and write."""
+    rows = [line.split() for line in plan.partition("\ngo\n")[0].split("\n") if line.startswith("tenant ")]
+    return max([SHORT_LINE, *(128 * int(words[5]) + 255 for words in rows if words[5:] and words[5].isdecimal())])
+
+
+def tick_of(plan, least):
+    """Seconds from one tick to the next, which are so many where lines are short: a tick that comes before a long line was answered has it sent
+    again."""
+    return least + (longest_line(plan) - SHORT_LINE) / SLOWEST / 4
 
 
 class Request:
@@ -68,8 +82,9 @@ class Session:
         request = self.going
         if request is None or now < request.due:
             return []
-        request.due, request.again = now + request.again, min(2 * request.again, LONGEST_AGAIN)
-        return [self.line(request.kind, request.words)] + [self.line(b"abandon", [])] * request.is_given_up
+        line = self.line(request.kind, request.words)
+        request.due, request.again = now + request.again + len(line) / SLOWEST, min(2 * request.again, LONGEST_AGAIN)
+        return [line] + [self.line(b"abandon", [])] * request.is_given_up
 
     def hear(self, body):
         """Takes what a node told the tenant. What is of another session or number, or ends no request, is passed over."""

@@ -15,18 +15,28 @@ CLIENT = os.path.join(DEPLOY, "client")
 DONE, MEND, WORDS, SILENT, GONE, REFUSED = 0, 1, 2, 3, 4, 5
 
 
+def shown(value):
+    """(A large content is told by its beginning.)"""
+    text = repr(value)
+    return text if len(text) < 2_000 else f"{text[:500]}.. of {len(text)} letters"
+
+
 class Clients:
     """Runs of the client, each compared with what it has to do."""
 
-    def __init__(self, program, carry):
-        self.grid, self.tried, self.wrong = Grid(os.getcwd(), program, carry, "broker"), 0, []
-        write_plan(self.grid.plan)
+    def __init__(self, program, carry, tls="broker", plan=None):
+        self.grid, self.tried, self.wrong = Grid(os.getcwd(), program, carry, tls), 0, []
+        if plan:
+            with open(self.grid.plan, "w", encoding="ascii") as out:
+                out.write(plan)
+        else:
+            write_plan(self.grid.plan)
         self.grid.set_up()
 
     def held(self, name, seen, wanted):
         self.tried += 1
         if seen != wanted:
-            self.wrong.append(f"{name}: {seen!r}, not {wanted!r}")
+            self.wrong.append(f"{name}: {shown(seen)}, not {shown(wanted)}")
 
     def words(self, *words, name="ann", options=None):
         options = self.grid.words_for(name) if options is None else options
@@ -176,6 +186,40 @@ class Clients:
         told = json.loads(told or "{}")
         self.held("bench", (status, told.get("done", 0) > 10, told.get("unanswered")), (DONE, True, 0))
         self.held("more sessions than there are", self.run("--sessions", "16", "--volume", "3", "bob", "bench", name="bob")[0], REFUSED)
+
+
+LARGE_PLAN = "grid 2 2\nroom 40000\ntenant ann 32768 16 1 16384\ntenant bob 64 2 1 16\ngo\nann open 2 16384\nbob open 4 16\n"
+
+
+def large(program, carry, tls):
+    """Contents of 1 MiB, in one message each, beside short ones: a node is killed meanwhile, then all are."""
+    clients = Clients(program, carry, tls, LARGE_PLAN)
+    grid, content = clients.grid, os.urandom(1 << 20)
+    longest = str(128 * 16384 + 255 + 1024)
+    with open("broker/mosquitto.conf", encoding="ascii") as file:
+        clients.held("the broker's longest packet", [line.split()[1] for line in file if line.startswith("max_packet_size ")], [longest])
+    try:
+        grid.start()
+        clients.held("a content of 1 MiB", clients.run("ann", "write", "0", "1", given=content), (DONE, b"", ""))
+        clients.held("is read by another session", clients.run("--session", "2", "ann", "read", "0", "1"), (DONE, content, ""))
+        seen = clients.run("ann", "write", "0", "1", given=content + b"x")
+        clients.held("a content of one byte more", seen, (REFUSED, b"", "client: the content has more than 1048576 bytes\n"))
+        seen = clients.run("bob", "write", "0", "1", given=bytes(1_025), name="bob")
+        clients.held("one that is too long for its tenant", seen, (REFUSED, b"", "client: the content has more than 1024 bytes\n"))
+        clients.held("a short content", clients.run("bob", "write", "0", "1", "hi", name="bob"), (DONE, b"", ""))
+        for number in range(grid.count):
+            grid.kill_node(number)
+            grid.start_node(number)
+        grid.wait_until_connected(range(grid.count), 2)
+        clients.held("it is there when all nodes were killed", clients.run("--session", "3", "ann", "read", "0", "1"), (DONE, content, ""))
+        for number in range(grid.count):
+            grid.processes[number].terminate()
+            grid.processes[number].wait()
+            counts = grid.told(number).split("carry: in ")[-1].split()
+            clients.held(f"carrier {number} drops no line as too long", counts[counts.index("long") + 1], "0")
+    finally:
+        grid.end()
+    return clients.tried, clients.wrong
 
 
 def tried(program, carry):

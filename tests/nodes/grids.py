@@ -1,5 +1,6 @@
 """What examples/grid shows, takes and refuses, and that it leaves nothing behind."""
 
+import hashlib
 import os
 import signal
 import subprocess
@@ -30,6 +31,17 @@ BAD = {
     "start 2": "node 2 is up",
     "ann write 1 0 0 " + "aa" * 2000: "longer than 4000 bytes",
 }
+# A plan with room, and lines which no pipe takes whole, two of them of 2 MiB: four sessions send them at once, and a node is killed meanwhile.
+PLAN_WITH_ROOM = "grid 2 2\nroom 65536\ntenant ann 65536 4 1 16384\ngo\nann open 4 16384\n"
+LARGE = [f"{file + 1:02x}" * size for file, size in enumerate([1 << 20, 1 << 20, 100_000, 300_000])]
+LONGEST = 128 * 16384 + 255 - 95
+LARGE_LINES = (
+    "".join(f"ann write {file + 1} 0 {file} {content}\n" for file, content in enumerate(LARGE))
+    + "wait\n"
+    + f"ann write 2 0 2 {LARGE[3]}\nann write 3 0 3 {LARGE[2]}\n"
+    + "kill 3\nwait\nstart 3\nkill 0\nkill 1\nkill 2\nkill 3\nstart 0\nstart 1\nstart 2\nstart 3\n"
+    + "".join(f"ann read {file + 1} 0 {file}\n" for file in range(4))
+)
 PLAN_WITH_A_FAULT = "grid 2 2\nblocks 1\ntenant ann 0 1 1\ngo\n"
 
 
@@ -62,6 +74,19 @@ class Grids:
         self.held("a second start in the folder", (status, words[:3], words[-1:]), (0, ["ann", "done", "read"], ["6869"]))
         status, answers, told = self.run(folder, given="".join(f"{line}\n" for line in BAD))
         self.held("bad lines", (status, answers, told[1:]), (1, "", [f"grid: line {at}: {text}" for at, text in enumerate(BAD.values(), 1)]))
+
+    def takes_large_lines(self, folder):
+        with open(folder + ".plan", "w", encoding="ascii") as out:
+            out.write(PLAN_WITH_ROOM)
+        status, answers, told = self.run("--plan", folder + ".plan", folder + ".large", given=LARGE_LINES)
+        reads = sorted((words[3], words[-1]) for words in map(str.split, answers.splitlines()) if words[1:3] == ["done", "read"])
+        seen = [(session, hashlib.sha256(content.encode()).hexdigest()) for session, content in reads]
+        contents = [LARGE[0], LARGE[1], LARGE[3], LARGE[2]]
+        self.held("large lines", (status, answers.count("done write"), told[1:]), (0, 6, []))
+        self.held("large contents", seen, [(f"{file + 1}", hashlib.sha256(content.encode()).hexdigest()) for file, content in enumerate(contents)])
+        status, answers, told = self.run(folder + ".large", given="ann write 1 0 0 ".ljust(LONGEST + 1, "a") + "\nann write 1 0 0 aaa\nann list 1 0\n")
+        no_lines = [f"grid: line 1: longer than {LONGEST} bytes", "grid: line 2: no request (the line `help` tells the forms)"]
+        self.held("a line that is too long", (status, answers.split()[1:3], told[1:]), (1, ["done", "list"], no_lines))
 
     def refuses(self, folder):
         self.held("no words", self.run()[0], 2)
@@ -97,6 +122,7 @@ def tell_grid(program):
     with room() as folder:
         folder = os.path.join(folder, "grid")
         grids.takes_lines(folder)
+        grids.takes_large_lines(folder)
         grids.refuses(folder)
         for number in (signal.SIGINT, signal.SIGTERM, signal.SIGKILL):
             grids.is_interrupted(folder, number)

@@ -126,12 +126,15 @@ class Stepped:
         except BrokenPipeError:
             pass
 
+    def read(self):
+        if not select.select([self.out], [], [], SECONDS)[0]:
+            raise Silent(f"node {self.number} has not answered for {SECONDS} seconds")
+        return os.read(self.out, READ)
+
     def take(self):
         wrote, last = [], b""
         while True:
-            if not select.select([self.out], [], [], SECONDS)[0]:
-                raise Silent(f"node {self.number} has not answered for {SECONDS} seconds")
-            read = os.read(self.out, READ)
+            read = self.read()
             wrote.append(read)
             last = (last + read)[-len(self.end) :]
             if last == self.end:
@@ -153,6 +156,53 @@ class Stepped:
         for file in (self.child.stdin, self.child.stdout, self.told):
             file.close()
         return status
+
+
+class Streamed(Stepped):
+    """The same for lines of any length, which go to the node as it reads them. How they are cut into reads hangs on the clock."""
+
+    def __init__(self, *words):
+        super().__init__(*words)
+        os.set_blocking(self.given, False)
+        self.left = memoryview(b"")
+
+    def give(self, lines):
+        self.left = memoryview(lines + MARK % self.number)
+        self.write()
+
+    def write(self):
+        try:
+            self.left = self.left[os.write(self.given, self.left) :]
+        except BlockingIOError:
+            pass
+        except BrokenPipeError:
+            self.left = memoryview(b"")
+
+    def read(self):
+        until = time.monotonic() + SECONDS
+        while True:
+            readable, writable, _ = select.select([self.out], [self.given] * bool(self.left), [], SECONDS)
+            if writable:
+                self.write()
+            if readable:
+                return os.read(self.out, READ)
+            if time.monotonic() > until:
+                raise Silent(f"node {self.number} has not answered for {SECONDS} seconds")
+
+    def step_and_kill(self, lines, seconds, part=None):
+        """The same, where a part of the lines alone may have been written to the node when it is killed."""
+        self.left, wrote, until = memoryview(lines)[:part], [], time.monotonic() + seconds
+        while self.left or time.monotonic() < until:
+            readable, writable, _ = select.select([self.out], [self.given] * bool(self.left), [], 0.01)
+            if writable:
+                self.write()
+                until = time.monotonic() + seconds
+            if readable:
+                wrote.append(os.read(self.out, READ))
+                if not wrote[-1]:
+                    break
+        self.child.send_signal(signal.SIGKILL)
+        return b"".join([*wrote, *iter(lambda: os.read(self.out, READ), b"")])
 
 
 def lose_power(journal, draw):

@@ -9,7 +9,7 @@ import random
 import re
 
 from journals import sealed
-from processes import MARKER, SECONDS, Stepped, Wrong, disk, ended, get, lose_power, put, words_of
+from processes import MARKER, SECONDS, Streamed, Wrong, disk, ended, get, lose_power, put, words_of
 
 PLAN = f"grid 2 2\nblocks 2048\ntenant ann 2047 8 1\n{MARKER}go\nann open 4 2\nann open 2 16\n".encode()
 HEAD = b"node 3 of 2 by 2\n" + PLAN
@@ -17,6 +17,8 @@ FILES = [(0, 0), (0, 1), (0, 2), (0, 3), (1, 0), (1, 1)]
 SESSIONS = [4, 8]
 TURNS = 14
 TOO_HIGH = 4_000_000_000
+# A play has short contents and begins with no journal; or it begins with one that is written anew, of short facts or of large ones.
+SHORT, LONG_JOURNAL, LARGE = "short", "long", "large"
 START = re.compile(rb"(gridfs: journal: cut at byte \d+\n)?gridfs: node 3 of 2 by 2: \d+ facts\n")
 LETTER = re.compile(rb"(\d+) 3 ann (\d+) (\d+) (\d+) (\d+) (\d+) (ask|store (\d+) (\d+) (\S+)|copy \d+ \d+ \S+|stored)")
 STORED = re.compile(rb"(\d+) 3 ann (\d+) (\d+) (\d+) (\d+) (\d+) stored")
@@ -26,11 +28,17 @@ LONG = 1_100_000
 LAST, LAST_TAG = 6, 5000  # the last numbers of its sessions
 
 
+# The same with contents of up to 256 KiB: the facts of one that is written anew are as large, and so are some of the lines.
+LARGE_PLAN = PLAN.replace(b"blocks 2048", b"room 40000").replace(b"ann 2047 8 1", b"ann 32768 8 1 4096").replace(b"mark 1 1 1", b"mark 1 1 1 1").replace(b"open 2 16", b"open 2 4096")
+LARGE_FACTS = [200_000, 100_000]  # bytes of their contents
+LARGE_LENGTHS = [0, 64, 64, 65_536, 262_144]
+
+
 class Play:
     """Lines for the node, drawn from a seed and answered by three servers; what it acknowledged, and what it was given."""
 
-    def __init__(self, draw):
-        self.draw = draw
+    def __init__(self, draw, is_large=False):
+        self.draw, self.is_large = draw, is_large
         self.copies = {}  # of each server and file, the copy as a store's words
         self.given = {file: {(0, 0): b"-"} for file in FILES}  # of each file, the contents of tags
         self.asked = {session: 0 for session in SESSIONS}  # the number of the last request
@@ -52,12 +60,15 @@ class Play:
             lines.append(b"3 3 tick")
         return b"".join(line + b"\n" for line in lines)
 
-    def content(self):
+    def content(self, file):
+        if self.is_large and file[0] == 1:
+            return self.draw.randbytes(self.draw.choice(LARGE_LENGTHS)).hex().encode() or b"-"
         return self.draw.randbytes(self.draw.randint(0, 64)).hex().encode() or b"-"
 
     def store(self, turn):
         """A store of session 1, whose home is node 0."""
-        file, tag, content = self.draw.choice(FILES), (self.draw.randint(1, 40), 1), self.content()
+        file, tag = self.draw.choice(FILES), (self.draw.randint(1, 40), 1)
+        content = self.content(file)
         content = self.given[file].setdefault(tag, content)
         self.stores[turn, len(self.stores)] = file, tag
         return b"3 0 ann 1 %d 2 %d %d store %d %d %s" % (self.number_of(file, tag), *file, *tag, content)
@@ -74,7 +85,7 @@ class Play:
             return b"3 ann abandon %d %d" % (session, number)
         file = self.draw.choice(FILES)
         if self.draw.random() < 0.7:
-            return b"3 ann write %d %d %d %d %s" % (session, number, *file, self.content())
+            return b"3 ann write %d %d %d %d %s" % (session, number, *file, self.content(file))
         return b"3 ann read %d %d %d %d" % (session, number, *file)
 
     def hear(self, wrote):
@@ -161,7 +172,7 @@ def words(program, folder):
 
 
 def start(program, folder, environment=None):
-    return Stepped(words(program, folder), 3, folder, environment)
+    return Streamed(words(program, folder), 3, folder, environment)
 
 
 def check_again(program, folder, play):
@@ -198,12 +209,23 @@ def long_journal(draw):
     return text, {(1, tag % 2): ((tag, 1), b"%04x" % tag * 300) for tag in (tags - 1, tags)}
 
 
-def played(program, folder, seed, is_long, environment):
+def large_journal(draw):
+    """The same of a few large facts, each in a batch of its own."""
+    sessions = b"".join(b"began ann %d %d\nnumbered ann %d %d\n" % (session, LAST, session, LAST_TAG) for session in SESSIONS)
+    text, kept, tag = sealed(1, b"node 3 of 2 by 2\n" + LARGE_PLAN) + sealed(2, sessions), {}, 0
+    while len(text) < 9 * sum(LARGE_FACTS):
+        tag += 1
+        kept[1, tag % 2] = (tag, 1), draw.randbytes(LARGE_FACTS[tag % 2]).hex().encode()
+        text += sealed(tag + 2, b"kept ann 1 %d %d 1 %s\n" % (tag % 2, tag, kept[1, tag % 2][1]))
+    return text, kept
+
+
+def played(program, folder, seed, kind, environment):
     """Plays to the end, or until the node has ended. The play, and the node's status where it has ended."""
-    put(os.path.join(folder, "plan"), PLAN)
-    play = Play(random.Random(seed))
-    if is_long:
-        text, kept = long_journal(play.draw)
+    put(os.path.join(folder, "plan"), LARGE_PLAN if kind == LARGE else PLAN)
+    play = Play(random.Random(seed), kind == LARGE)
+    if kind != SHORT:
+        text, kept = (large_journal if kind == LARGE else long_journal)(play.draw)
         put(os.path.join(folder, "journal"), text)
         put(os.path.join(folder, "journal.synced"), b"%d" % len(text))
         for place, (tag, content) in kept.items():
@@ -223,20 +245,21 @@ def played(program, folder, seed, is_long, environment):
     return play, status
 
 
-def calls_of(program, library, folder, seed, is_long):
+def calls_of(program, library, folder, seed, kind):
     """The calls of the disk in a whole play."""
-    play, status = played(program, folder, seed, is_long, disk(library, CALLS="calls"))
+    play, status = played(program, folder, seed, kind, disk(library, CALLS="calls"))
     if status != 0:
         raise Wrong(f"a play ends with status {status}")
     check_again(program, folder, play)
     return get(os.path.join(folder, "calls")).decode()
 
 
-def stopped(program, library, folder, seed, is_long, how, loses, again, lies):
+def stopped(program, library, folder, seed, kind, how, loses, again, lies):
     """A play that stops at a call, and starts again; it may stop again amid that start."""
     lie = {"LIES": 1} if lies else {}
-    play, status = played(program, folder, seed, is_long, disk(library, STOP=how, **lie))
-    if status != -9:
+    play, status = played(program, folder, seed, kind, disk(library, STOP=how, **lie))
+    # (how a large play's lines are cut into reads, and so into batches, hangs on the clock)
+    if status != -9 and not (kind == LARGE and status == 0):
         raise Wrong(f"a play that is stopped ends with status {status}")
     draw = random.Random(f"{seed} {how}")
     for stop in [again] * (again is not None) + [None]:
@@ -247,12 +270,12 @@ def stopped(program, library, folder, seed, is_long, how, loses, again, lies):
     check_again(program, folder, play)
 
 
-def failed(program, library, folder, seed, is_long, how, loses, kind):
+def failed(program, library, folder, seed, kind, how, loses, call):
     """A play in which a call fails: the node says so and ends, or goes on where nothing rests on the call."""
-    play, status = played(program, folder, seed, is_long, disk(library, FAIL=how))
+    play, status = played(program, folder, seed, kind, disk(library, FAIL=how))
     told = get(os.path.join(folder, "told3"))
     if status != 1 or not re.search(rb"gridfs: journal: (write|read) fault\n\Z", told):
-        raise Wrong(f"where a call of the disk fails ({kind}), the node ends with status {status} and {told!r}")
+        raise Wrong(f"where a call of the disk fails ({call}), the node ends with status {status} and {told!r}")
     if loses:
         lose_power(os.path.join(folder, "journal"), random.Random(f"{seed} {how}"))
     check_again(program, folder, play)

@@ -24,6 +24,7 @@ MOST = 400  # lines on their way to a node: what is more is lost
 BATCH = 32  # lines of one step, at most
 SILENCE = 6_000  # turns in which all has to be answered once nothing is lost any more
 LONGEST_BATCH = 60_000
+CALLS = 60  # of the disk, behind which a node stops, in the mean
 MOST_SECONDS = 0.001  # that a node has for lines amid which it is killed
 
 
@@ -65,6 +66,8 @@ def a_plan_behind(draw, plan):
 class Client:
     """A session's client: one request after another, each drawn, and what was told of them."""
 
+    lengths = [0, 2, 3, 3, 64]  # of contents, in bytes
+
     def __init__(self, storm, name, session, home):
         self.storm, self.name, self.session, self.home = storm, name, session, home
         self.going, self.is_done = None, False
@@ -84,7 +87,7 @@ class Client:
         file, kind = draw.randrange(volumes[volume][0]), draw.choice(["write", "write", "read", "read", "read", "list"])
         content = b""
         if kind == "write":
-            content = draw.randbytes(draw.choice([0, 2, 3, 3, 64])).hex().encode() or b"-"
+            content = draw.randbytes(draw.choice(self.lengths_of(volume))).hex().encode() or b"-"
         self.begin(kind, volume, range(volumes[volume][0]) if kind == "list" else [file], content)
 
     def begin(self, kind, volume, files, content=b""):
@@ -98,8 +101,18 @@ class Client:
         kind, volume, files, _, process = self.going
         function = "length" if kind == "list" else kind
         for file, value in zip(files, values or [None] * len(files)):
-            shown = value if value is None or kind == "list" else b'"%s"' % value.replace(b"-", b"")
+            shown = value if value is None else self.length(value) if kind == "list" else b'"%s"' % self.content(value.replace(b"-", b""))
             self.storm.events.setdefault((self.name, volume, file), []).append((0, stage, process, function, shown.decode() if shown is not None else "nil"))
+
+    def lengths_of(self, _):
+        return self.lengths
+
+    def content(self, content):
+        """A content as histories have it."""
+        return content
+
+    def length(self, length):
+        return length
 
     def end_history(self, stage, values=None):
         if self.going:
@@ -114,7 +127,7 @@ class Client:
             self.storm.gone += 1
             return self.end_history("info")
         if words[:2] != [b"done", kind]:
-            raise Wrong(f"{self.name} asks for {self.going} and is told {body!r}")
+            raise Wrong(f"{self.name} asks for {str(self.going)[:200]} and is told {body[:200]!r}")
         self.storm.done += 1
         if kind == b"list":
             values = [row.partition(b":")[0] for row in words[4:]]
@@ -135,11 +148,13 @@ class Life:
 class Storm:
     """A grid in a storm, from its first start on."""
 
+    client, process, most, lines_of_a_step, longest_batch, calls = Client, Stepped, MOST, BATCH, LONGEST_BATCH, CALLS
+
     def __init__(self, program, folder, seed, weather, library=None):
         self.program, self.folder, self.weather, self.library = program, folder, weather, library
         self.draw = random.Random(seed)
-        self.plan, self.volumes = a_plan(self.draw)
-        self.later = a_plan_behind(self.draw, self.plan)
+        self.plan, self.volumes = self.a_plan()
+        self.later = self.a_plan_behind()
         self.write_plan()
         self.count, _ = homes(self.plan)
         self.turn = self.given = self.done = self.gone = self.deaths = self.processes = 0
@@ -149,6 +164,12 @@ class Storm:
         self.stale, self.clients, self.by_name = [], {}, {}
         self.add_clients()
 
+    def a_plan(self):
+        return a_plan(self.draw)
+
+    def a_plan_behind(self):
+        return a_plan_behind(self.draw, self.plan)
+
     def write_plan(self):
         put(os.path.join(self.folder, "plan"), self.plan.encode())
 
@@ -156,7 +177,7 @@ class Storm:
         """Each session of the plan that has no client gets one."""
         for (name, session), home in homes(self.plan)[1].items():
             if name in self.volumes and (name, session) not in self.clients:
-                client = self.clients[name, session] = Client(self, name, session, home)
+                client = self.clients[name, session] = self.client(self, name, session, home)
                 self.by_name.setdefault(name.encode(), []).append(client)
 
     # ---- nodes
@@ -187,11 +208,11 @@ class Storm:
         if self.library:
             how = {}
             if self.weather.stops and self.draw.random() < 0.7:
-                how["STOP"] = f"{1 + int(self.draw.expovariate(1 / 60))}{self.draw.choice(['', '/', '+', '+'])}"
+                how["STOP"] = f"{1 + int(self.draw.expovariate(1 / self.calls))}{self.draw.choice(['', '/', '+', '+'])}"
             if self.weather.lies:
                 how["LIES"] = 1
             environment = disk(self.library, **how)
-        self.lives[number].append(Life(Stepped(words, number, self.folder, environment), self.plan))
+        self.lives[number].append(Life(self.process(words, number, self.folder, environment), self.plan))
 
     def alive(self, number):
         lives = self.lives[number]
@@ -214,7 +235,7 @@ class Storm:
         """Takes a line on its way, if it is not lost."""
         to = line.partition(b" ")[0]
         way = self.ways[int(to)]
-        if len(way) < MOST and self.draw.random() >= self.weather.lost:
+        if len(way) < self.most and self.draw.random() >= self.weather.lost:
             way.append(line)
 
     def nonsense(self):
@@ -231,15 +252,15 @@ class Storm:
     def batch(self, number):
         """The lines of the next step of a node: some of those on their way to it, in some order, some of which may come again; ticks; nonsense."""
         draw, way, lines = self.draw, self.ways[number], []
-        for _ in range(min(len(way), draw.randint(1, BATCH))):
-            place = int(draw.random() * min(len(way), 3 * BATCH))
+        for _ in range(min(len(way), draw.randint(1, self.lines_of_a_step))):
+            place = int(draw.random() * min(len(way), 3 * self.lines_of_a_step))
             lines.append(way[place] if draw.random() < self.weather.repeated else way.pop(place))
         if draw.random() < 0.15:
             lines.append(b"%d %d tick" % (number, number))
         if draw.random() < self.weather.nonsense:
             lines.append(draw.choice([b"", b"x", b"%d" % number, b"%d 0" % number, b"9 9 tick", b"%d 99 tick" % number, b"\x00\xff"]))
         given = b"\n".join(lines) + b"\n" if lines else b""
-        return given if len(given) < LONGEST_BATCH else b""
+        return given if len(given) < self.longest_batch else b""
 
     def step(self, numbers):
         """A step of each of these nodes, side by side; one that is down starts, now and then."""
@@ -257,10 +278,12 @@ class Storm:
         for number in stepped:
             life = self.alive(number)
             if number in amid:
-                seconds = self.draw.random() * MOST_SECONDS
-                self.take(number, life.stepped.step_and_kill(life.given[-1], seconds), False)
+                self.take(number, self.killed_amid(life.stepped, life.given[-1]), False)
             else:
                 self.take(number, *life.stepped.take())
+
+    def killed_amid(self, stepped, lines):
+        return stepped.step_and_kill(lines, self.draw.random() * MOST_SECONDS)
 
     def take(self, number, wrote, lives):
         """Takes on what a node wrote; its machine may fail now."""
@@ -372,9 +395,9 @@ class Storm:
         return len(histories), given_up
 
 
-def stormed(program, folder, seed, lines, weather, library=None):
+def stormed(program, folder, seed, lines, weather, library=None, kind=Storm):
     """A whole storm, which is judged. What it had."""
-    storm = Storm(program, folder, seed, weather, library)
+    storm = kind(program, folder, seed, weather, library)
     try:
         storm.blow(lines)
         storm.settle()
