@@ -10,7 +10,7 @@ import time
 HERE = os.path.dirname(os.path.realpath(__file__))
 sys.path.insert(0, os.path.join(HERE, "..", "..", "examples", "nodes"))
 from carrier import journal_of
-from tenant import homes
+from tenant import homes, longest_line
 
 os.environ["PATH"] += ":/usr/sbin"  # (where Debian has mosquitto and nginx, and no user but root looks)
 PATIENCE = 15  # seconds that a process has to end, or to be ready
@@ -57,7 +57,7 @@ class Grid:
         self.folder, self.program, self.carry, self.tls = folder, program, carry, tls
         self.port, self.inner = port or free_ports(), free_ports()
         self.plan, self.broker_folder = os.path.join(folder, "plan"), os.path.join(folder, "broker")
-        self.processes, self.count = {}, 0
+        self.processes, self.count, self.longest = {}, 0, 0
 
     def log(self, name):
         return open(os.path.join(self.folder, f"log.{name}"), "ab")
@@ -69,7 +69,8 @@ class Grid:
     def set_up(self, *words):
         """Makes the broker's folder from the plan, or makes it again."""
         with open(self.plan, encoding="latin1") as file:
-            self.count, _ = homes(file.read())
+            text = file.read()
+        (self.count, _), self.longest = homes(text), longest_line(text)
         words += ("--tls", self.tls, "--port", str(self.port), "--inner", str(self.inner))
         words += () if self.tls == "none" else ("--test-authority",)
         words += ("--user", "root") if os.getuid() == 0 else ()
@@ -100,7 +101,8 @@ class Grid:
         """Starts a node with its carrier. A journal is begun at the grid's first start alone: a node whose journal is lost must not start."""
         journal = journal_of(self.folder, number)
         node = [self.program, "node", str(number), "--plan", self.plan, "--journal", journal]
-        self.run(number, [self.carry, *self.words_for(number), str(number), "--", *node] + ["--new"] * is_new)
+        words = [*self.words_for(number), "--longest", str(self.longest), str(number)]
+        self.run(number, [self.carry, *words, "--", *node] + ["--new"] * is_new)
 
     def start(self):
         """Starts the broker and all nodes, and waits until each is connected."""

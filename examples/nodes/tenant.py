@@ -21,6 +21,13 @@ def homes(plan):
     return rows * cols, {session: place % (rows * cols) for place, session in enumerate(sessions)}
 
 
+def longest_line(plan):
+    """The most bytes of a line of a node without its LF: with room for the largest file that the plan allows."""
+    lines = plan.partition("\ngo\n")[0].split("\n")
+    most = [int(words[5]) for words in map(str.split, lines) if words[:1] == ["tenant"] and len(words) > 5]
+    return max(4095, 255 + 128 * max(most, default=0))
+
+
 class Request:
     """A request of a session: its kind, its words behind the number, its number, and who is told how it ended."""
 
