@@ -7,8 +7,9 @@ that are from another are passed over.
 import os
 import socket
 
+from carrier import MOST_WAITING, Lines
+
 READ = 65_536  # bytes of one read
-MOST_WAITING = 1 << 22  # bytes that may wait for one client, and that a line may have
 
 
 class Caller:
@@ -16,7 +17,7 @@ class Caller:
 
     def __init__(self, connection):
         self.connection, self.name = connection, None
-        self.waiting, self.begun = bytearray(), b""
+        self.waiting, self.begun = bytearray(), Lines()
         connection.setblocking(False)
 
     def lines(self):
@@ -27,10 +28,7 @@ class Caller:
             return []
         except OSError:
             return None
-        if not read or len(self.begun) > MOST_WAITING:
-            return None
-        *lines, self.begun = (self.begun + read).split(b"\n")
-        return lines
+        return self.begun.take(read) if read and self.begun.length <= MOST_WAITING else None
 
     def give(self):
         """Writes of what waits as much as is taken."""

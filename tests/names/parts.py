@@ -18,6 +18,7 @@ import commands
 import planted
 import registers
 import trial
+import with_room
 import worlds
 from processes import interrupt, room, workers
 
