@@ -7,9 +7,10 @@ that are from another are passed over.
 import os
 import socket
 
-from carrier import MOST_WAITING, Lines
+from carrier import Lines
 
 READ = 65_536  # bytes of one read
+MOST_WAITING = 1 << 25  # bytes that may wait for one client, or of one line of it: a line of each of sixteen sessions, as long as lines may be
 
 
 class Caller:

@@ -19,15 +19,25 @@ def journal_of(folder, number):
     return os.path.join(folder, f"node{number}.journal")
 
 
-def whole_lines(begun, read):
-    """The lines that end in this read, without their LF. What is begun is kept in parts: a line of many reads is put together once."""
-    first, *more = read.split(b"\n")
-    begun.append(first)
-    if not more:
-        return []
-    lines = [b"".join(begun), *more[:-1]]
-    begun[:] = more[-1:]
-    return lines
+class Lines:
+    """Lines of what is read part by part. A part is looked at once, however long its line is."""
+
+    def __init__(self):
+        self.parts, self.length = [], 0  # of the line that has begun
+
+    def take(self, read):
+        """The lines that end in this part, without their LF."""
+        first, *more = read.split(b"\n")
+        self.parts.append(first)
+        self.length += len(first)
+        if not more:
+            return []
+        lines, self.parts, self.length = [b"".join(self.parts), *more[:-1]], [more[-1]], len(more[-1])
+        return lines
+
+    def rest(self):
+        """The line that has begun."""
+        return b"".join(self.parts)
 
 
 class Node:
@@ -37,7 +47,7 @@ class Node:
         self.words = [program, "node", str(number), "--plan", plan, "--journal", journal]
         self.number, self.journal = number, journal
         self.child, self.is_ready = None, False
-        self.waiting, self.begun = bytearray(), []
+        self.waiting, self.begun = bytearray(), Lines()
 
     def start(self, is_new=False, **more):
         """Starts the process, whose standard error is ours. A signal from the terminal does not reach it."""
@@ -45,7 +55,7 @@ class Node:
         self.child = subprocess.Popen(words, stdin=subprocess.PIPE, stdout=subprocess.PIPE, bufsize=0, start_new_session=True, **more)
         for pipe in (self.child.stdin, self.child.stdout):
             os.set_blocking(pipe.fileno(), False)
-        self.waiting, self.begun, self.is_ready = bytearray(), [], False
+        self.waiting, self.begun, self.is_ready = bytearray(), Lines(), False
 
     def lines(self):
         """The whole lines that can be read now, without their LF. None at the end of its output."""
@@ -53,9 +63,7 @@ class Node:
             read = os.read(self.child.stdout.fileno(), READ)
         except BlockingIOError:
             return []
-        if not read:
-            return None
-        return whole_lines(self.begun, read)
+        return self.begun.take(read) if read else None
 
     def give(self):
         """Writes of what waits as much as goes into the pipe."""
