@@ -10,6 +10,7 @@ import time
 from processes import SECONDS, room
 
 GRID = os.path.join(os.path.dirname(os.path.abspath(__file__)), "..", "..", "examples", "grid")
+PLAN = os.path.join(os.path.dirname(GRID), "nodes", "plan")  # (one with `blocks`, whose lines are short)
 SHOWN = "All 16 files are as they were acknowledged.\n"
 LINES = "ann write 1 0 0 6869\nwait\nann read 2 0 0\nbob list 1 0\nwait\nkill 3\nann write 1 0 1 ff\nwait\nstart 3\nann read 4 0 1\nbob plan\n"
 ANSWERS = [
@@ -67,7 +68,7 @@ class Grids:
         self.held("examples/grid try", (status, shown.splitlines(keepends=True)[-1:]), (0, [SHOWN]))
 
     def takes_lines(self, folder):
-        status, answers, _ = self.run(folder, given=LINES)
+        status, answers, _ = self.run("--plan", PLAN, folder, given=LINES)
         self.held("lines from a pipe", (status, sorted(answers.splitlines())), (0, sorted(ANSWERS)))
         status, answers, _ = self.run(folder, given="ann read 3 0 0")
         words = answers.split()
