@@ -157,7 +157,7 @@ class Commands:
         os.makedirs("locks", exist_ok=True)
         with open("locks/ann-3.lock", "w") as lock:
             fcntl.flock(lock, fcntl.LOCK_EX)
-            self.refused("a session that is used", ["ls"], 7, "session 3 is used", GRIDFS_SESSION="3", GRIDFS_TIMEOUT="0.5")
+            self.refused("a session that is used", ["ls"], 7, "session 3 is used", GRIDFS_SESSION="3", GRIDFS_TIMEOUT="3")
             self.told("another one", ["ls"], b"", GRIDFS_SESSION="3-4")
         with open("content", "wb") as out:
             out.write(os.urandom(5_000))

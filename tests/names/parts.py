@@ -89,9 +89,9 @@ def search(most_pending, operations, removes=True):
     return f"{count} worlds of {what} with at most {most_pending} pending writes, {ways} ways of a client of {operations} operations", []
 
 
-def in_pipes(program, seconds, kills):
-    counts, wrong = trial.run(trial.Pipes(os.getcwd(), program), seconds, kills)
-    return f"in pipes, {seconds} seconds: {told_of(counts)}", wrong
+def in_pipes(program, seconds, kills, has_room=False):
+    counts, wrong = trial.run(trial.Pipes(os.getcwd(), program, has_room), seconds, kills)
+    return f"in pipes{', a plan with room' * has_room}, {seconds} seconds: {told_of(counts)}", wrong
 
 
 def bug_in_pipes(program, seconds):

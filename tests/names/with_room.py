@@ -217,7 +217,8 @@ def many_names(program, many, turns=5):
         client.costs(1, seen, many)
         costs = client.costs(turns, seen, many)
         for kind in few:
-            seen.held(f"{kind} among {many} takes {costs[kind][0]} requests, {few[kind][0]} among ten", costs[kind][0] <= few[kind][0] + MORE_REQUESTS, True)
+            more = costs[kind][0] - few[kind][0]
+            seen.held(f"{kind} among {many} takes {more} requests more than among ten", more <= MORE_REQUESTS, True)
         listed = run("ls")
         seen.held("ls, the command", (listed[0], listed[1].count(b"\n")), (0, many))
         client.carrier.close()
