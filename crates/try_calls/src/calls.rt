@@ -87,7 +87,8 @@ fn grid() -> Result<Grid, Fault> {
 
 // The row of a tenant whose share is 8 blocks.
 fn row() -> Result<TenantRow, Fault>
-    ensures { IfOk result (λ row. row.share ≡ 8) }
+    ensures share { IfOk result (λ row. row.share ≡ 8) }
+    ensures most { IfOk result (λ row. row.most_blocks ≡ 16) }
 {
     let Some(name) = Name::new(b"ann") else {
         return Err(Fault::Usage);
