@@ -91,6 +91,9 @@ class Faults:
         self.held("its journal", get(self.at("again")), text)
         os.mkdir(self.at("deep"))
         self.held("a journal in a folder", self.node(journal="deep/journal", is_new=True), (0, READY % 0, FIRST))
+        put(self.at("wide"), PLAN.replace(b"grid 2 2", b"grid 1 3"))
+        ready = READY.replace(b"node 0 of 2 by 2", b"node 2 of 1 by 3") % 0
+        self.held("a grid that is no square", self.node(number=2, plan="wide", journal="wide.journal", is_new=True), (0, ready, FIRST))
 
     def journals(self):
         self.refused("--new, and a journal is there", 1, b"gridfs: journal: a journal\n", is_new=True)
