@@ -12,13 +12,14 @@ use Rattle.gq_desk.specs.Volumes.{OpenFault, WrongSize, NoVolumeLeft, OverShare}
 use Rattle.gq_desk.specs.Volumes.{open_fault}
 use Rattle.gq_phase.specs.Phase.{Task, Writing, Reading, Listing, Operation, Heard, HeardStale, HeardNoted, HeardNext, HeardDone, hear, hear_current, with_reply, is_current, round_quorum, round_messages, messages_to, heard_servers}
 use Rattle.gq_phase.specs.declared.Outcome.{Outcome}
-use Rattle.gq_model.specs.Trace.{files_of, Past, up_by, Turn, Own, Serving, Entry, Trace, Elsewhere, Begins, Hears, Moves, Ends, deed, is_lost, sent, up, task_of, volumes, questions, session, operation_with, account_of, State}
+use Rattle.gq_model.specs.Trace.{files_of, Past, up_by, Turn, Own, Serving, Leaping, Entry, Trace, Elsewhere, Begins, Hears, Moves, Ends, Leaps, deed, is_lost, sent, up, task_of, volumes, questions, session, operation_with, account_of, State}
 use Rattle.gq_model.specs.declared.events.Line.{Line}
 use Rattle.gq_model.specs.declared.events.ServerLine.{ServerLine}
 use Rattle.gq_model.specs.declared.events.Line.TheVariants.{Bad, Quorum, NewVolume, Volumes, Write, Read, List as ListFiles, Deliver, Lose, Retry, Abandon}
-use Rattle.gq_model.specs.Told.{Told, Opened, Began, Replied, Noted, Round, Done, Resent, Abandoned}
+use Rattle.gq_model.specs.Told.{Told, Opened, Began, Replied, Noted, Round, Done, Resent, Abandoned, Refused, ServerOk}
 use Rattle.gq_model.specs.Lone.{after, said, step_at, entry_of, is_refusal, server_refusal, server_told, choice_told, open_told, lose_told, deliver_step, first_operation, reply_to, Step, Cause, unless, first_cause, session_causes, session_step, line_step, no_session, busy, no_volume, no_quorum}
 use Rattle.gq_model.specs.declared.events.Refusal.{Refusal}
+use Rattle.gq_model.specs.declared.events.Refusal.TheVariants.{Busy}
 use Rattle.gq_model.specs.declared.events.ServerRefusal.{ServerRefusal}
 use Rattle.gq_laws.proofs.Words.{delivered, message_at, step_on, current, op, round, held}
 use Rattle.gq_laws.specs.Operations.{session_of}
@@ -184,6 +185,7 @@ pub data Doing (grid : Grid) (t : Trace) (e : Entry) (k : ℕ) : Type 0 where
   Finishes : (l : OwnMessage) (task : Task) (outcome : Outcome) → Comes t k l task → deed k e ≡ Ends → e.told ≡ Done outcome → e.new ≡ [] → hear_current grid (up t) (with_reply (going t k task) l) ≡ HeardDone outcome → Doing grid t e k
   Resends : (task : Task) (set : Servers) (first : ℕ) → current t k ≡ Some task → deed k e ≡ Elsewhere → e.told ≡ Resent first (length e.new) → e.new ≡ messages_to grid (going t k task) set → Doing grid t e k
   Abandons : deed k e ≡ Ends → e.told ≡ Abandoned → e.new ≡ [] → Doing grid t e k
+  Jumps : (last number : ℕ) → current t k ≡ None → deed k e ≡ Leaps last number → IsPassive e.told → e.new ≡ [] → Doing grid t e k
   Silent : deed k e ≡ Elsewhere → IsPassive e.told → e.new ≡ [] → Doing grid t e k
 
 -- the session that the turn is about, and what it does there
@@ -283,6 +285,24 @@ server_said grid up line = go (server_refusal grid up line) refl
     go None e = rw e tt
     go (Some word) e = rw e tt
 
+-- a leap, of a session that has no operation
+leap_act : (grid : Grid) (row : TenantRow) (t : Trace) (k last number : ℕ) (message : Option OwnMessage) (said : Told) (new : List OwnMessage) → Follows grid row t (record { turn = Leaping k last number; message = message; told = said; new = new }) →
+    Act grid t (record { turn = Leaping k last number; message = message; told = said; new = new })
+leap_act grid row t k last number message said new f = by (current t k) refl
+  where
+    P : Told → Type 0
+    P z = IsPassive z
+
+    by : (task : Option Task) → current t k ≡ task → Act grid t (record { turn = Leaping k last number; message = message; told = said; new = new })
+    by None idle =
+        let told = f.told in
+        let is : ServerOk ≡ said = rw idle at told in
+        record { k = k; about = refl; others = λ s ne. rw (ne_eqb k s ne); what = Jumps last number idle (rw (eq-eqb k k refl)) (subst P is tt) (sym f.new) }
+    by (Some task) busy =
+        let told = f.told in
+        let is : Refused Busy ≡ said = rw busy at told in
+        absurd (true≢false (ap is_refusal is ∙ f.accepted))
+
 -- and what each entry of a run does
 pub act : (grid : Grid) (row : TenantRow) (t : Trace) (e : Entry) → Follows grid row t e → Act grid t e
 act grid row t e follows = go e.turn e.message e.told e.new follows
@@ -292,6 +312,7 @@ act grid row t e follows = go e.turn e.message e.told e.new follows
     go (Serving line) message said new f =
         let P : Told → Type 0 = λ x. IsPassive x in
         record { k = 0; about = refl; others = λ s ne. refl; what = Silent refl (subst P f.told (server_said grid (up t) line)) (sym f.new) }
+    go (Leaping k last number) message said new f = leap_act grid row t k last number message said new f
 
 -- the reply with which a round of session k ends
 pub record Turning (grid : Grid) (t : Trace) (e : Entry) (k r : ℕ) (tag : Option Tag) : Type 0 where
@@ -315,6 +336,7 @@ turning grid t e k m r tag a does = go (cases_eq a.k k)
     by (Finishes l task outcome comes is said new heard) = absurd (let bad : Ends ≡ Moves m r tag = sym is ∙ does in cc)
     by (Resends task set first busy is said new) = absurd (let bad : Elsewhere ≡ Moves m r tag = sym is ∙ does in cc)
     by (Abandons is said new) = absurd (let bad : Ends ≡ Moves m r tag = sym is ∙ does in cc)
+    by (Jumps last number idle is passive new) = absurd (let bad : Leaps last number ≡ Moves m r tag = sym is ∙ does in cc)
     by (Silent is passive new) = absurd (let bad : Elsewhere ≡ Moves m r tag = sym is ∙ does in cc)
 
     go : (a.k ≡ k) ⊎ (a.k ≢ k) → Turning grid t e k r tag

@@ -5,7 +5,7 @@ use Rattle.gq_tag.specs.declared.Tag.{Tag}
 use Rattle.gq_tag.specs.Tag.{File, OwnMessage, greatest}
 use Rattle.gq_desk.specs.declared.plans.TenantRow.{TenantRow}
 use Rattle.gq_phase.specs.Phase.{Task, Writing, Reading, Listing, HeardNext, with_reply, hear_current, heard_copies, hear_reply, reply_of}
-use Rattle.gq_model.specs.Trace.{Entry, Trace, Deed, Elsewhere, Begins, Hears, Moves, Ends, deed, up}
+use Rattle.gq_model.specs.Trace.{Entry, Trace, Deed, Elsewhere, Begins, Hears, Moves, Ends, Leaps, deed, up}
 use Rattle.gq_laws.proofs.Words.{current, floor, heard}
 use Rattle.gq_laws.proofs.Runs.{Follows}
 use Rattle.gq_laws.proofs.Acts.{act, Turning, turning, going}
@@ -53,3 +53,4 @@ floor_grows grid row t e k follows = go (deed k e) refl (current t k) refl
     go (Begins line) is task busy = rw (is, floor) (omega arith)
     go (Hears m) is task busy = rw (is, floor) (omega arith)
     go Ends is task busy = rw (is, floor) (omega arith)
+    go (Leaps last number) is task busy = rw (is, floor) (omega arith)

@@ -14,7 +14,7 @@ use Rattle.gq_phase.proofs.Meeting.{nobody_ends}
 use Rattle.gq_model.specs.declared.events.Line.{Line}
 use Rattle.gq_model.specs.declared.events.Line.TheVariants.{Write, Read, List as ListFiles, Deliver, Lose, Abandon}
 use Rattle.gq_model.specs.Told.{Told, Noted, Round, Done}
-use Rattle.gq_model.specs.Trace.{Turn, Own, Entry, Trace, Deed, Elsewhere, Begins, Hears, Moves, Ends, deed, delivered_deed, heard_deed, Session, session, session_by, volumes, sent, is_lost, questions, up}
+use Rattle.gq_model.specs.Trace.{Turn, Own, Leaping, Entry, Trace, Deed, Elsewhere, Begins, Hears, Moves, Ends, Leaps, deed, delivered_deed, heard_deed, Session, session, session_by, volumes, sent, is_lost, questions, up}
 use Rattle.gq_model.specs.Lone.{Cause, is_refusal, lose_told, heard_step, first_cause, session_causes, session_step, line_step, no_session, busy, no_volume, no_file, too_long, no_quorum}
 use Rattle.gq_laws.proofs.Words.{current, round, heard, message_at, step_on}
 use Rattle.gq_laws.proofs.Runs.{Follows, IsRun}
@@ -68,6 +68,10 @@ ends_not : (b : Bool) (also : Line) → (if b then Ends else Elsewhere) ≡ Begi
 ends_not true also is = let bad : Ends ≡ Begins also = is in cc
 ends_not false also is = let bad : Elsewhere ≡ Begins also = is in cc
 
+leaps_not : (b : Bool) (last number : ℕ) (also : Line) → (if b then Leaps last number else Elsewhere) ≡ Begins also → ⊥
+leaps_not true last number also is = let bad : Leaps last number ≡ Begins also = is in cc
+leaps_not false last number also is = let bad : Elsewhere ≡ Begins also = is in cc
+
 heard_not : (m : OwnMessage) (told : Told) (also : Line) → heard_deed m told ≡ Begins also → ⊥
 heard_not m Noted also is = let bad : Hears m ≡ Begins also = is in cc
 heard_not m (Round r tag first count) also is = let bad : Moves m r tag ≡ Begins also = is in cc
@@ -90,7 +94,7 @@ first_fails cause rest h = go cause.0 refl
     go true e = absurd (let bad : Some cause.1 ≡ None = rw e at h in cc)
 
 -- an operation begins only in a session of the tenant
-begins_in_range : (grid : Grid) (row : TenantRow) (t : Trace) (e : Entry) (k : ℕ) (line : Line) → Follows grid row t e → deed k e ≡ Begins line → is_in 1 row.sessions k ≡ true
+pub begins_in_range : (grid : Grid) (row : TenantRow) (t : Trace) (e : Entry) (k : ℕ) (line : Line) → Follows grid row t e → deed k e ≡ Begins line → is_in 1 row.sessions k ≡ true
 begins_in_range grid row t e k line follows does = go e.turn e.message e.told e.new follows does
   where
     in_range : (s : ℕ) → not (is_in 1 row.sessions s) ≡ false → eqb s k ≡ true → is_in 1 row.sessions k ≡ true
@@ -103,6 +107,7 @@ begins_in_range grid row t e k line follows does = go e.turn e.message e.told e.
     go (Own (ListFiles s v)) message said new follows does = in_range s (first_fails (no_session row s) (busy (questions t) s ∷ no_volume (questions t) v ∷ no_quorum grid (questions t) 1 ∷ []) (no_cause (first_cause (session_causes grid row (questions t) (ListFiles s v))) (session_step grid (questions t) (ListFiles s v)) (line_fine grid row t (ListFiles s v) message said new follows))) (begins_if (eqb s k) (ListFiles s v) line does)
     go (Own (Abandon s)) message said new follows does = absurd (ends_not (eqb s k) line does)
     go (Own (Deliver n)) message said new follows does = absurd (delivered_not k message said line does)
+    go (Leaping s last number) message said new follows does = absurd (leaps_not (eqb s k) last number line does)
     go other message said new follows does = absurd (let bad : Elsewhere ≡ Begins line = does in cc)
 
 -- ---- what was heard
@@ -180,6 +185,7 @@ hears_goes_on grid row t e k l task follows does busy = go e.turn e.message e.to
     go (Own (Read s v f)) message said new follows does = absurd (begins_not (eqb s k) (Read s v f) does)
     go (Own (ListFiles s v)) message said new follows does = absurd (begins_not (eqb s k) (ListFiles s v) does)
     go (Own (Abandon s)) message said new follows does = absurd (let bad : Ends ≡ Hears l = hears_if (eqb s k) Ends l does in cc)
+    go (Leaping s last number) message said new follows does = absurd (let bad : Leaps last number ≡ Hears l = hears_if (eqb s k) (Leaps last number) l does in cc)
     go (Own (Deliver n)) message said new follows does = of_message n (message_at t n) (ap (deed k) (is_own_entry grid row t (Deliver n) message said new follows) ∙ does)
     go other message said new follows does = absurd (let bad : Elsewhere ≡ Hears l = does in cc)
 
@@ -215,3 +221,4 @@ while_going grid row (e ∷ t) run k task has = by (deed k e) refl (while_going 
             record { in_range = (before was_busy).in_range; unended = λ some. subst Unended (sym now) (hears_goes_on grid row t e k l task run.1 is was_busy) }
         at (Moves l r tag) is now before = let was = before (ap (λ s. s.current) (sym now) ∙ has) in record { in_range = was.in_range; unended = λ some. subst Unended (sym now) (none_ends grid r some) }
         at Ends is now before = absurd (let bad : None ≡ Some task = ap (λ s. s.current) (sym now) ∙ has in cc)
+        at (Leaps last number) is now before = absurd (let bad : None ≡ Some task = ap (λ s. s.current) (sym now) ∙ has in cc)

@@ -15,12 +15,12 @@ use Rattle.gq_phase.specs.Phase.{Task, Reply, Writing, Reading, Listing, Operati
 use Rattle.gq_phase.specs.Quorums.{ends_collect, ends_store}
 use Rattle.gq_phase.proofs.Saying.{even_is}
 use Rattle.gq_model.specs.declared.events.Line.{Line}
-use Rattle.gq_model.specs.Trace.{Turn, Entry, Trace, Deed, Elsewhere, Begins, Hears, Moves, Ends, deed, sent, up, volumes, task_of}
+use Rattle.gq_model.specs.Trace.{Turn, Entry, Trace, Deed, Elsewhere, Begins, Hears, Moves, Ends, Leaps, deed, sent, up, volumes, task_of}
 use Rattle.gq_model.specs.Told.{Told}
 use Rattle.gq_laws.proofs.Words.{held, current, round, heard, collected, op}
 use Rattle.gq_laws.proofs.Runs.{Follows, IsRun, IsKnown, Settled, made, made_of, Made, Extends, Starts, HeldBetween, op_start, round_start, starts}
 use Rattle.gq_laws.proofs.Holding.{extends_more}
-use Rattle.gq_laws.proofs.Acts.{Act, Doing, Requests, Serves, Notes, Turns, Finishes, Resends, Abandons, Silent, Comes, act, going}
+use Rattle.gq_laws.proofs.Acts.{Act, Doing, Requests, Serves, Notes, Turns, Finishes, Resends, Abandons, Jumps, Silent, Comes, act, going}
 use Rattle.gq_laws.proofs.RoundEnds.{Next, ToStore, ToCollect, Skips, next_of, write_stores, skip_ends, skip_greatest}
 use Rattle.gq_laws.proofs.SessionTurns.{Unmoved, elsewhere_unmoved, hears_unmoved}
 use Rattle.gq_laws.proofs.Found.{stored-push}
@@ -66,6 +66,7 @@ starts_along (e ∷ t) k = go (deed k e) refl (starts_along t k)
     go (Moves m r tag) is before = rw is (extends_more e t (op_start t k) before.0, ([], refl))
     go (Hears m) is before = rw is (extends_more e t (op_start t k) before.0, extends_more e t (round_start t k) before.1)
     go Ends is before = rw is (extends_more e t (op_start t k) before.0, extends_more e t (round_start t k) before.1)
+    go (Leaps last number) is before = rw is (extends_more e t (op_start t k) before.0, extends_more e t (round_start t k) before.1)
     go Elsewhere is before = rw is (extends_more e t (op_start t k) before.0, extends_more e t (round_start t k) before.1)
 
 -- ---- what an entry is to session k
@@ -77,6 +78,7 @@ pub data Change (grid : Grid) (t : Trace) (e : Entry) (k : ℕ) : Type 0 where
   Moving : (l : OwnMessage) (task : Task) (r : ℕ) (tag : Option Tag) → Comes t k l task → e.message ≡ Some l → deed k e ≡ Moves l r tag → hear_current grid (up t) (with_reply (going t k task) l) ≡ HeardNext r tag e.new → Change grid t e k
   Starting : (line : Line) (task : Task) → deed k e ≡ Begins line → task_of (volumes t) line ≡ Some task → Change grid t e k
   Stopping : deed k e ≡ Ends → Change grid t e k
+  Jumping : (last number : ℕ) → deed k e ≡ Leaps last number → Change grid t e k
 
 pub change : (grid : Grid) (t : Trace) (e : Entry) (k : ℕ) → Act grid t e → Change grid t e k
 change grid t e k a = go (cases_eq a.k k)
@@ -92,6 +94,7 @@ change grid t e k a = go (cases_eq a.k k)
     by s (Finishes l task outcome comes is said new heard) = Stopping is
     by s (Resends task set first busy is said new) = still s is
     by s (Abandons is said new) = Stopping is
+    by s (Jumps last number idle is passive new) = Jumping last number is
     by s (Silent is passive new) = still s is
 
     go : (a.k ≡ k) ⊎ (a.k ≢ k) → Change grid t e k
@@ -258,3 +261,4 @@ sessions_step grid row t e run follows inv k task busy = go (change grid t e k (
     go (Starting line task' is does) =
         at 1 [] [] (record { op = t; round = e ∷ t }) (rw (is, round)) (rw (is, heard)) (rw (is, collected)) (rw is) (holds_begin grid (e ∷ t) task (record { op = t; round = e ∷ t }) (e ∷ [], refl))
     go (Stopping is) = absurd (let bad : None ≡ Some task = rw (is, current) at busy in cc)
+    go (Jumping last number is) = absurd (let bad : None ≡ Some task = rw (is, current) at busy in cc)

@@ -1,7 +1,7 @@
 -- The invariant holds along every run.
 use Rattle.std.proofs.Common.{◌≡◌, ◌⊎◌, ℕ, ◌+◌, ◌<◌, ◌≤◌, Bool, true, false, ◌&&◌, ◌++◌, List, [], ◌∷◌, length, refl, sym, ap, ◌∙◌, subst, inl, inr, Option, Some, None, arith, eqb}
-use Rattle.std.specs.Prelude.{Contains}
-use Rattle.std.proofs.lemmas.Bool.{true≢false, eq-eqb, eqb-true, and_parts}
+use Rattle.std.specs.Prelude.{Contains, nat_le}
+use Rattle.std.proofs.lemmas.Bool.{true≢false, eq-eqb, eqb-true, and_parts, leb-true, leb-false}
 use Rattle.std.proofs.lemmas.List.{length_push}
 use Rattle.std.proofs.lemmas.List.Elements.{Contains-append_cases}
 use Rattle.gq_grid.specs.Grid.{Grid}
@@ -20,12 +20,12 @@ use Rattle.gq_laws.proofs.Words.{held, current, round, heard, collected, op, del
 use Rattle.gq_laws.proofs.Holding.{greatest-push, held_grows, held_between_more}
 use Rattle.gq_laws.proofs.Runs.{Follows, IsRun, IsKnown, Extends, Starts, HeldBetween, round_start, starts}
 use Rattle.gq_laws.proofs.Shapes.{Shape, shape_of, shape_round, only}
-use Rattle.gq_laws.proofs.Acts.{Act, Doing, Requests, Serves, Notes, Turns, Finishes, Resends, Abandons, Silent, Comes, act, going, first_round, back, back_to_ask, back_to_store, message_sent}
+use Rattle.gq_laws.proofs.Acts.{Act, Doing, Requests, Serves, Notes, Turns, Finishes, Resends, Abandons, Jumps, Silent, Comes, act, going, first_round, back, back_to_ask, back_to_store, message_sent}
 use Rattle.gq_laws.proofs.RoundEnds.{Next, ToStore, ToCollect, Skips, next_of}
 use Rattle.gq_laws.proofs.SessionTurns.{Unmoved, elsewhere_unmoved, hears_unmoved}
 use Rattle.gq_laws.proofs.Found.{contains_at, last_at}
 use Rattle.gq_laws.proofs.Sessions.{Holds, known_grows, store_number, collect_number, store_file, last_number}
-use Rattle.gq_laws.proofs.Invariant.{IsBodyOf, Sound, Invariant, Change, Stays, Hearing, Moving, Starting, Stopping, change, sessions_step, starts_along}
+use Rattle.gq_laws.proofs.Invariant.{IsBodyOf, Sound, Invariant, Change, Stays, Hearing, Moving, Starting, Stopping, Jumping, change, sessions_step, starts_along}
 
 -- ---- messages that were sent before
 
@@ -62,6 +62,12 @@ up_to_step grid row t e k n r follows inv before = go (change grid t e k (act gr
     go (Starting line task is does) (inl below) = rw (is, op, round) (inl (omega arith))
     go (Starting line task is does) (inr here) = rw (is, op, round) (inl (omega (arith, here.0)))
     go (Stopping is) h = same (rw (is, op)) (rw (is, round)) h
+    go (Jumping last number is) (inl below) = rw (is, op, round) (inl (omega arith))
+    go (Jumping last number is) (inr here) = by (nat_le last (op t k)) refl
+      where
+        by : (b : Bool) → nat_le last (op t k) ≡ b → IsUpTo (e ∷ t) k n r
+        by true low = let at_most = leb-true last (op t k) low in rw (is, op, round) (inr (omega (arith, here.0), here.1))
+        by false high = let more = leb-false last (op t k) high in rw (is, op, round) (inl (omega (arith, here.0)))
 
 -- where a message sent before is of the current operation and round after the entry, the entry has not moved its session
 stays_for : (grid : Grid) (row : TenantRow) (t : Trace) (e : Entry) (m : OwnMessage) (task : Task) → Follows grid row t e → Invariant grid t → Sound t m →
@@ -82,6 +88,7 @@ stays_for grid row t e m task follows inv message busy its_op its_round = go (ch
     go (Starting line task' is does) (inl below) = absurd (let now : m.op ≡ op t k + 1 = rw (is, op) at its_op in omega arith)
     go (Starting line task' is does) (inr here) = absurd (let now : m.op ≡ op t k + 1 = rw (is, op) at its_op in omega (arith, here.0))
     go (Stopping is) up_to = absurd (let bad : None ≡ Some task = rw (is, current) at busy in cc)
+    go (Jumping last number is) up_to = absurd (let bad : None ≡ Some task = rw (is, current) at busy in cc)
 
 old_message_sound : (grid : Grid) (row : TenantRow) (t : Trace) (e : Entry) (m : OwnMessage) → Follows grid row t e → Invariant grid t → Sound t m → Sound (e ∷ t) m
 old_message_sound grid row t e m follows inv l = record {
@@ -338,6 +345,7 @@ new_messages_sound grid row t e run follows inv m within = go (act grid row t e 
         let u = elsewhere_unmoved t e k is in
         ours k (op t k) (round t k) task (collected t k) (shape_of grid (going t k task) set m (in_new _ new)) (u.current ∙ busy) u.op u.round u.collected
     by k (Abandons is said new) = none new
+    by k (Jumps last number idle is passive new) = none new
     by k (Silent is passive new) = none new
 
     go : Act grid t e → Sound (e ∷ t) m

@@ -35,3 +35,4 @@ pub mod Completing
 pub mod CompletingAmong
 pub mod Asking
 pub mod CompletedCase
+pub mod InRange

@@ -7,7 +7,7 @@ use Rattle.gq_tag.specs.Tag.{OwnMessage}
 use Rattle.gq_desk.specs.declared.plans.TenantRow.{TenantRow}
 use Rattle.gq_phase.specs.Phase.{Task, Writing, Reading, Listing}
 use Rattle.gq_model.specs.Told.{Told}
-use Rattle.gq_model.specs.Trace.{Turn, Entry, Trace, Deed, Elsewhere, Begins, Hears, Moves, Ends, deed}
+use Rattle.gq_model.specs.Trace.{Turn, Entry, Trace, Deed, Elsewhere, Begins, Hears, Moves, Ends, Leaps, deed}
 use Rattle.gq_laws.proofs.Words.{current, floor}
 use Rattle.gq_laws.proofs.Runs.{Made, made, made_of, IsRun}
 use Rattle.gq_laws.proofs.Found.{contains_at, push_at}
@@ -46,6 +46,7 @@ made_of_cases t e k = go (deed k e) refl (current t k) refl
     go (Begins line) is task busy = none (Begins line) task is busy refl
     go (Hears l) is task busy = none (Hears l) task is busy refl
     go Ends is task busy = none Ends task is busy refl
+    go (Leaps last number) is task busy = none (Leaps last number) task is busy refl
 
 -- an entry makes no copy, or one
 abbrev MadeBy : Trace → Entry → Type 0

@@ -27,7 +27,7 @@ use Rattle.gq_laws.proofs.RoundEnds.{Next, ToStore, ToCollect, Skips, next_of, I
 use Rattle.gq_laws.proofs.Acts.{Comes, going, act, Turning, turning}
 use Rattle.gq_laws.proofs.Reaching.{Goes, goes_or_not, Reach, Here, Later}
 use Rattle.gq_laws.proofs.Telling.{first_told, tells, tells-cons}
-use Rattle.gq_laws.proofs.SessionTurns.{View, Quiet, Turned, Finished, Started, Stopped, view, Tagging}
+use Rattle.gq_laws.proofs.SessionTurns.{View, Quiet, Turned, Finished, Started, Stopped, Jumped, view, Tagging}
 
 -- ---- how an operation ends
 
@@ -88,6 +88,7 @@ ended grid row (x ∷ es) p n k task m outcome busy h = go (λ b e. ended grid r
         here g l out (let P : Task → Type 0 = λ z. Comes p.trace k l z in subst P same comes) is (let P : Task → Type 0 = λ z. hear_current grid (up p.trace) (with_reply (going p.trace k z) l) ≡ HeardDone out in subst P same heard) places out_is
     go ih (Started g line task' first count turn says is does en tg) = absurd (let bad : None ≡ Some (m, outcome) = sym (en (tells grid row p' (n + 1) es)) ∙ h' in cc)
     go ih (Stopped g is en tg) = absurd (let bad : None ≡ Some (m, outcome) = sym (en (tells grid row p' (n + 1) es)) ∙ h' in cc)
+    go ih (Jumped g last number idle is en tg) = absurd (let bad : None ≡ Some task = sym idle ∙ busy in cc)
 
 -- ---- how a write makes its tag
 
@@ -138,6 +139,7 @@ tags grid row (x ∷ es) p n k task tag busy h = go (λ b e. tags grid row es (a
     go ih (Finished g l task' out comes is heard en tg) = absurd (let bad : None ≡ Some tag = sym (tg (tells grid row p' (n + 1) es)) ∙ h' in cc)
     go ih (Started g line task' first count turn says is does en tg) = absurd (let bad : None ≡ Some tag = sym (tg (tells grid row p' (n + 1) es)) ∙ h' in cc)
     go ih (Stopped g is en tg) = absurd (let bad : None ≡ Some tag = sym (tg (tells grid row p' (n + 1) es)) ∙ h' in cc)
+    go ih (Jumped g last number idle is en tg) = absurd (let bad : None ≡ Some task = sym idle ∙ busy in cc)
 
 -- a write's collect round does not end it
 write_not_done : (grid : Grid) (up : Servers) (o : Operation) (file : File) (bytes : List ℕ) (outcome : Outcome) → o.task ≡ Writing file bytes → is_collect o.round ≡ true → hear_current grid up o ≢ HeardDone outcome
@@ -203,6 +205,7 @@ store_ending grid row (x ∷ es) p n k file bytes m outcome busy even h = go (λ
         stored task' (writes task' comes.busy) l out out_is (done_of grid (up p.trace) (with_reply (going p.trace k task') l) out heard)
     go ih (Started g line task' first count turn says is does en tg) = absurd (let bad : None ≡ Some (m, outcome) = sym (en (tells grid row p' (n + 1) es)) ∙ h' in cc)
     go ih (Stopped g is en tg) = absurd (let bad : None ≡ Some (m, outcome) = sym (en (tells grid row p' (n + 1) es)) ∙ h' in cc)
+    go ih (Jumped g last number idle is en tg) = absurd (let bad : None ≡ Some (Writing file bytes) = sym idle ∙ busy in cc)
 
 -- a write that ends has made its tag, and ends with it
 pub write_done : (grid : Grid) (row : TenantRow) (es : List Turn) (p : Past) (n k : ℕ) (file : File) (bytes : List ℕ) (m : ℕ) (outcome : Outcome) →
@@ -248,6 +251,7 @@ write_done grid row (x ∷ es) p n k file bytes m outcome busy odd h = go (λ b 
     go ih (Finished g l task' out comes is heard en tg) = absurd (write_not_done grid (up p.trace) (with_reply (going p.trace k task') l) file bytes out (writes task' comes.busy) odd heard)
     go ih (Started g line task' first count turn says is does en tg) = absurd (let bad : None ≡ Some (m, outcome) = sym (en (tells grid row p' (n + 1) es)) ∙ h' in cc)
     go ih (Stopped g is en tg) = absurd (let bad : None ≡ Some (m, outcome) = sym (en (tells grid row p' (n + 1) es)) ∙ h' in cc)
+    go ih (Jumped g last number idle is en tg) = absurd (let bad : None ≡ Some (Writing file bytes) = sym idle ∙ busy in cc)
 
 -- ---- how an operation begins
 

@@ -9,13 +9,13 @@ use Rattle.gq_desk.specs.declared.plans.TenantRow.{TenantRow}
 use Rattle.gq_phase.specs.Phase.{Task, HeardNext, HeardDone, hear_current, with_reply}
 use Rattle.gq_phase.specs.declared.Outcome.{Outcome}
 use Rattle.gq_model.specs.declared.events.Line.{Line}
-use Rattle.gq_model.specs.Trace.{Turn, Own, Entry, Trace, Past, Elsewhere, Begins, Hears, Moves, Ends, deed, sent, up, task_of, volumes}
+use Rattle.gq_model.specs.Trace.{Turn, Own, Entry, Trace, Past, Elsewhere, Begins, Hears, Moves, Ends, Leaps, deed, sent, up, task_of, volumes}
 use Rattle.gq_model.specs.Told.{Told, Began, Replied, Noted, Round, Done, Resent, Abandoned}
 use Rattle.gq_model.specs.Lone.{after, said, is_refusal}
 use Rattle.gq_laws.proofs.Words.{op, round, current, collected}
 use Rattle.gq_laws.specs.Operations.{SessionAnswer, session_of, ending, write_tag}
 use Rattle.gq_laws.proofs.Runs.{op_start, round_start}
-use Rattle.gq_laws.proofs.Acts.{Act, Doing, Requests, Serves, Notes, Turns, Finishes, Resends, Abandons, Silent, Comes, IsPassive, act, sessions, going}
+use Rattle.gq_laws.proofs.Acts.{Act, Doing, Requests, Serves, Notes, Turns, Finishes, Resends, Abandons, Jumps, Silent, Comes, IsPassive, act, sessions, going}
 use Rattle.gq_laws.proofs.Reaching.{Goes, goes_or_not}
 use Rattle.gq_laws.proofs.Telling.{first_told, refusal_passive}
 
@@ -95,6 +95,8 @@ pub data View (grid : Grid) (row : TenantRow) (p : Past) (n : ℕ) (x : Turn) (k
       Ending (first_told grid row p n x) k (λ rest. None) → Tagging (first_told grid row p n x) k (λ rest. None) → View grid row p n x k
   Stopped : (g : Goes grid row p x) → deed k g.e ≡ Ends →
       Ending (first_told grid row p n x) k (λ rest. None) → Tagging (first_told grid row p n x) k (λ rest. None) → View grid row p n x k
+  Jumped : (g : Goes grid row p x) (last number : ℕ) → current p.trace k ≡ None → deed k g.e ≡ Leaps last number →
+      Ending (first_told grid row p n x) k (ending k) → Tagging (first_told grid row p n x) k (write_tag k) → View grid row p n x k
 
 unmoved_same : (later t : Trace) (k : ℕ) → later ≡ t → Unmoved later t k
 unmoved_same later t k same = record { op = rw same; current = rw same; round = rw same; collected = rw same; op_start = rw same; round_start = rw same }
@@ -159,6 +161,9 @@ by_what grid row p n x k g about what = go what
     go (Abandons is said_is new) =
         let e : a ≡ Abandoned = sym g.told ∙ said_is in
         Stopped g is (λ rest. (at_abandoned k n x a s rest about e).0) (λ rest. (at_abandoned k n x a s rest about e).1)
+    go (Jumps last number idle is passive new) =
+        let kept : KeepsTag a = keep g.e.told refl (passive_keeps g.e.told passive) in
+        Jumped g last number idle is (λ rest. (keeps_both k n x a s rest about kept).0) (λ rest. (keeps_both k n x a s rest about kept).1)
     go (Silent is passive new) = quiet_by grid row p n x k (still (elsewhere_unmoved p.trace g.e k is)) (λ same. keep g.e.told refl (passive_keeps g.e.told passive))
 
 -- what the turn is to session k
@@ -201,6 +206,7 @@ moves_tag grid row p n x k g l r tag does = go (act grid row p.trace g.e g.follo
     by about (Finishes m task outcome comes is said_is new heard) = absurd (let bad : Ends ≡ Moves l r tag = sym is ∙ does in cc)
     by about (Resends task set first busy is said_is new) = absurd (let bad : Elsewhere ≡ Moves l r tag = sym is ∙ does in cc)
     by about (Abandons is said_is new) = absurd (let bad : Ends ≡ Moves l r tag = sym is ∙ does in cc)
+    by about (Jumps last number idle is passive new) = absurd (let bad : Leaps last number ≡ Moves l r tag = sym is ∙ does in cc)
     by about (Silent is passive new) = absurd (let bad : Elsewhere ≡ Moves l r tag = sym is ∙ does in cc)
 
     go : Act grid p.trace g.e → Tagging (first_told grid row p n x) k (λ rest. tag)

@@ -23,7 +23,7 @@ use Rattle.gq_laws.proofs.Acts.{going}
 use Rattle.gq_laws.proofs.RoundEnds.{Next, ToStore, ToCollect, Skips, next_of}
 use Rattle.gq_laws.proofs.Reaching.{Goes, goes_or_not, Reach, Here, Later, reach_up}
 use Rattle.gq_laws.proofs.Telling.{first_told, tells, tells-cons}
-use Rattle.gq_laws.proofs.SessionTurns.{View, Quiet, Turned, Finished, Started, Stopped, view, moves_tag}
+use Rattle.gq_laws.proofs.SessionTurns.{View, Quiet, Turned, Finished, Started, Stopped, Jumped, view, moves_tag}
 use Rattle.gq_laws.proofs.OperationMoments.{write_goes}
 use Rattle.gq_laws.proofs.Beginnings.{at_later, at_first}
 use Rattle.gq_laws.proofs.Making.{MakesCopy, made_entry}
@@ -112,6 +112,7 @@ source_step grid row p n x es m y low source = go source
         by (Skips v f lists o ends skips r_is tag_is new_is) = let bad : Some (Writing y.file y.copy.bytes) ≡ Some (Listing v f) = sym was ∙ comes.busy ∙ ap Some lists in cc
         by (ToCollect v f lists even ends r_is tag_is new_is) = true≢false (sym (write_goes grid row p x k y.file y.copy.bytes g l r tag was is) ∙ even)
     going_on k busy odd tagged (Finished g l task out comes is heard en tg) = absurd (let bad : None ≡ Some (Writing y.file y.copy.bytes) = sym (ap (λ t. current t k) g.grown ∙ (rw (is, current))) ∙ busy in cc)
+    going_on k busy odd tagged (Jumped g last number idle is en tg) = absurd (let bad : None ≡ Some (Writing y.file y.copy.bytes) = sym (ap (λ t. current t k) g.grown ∙ (rw (is, current))) ∙ busy in cc)
     going_on k busy odd tagged (Stopped g is en tg) = absurd (let bad : None ≡ Some (Writing y.file y.copy.bytes) = sym (ap (λ t. current t k) g.grown ∙ (rw (is, current))) ∙ busy in cc)
     going_on k busy odd tagged (Started g line task first count turn says is does en tg) = by (write_line (volumes p.trace) line y.file y.copy.bytes asks)
       where

@@ -12,7 +12,7 @@ use Rattle.gq_laws.specs.declared.ops.Kind.TheVariants.{Write as Writes, Read as
 use Rattle.gq_laws.specs.declared.ops.Op.{Op}
 use Rattle.gq_model.specs.declared.events.Line.TheVariants.{NewVolume, Write, Read, List as ListFiles, Deliver, Retry, Abandon}
 use Rattle.gq_model.specs.Told.{Told, Opened, Began, Replied, Round, Done, Resent, Abandoned}
-use Rattle.gq_model.specs.Trace.{Turn, Own, files_of}
+use Rattle.gq_model.specs.Trace.{Turn, Own, Leaping, files_of}
 
 -- ---- whose answer it is
 
@@ -54,6 +54,7 @@ session_of owned (Own (ListFiles k v)) = k
 session_of owned (Own (Retry k)) = k
 session_of owned (Own (Abandon k)) = k
 session_of owned (Own (Deliver n)) = slice_index owned n
+session_of owned (Leaping k op number) = k
 session_of owned _ = 0
 
 -- answered turns with their sessions, where the messages sent before belong to these

@@ -5,7 +5,7 @@ use Rattle.gq_tag.specs.declared.Tag.{Tag}
 use Rattle.gq_tag.specs.Tag.{OwnMessage}
 use Rattle.gq_phase.specs.Phase.{Task, begun, with_reply, moved}
 use Rattle.gq_model.specs.declared.events.Line.{Line}
-use Rattle.gq_model.specs.Trace.{Entry, Trace, State, Elsewhere, Begins, Hears, Moves, Ends, questions, changed, deed, task_of, operation, operation_with}
+use Rattle.gq_model.specs.Trace.{Entry, Trace, State, Elsewhere, Begins, Hears, Moves, Ends, Leaps, questions, changed, deed, task_of, operation, operation_with}
 
 -- by one step of computation
 pub questions_step : (e : Entry) (t : Trace) → questions (e ∷ t) ≡ changed e (questions t)
@@ -32,3 +32,6 @@ operation_moves state e k message round tag task does busy = rw (does, busy) ref
 
 pub operation_ends : (state : State) (e : Entry) (k : ℕ) → deed k e ≡ Ends → operation (changed e state) k ≡ None
 operation_ends state e k does = rw does refl
+
+pub operation_leaps : (state : State) (e : Entry) (k op number : ℕ) → deed k e ≡ Leaps op number → operation (changed e state) k ≡ None
+operation_leaps state e k op number does = rw does refl

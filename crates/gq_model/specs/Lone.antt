@@ -20,7 +20,7 @@ use Rattle.gq_model.specs.declared.events.Refusal.TheVariants.{Spent, Bad as Bad
 use Rattle.gq_model.specs.declared.events.ServerRefusal.{ServerRefusal}
 use Rattle.gq_model.specs.declared.events.ServerRefusal.TheVariants.{Bad as ServerBad, NoServer, Same}
 use Rattle.gq_model.specs.Told.{Told, Chosen, Opened, VolumesAre, Began, Replied, IsDown, Stale, Noted, Round, Done, Lost, Resent, Abandoned, Refused, ServerOk, ServerRefused}
-use Rattle.gq_model.specs.Trace.{Turn, Own, Serving, Entry, Trace, State, Known, Past, start, asked, questions, own_message_at, held, operation, account_of, limit_at, task_of}
+use Rattle.gq_model.specs.Trace.{Turn, Own, Serving, Leaping, Entry, Trace, State, Known, Past, start, asked, questions, own_message_at, held, operation, account_of, limit_at, task_of}
 
 -- ---- server lines
 
@@ -214,10 +214,15 @@ line_step grid row state (Abandon k) = asked_step grid row state (Abandon k)
 abbrev pub line_told : Grid → TenantRow → State → Line → Told
 line_told grid row state line = (line_step grid row state line).told
 
+-- a session with an operation passes over no number. Nobody is told of it where it may, so it is answered as a server line is
+abbrev pub leap_told : State → ℕ → Told
+leap_told state k = if is_some (state.session k).current then Refused Busy else ServerOk
+
 -- what is told and sent to a turn
 abbrev pub step : Grid → TenantRow → Known → Turn → Step
 step grid row known (Own line) = if nat_le row.steps known.lines then quiet (Refused Spent) else line_step grid row known.state line
 step grid row known (Serving line) = quiet (server_told grid known.state.up line)
+step grid row known (Leaping k op number) = quiet (leap_told known.state k)
 
 abbrev pub told : Grid → TenantRow → Known → Turn → Told
 told grid row known turn = (step grid row known turn).told
@@ -232,6 +237,7 @@ is_refusal _ = false
 abbrev pub lines_after : ℕ → Turn → ℕ
 lines_after lines (Own line) = lines + 1
 lines_after lines (Serving line) = lines
+lines_after lines (Leaping k op number) = lines
 
 -- what is told to a turn, and what it sends
 abbrev pub step_at : Grid → TenantRow → Past → Turn → Step

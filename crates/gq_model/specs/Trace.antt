@@ -5,7 +5,7 @@
 -- the answer is after one more entry; in a session an entry does a *deed*, and what is asked of the session goes on by the
 -- deed. `State` has the answers to all questions. `Past` is what was before a turn: the number of lines and the trace;
 -- `Known` is what the next answer depends on: the steps taken and the state.
-use Rattle.std.specs.Prelude.{ℕ, ◌+◌, List, [], ◌∷◌, ◌++◌, Bool, true, false, ◌==◌, ◌||◌, ◌&&◌, not, Option, Some, None, option_map, slice_get, min, if◌then◌else◌}
+use Rattle.std.specs.Prelude.{ℕ, ◌+◌, List, [], ◌∷◌, ◌++◌, Bool, true, false, ◌==◌, ◌||◌, ◌&&◌, not, Option, Some, None, option_map, slice_get, min, max, if◌then◌else◌}
 use Rattle.std.specs.Option.{option_and_then}
 use Rattle.gq_grid.specs.Grid.{Servers}
 use Rattle.gq_tag.specs.declared.Tag.{Tag}
@@ -23,10 +23,12 @@ use Rattle.gq_model.specs.declared.events.ServerLine.{ServerLine}
 use Rattle.gq_model.specs.declared.events.ServerLine.TheVariants.{Bad as BadServer, Down, Up}
 use Rattle.gq_model.specs.Told.{Told, Noted, Round, Done}
 
--- what a tenant sees of an event: a line of its own, or a server line
+-- what a tenant sees of an event: a line of its own, or a server line. No line makes the third: a session that has no operation passes
+-- over the numbers of operations and of tags up to these, as it has to where it begins anew from numbers that were reserved for it.
 pub data Turn : Type 0 where
   Own : (line : Line) → Turn
   Serving : (line : ServerLine) → Turn
+  Leaping : (session op number : ℕ) → Turn
 
 -- ---- the trace
 
@@ -49,6 +51,7 @@ up_by (Serving (Down n)) before server = if n == server then false else before s
 up_by (Serving (Up n)) before server = if n == server then true else before server
 up_by (Serving BadServer) before server = before server
 up_by (Own line) before server = before server
+up_by (Leaping k op number) before server = before server
 
 abbrev pub up : Trace → Servers
 up [] = λ server. true
@@ -103,6 +106,8 @@ pub data Deed : Type 0 where
   Moves : (message : OwnMessage) (round : ℕ) (tag : Option Tag) → Deed
   -- the operation is done or abandoned
   Ends : Deed
+  -- the numbers of operations up to this, and those of tags up to that, are passed over; there is no operation
+  Leaps : (op number : ℕ) → Deed
 
 -- what a message to a session does there, where this was told
 abbrev pub heard_deed : OwnMessage → Told → Deed
@@ -126,6 +131,7 @@ deed k e = by e.turn
     by (Own (ListFiles s v)) = if s == k then Begins (ListFiles s v) else Elsewhere
     by (Own (Abandon s)) = if s == k then Ends else Elsewhere
     by (Own (Deliver n)) = delivered_deed k e.message e.told
+    by (Leaping s op number) = if s == k then Leaps op number else Elsewhere
     by _ = Elsewhere
 
 -- how many files the volume has, none where there is no such volume
@@ -145,7 +151,7 @@ task_of volumes _ = None
 
 -- one session, as what its tenant was told leaves it (`session_by`)
 pub record Session : Type 0 where
-  -- how many operations it began
+  -- the number of its last operation, or the last one that it passed over; 0 before the first
   pub op : ℕ
   -- what the operation that it has is to do, none where it has none
   pub current : Option Task
@@ -154,7 +160,7 @@ pub record Session : Type 0 where
   pub heard : List Reply
   -- the copy that each collect round of that operation decided, in order; of a write, the copy that it stores
   pub collected : List StoredCopy
-  -- the number of the tag in the last Round answer of a write, or 0
+  -- the number of the tag in the last Round answer of a write, or the last one that it passed over, or 0
   pub floor : ℕ
 
 abbrev pub new_session : Session
@@ -184,6 +190,8 @@ session_by volumes k (Moves message next tag) s =
     record { op = s.op; current = s.current; round = next; heard = []; collected = collected_by k message s s.current; floor = floor_by tag s.floor s.current }
 session_by volumes k Ends s =
     record { op = s.op; current = None; round = s.round; heard = s.heard; collected = s.collected; floor = s.floor }
+session_by volumes k (Leaps op number) s =
+    record { op = max s.op op; current = None; round = s.round; heard = s.heard; collected = s.collected; floor = max s.floor number }
 
 abbrev pub session : Trace → ℕ → Session
 session [] = λ k. new_session

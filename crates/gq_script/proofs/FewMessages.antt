@@ -17,8 +17,8 @@ use Rattle.gq_model.specs.declared.events.Line.TheVariants.{Bad, Quorum, NewVolu
 use Rattle.gq_model.specs.declared.events.Refusal.{Refusal}
 use Rattle.gq_model.specs.declared.events.Refusal.TheVariants.{Spent, NoSession, Bad as BadLine}
 use Rattle.gq_model.specs.Told.{Told, IsDown, Stale, Noted, Done, Abandoned, Refused, StrayBad}
-use Rattle.gq_model.specs.Trace.{Turn, Own, Serving, Trace, State, Past, start, sent, questions, operation, own_message_at, account_of, task_of}
-use Rattle.gq_model.specs.Lone.{Step, quiet, Cause, idle, no_quorum, first_cause, session_causes, session_step, asked_step, first_operation, begin_step, serve_step, heard_step, hear_step, deliver_step, retry_step, unless, choice_told, open_told, lose_told, line_step, server_told, said, after, trace_after, told_from, is_refusal}
+use Rattle.gq_model.specs.Trace.{Turn, Own, Serving, Leaping, Trace, State, Past, start, sent, questions, operation, own_message_at, account_of, task_of}
+use Rattle.gq_model.specs.Lone.{Step, quiet, Cause, idle, no_quorum, first_cause, session_causes, session_step, asked_step, first_operation, begin_step, serve_step, heard_step, hear_step, deliver_step, retry_step, unless, choice_told, open_told, lose_told, line_step, server_told, leap_told, said, after, trace_after, told_from, is_refusal}
 use Rattle.gq_laws.proofs.Acts.{message_sent}
 use Rattle.gq_world.proofs.Hearing.{few_messages, length-rising, hear_cases}
 
@@ -153,6 +153,9 @@ sent_after t turn s = by (is_refusal s.told) refl
 few_after : (grid : Grid) (row : TenantRow) (p : Past) (turn : Turn) → IsSmall grid → IsFew row p → IsFew row (after grid row p turn)
 few_after grid row p (Serving line) small few =
     let grown = sent_after p.trace (Serving line) (quiet (server_told grid (questions p.trace).up line)) in
+    omega (arith, grown, few)
+few_after grid row p (Leaping k op number) small few =
+    let grown = sent_after p.trace (Leaping k op number) (quiet (leap_told (questions p.trace) k)) in
     omega (arith, grown, few)
 few_after grid row p (Own line) small few = by (nat_le row.steps (min row.steps p.lines)) refl
   where

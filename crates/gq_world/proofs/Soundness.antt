@@ -1,12 +1,14 @@
 -- Tables that are sound stay so after every event.
-use Rattle.std.proofs.Common.{◌<◌, Option, Some, None, length, refl, sym, subst, append-nil}
+use Rattle.std.proofs.Common.{◌≡◌, ℕ, ◌<◌, Bool, true, false, length, refl, sym, subst, append-nil}
+use Rattle.std.specs.Prelude.{◌==◌}
 use Rattle.gq_grid.specs.Grid.{Grid}
 use Rattle.gq_desk.specs.declared.plans.TenantRow.{TenantRow}
 use Rattle.gq_desk.specs.CheckedPlan.{CheckedPlan, row_at}
 use Rattle.gq_model.specs.declared.events.Event.{Event}
+use Rattle.gq_model.specs.declared.events.Event.TheVariants.{Tenant, Server, Stray}
 use Rattle.gq_model.specs.declared.events.ServerLine.{ServerLine}
 use Rattle.gq_model.specs.Told.{Told}
-use Rattle.gq_model.specs.Trace.{Turn, Own, Serving, State, Known, changed}
+use Rattle.gq_model.specs.Trace.{Serving, State, Known, changed}
 use Rattle.gq_model.specs.Lone.{entry_of, quiet, server_told, is_refusal}
 use Rattle.gq_model.specs.Events.{turn_of}
 use Rattle.gq_world.specs.Bounds.{IsBounded}
@@ -30,11 +32,15 @@ served_bounded grid row known line h =
     either_state (IsBounded grid row known.lines) (is_refusal told) state after h
     (same_bounded grid row known.lines state after h refl (append-nil state.sent) (λ server file. refl) (λ k. refl))
 
--- after any event, as the tenant sees it
-seen_bounded : (grid : Grid) (row : TenantRow) (known : Known) (turn : Option Turn) → Bounded grid row known → Bounded grid row (next_seen grid row known turn)
-seen_bounded grid row known None h = h
-seen_bounded grid row known (Some (Own line)) h = next_bounded grid row known line (keeps_bounds line) h
-seen_bounded grid row known (Some (Serving line)) h = served_bounded grid row known line h
+-- after any event, as the tenant at place t sees it
+seen_bounded : (grid : Grid) (row : TenantRow) (known : Known) (t : ℕ) (e : Event) → Bounded grid row known → Bounded grid row (next_seen grid row known (turn_of t e))
+seen_bounded grid row known t (Tenant tenant line) h = by (tenant == t) refl
+  where
+    by : (b : Bool) → (tenant == t) ≡ b → Bounded grid row (next_seen grid row known (turn_of t (Tenant tenant line)))
+    by true its = rw its (next_bounded grid row known line (keeps_bounds line) h)
+    by false its = rw its h
+seen_bounded grid row known t (Server line) h = served_bounded grid row known line h
+seen_bounded grid row known t Stray h = h
 
 pub sound_after : (old new : Tables) (e : Event) → Advances old e new → AllSound old → AllSound new
 sound_after old new e advances sound t within =
@@ -45,5 +51,5 @@ sound_after old new e advances sound t within =
     record {
       known = known;
       agrees = advances.tenants t inside s.known s.agrees;
-      bounded = subst (λ p. IsBounded p.grid (row_at p t) known.lines known.state) (sym advances.plan) (seen_bounded old.plan.grid row s.known (turn_of t e) s.bounded);
+      bounded = subst (λ p. IsBounded p.grid (row_at p t) known.lines known.state) (sym advances.plan) (seen_bounded old.plan.grid row s.known t e s.bounded);
     }
