@@ -15,7 +15,7 @@ use Rattle.gq_model.specs.declared.events.Refusal.TheVariants.{NoQuorum}
 use Rattle.gq_model.specs.Told.{Began, Replied}
 use Rattle.gq_model.specs.Trace.{State, Session, operation, operation_with, files_of}
 use Rattle.gq_model.specs.Lone.{Cause, asked_step, begin_step, first_operation, first_cause, session_causes, session_step, no_session, busy, idle, no_volume, no_file, too_long, retry_step, hear_step, heard_step, deliver_step, reply_to, unless}
-use Rattle.gq_cluster.specs.Cluster.{asker, IsOfSession}
+use Rattle.gq_cluster.specs.Cluster.{session_named, IsOfSession}
 use Rattle.gq_cluster.proofs.Numbers.{numbered_step, unless_is, heard_step_is}
 
 -- ---- two states that agree on a session
@@ -54,7 +54,7 @@ no_quorum_up : (grid : Grid) (up also : Servers) (round : ℕ) → SameQuorums g
 no_quorum_up grid up also round same = λ i. (is_none (round_quorum_up grid up also round same i), NoQuorum)
 
 asked_up : (grid : Grid) (row : TenantRow) (a b : State) (line : Line) → IsOfSession line → SameQuorums grid a.up b.up →
-    asked_step grid row (with_these a b.volumes (b.session (asker line))) line ≡ numbered_step (length a.sent) (asked_step grid row b line)
+    asked_step grid row (with_these a b.volumes (b.session (session_named line))) line ≡ numbered_step (length a.sent) (asked_step grid row b line)
 asked_up grid row a b (Write k v f bytes) its same =
     (λ i. unless (first_cause (no_session row k ∷ busy b k ∷ no_volume b v ∷ no_file b v f ∷ too_long b v f bytes ∷ no_quorum_up grid a.up b.up 1 same i ∷ [])) (begun_up grid a b k (Writing (record { volume = v; place = f }) bytes) same i))
     ∙ unless_is (length a.sent) (first_cause (session_causes grid row b (Write k v f bytes))) (session_step grid b (Write k v f bytes))
@@ -75,7 +75,7 @@ asked_up grid row a b other its same = absurd its
 
 -- ---- what is asked of a session
 
-pub asked_alike : (grid : Grid) (row : TenantRow) (a b : State) (line : Line) → IsOfSession line → Alike grid (asker line) a b → asked_step grid row a line ≡ numbered_step (length a.sent) (asked_step grid row b line)
+pub asked_alike : (grid : Grid) (row : TenantRow) (a b : State) (line : Line) → IsOfSession line → Alike grid (session_named line) a b → asked_step grid row a line ≡ numbered_step (length a.sent) (asked_step grid row b line)
 asked_alike grid row a b (Write k v f bytes) its alike = (λ i. asked_step grid row (with_these a (alike.volumes i) (alike.session i)) (Write k v f bytes)) ∙ asked_up grid row a b (Write k v f bytes) its alike.quorums
 asked_alike grid row a b (Read k v f) its alike = (λ i. asked_step grid row (with_these a (alike.volumes i) (alike.session i)) (Read k v f)) ∙ asked_up grid row a b (Read k v f) its alike.quorums
 asked_alike grid row a b (ListFiles k v) its alike = (λ i. asked_step grid row (with_these a (alike.volumes i) (alike.session i)) (ListFiles k v)) ∙ asked_up grid row a b (ListFiles k v) its alike.quorums

@@ -1,5 +1,5 @@
 -- All steps of nodes, one after another, are a run of the service.
-use Rattle.std.proofs.Common.{◌≡◌, ℕ, ◌+◌, ◌*◌, ◌≤◌, Bool, true, false, List, [], ◌∷◌, ◌++◌, length, map, refl, sym, ap, ◌∙◌, subst, arith, min, append_assoc}
+use Rattle.std.proofs.Common.{◌≡◌, ℕ, ◌+◌, ◌*◌, ◌≤◌, Bool, true, false, List, [], ◌∷◌, ◌++◌, length, map, refl, sym, ap, ◌∙◌, subst, arith, min, append_assoc, append-nil}
 use Rattle.std.specs.Prelude.{nat_le, fold, is_some, ◌==◌, ◌&&◌, ⊤}
 use Rattle.std.specs.List.{range_with_len}
 use Rattle.std.proofs.Math.Nat.{suc-mul}
@@ -17,6 +17,8 @@ use Rattle.gq_cluster.specs.Cluster.{Setting, Cluster, Act, NodeStep, Acts, Rest
 use Rattle.gq_cluster.specs.Laws.{turn_exchanges, exchanges_from, openings, opened, setting_of, StepsEnough, AllClustersServe}
 use Rattle.gq_cluster.proofs.Standing.{Stands}
 use Rattle.gq_cluster.proofs.OneAct.{IsActed, one_act}
+use Rattle.gq_cluster.proofs.Abandoning.{given_up, all_given}
+use Rattle.gq_cluster.proofs.Leaping.{leaps, IsLeapt, node_leaps}
 
 -- ---- one run behind another
 
@@ -88,6 +90,17 @@ acts_few s c (Restarts node) =
     let all = length-range_with_len 1 s.row.sessions in
     omega arith
 
+-- behind the acts of a node step: nothing, or the sessions of a node go on behind their reserved numbers
+behind_run : (s : Setting) (step : NodeStep) (p : Past) (c : Cluster) → Stands s p (after_acts s c (acts_of s c step)) → Runs s p (after_step s c step) [] 0
+behind_run s (Acts act) p c stands = record { turns = []; did = refl; stands = stands; lines = omega arith }
+behind_run s (Restarts node) p c stands = record { turns = leaps s mid node; did = leapt.did; stands = leapt.stands; lines = (let lines = leapt.lines in omega arith) }
+  where
+    mid : Cluster
+    mid = given_up s c node
+
+    leapt : IsLeapt s p mid node
+    leapt = node_leaps s p mid node stands (λ k home inside. ap (λ z. z.current) ((all_given s c node).own k home inside))
+
 steps_run : (s : Setting) (steps : List NodeStep) (p : Past) (c : Cluster) → Stands s p c → p.lines + length steps * (s.row.sessions + 1) ≤ s.row.steps → CanFollow s c steps → Runs s p (fold (after_step s) c steps) (exchanges s c steps) (length steps * (s.row.sessions + 1))
 steps_run s [] p c stands enough can = record { turns = []; did = refl; stands = stands; lines = omega arith }
 steps_run s (step ∷ steps) p c stands enough can = runs_on s p (after_step s c step) (fold (after_step s) c (step ∷ steps)) (exchanges_of s c (acts_of s c step)) (exchanges s (after_step s c step) steps) (length (acts_of s c step)) (length steps * (s.row.sessions + 1)) (length (step ∷ steps) * (s.row.sessions + 1)) (omega (arith, few, each)) one
@@ -99,8 +112,14 @@ steps_run s (step ∷ steps) p c stands enough can = runs_on s p (after_step s c
     each : length (step ∷ steps) * (s.row.sessions + 1) ≡ length steps * (s.row.sessions + 1) + (s.row.sessions + 1)
     each = suc-mul (length steps) (s.row.sessions + 1)
 
+    acts : Runs s p (after_acts s c (acts_of s c step)) (exchanges_of s c (acts_of s c step)) (length (acts_of s c step))
+    acts = acts_run s (acts_of s c step) p c stands (omega (arith, few, each)) (acts_can s c step can.0)
+
     one : Runs s p (after_step s c step) (exchanges_of s c (acts_of s c step)) (length (acts_of s c step))
-    one = acts_run s (acts_of s c step) p c stands (omega (arith, few, each)) (acts_can s c step can.0)
+    one =
+        let P : List Exchange → Type 0 = λ z. Runs s p (after_step s c step) z (length (acts_of s c step)) in
+        let behind = behind_run s step (fold (after s.grid s.row) p acts.turns) c acts.stands in
+        subst P (append-nil (exchanges_of s c (acts_of s c step))) (runs_on s p (after_acts s c (acts_of s c step)) (after_step s c step) (exchanges_of s c (acts_of s c step)) [] (length (acts_of s c step)) 0 (length (acts_of s c step)) (omega arith) acts behind)
 
 -- ---- the openings
 

@@ -4,9 +4,12 @@ pub mod Numbers
 pub mod Standing
 pub mod Parts
 pub mod OneAct
+pub mod Abandoning
+pub mod Leaping
 pub mod Clusters
 pub mod Reading
 pub mod Registers
+pub mod Keeping
+pub mod Reserving
 pub mod Restarting
 pub mod WorkedCase
-pub mod Keeping

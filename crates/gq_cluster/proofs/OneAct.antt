@@ -15,15 +15,15 @@ use Rattle.gq_model.specs.declared.events.Line.{Line}
 use Rattle.gq_model.specs.declared.events.Line.TheVariants.{Write, Read, List as ListFiles, Deliver, Retry, Abandon}
 use Rattle.gq_model.specs.Told.{Told}
 use Rattle.gq_model.specs.Said.{said_in}
-use Rattle.gq_model.specs.Trace.{Turn, Own, Entry, State, Past, Elsewhere, questions, up, volumes, volumes_by, sent, is_lost, lost_by, brought, brought_by, session, session_by, deed, changed}
+use Rattle.gq_model.specs.Trace.{Turn, Own, Entry, State, Past, Elsewhere, questions, up, volumes, volumes_by, sent, is_lost, lost_by, brought, brought_by, session, session_by, deed}
 use Rattle.gq_model.specs.Lone.{Step, after, step_at, line_step, asked_step, deliver_step, is_refusal, message_of_turn, trace_after}
 use Rattle.gq_laws.proofs.Found.{position_of}
-use Rattle.gq_cluster.specs.Cluster.{Setting, Cluster, Act, Asks, Comes, asker, IsOfSession, CanAct, everyone, aim_of, node_of, part_of, step_in, act_entry, after_act, arrival_of, exchange_of}
+use Rattle.gq_cluster.specs.Cluster.{Setting, Cluster, Act, Asks, Comes, session_named, IsOfSession, CanAct, everyone, aim_of, node_of, step_in, act_entry, after_act, arrival_of, exchange_of}
 use Rattle.gq_cluster.specs.Laws.{arrival_by, turn_exchanges, exchanges_from}
 use Rattle.gq_cluster.proofs.ServerLines.{as_aimed, SetsAll, all_set}
 use Rattle.gq_cluster.proofs.Numbers.{numbered, numbered_step, refusal_is, said_is, delivered_deed_is}
 use Rattle.gq_cluster.proofs.Alike.{asked_alike, heard_alike, served_alike}
-use Rattle.gq_cluster.proofs.Parts.{state_at, parts_then, parts_here, parts_away, refused_part, accepted_part, refused_quiet}
+use Rattle.gq_cluster.proofs.Parts.{state_at, part_then, parts_then, parts_here, parts_away, refused_part, accepted_part, refused_quiet}
 use Rattle.gq_cluster.proofs.Standing.{Stands, stands_on, exchanges_behind}
 
 -- ---- a line that plays an act
@@ -121,7 +121,7 @@ sessions_go s q c act stands e deeds elsewhere k = by (cases_eq (s.home k) (node
 
 -- a server's copies go on alike at its node, and elsewhere stay
 copies_go : (s : Setting) (q : Past) (c : Cluster) (act : Act) (letter : Option OwnMessage) → Stands s q c →
-    ((n : ℕ) (file : File) → n ≡ node_of s.home act → brought q.trace n file ≡ (c.part (node_of s.home act)).brought file → brought_by (up q.trace) letter (brought q.trace) n file ≡ (part_of n (changed (act_entry act (step_in s c act)) (state_at s c act))).brought file) →
+    ((n : ℕ) (file : File) → n ≡ node_of s.home act → brought q.trace n file ≡ (c.part (node_of s.home act)).brought file → brought_by (up q.trace) letter (brought q.trace) n file ≡ (part_then s c act n).brought file) →
     ((n : ℕ) (file : File) → n ≢ node_of s.home act → brought_by (up q.trace) letter (brought q.trace) n file ≡ brought q.trace n file) →
     (n : ℕ) (file : File) → brought_by (up q.trace) letter (brought q.trace) n file ≡ (parts_then s c act n).brought file
 copies_go s q c act letter stands here away n file = by (cases_eq n (node_of s.home act))
@@ -143,7 +143,7 @@ asks_deed k (Retry s) a b new its = refl
 asks_deed k (Abandon s) a b new its = refl
 asks_deed k other a b new its = absurd its
 
-asks_elsewhere : (k : ℕ) (line : Line) (told : Told) (new : List OwnMessage) → IsOfSession line → asker line ≢ k → deed k (record { turn = Own line; message = None; told = told; new = new }) ≡ Elsewhere
+asks_elsewhere : (k : ℕ) (line : Line) (told : Told) (new : List OwnMessage) → IsOfSession line → session_named line ≢ k → deed k (record { turn = Own line; message = None; told = told; new = new }) ≡ Elsewhere
 asks_elsewhere k (Write s v f bytes) told new its ne = rw (ne_eqb s k ne) refl
 asks_elsewhere k (Read s v f) told new its ne = rw (ne_eqb s k ne) refl
 asks_elsewhere k (ListFiles s v) told new its ne = rw (ne_eqb s k ne) refl
@@ -192,7 +192,7 @@ asks : (s : Setting) (q : Past) (c : Cluster) (line : Line) (aim : Servers) → 
 asks s q c line aim stands aimed its = record {
   line = line;
   letter = None;
-  step = own_line s.grid s.row (questions q.trace) line its ∙ asked_alike s.grid s.row (questions q.trace) (state_at s c act) line its (record { volumes = stands.opened; session = stands.sessions (asker line); quorums = quorums_in_grid s.grid (up q.trace) aim aimed });
+  step = own_line s.grid s.row (questions q.trace) line its ∙ asked_alike s.grid s.row (questions q.trace) (state_at s c act) line its (record { volumes = stands.opened; session = stands.sessions (session_named line); quorums = quorums_in_grid s.grid (up q.trace) aim aimed });
   brings = brings_none (questions q.trace) line its;
   came = refl;
   opens = opens_none line its;

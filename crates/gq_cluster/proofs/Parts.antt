@@ -13,7 +13,8 @@ use Rattle.gq_model.specs.declared.events.Refusal.TheVariants.{NoQuorum}
 use Rattle.gq_model.specs.Told.{Resent, Refused}
 use Rattle.gq_model.specs.Trace.{State, operation, changed}
 use Rattle.gq_model.specs.Lone.{Step, asked_step, deliver_step, first_cause, session_causes, session_step, retry_step, hear_step, heard_step, serve_step, is_refusal, unless, quiet}
-use Rattle.gq_cluster.specs.Cluster.{Setting, Cluster, Part, Act, Asks, Comes, aim_of, node_of, part_of, state_of, act_step, act_entry, step_in, part_after, parts_after}
+use Rattle.gq_cluster.specs.Facts.{Reserved, with_reserved}
+use Rattle.gq_cluster.specs.Cluster.{Setting, Cluster, Part, Act, Asks, Comes, aim_of, node_of, part_of, state_of, act_step, act_entry, step_in, fact_of, part_after, parts_after}
 
 -- ---- what an act leaves
 
@@ -21,11 +22,19 @@ use Rattle.gq_cluster.specs.Cluster.{Setting, Cluster, Part, Act, Asks, Comes, a
 abbrev pub state_at : Setting → Cluster → Act → State
 state_at s c act = state_of s.volumes (aim_of act) (c.part (node_of s.home act))
 
+-- what is reserved behind the act for the sessions of its node
+abbrev pub reserved_then : Setting → Cluster → Act → ℕ → Reserved
+reserved_then s c act = with_reserved (fact_of s (c.part (node_of s.home act)) act) (c.part (node_of s.home act)).reserved
+
+-- the part of that node, as number n, after an act that is not refused
+abbrev pub part_then : Setting → Cluster → Act → ℕ → Part
+part_then s c act n = part_of n (reserved_then s c act) (changed (act_entry act (step_in s c act)) (state_at s c act))
+
 -- the parts after an act that is not refused
 abbrev pub parts_then : Setting → Cluster → Act → ℕ → Part
-parts_then s c act n = if n == node_of s.home act then part_of n (changed (act_entry act (step_in s c act)) (state_at s c act)) else c.part n
+parts_then s c act n = if n == node_of s.home act then part_then s c act n else c.part n
 
-pub parts_here : (s : Setting) (c : Cluster) (act : Act) (n : ℕ) → n ≡ node_of s.home act → parts_then s c act n ≡ part_of n (changed (act_entry act (step_in s c act)) (state_at s c act))
+pub parts_here : (s : Setting) (c : Cluster) (act : Act) (n : ℕ) → n ≡ node_of s.home act → parts_then s c act n ≡ part_then s c act n
 parts_here s c act n same = rw (eq-eqb n (node_of s.home act) same) refl
 
 pub parts_away : (s : Setting) (c : Cluster) (act : Act) (n : ℕ) → n ≢ node_of s.home act → parts_then s c act n ≡ c.part n
@@ -47,8 +56,8 @@ accepted_part s c act accepted n = by (cases_eq n (node_of s.home act))
     by : (n ≡ node_of s.home act) ⊎ (n ≢ node_of s.home act) → parts_after s c act n ≡ parts_then s c act n
     by (inr ne) = rw (ne_eqb n (node_of s.home act) ne) refl
     by (inl same) =
-        let P : ℕ → Type 0 = λ z. part_after s z (c.part z) act ≡ part_of z (changed (act_entry act (step_in s c act)) (state_at s c act)) in
-        let there : part_after s (node_of s.home act) (c.part (node_of s.home act)) act ≡ part_of (node_of s.home act) (changed (act_entry act (step_in s c act)) (state_at s c act)) = rw accepted refl in
+        let P : ℕ → Type 0 = λ z. part_after s z (c.part z) act ≡ part_then s c act z in
+        let there : part_after s (node_of s.home act) (c.part (node_of s.home act)) act ≡ part_then s c act (node_of s.home act) = rw accepted refl in
         rw (eq-eqb n (node_of s.home act) same) (subst P (sym same) there)
 
 -- what is refused sends nothing

@@ -1,6 +1,6 @@
 -- The operations that are read off what a run does to sessions and servers are those that are read off all its turns.
 use Rattle.std.proofs.Common.{◌≡◌, ℕ, zero, suc, ◌+◌, ◌≤◌, Bool, true, false, List, [], ◌∷◌, ◌++◌, refl, sym, ap, ap₂, ◌∙◌, subst, Option, Some, None, eqb, arith, min, add-one}
-use Rattle.std.specs.Prelude.{slice_get, slice_index, nat_le, ⊤}
+use Rattle.std.specs.Prelude.{slice_get, slice_index, nat_le, is_some, ⊤, if◌then◌else◌}
 use Rattle.gq_grid.specs.Grid.{Grid, Servers}
 use Rattle.gq_tag.specs.Tag.{File, OwnMessage, is_file}
 use Rattle.gq_desk.specs.declared.plans.TenantRow.{TenantRow}
@@ -8,11 +8,11 @@ use Rattle.gq_model.specs.declared.events.Line.{Line}
 use Rattle.gq_model.specs.declared.events.ServerLine.{ServerLine}
 use Rattle.gq_model.specs.declared.events.ServerRefusal.{ServerRefusal}
 use Rattle.gq_model.specs.declared.events.Line.TheVariants.{Write, Read, List as ListFiles, Deliver, Retry, Abandon}
-use Rattle.gq_model.specs.declared.events.Refusal.TheVariants.{Spent, NoMessage}
-use Rattle.gq_model.specs.Told.{Told, Began, Round, Done, Abandoned, Refused}
+use Rattle.gq_model.specs.declared.events.Refusal.TheVariants.{Spent, Busy, NoMessage}
+use Rattle.gq_model.specs.Told.{Told, Began, Round, Done, Abandoned, Refused, ServerOk}
 use Rattle.gq_model.specs.Said.{said_in}
-use Rattle.gq_model.specs.Trace.{Turn, Own, Serving, Past, questions, sent, up}
-use Rattle.gq_model.specs.Lone.{after, said, step_at, message_of_turn, server_told, server_refusal, quiet, deliver_step}
+use Rattle.gq_model.specs.Trace.{Turn, Own, Serving, Leaping, State, Past, questions, sent, up}
+use Rattle.gq_model.specs.Lone.{after, said, step_at, message_of_turn, server_told, server_refusal, leap_told, quiet, deliver_step}
 use Rattle.gq_laws.specs.Operations.{SessionAnswer, ending, write_tag, begun_at, begun_in}
 use Rattle.gq_laws.specs.Laws.{IsRising}
 use Rattle.gq_laws.proofs.Words.{message_at}
@@ -164,12 +164,14 @@ own_places n [] i = n + i
 own_places n (Own line ∷ turns) zero = n
 own_places n (Own line ∷ turns) (suc i) = own_places (n + 1) turns i
 own_places n (Serving line ∷ turns) i = own_places (n + 1) turns i
+own_places n (Leaping k op number ∷ turns) i = own_places (n + 1) turns i
 
 places_low : (n : ℕ) (turns : List Turn) (i : ℕ) → n ≤ own_places n turns i
 places_low n [] i = omega arith
 places_low n (Own line ∷ turns) zero = omega arith
 places_low n (Own line ∷ turns) (suc i) = let low = places_low (n + 1) turns i in omega arith
 places_low n (Serving line ∷ turns) i = let low = places_low (n + 1) turns i in omega arith
+places_low n (Leaping k op number ∷ turns) i = let low = places_low (n + 1) turns i in omega arith
 
 pub places_rise : (n : ℕ) (turns : List Turn) → IsRising (own_places n turns)
 places_rise n [] i j low = omega arith
@@ -177,6 +179,7 @@ places_rise n (Own line ∷ turns) i zero low = absurd (omega arith)
 places_rise n (Own line ∷ turns) zero (suc j) low = let late = places_low (n + 1) turns j in omega arith
 places_rise n (Own line ∷ turns) (suc i) (suc j) low = places_rise (n + 1) turns i j (omega arith)
 places_rise n (Serving line ∷ turns) i j low = places_rise (n + 1) turns i j low
+places_rise n (Leaping k op number ∷ turns) i j low = places_rise (n + 1) turns i j low
 
 -- ---- one turn
 
@@ -186,6 +189,13 @@ server_silent grid up line = by (server_refusal grid up line) refl
     by : (word : Option ServerRefusal) → server_refusal grid up line ≡ word → IsSilent (server_told grid up line)
     by None is = rw is tt
     by (Some word) is = rw is tt
+
+leap_silent : (state : State) (k : ℕ) → IsSilent (leap_told state k)
+leap_silent state k = by (is_some (state.session k).current)
+  where
+    by : (b : Bool) → IsSilent (if b then Refused Busy else ServerOk)
+    by true = tt
+    by false = tt
 
 -- a delivery of a message that isn't there is refused
 missing_silent : (grid : Grid) (row : TenantRow) (p : Past) (number : ℕ) → message_at p.trace number ≡ None → IsSilent (said grid row p (Own (Deliver number)))
@@ -253,6 +263,12 @@ reads grid row (Serving line ∷ turns) p n =
     subst P (sym (tells-cons grid row p n (Serving line) turns))
     (silent_left (first_told grid row p n (Serving line)) (tells grid row (after grid row p (Serving line)) (n + 1) turns) (answers_at (own_places (n + 1) turns) (exchanges_from grid row (after grid row p (Serving line)) turns)) (server_silent grid (up p.trace) line)
     (reads grid row turns (after grid row p (Serving line)) (n + 1)))
+reads grid row (Leaping k op number ∷ turns) p n =
+    let turn : Turn = Leaping k op number in
+    let P : List SessionAnswer → Type 0 = λ z. SameReading z (answers_at (own_places (n + 1) turns) (exchanges_from grid row (after grid row p turn) turns)) in
+    subst P (sym (tells-cons grid row p n turn turns))
+    (silent_left (first_told grid row p n turn) (tells grid row (after grid row p turn) (n + 1) turns) (answers_at (own_places (n + 1) turns) (exchanges_from grid row (after grid row p turn) turns)) (leap_silent (questions p.trace) k)
+    (reads grid row turns (after grid row p turn) (n + 1)))
 reads grid row (Own line ∷ turns) p n =
     let P : List SessionAnswer → Type 0 = λ z. SameReading z (answers_at (own_places n (Own line ∷ turns)) (exchanges_from grid row p (Own line ∷ turns))) in
     subst P (sym (tells-cons grid row p n (Own line) turns))

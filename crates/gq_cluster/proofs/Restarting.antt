@@ -1,207 +1,92 @@
--- A restart gives up what its node's sessions did not do, and changes nothing else.
-use Rattle.std.proofs.Common.{◌≡◌, ◌≢◌, ◌⊎◌, ℕ, zero, suc, ◌+◌, ◌*◌, ◌<◌, ◌≤◌, Bool, true, false, ◌&&◌, List, [], ◌∷◌, ◌++◌, length, map, refl, sym, ap, ◌∙◌, subst, inl, inr, Option, Some, None, arith, append-nil, eqb, leb, is_some}
-use Rattle.std.specs.Prelude.{filter, ⊤}
-use Rattle.std.specs.List.{range_with_len, list_any}
-use Rattle.std.proofs.lemmas.Bool.{cases_eq, eq-eqb, ne_eqb, le-leb, leb-true, and_parts, true≢false}
+-- A restart gives up what its node's sessions did not do, takes them behind their reserved numbers, and changes nothing else.
+use Rattle.std.proofs.Common.{◌≡◌, ◌≢◌, ℕ, ◌+◌, ◌*◌, ◌≤◌, Bool, true, false, ◌&&◌, ◌++◌, length, refl, sym, ap, ◌∙◌, subst, Option, Some, None, arith, eqb}
+use Rattle.std.specs.Prelude.{max, if◌then◌else◌}
+use Rattle.std.proofs.lemmas.Bool.{eq-eqb, ne_eqb, true≢false}
 use Rattle.gq_tag.specs.Tag.{File}
 use Rattle.gq_desk.specs.Plans.{is_in}
 use Rattle.gq_phase.specs.Phase.{Task}
-use Rattle.gq_model.specs.declared.events.Refusal.TheVariants.{Idle}
-use Rattle.gq_model.specs.Told.{Abandoned, Refused}
-use Rattle.gq_model.specs.Trace.{Session, session}
-use Rattle.gq_model.specs.Lone.{quiet, past_of, is_refusal}
+use Rattle.gq_model.specs.Trace.{Session, Leaps, session, session_by}
+use Rattle.gq_model.specs.Lone.{past_of}
 use Rattle.gq_laws.proofs.Pasts.{past_run}
 use Rattle.gq_laws.proofs.Going.{while_going}
-use Rattle.gq_cluster.specs.Cluster.{Setting, Cluster, Act, Restarts, step_in, parts_after, after_act, after_acts, after_step, gives_up, going_at, cluster_after}
+use Rattle.gq_cluster.specs.Facts.{Reserved}
+use Rattle.gq_cluster.specs.Cluster.{Setting, Cluster, Part, Restarts, leapt_part, after_step, cluster_after}
+use Rattle.gq_cluster.specs.Keeping.{IsReserved}
 use Rattle.gq_cluster.specs.Laws.{openings, setting_of}
-use Rattle.gq_cluster.specs.Restarts.{without_operation, GivesUp, AllRestartsGiveUp}
-use Rattle.gq_cluster.proofs.Parts.{parts_then, parts_here, parts_away, refused_part, accepted_part}
-use Rattle.gq_cluster.proofs.Standing.{Stands}
+use Rattle.gq_cluster.specs.Restarts.{begun_anew, GivesUp, AllRestartsGiveUp}
+use Rattle.gq_cluster.proofs.Abandoning.{at_home, without_operation, given_up, Abandons, all_given}
 use Rattle.gq_cluster.proofs.Clusters.{run_of, run_stands}
+use Rattle.gq_cluster.proofs.Reserving.{all_used_reserved}
+use Rattle.gq_cluster.proofs.Standing.{Stands}
 
--- session k at its home
-abbrev at_home : Setting → Cluster → ℕ → Session
-at_home s c k = (c.part (s.home k)).session k
-
-idle_is : (z : Session) → z.current ≡ None → z ≡ without_operation z
-idle_is z idle = λ i. record { op = z.op; current = idle i; round = z.round; heard = z.heard; collected = z.collected; floor = z.floor }
-
--- ---- one session
-
-record GivesOne (s : Setting) (k : ℕ) (old new : Cluster) : Type 0 where
-  own : at_home s new k ≡ without_operation (at_home s old k)
-  others : (j : ℕ) → k ≢ j → at_home s new j ≡ at_home s old j
-  copies : (n : ℕ) (file : File) → (new.part n).brought file ≡ (old.part n).brought file
-  written : new.written ≡ old.written
-
-one_given : (s : Setting) (c : Cluster) (k : ℕ) → is_in 1 s.row.sessions k ≡ true → GivesOne s k c (after_act s c (gives_up k))
-one_given s c k inside = by (at_home s c k).current refl
+-- a session that has no operation, and used no number that is not reserved, begins anew by the leap
+anew : (reserved : Reserved) (z : Session) → z.op ≤ reserved.op → z.floor ≤ reserved.floor →
+    record { op = max z.op reserved.op; current = None; round = z.round; heard = z.heard; collected = z.collected; floor = max z.floor reserved.floor } ≡ begun_anew reserved z
+anew reserved z low floor_low = λ i. record { op = op i; current = None; round = z.round; heard = z.heard; collected = z.collected; floor = floor i }
   where
-    act : Act
-    act = gives_up k
+    op : max z.op reserved.op ≡ reserved.op
+    op = omega arith
 
-    here : (j n : ℕ) → n ≡ s.home k → k ≢ j → (parts_then s c act n).session j ≡ (c.part n).session j
-    here j n same ne = ap (λ z. z.session j) (parts_here s c act n same) ∙ rw (ne_eqb k j ne) (ap (λ z. (c.part z).session j) (sym same))
+    floor : max z.floor reserved.floor ≡ reserved.floor
+    floor = omega arith
 
-    others : (j : ℕ) → k ≢ j → (parts_then s c act (s.home j)).session j ≡ at_home s c j
-    others j ne = elim (cases_eq (s.home j) (s.home k)) [
-      | inl same ↦ (here j (s.home j) same ne)
-      | inr away ↦ (ap (λ z. z.session j) (parts_away s c act (s.home j) away))
-    ]
-
-    copies : (n : ℕ) (file : File) → (parts_then s c act n).brought file ≡ (c.part n).brought file
-    copies n file = elim (cases_eq n (s.home k)) [
-      | inl same ↦ (ap (λ z. z.brought file) (parts_here s c act n same) ∙ ap (λ z. (c.part z).brought file) (sym same))
-      | inr away ↦ (ap (λ z. z.brought file) (parts_away s c act n away))
-    ]
-
-    own : (parts_then s c act (s.home k)).session k ≡ without_operation (at_home s c k)
-    own = ap (λ z. z.session k) (parts_here s c act (s.home k) refl) ∙ rw (eq-eqb k k refl) refl
-
-    by : (task : Option Task) → (at_home s c k).current ≡ task → GivesOne s k c (after_act s c act)
-    by None idle =
-        let step : step_in s c act ≡ quiet (Refused Idle) = rw (inside, idle) refl in
-        let stays : (n : ℕ) → parts_after s c act n ≡ c.part n = refused_part s c act (ap (λ z. is_refusal z.told) step) in
-        record {
-          own = ap (λ z. z.session k) (stays (s.home k)) ∙ idle_is (at_home s c k) idle;
-          others = λ j ne. ap (λ z. z.session j) (stays (s.home j));
-          copies = λ n file. ap (λ z. z.brought file) (stays n);
-          written = ap (λ z. c.written ++ z.new) step ∙ append-nil c.written;
-        }
-    by (Some task) busy =
-        let step : step_in s c act ≡ quiet Abandoned = rw (inside, busy) refl in
-        let goes : (n : ℕ) → parts_after s c act n ≡ parts_then s c act n = accepted_part s c act (ap (λ z. is_refusal z.told) step) in
-        record {
-          own = ap (λ z. z.session k) (goes (s.home k)) ∙ own;
-          others = λ j ne. ap (λ z. z.session j) (goes (s.home j)) ∙ others j ne;
-          copies = λ n file. ap (λ z. z.brought file) (goes n) ∙ copies n file;
-          written = ap (λ z. c.written ++ z.new) step ∙ append-nil c.written;
-        }
-
--- ---- several sessions
-
-abbrev has : List ℕ → ℕ → Bool
-has ks j = list_any (λ k. eqb k j) ks
-
-abbrev AllInside : ℕ → List ℕ → Type 0
-AllInside most [] = ⊤
-AllInside most (k ∷ ks) = (is_in 1 most k ≡ true) × AllInside most ks
-
-record GivesThese (s : Setting) (ks : List ℕ) (old new : Cluster) : Type 0 where
-  these : (j : ℕ) → has ks j ≡ true → at_home s new j ≡ without_operation (at_home s old j)
-  others : (j : ℕ) → has ks j ≡ false → at_home s new j ≡ at_home s old j
-  copies : (n : ℕ) (file : File) → (new.part n).brought file ≡ (old.part n).brought file
-  written : new.written ≡ old.written
-
--- the first, and then the others
-gives_more : (s : Setting) (k : ℕ) (ks : List ℕ) (old mid new : Cluster) → GivesOne s k old mid → GivesThese s ks mid new → GivesThese s (k ∷ ks) old new
-gives_more s k ks old mid new one more = record {
-  these = these;
+pub node_gives : (s : Setting) (c : Cluster) (node : ℕ) → ((k : ℕ) → s.home k ≡ node → IsReserved (c.part node) k) → GivesUp s node c (after_step s c (Restarts node))
+node_gives s c node used = record {
+  own = own;
+  outside = outside;
   others = others;
-  copies = λ n file. more.copies n file ∙ one.copies n file;
-  written = more.written ∙ one.written;
+  reserved = λ n k. reserved_stay n k (eqb n node) ∙ given.reserved n k;
+  copies = λ n file. copies_stay n file (eqb n node) ∙ given.copies n file;
+  written = given.written;
 }
   where
-    gone : (j : ℕ) → k ≡ j → (b : Bool) → has ks j ≡ b → at_home s new j ≡ without_operation (at_home s old j)
-    gone j same true e = more.these j e ∙ ap without_operation (mine j same)
-      where
-        mine : (j : ℕ) → k ≡ j → at_home s mid j ≡ without_operation (at_home s old j)
-        mine j same = let P : ℕ → Type 0 = λ z. at_home s mid z ≡ without_operation (at_home s old z) in subst P same one.own
-    gone j same false e = more.others j e ∙ (let P : ℕ → Type 0 = λ z. at_home s mid z ≡ without_operation (at_home s old z) in subst P same one.own)
+    mid : Cluster
+    mid = given_up s c node
 
-    these : (j : ℕ) → has (k ∷ ks) j ≡ true → at_home s new j ≡ without_operation (at_home s old j)
-    these j h = elim (cases_eq k j) [
-      | inl same ↦ (gone j same (has ks j) refl)
-      | inr ne ↦ (more.these j (rw (ne_eqb k j ne) at h) ∙ ap without_operation (one.others j ne))
-    ]
+    given : Abandons s node c mid
+    given = all_given s c node
 
-    others : (j : ℕ) → has (k ∷ ks) j ≡ false → at_home s new j ≡ at_home s old j
-    others j h = elim (cases_eq k j) [
-      | inl same ↦ (absurd (true≢false (rw (eq-eqb k j same) at h)))
-      | inr ne ↦ (more.others j (rw (ne_eqb k j ne) at h) ∙ one.others j ne)
-    ]
+    part : ℕ → Bool → Part
+    part n b = if b then leapt_part s node (mid.part n) else mid.part n
 
-these_given : (s : Setting) (ks : List ℕ) (c : Cluster) → AllInside s.row.sessions ks → GivesThese s ks c (after_acts s c (map gives_up ks))
-these_given s [] c inside = record { these = λ j h. absurd (true≢false (sym h)); others = λ j h. refl; copies = λ n file. refl; written = refl }
-these_given s (k ∷ ks) c inside =
-    gives_more s k ks c (after_act s c (gives_up k)) (after_acts s (after_act s c (gives_up k)) (map gives_up ks)) (one_given s c k inside.0) (these_given s ks (after_act s c (gives_up k)) inside.1)
+    reserved_stay : (n k : ℕ) (b : Bool) → (part n b).reserved k ≡ (mid.part n).reserved k
+    reserved_stay n k true = refl
+    reserved_stay n k false = refl
 
--- ---- those that have an operation
+    copies_stay : (n : ℕ) (file : File) (b : Bool) → (part n b).brought file ≡ (mid.part n).brought file
+    copies_stay n file true = refl
+    copies_stay n file false = refl
 
-filter_inside : (p : ℕ → Bool) (a n most : ℕ) → 1 ≤ a → a + n ≤ most + 1 → AllInside most (filter p (range_with_len a n))
-filter_inside p a zero most low high = tt
-filter_inside p a (suc n) most low high = by (p a) refl (filter_inside p (a + 1) n most (omega arith) (omega arith))
-  where
-    in_range : is_in 1 most a ≡ true
-    in_range = rw (le-leb 1 a low, le-leb a most (omega arith)) refl
+    others : (k : ℕ) → s.home k ≢ node → (part (s.home k) (eqb (s.home k) node)).session k ≡ at_home s c k
+    others k away = ap (λ b. (part (s.home k) b).session k) (ne_eqb (s.home k) node away) ∙ given.others k away
 
-    by : (b : Bool) → p a ≡ b → AllInside most (filter p (range_with_len (a + 1) n)) → AllInside most (filter p (range_with_len a (suc n)))
-    by true e rest = rw e (in_range, rest)
-    by false e rest = rw e rest
+    -- the session at the node, where this is whether it leaps
+    at : ℕ → Bool → Session
+    at k b = if b then session_by s.volumes k (Leaps ((mid.part node).reserved k).op ((mid.part node).reserved k).floor) ((mid.part node).session k) else (mid.part node).session k
 
-filter_lacks : (p : ℕ → Bool) (xs : List ℕ) (j : ℕ) → p j ≡ false → has (filter p xs) j ≡ false
-filter_lacks p [] j no_test = refl
-filter_lacks p (x ∷ xs) j no_test = by (p x) refl (filter_lacks p xs j no_test)
-  where
-    by : (b : Bool) → p x ≡ b → has (filter p xs) j ≡ false → has (filter p (x ∷ xs)) j ≡ false
-    by true e rest = rw (e, ne_eqb x j (λ same. true≢false (sym e ∙ ap p same ∙ no_test))) rest
-    by false e rest = rw e rest
+    mine : (k : ℕ) → s.home k ≡ node → is_in 1 s.row.sessions k ≡ true → (mid.part node).session k ≡ without_operation ((c.part node).session k)
+    mine k same inside =
+        let P : ℕ → Type 0 = λ n. (mid.part n).session k ≡ without_operation ((c.part n).session k) in
+        subst P same (given.own k same inside)
 
-filter_has : (p : ℕ → Bool) (a n j : ℕ) → a ≤ j → j < a + n → p j ≡ true → has (filter p (range_with_len a n)) j ≡ true
-filter_has p a zero j low high is = absurd (omega arith)
-filter_has p a (suc n) j low high is = by (cases_eq a j) (p a) refl (λ (late : a + 1 ≤ j) (soon : j < a + 1 + n). filter_has p (a + 1) n j late soon is)
-  where
-    by : (a ≡ j) ⊎ (a ≢ j) → (b : Bool) → p a ≡ b → (a + 1 ≤ j → j < a + 1 + n → has (filter p (range_with_len (a + 1) n)) j ≡ true) → has (filter p (range_with_len a (suc n))) j ≡ true
-    by (inl same) true e later = rw (e, eq-eqb a j same) refl
-    by (inl same) false e later = absurd (true≢false (sym is ∙ ap p (sym same) ∙ e))
-    by (inr ne) true e later = rw (e, ne_eqb a j ne) (later (omega arith) (omega arith))
-    by (inr ne) false e later = rw e (later (omega arith) (omega arith))
+    own : (k : ℕ) → s.home k ≡ node → is_in 1 s.row.sessions k ≡ true → (part node (eqb node node)).session k ≡ begun_anew ((c.part node).reserved k) ((c.part node).session k)
+    own k same inside =
+        ap (λ b. (part node b).session k) (eq-eqb node node refl)
+        ∙ (λ i. at k (eq-eqb (s.home k) node same i && inside i))
+        ∙ (λ i. session_by s.volumes k (Leaps (given.reserved node k i).op (given.reserved node k i).floor) (mine k same inside i))
+        ∙ anew ((c.part node).reserved k) ((c.part node).session k) (used k same).op (used k same).floor
+
+    outside : (k : ℕ) → s.home k ≡ node → is_in 1 s.row.sessions k ≡ false → (part node (eqb node node)).session k ≡ (c.part node).session k
+    outside k same out =
+        let P : ℕ → Type 0 = λ n. (mid.part n).session k ≡ (c.part n).session k in
+        ap (λ b. (part node b).session k) (eq-eqb node node refl)
+        ∙ (λ i. at k (eq-eqb (s.home k) node same i && out i))
+        ∙ subst P same (given.outside k out)
 
 -- ---- the law
 
-pub node_gives : (s : Setting) (c : Cluster) (node : ℕ) → ((k : ℕ) (task : Task) → (at_home s c k).current ≡ Some task → is_in 1 s.row.sessions k ≡ true) → GivesUp s node c (after_step s c (Restarts node))
-node_gives s c node going = record { own = own; others = others; copies = given.copies; written = given.written }
-  where
-    test : ℕ → Bool
-    test k = eqb (s.home k) node && is_some ((c.part node).session k).current
-
-    ks : List ℕ
-    ks = going_at s c node
-
-    new : Cluster
-    new = after_step s c (Restarts node)
-
-    given : GivesThese s ks c new
-    given = these_given s ks c (filter_inside test 1 s.row.sessions s.row.sessions (omega arith) (omega arith))
-
-    others : (k : ℕ) → s.home k ≢ node → at_home s new k ≡ at_home s c k
-    others k away = given.others k (filter_lacks test (range_with_len 1 s.row.sessions) k (rw (ne_eqb (s.home k) node away) refl))
-
-    home_own : (k : ℕ) → s.home k ≡ node → at_home s new k ≡ without_operation (at_home s c k)
-    home_own k same = by (at_home s c k).current refl
-      where
-        by : (task : Option Task) → (at_home s c k).current ≡ task → at_home s new k ≡ without_operation (at_home s c k)
-        by None idle = either (has ks k) refl
-          where
-            either : (b : Bool) → has ks k ≡ b → at_home s new k ≡ without_operation (at_home s c k)
-            either true e = given.these k e
-            either false e = given.others k e ∙ idle_is (at_home s c k) idle
-        by (Some task) busy =
-            let inside : is_in 1 s.row.sessions k ≡ true = going k task busy in
-            let parts = and_parts (leb 1 k) (leb k s.row.sessions) inside in
-            let low : 1 ≤ k = leb-true 1 k parts.0 in
-            let high : k ≤ s.row.sessions = leb-true k s.row.sessions parts.1 in
-            let has_one : ((c.part node).session k).current ≡ Some task = ap (λ n. ((c.part n).session k).current) (sym same) ∙ busy in
-            let passes : test k ≡ true = rw (eq-eqb (s.home k) node same, has_one) refl in
-            given.these k (filter_has test 1 s.row.sessions k low (omega arith) passes)
-
-    own : (k : ℕ) → s.home k ≡ node → (new.part node).session k ≡ without_operation ((c.part node).session k)
-    own k same =
-        let P : ℕ → Type 0 = λ n. (new.part n).session k ≡ without_operation ((c.part n).session k) in
-        subst P same (home_own k same)
-
 pub all_restarts_give_up : AllRestartsGiveUp
-all_restarts_give_up grid row home opens steps node enough can = node_gives s c node going
+all_restarts_give_up grid row home opens steps node enough can = (gives, λ k same. idle k same (is_in 1 row.sessions k) refl)
   where
     s : Setting
     s = setting_of grid row home opens
@@ -209,9 +94,21 @@ all_restarts_give_up grid row home opens steps node enough can = node_gives s c 
     c : Cluster
     c = cluster_after s steps
 
+    gives : GivesUp s node c (after_step s c (Restarts node))
+    gives = node_gives s c node (λ k same. all_used_reserved s steps node k)
+
+    -- a session that goes on is the tenant's
     going : (k : ℕ) (task : Task) → (at_home s c k).current ≡ Some task → is_in 1 row.sessions k ≡ true
     going k task busy =
         let run = run_of grid row home opens steps enough can in
         let stands : Stands s (past_of grid row (openings opens ++ run.turns)) c = run_stands grid row home opens steps (length steps * (row.sessions + 1)) run in
         let its : (session (past_of grid row (openings opens ++ run.turns)).trace k).current ≡ Some task = ap (λ z. z.current) (stands.sessions k) ∙ busy in
         (while_going grid row (past_of grid row (openings opens ++ run.turns)).trace (past_run grid row (openings opens ++ run.turns)) k task its).in_range
+
+    idle : (k : ℕ) → s.home k ≡ node → (b : Bool) → is_in 1 row.sessions k ≡ b → (((after_step s c (Restarts node)).part node).session k).current ≡ None
+    idle k same true inside = ap (λ z. z.current) (gives.own k same inside)
+    idle k same false out = ap (λ z. z.current) (gives.outside k same out) ∙ by ((c.part node).session k).current refl
+      where
+        by : (task : Option Task) → ((c.part node).session k).current ≡ task → ((c.part node).session k).current ≡ None
+        by None is = is
+        by (Some task) busy = absurd (true≢false (sym (going k task (ap (λ n. ((c.part n).session k).current) same ∙ busy)) ∙ out))

@@ -16,19 +16,22 @@ use Rattle.gq_model.specs.declared.events.Line.{Line}
 use Rattle.gq_model.specs.declared.events.Line.TheVariants.{Write, Read, List as ListFiles, Deliver, Retry, Abandon}
 use Rattle.gq_model.specs.declared.said.Said.{Said}
 use Rattle.gq_model.specs.Said.{said_in}
-use Rattle.gq_model.specs.Trace.{Own, Entry, State, Session, new_session, changed}
+use Rattle.gq_model.specs.Trace.{Own, Entry, State, Session, Leaps, new_session, session_by, changed}
 use Rattle.gq_model.specs.Lone.{Step, asked_step, deliver_step, is_refusal}
+use Rattle.gq_desk.specs.Plans.{is_in}
+use Rattle.gq_cluster.specs.Facts.{OwnFact, Reserved, none_reserved, reserving, with_reserved, replaced_in}
 
 -- ---- one node
 
--- what a node has of the tenant: of each file the copies that stores brought to its server, in order, and the sessions whose
--- home it is
+-- what a node has of the tenant: of each file the copies that stores brought to its server, in order; the sessions whose home it is; and
+-- the numbers that are reserved for each of these
 pub record Part : Type 0 where
   pub brought : File → List StoredCopy
   pub session : ℕ → Session
+  pub reserved : ℕ → Reserved
 
 abbrev pub new_part : Part
-new_part = record { brought = λ file. []; session = λ k. new_session }
+new_part = record { brought = λ file. []; session = λ k. new_session; reserved = λ k. none_reserved }
 
 -- the copy of the file that the node's server holds
 abbrev pub copy_in : Part → File → StoredCopy
@@ -40,9 +43,9 @@ abbrev pub state_of : List VolumeRow → Servers → Part → State
 state_of volumes aim part =
     record { up = aim; volumes = volumes; sent = []; is_lost = λ n. false; brought = λ server. part.brought; session = part.session }
 
--- node n's part of a state
-abbrev pub part_of : ℕ → State → Part
-part_of n state = record { brought = state.brought n; session = state.session }
+-- node n's part of a state, with what is reserved for its sessions
+abbrev pub part_of : ℕ → (ℕ → Reserved) → State → Part
+part_of n reserved state = record { brought = state.brought n; session = state.session; reserved = reserved }
 
 -- one thing that a node does
 pub data Act : Type 0 where
@@ -81,11 +84,35 @@ pub record Setting : Type 0 where
 abbrev pub step_of : Setting → Part → Act → Step
 step_of s part act = act_step s.grid s.row (state_of s.volumes (aim_of act) part) act
 
+-- the session that a line of a session names
+abbrev pub session_named : Line → ℕ
+session_named (Write k v f bytes) = k
+session_named (Read k v f) = k
+session_named (ListFiles k v) = k
+session_named (Retry k) = k
+session_named (Abandon k) = k
+session_named _ = 0
+
+-- the answers to the model's questions behind the act, where it is not refused
+abbrev pub state_after : Setting → Part → Act → State
+state_after s part act = changed (act_entry act (step_of s part act)) (state_of s.volumes (aim_of act) part)
+
+-- the fact that session k gives by the act
+abbrev pub fact_in : Setting → Part → Act → ℕ → Option OwnFact
+fact_in s part act k = reserving k (part.reserved k) (step_of s part act).told ((state_after s part act).session k).floor
+
+-- the fact of an act, if it has one: a number is used that was not reserved, or a copy is replaced
+abbrev pub fact_of : Setting → Part → Act → Option OwnFact
+fact_of s part (Asks line aim) = fact_in s part (Asks line aim) (session_named line)
+fact_of s part (Comes letter aim) =
+    if to_server letter.body then replaced_in (copy_in part letter.file) letter.file letter.body
+    else fact_in s part (Comes letter aim) letter.session
+
 -- node n's part after the act; a refusal changes nothing
 abbrev pub part_after : Setting → ℕ → Part → Act → Part
 part_after s n part act =
     if is_refusal (step_of s part act).told then part
-    else part_of n (changed (act_entry act (step_of s part act)) (state_of s.volumes (aim_of act) part))
+    else part_of n (with_reserved (fact_of s part act) part.reserved) (state_after s part act)
 
 -- ---- all nodes
 
@@ -98,18 +125,9 @@ pub record Cluster : Type 0 where
 abbrev pub new_cluster : Cluster
 new_cluster = record { part = λ n. new_part; written = [] }
 
--- the session that a line of a session names
-abbrev pub asker : Line → ℕ
-asker (Write k v f bytes) = k
-asker (Read k v f) = k
-asker (ListFiles k v) = k
-asker (Retry k) = k
-asker (Abandon k) = k
-asker _ = 0
-
 -- the node at which the act is done
 abbrev pub node_of : (ℕ → ℕ) → Act → ℕ
-node_of home (Asks line aim) = home (asker line)
+node_of home (Asks line aim) = home (session_named line)
 node_of home (Comes letter aim) = if to_server letter.body then letter.server else home letter.session
 
 -- what that node tells, and the letters that it writes
@@ -131,7 +149,7 @@ after_acts s c acts = fold (after_act s) c acts
 
 pub data NodeStep : Type 0 where
   Acts : (act : Act) → NodeStep
-  -- the node starts again, and what its sessions did not do is given up
+  -- the node starts again: what its sessions did not do is given up, and they go on behind the numbers that are reserved for them
   Restarts : (node : ℕ) → NodeStep
 
 -- the node's sessions that have an operation
@@ -141,13 +159,31 @@ going_at s c node = filter (λ k. (s.home k == node) && is_some ((c.part node).s
 abbrev pub gives_up : ℕ → Act
 gives_up k = Asks (Abandon k) everyone
 
--- a restart is an abandonment of each operation that the node's sessions have
+-- the acts of a node step; a restart is first an abandonment of each operation that the node's sessions have
 abbrev pub acts_of : Setting → Cluster → NodeStep → List Act
 acts_of s c (Acts act) = act ∷ []
 acts_of s c (Restarts node) = map gives_up (going_at s c node)
 
+-- session k at the node, as the model has it, passes over all numbers that are reserved for it
+abbrev pub leapt_session : Setting → (node : ℕ) → Part → ℕ → Session
+leapt_session s node part k =
+    if (s.home k == node) && is_in 1 s.row.sessions k then session_by s.volumes k (Leaps (part.reserved k).op (part.reserved k).floor) (part.session k)
+    else part.session k
+
+abbrev pub leapt_part : Setting → (node : ℕ) → Part → Part
+leapt_part s node part = record part { session = leapt_session s node part }
+
+-- so do all sessions of the node
+abbrev pub leapt : Setting → (node : ℕ) → Cluster → Cluster
+leapt s node c = record c { part = λ n. if n == node then leapt_part s node (c.part n) else c.part n }
+
+-- what a node step does behind its acts
+abbrev pub behind_acts : Setting → NodeStep → Cluster → Cluster
+behind_acts s (Acts act) c = c
+behind_acts s (Restarts node) c = leapt s node c
+
 abbrev pub after_step : Setting → Cluster → NodeStep → Cluster
-after_step s c step = after_acts s c (acts_of s c step)
+after_step s c step = behind_acts s step (after_acts s c (acts_of s c step))
 
 abbrev pub cluster_after : Setting → List NodeStep → Cluster
 cluster_after s steps = fold (after_step s) new_cluster steps

@@ -3,3 +3,4 @@ pub mod Laws
 pub mod Operations
 pub mod Restarts
 pub mod Facts
+pub mod Keeping

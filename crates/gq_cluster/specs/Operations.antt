@@ -12,7 +12,7 @@ use Rattle.gq_model.specs.Trace.{Turn, Own, files_of}
 use Rattle.gq_laws.specs.declared.ops.Op.{Op}
 use Rattle.gq_laws.specs.Operations.{SessionAnswer, begun_in, Legal}
 use Rattle.gq_laws.specs.Orders.{order}
-use Rattle.gq_cluster.specs.Cluster.{Setting, NodeStep, Arrival, LineCame, LetterCame, Exchange, asker, new_cluster, CanFollow, exchanges}
+use Rattle.gq_cluster.specs.Cluster.{Setting, NodeStep, Arrival, LineCame, LetterCame, Exchange, session_named, new_cluster, CanFollow, exchanges}
 use Rattle.gq_cluster.specs.Laws.{setting_of, StepsEnough}
 
 -- what came, as a turn, and the session that it is about; a letter has no number, so it is read as the delivery of any
@@ -21,7 +21,7 @@ turn_in (LineCame line) = Own line
 turn_in (LetterCame letter) = Own (Deliver 0)
 
 abbrev pub session_in : Arrival → ℕ
-session_in (LineCame line) = asker line
+session_in (LineCame line) = session_named line
 session_in (LetterCame letter) = letter.session
 
 -- what was said, as the model tells it where the first message sent is number 0; where nothing was said it is read as stale, which

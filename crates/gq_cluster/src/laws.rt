@@ -1,6 +1,6 @@
 //! The laws, as clauses of functions that do nothing.
 
-ghost use Rattle.gq_cluster.specs.Facts.{AllActsKeep, AllFactsSuffice};
+ghost use Rattle.gq_cluster.specs.Keeping.{AllActsKeep, AllFactsSuffice, AllUsedReserved};
 ghost use Rattle.gq_cluster.specs.Laws.{AllClustersServe};
 ghost use Rattle.gq_cluster.specs.Operations.{AllClustersLegal};
 ghost use Rattle.gq_cluster.specs.Restarts.{AllRestartsGiveUp};
@@ -20,16 +20,19 @@ pub fn registers()
     ensures { AllClustersLegal }
 {}
 
-/// A restart is said as an abandonment of each operation that the node's sessions have. It leaves what a start has to give: of
-/// the node's sessions none has an operation, how many each began and its own last number stay, and all else is as it was.
+/// A restart is said as an abandonment of each operation that the node's sessions have, and a leap of each of them over the numbers
+/// that are reserved for it. It leaves what a start has to give: of the node's sessions none has an operation, each goes on behind its
+/// reserved numbers, and all else is as it was.
 pub fn restarts()
     ensures { AllRestartsGiveUp }
 {}
 
 /// Whatever a node has of the tenant, each act changes what the node must not forget by one fact at most (`acts`). The fact is
-/// read off what the node has and what it tells: an operation began, a write has a number, or a store replaced a copy. So from
-/// its facts alone, in order, a node knows all of this again (`suffice`).
+/// read off what the node has and what it tells: an operation has a number that was not reserved, or a write has, or a store replaced a
+/// copy. So from its facts alone, in order, a node knows all of this again (`suffice`). And each number that a session used, of an
+/// operation or of a tag, was reserved by a fact (`reserved`), so that a start, which goes on behind what is reserved, uses none twice.
 pub fn facts()
     ensures acts { AllActsKeep }
     ensures suffice { AllFactsSuffice }
+    ensures reserved { AllUsedReserved }
 {}

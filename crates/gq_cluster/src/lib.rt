@@ -2,3 +2,6 @@
 #![tactic(auto)]
 
 pub mod laws;
+mod runs;
+
+pub use runs::NUMBERS_IN_A_RUN;
