@@ -12,10 +12,10 @@ pub record AllSealed (seen synced : List ℕ) (number : ℕ) : Type 0 where
   pub fit : FitBatches 1 (batches_of synced)
   pub next : number ≡ 1 + length (batches_of synced)
 
--- What is shown, after what was shown before the first step (`base`), is what the steps told that took these lines and led from the first
--- machine to the last; and a start from what is synced reads the last machine at rest, which is its operations gone. `steps`,
--- `recalls`, `blank` and `rests` are the machine's own words for a step, for a start, for a machine never started and for one at rest;
--- `plan` is the lines of the journal's last plan.
+-- The machine took these lines, by steps from the first one to the last. Shown are `base`, which was there before, and what the steps told.
+-- A start from what is synced reads the last machine, at rest: its operations gone, and the numbers passed over that facts reserve. `steps`,
+-- `recalls`, `readable`, `blank` and `rests` are the machine's own words for a step, for a line that a start reads, for whether it reads one, for a
+-- machine never started and for one at rest; `plan` is the lines of the journal's last plan.
 pub record Durable {M : Type 0} (steps : M → List ℕ → List (List ℕ) → List ℕ → M → Type 0) (recalls : M → List ℕ → M → Type 0) (readable : M → List ℕ → Bool) (blank rests : M → M → Type 0) (first last : M) (plan lines : List Line) (base synced shown : List ℕ) : Type 0 where
   pub dids : List Did
   pub runs : Runs steps first dids last

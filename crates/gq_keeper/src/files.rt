@@ -1,6 +1,6 @@
 //! A journal in a file.
 
-ghost use Rattle.std.specs.Prelude.{◌≡◌, ◌≤◌, [], true, length, IfOk};
+ghost use Rattle.std.specs.Prelude.{◌≡◌, ◌≤◌, [], true, length, IfErr, IfOk};
 ghost use Rattle.gq_keeper.specs.Notes.{seen_in, synced_in};
 
 use crate::notes::Notes;
@@ -111,7 +111,9 @@ impl<R: Files + Drop> FileDisk<R> {
     }
 
     // Makes sure of what was written.
-    fn sync_file(&self) -> Result<(), Fault> {
+    fn sync_file(&self) -> Result<(), Fault>
+        ensures fault { IfErr result (λ fault. fault ≡ Fault.JournalWrite) }
+    {
         let Some(file) = &self.file else {
             return Err(Fault::JournalWrite);
         };
@@ -141,7 +143,7 @@ impl<R: Files + Drop> Log for FileDisk<R> {
 
     fn append(&mut self, bytes: &[u8]) -> Result<(), Fault> {
         let Some(size) = self.size.checked_add(bytes.len()) else {
-            return Err(Fault::Full);
+            return Err(Fault::JournalWrite);
         };
         self.unread = false;
         self.size = size;

@@ -1,6 +1,6 @@
 //! A batch is appended and synced.
 
-ghost use Rattle.std.specs.Prelude.{◌≡◌, ◌++◌, [], OnOk};
+ghost use Rattle.std.specs.Prelude.{◌≡◌, ◌++◌, [], IsErrOf, OnOk};
 ghost use Rattle.gq_keeper.specs.Crashes.{LeavesSyncing, Elapses};
 ghost use Rattle.gq_keeper.specs.Durable.{kept_text, number_after};
 
@@ -13,6 +13,7 @@ pub(crate) fn keep<L: Log>(log: &mut L, number: &mut u64, lines: &mut Vec<u8>) -
     ensures synced { OnOk result (L.synced log.new ≡ L.synced log.old ++ kept_text number.old lines.old.items) }
     ensures all { OnOk result (L.seen log.new ≡ L.synced log.new) }
     ensures number { OnOk result (number.new ≡ number_after number.old lines.old.items) }
+    ensures full { IsErrOf result Fault.Full → number.old ≡ u64.MAX }
     ensures idle { lines.old.items ≡ [] → log.new ≡ log.old }
     ensures crash { Elapses (L.instant log.old) (L.instant log.new) (L.left_since log.old) (L.left_since log.new)
         (LeavesSyncing (L.synced log.old) (L.synced log.old ++ kept_text number.old lines.old.items)) }

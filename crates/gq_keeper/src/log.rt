@@ -1,6 +1,6 @@
 //! The journal's file.
 
-ghost use Rattle.std.specs.Prelude.{◌≡◌, ◌⊎◌, ◌≤◌, ◌++◌, ℕ, List, length, take, IfOk, OnOk, OnErr};
+ghost use Rattle.std.specs.Prelude.{◌≡◌, ◌⊎◌, ◌≤◌, ◌++◌, ℕ, List, length, take, IfOk, IsErrOf, OnOk, OnErr};
 ghost use Rattle.gq_keeper.specs.Crashes.{Leaves, LeavesSyncing, LeavesReplacing, Elapses};
 
 use crate::Fault;
@@ -24,14 +24,16 @@ pub trait Log {
     fn size(&self) -> usize
         ensures { result ≡ length (seen self.now) };
 
-    /// Appends the bytes. Until the next sync a crash may leave a part of them.
+    /// Appends the bytes. Until the next sync a crash may leave a part of them. A file is never full of batches (`Fault::Full`).
     fn append(&mut self, bytes: &[u8]) -> Result<(), Fault>
+        ensures full { ¬ IsErrOf result Fault.Full }
         ensures seen { OnOk result (seen self.new ≡ seen self.old ++ bytes.now) }
         ensures synced { synced self.new ≡ synced self.old }
         ensures crash { Elapses (instant self.old) (instant self.new) (left_since self.old) (left_since self.new) (Leaves (synced self.old) (seen self.old ++ bytes.now)) };
 
     /// Makes sure of all that was written.
     fn sync(&mut self) -> Result<(), Fault>
+        ensures full { ¬ IsErrOf result Fault.Full }
         ensures seen { seen self.new ≡ seen self.old }
         ensures synced { OnOk result (synced self.new ≡ seen self.old) }
         ensures crash { Elapses (instant self.old) (instant self.new) (left_since self.old) (left_since self.new) (LeavesSyncing (synced self.old) (seen self.old)) };

@@ -34,7 +34,7 @@ pub trait Machine {
     /// The step of this machine on this line may give these lines of facts, tell this and lead to that machine.
     ghost steps: { Self → List ℕ → List (List ℕ) → List ℕ → Self → Type 0 };
 
-    /// Recovered a line of an earlier run may lead from this machine to that one.
+    /// Reading a line of an earlier run may lead from this machine to that one.
     ghost recalls: { Self → List ℕ → Self → Type 0 };
 
     /// Whether this machine reads a line as one of an earlier run.
@@ -54,7 +54,8 @@ pub trait Machine {
     ghost reads_on: { (old : Self) (line : List ℕ) (new : Self) (other : List ℕ) → recalls old line new → readable new other ≡ readable old other };
 }
 
-/// A machine that a start makes again. Of what it was the start leaves what the facts say: what was going on is gone.
+/// A machine that a start makes again. Of what it was the start leaves what the facts say: what was going on is gone, and numbers that
+/// a fact reserves are passed over, used or not.
 pub trait Lasting: Machine {
     /// A start that makes this machine begins with that one.
     ghost blank: { Self → Self → Type 0 };
@@ -75,7 +76,7 @@ pub trait Lasting: Machine {
     /// A step doesn't change with what a start begins.
     ghost keeps_blank: { (old : Self) (line : List ℕ) (facts : List (List ℕ)) (told : List ℕ) (new other : Self) → Self.steps old line facts told new → blank new other → blank old other };
 
-    /// Recovered the facts of a step makes of the machine before it, at rest, the machine behind it, at rest.
+    /// Reading the facts of a step makes of the machine before it, at rest, the machine behind it, at rest.
     ghost keeps_rest: { (old : Self) (line : List ℕ) (facts : List (List ℕ)) (told : List ℕ) (new before after : Self) → Self.steps old line facts told new → rests old before → RecallsAll Self.recalls before facts after → rests new after };
 
     /// What a start read another start reads.

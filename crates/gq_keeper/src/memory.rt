@@ -1,6 +1,6 @@
 //! A journal in memory, for tests: it stops at a call.
 
-ghost use Rattle.std.specs.Prelude.{◌≡◌, ◌≤◌, [], length, take, IfOk, OnOk, OnErr};
+ghost use Rattle.std.specs.Prelude.{◌≡◌, ◌≤◌, [], length, take, IfOk, IsErrOf, OnOk, OnErr};
 ghost use Rattle.gq_keeper.specs.Notes.{seen_in, synced_in, appended};
 
 use crate::notes::Notes;
@@ -64,6 +64,7 @@ impl MemoryDisk {
     fn put(&mut self, bytes: &[u8]) -> Result<(), Fault>
         ensures ok { OnOk result (self.new.notes.instants ≡ appended bytes.now self.old.notes.instants) }
         ensures err { OnErr result (self.new.notes.instants ≡ self.old.notes.instants) }
+        ensures full { ¬ IsErrOf result Fault.Full }
     {
         self.bytes.grow_by(bytes)?;
         self.notes.appends(bytes);
