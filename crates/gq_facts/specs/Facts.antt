@@ -1,4 +1,5 @@
--- The lines of facts, and what a line says: `began T S OP`, `numbered T S NUMBER`, `kept T V F NUMBER SESSION HEX`.
+-- The lines of facts, and what a line says: `began T S OP`, up to which number those of a session's operations are reserved;
+-- `numbered T S NUMBER`, up to which those of its tags are; and `kept T V F NUMBER SESSION HEX`, the copy that a file has.
 use Rattle.std.specs.Prelude.{ℕ, List, [], ◌∷◌, ◌++◌, codes, decimal, Option, Some, None, option_map, if◌then◌else◌}
 use Rattle.std.specs.Str.{bytes_eq}
 use Rattle.gq_desk.specs.CheckedPlan.{CheckedPlan, row_at}

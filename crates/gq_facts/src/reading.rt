@@ -14,7 +14,7 @@ use gq_text::{first_word, is_end, next_word};
 use gq_wire::{read_copy, take_byte, take_long, take_number};
 use std::alloc::Global;
 
-// That an operation of the session began.
+// Up to which number those of the session's operations are reserved.
 fn began(tenant: u8, session: u8, text: &[u8]) -> Option<Fact>
     ensures { result ≡ option_map (fact_of tenant) (begun_by session (words_after text.now)) }
 {
@@ -29,7 +29,7 @@ fn began(tenant: u8, session: u8, text: &[u8]) -> Option<Fact>
     })
 }
 
-// The number that a write of the session has.
+// And the numbers of its tags.
 fn numbered(tenant: u8, session: u8, text: &[u8]) -> Option<Fact>
     ensures { result ≡ option_map (fact_of tenant) (numbered_by session (words_after text.now)) }
 {

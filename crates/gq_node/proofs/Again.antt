@@ -14,29 +14,33 @@ use Rattle.gq_model.specs.declared.events.Line.{Line}
 use Rattle.gq_model.specs.declared.events.Line.TheVariants.{Write, Read, List as ListFiles, Abandon}
 use Rattle.gq_model.specs.declared.events.Refusal.{Refusal}
 use Rattle.gq_model.specs.declared.events.Refusal.TheVariants.{Busy}
-use Rattle.gq_model.specs.Told.{Told, Began, Done, Abandoned, Refused}
+use Rattle.gq_model.specs.Told.{Told, Began, Round, Done, Abandoned, Refused}
 use Rattle.gq_model.specs.Trace.{Own, State, Session, Deed, Elsewhere, Begins, Ends, heard_deed, operation, operation_with, session_by, limit_at, changed}
 use Rattle.gq_model.specs.Lone.{Step, is_refusal, entry_of, asked_step, session_causes, session_step, hear_step, heard_step, first_cause, unless}
 use Rattle.gq_cluster.specs.Cluster.{Setting, everyone}
-use Rattle.gq_cluster.specs.Facts.{OwnFact, Begun, Numbered, Kept, KeptPart, kept_of}
+use Rattle.gq_cluster.specs.Facts.{OwnFact, Begun, Numbered, Kept, Reserved, greatest_number, last_of_run, reserving, reserved_by}
+use Rattle.gq_cluster.specs.Keeping.{KeptPart, kept_of}
 use Rattle.gq_node.specs.declared.output.Answer.{Answer}
 use Rattle.gq_node.specs.declared.output.Answer.TheVariants.{Done as IsDone, Gone, Refused as IsRefused, Old, Early, Busy as IsBusy, Bad as IsBad}
 use Rattle.gq_node.specs.declared.output.Admission.{Admission}
 use Rattle.gq_node.specs.declared.output.Admission.TheVariants.{Tells, Passes, Goes}
-use Rattle.gq_node.specs.Again.{told_at_home, told_again, AllToldAgain, session_in, number_in, TellsEnd, begun_at, NoneBegins, is_start, end_after, AllEndsToldAgain}
+use Rattle.gq_node.specs.Again.{told_at_home, told_again, AllToldAgain, session_in, number_in, TellsEnd, begun_at, NoneBegins, is_start, forgotten, end_after, AllEndsToldAgain}
+use Rattle.gq_node.specs.Bridge.{AtHome}
 use Rattle.gq_node.specs.Inputs.{Input, Asked, AskedPlan, Brought, Ticked, does}
-use Rattle.gq_node.specs.Local.{Local, Resident, Doing, new_local, part_in, nothing, state_of, state_for, aim_at, with_resident, tries_next, asker, begins, ended, again, own_admission, admission, admission_in, asks, asks_in, asked_by, goes_on, answer_of, refused_with, outcome_after, session_fact, receives, serves, hears, brings, ticks, waits_on, letter_fits, goes_between, has_above, of_round, recalls, recalled, fact_fits, file_in}
+use Rattle.gq_node.specs.Local.{Local, Resident, Doing, new_local, part_in, nothing, state_of, state_for, aim_at, with_resident, tries_next, asker, begins, ended, again, own_admission, admission, admission_in, asks, asks_in, asked_by, goes_on, answer_of, refused_with, outcome_after, receives, serves, hears, brings, ticks, waits_on, letter_fits, goes_between, has_above, of_round, recalls, recalled, fact_fits, file_in}
 use Rattle.gq_node.specs.Nodes.{Nodes, site_in, recalls_one, started, new_nodes, Event, LineCame, PlanCame, LetterCame, TickCame, Started, node_in, doing_of, after_doing, after_event, nodes_after}
 use Rattle.gq_node.specs.Once.{begun_by}
 use Rattle.gq_node.specs.Sites.{Site}
 use Rattle.gq_node.proofs.Asking.{goes_home, gives_up}
-use Rattle.gq_node.proofs.Following.{at_nodes, at_start, journal_by, started_volumes}
-use Rattle.gq_node.proofs.Journal.{not_refused}
-use Rattle.gq_node.proofs.Once.{does_keep, never_goes}
+use Rattle.gq_node.proofs.Bridging.{tried_reserved, all_requests_act, all_letters_act, all_ticks_act}
+use Rattle.gq_node.proofs.Following.{at_nodes, at_start, idle_home, journal_by, started_volumes}
+use Rattle.gq_node.proofs.Journal.{not_refused, does_keep}
+use Rattle.gq_node.proofs.Once.{never_goes}
 use Rattle.gq_node.proofs.Receiving.{parts, to_a_session, to_the_server}
 use Rattle.gq_node.proofs.Recalling.{recalls_fits, recalls_not}
 use Rattle.gq_node.proofs.Staying.{SameVolumes, asks_volumes, receives_volumes, ticks_volumes}
 use Rattle.gq_node.proofs.Ticking.{busy_is}
+use Rattle.gq_node.proofs.Using.{AllUsed, bridged_used, rests_used, new_rests, started_rests}
 
 -- ---- by what the node has of the session
 
@@ -96,12 +100,20 @@ record Named (k : ℕ) (r : Resident) : Type 0 where
 abbrev AllNamed : Local → Type 0
 AllNamed local = (k : ℕ) → Named k (local.residents k)
 
--- operation op is the last one of the session, and the answer tells how it ended
+-- what is told of operation op, where the session's last one has that number: how it ended, or that its number is old
+abbrev end_of : (k op last : ℕ) → Option Outcome → Answer
+end_of k op last outcome = if op == last then ended k op outcome else Old k op last
+
+-- the session has no operation, and of operation op this answer is told
 record HasEnded (k op : ℕ) (answer : Answer) (r : Resident) : Type 0 where
   some : 1 ≤ op
-  number : r.session.op ≡ op
+  low : op ≤ r.session.op
   idle : r.session.current ≡ None
-  ends : ended k op r.outcome ≡ answer
+  ends : end_of k op r.session.op r.outcome ≡ answer
+
+-- of the last operation how it ended
+has_ended : (k op : ℕ) (answer : Answer) (r : Resident) → 1 ≤ op → r.session.op ≡ op → r.session.current ≡ None → ended k op r.outcome ≡ answer → HasEnded k op answer r
+has_ended k op answer r some number idle ends = record { some = some; low = omega arith; idle = idle; ends = rw (eq-eqb op r.session.op (sym number)) ends }
 
 -- this node is the session's home
 record IsHere (site : Site) (k : ℕ) : Type 0 where
@@ -113,16 +125,17 @@ record IsHere (site : Site) (k : ℕ) : Type 0 where
 again_tells : (k op : ℕ) (b : Bool) (outcome : Option Outcome) → again k op b false outcome ≡ Tells (ended k op outcome)
 again_tells k op b outcome = refl
 
-home_tells : (k op last : ℕ) (b : Bool) (outcome : Option Outcome) → op ≡ last → 1 ≤ op → own_admission k op b last false outcome ≡ Tells (ended k op outcome)
-home_tells k op last b outcome same some =
-    let late : (nat_lt op last || op == 0) ≡ false = grind (arith, nat_tests) in
-    rw (late, eq-eqb op last same) refl
+home_tells : (k op last : ℕ) (b : Bool) (outcome : Option Outcome) → op ≤ last → 1 ≤ op → own_admission k op b last false outcome ≡ Tells (end_of k op last outcome)
+home_tells k op last b outcome low some = elim (cases_Bool (op == last)) [
+  | inl same ↦ (let late : (nat_lt op last || op == 0) ≡ false = grind (arith, nat_tests) in rw (late, same) refl)
+  | inr other ↦ (let old : (nat_lt op last || op == 0) ≡ true = grind (arith, nat_tests) in rw (old, other) refl)
+]
 
 ended_tells : (site : Site) (local : Local) (op : ℕ) (line : Line) (k : ℕ) (answer : Answer) → IsHere site k → HasEnded k op answer (local.residents k) → asker line ≡ Some k → (asks op line site local).answer ≡ Some answer
 ended_tells site local op line k answer here at its =
     let r : Resident = local.residents k in
     let b : Bool = begins line in
-    let own : own_admission k op b r.session.op false r.outcome ≡ Tells answer = home_tells k op r.session.op b r.outcome (sym at.number) at.some ∙ ap Tells at.ends in
+    let own : own_admission k op b r.session.op false r.outcome ≡ Tells answer = home_tells k op r.session.op b r.outcome at.low at.some ∙ ap Tells at.ends in
     let all : admission site k op b r.session.op false r.outcome ≡ Tells answer = rw (here.inside, here.home) own in
     let is : admission_in site local k op b ≡ Tells answer = ap (λ o. admission site k op b r.session.op (is_some o) r.outcome) at.idle ∙ all in
     rw (its, is) refl
@@ -192,27 +205,27 @@ not_going (Some task) is = absurd (cc)
 
 -- ---- what is told of the session, and what it then has
 
-record IsAlike (old : Resident) (session : Session) (outcome : Option Outcome) : Type 0 where
-  number : session.op ≡ old.session.op
+pub record IsAlike (old : Resident) (session : Session) (outcome : Option Outcome) : Type 0 where
+  pub number : session.op ≡ old.session.op
   current : session.current ≡ old.session.current
   same : outcome ≡ old.outcome
 
-record IsDoneWith (k : ℕ) (o : Outcome) (old : Resident) (session : Session) (outcome : Option Outcome) : Type 0 where
+pub record IsDoneWith (k : ℕ) (o : Outcome) (old : Resident) (session : Session) (outcome : Option Outcome) : Type 0 where
   busy : is_some old.session.current ≡ true
-  number : session.op ≡ old.session.op
+  pub number : session.op ≡ old.session.op
   idle : session.current ≡ None
   is : outcome ≡ Some o
   own_session : session_in o ≡ k
   own_number : number_in o ≡ old.session.op
 
-record IsGivenUp (old : Resident) (session : Session) (outcome : Option Outcome) : Type 0 where
+pub record IsGivenUp (old : Resident) (session : Session) (outcome : Option Outcome) : Type 0 where
   busy : is_some old.session.current ≡ true
-  number : session.op ≡ old.session.op
+  pub number : session.op ≡ old.session.op
   idle : session.current ≡ None
   none : outcome ≡ None
 
-abbrev AfterTold : (k : ℕ) → Told → Resident → Session → Option Outcome → Type 0
-AfterTold k (Began op first count) old session outcome = (1 ≤ session.op) × (outcome ≡ None)
+abbrev pub AfterTold : (k : ℕ) → Told → Resident → Session → Option Outcome → Type 0
+AfterTold k (Began op first count) old session outcome = (session.op ≡ old.session.op + 1) × (outcome ≡ None)
 AfterTold k (Done o) old session outcome = IsDoneWith k o old session outcome
 AfterTold k Abandoned old session outcome = IsGivenUp old session outcome
 AfterTold k told old session outcome = IsAlike old session outcome
@@ -224,13 +237,13 @@ alike_named k old new a named = record {
 }
 
 alike_ended : (k op : ℕ) (answer : Answer) (old new : Resident) → IsAlike old new.session new.outcome → HasEnded k op answer old → HasEnded k op answer new
-alike_ended k op answer old new a at = record { some = at.some; number = a.number ∙ at.number; idle = a.current ∙ at.idle; ends = ap (ended k op) a.same ∙ at.ends }
+alike_ended k op answer old new a at = record { some = at.some; low = subst (λ x. op ≤ x) (sym a.number) at.low; idle = a.current ∙ at.idle; ends = (λ i. end_of k op (a.number i) (a.same i)) ∙ at.ends }
 
 same_some : (a b : Outcome) → Some a ≡ Some b → a ≡ b
 same_some a b is = cc
 
 named_after : (k : ℕ) (told : Told) (old new : Resident) → AfterTold k told old new.session new.outcome → Named k old → Named k new
-named_after k (Began op first count) old new a named = record { some = λ busy. a.0; own = λ o is. let e = sym a.1 ∙ is in absurd (cc) }
+named_after k (Began op first count) old new a named = record { some = λ busy. (let next = a.0 in omega (arith, next)); own = λ o is. let e = sym a.1 ∙ is in absurd (cc) }
 named_after k (Done outcome) old new a named = record {
   some = λ busy. let e = sym (ap is_some a.idle) ∙ busy in absurd (cc);
   own = λ o is. let e : outcome ≡ o = same_some outcome o (sym a.is ∙ is) in (ap session_in (sym e) ∙ a.own_session, ap number_in (sym e) ∙ a.own_number ∙ sym a.number);
@@ -305,20 +318,21 @@ hear_after volumes k grid state m old (Some task) is =
 -- ---- what a step does to the sessions
 
 -- no session changes; an answer that tells how an operation ended tells how it is
-record IsStill (site : Site) (local : Local) (doing : Doing) : Type 0 where
-  each : (k : ℕ) → IsAlike (local.residents k) (doing.local.residents k).session (doing.local.residents k).outcome
+pub record IsStill (site : Site) (local : Local) (doing : Doing) : Type 0 where
+  reserved : (k : ℕ) → (doing.local.residents k).reserved ≡ (local.residents k).reserved
+  pub each : (k : ℕ) → IsAlike (local.residents k) (doing.local.residents k).session (doing.local.residents k).outcome
   tells : (k op : ℕ) (answer : Answer) → AllNamed local → doing.answer ≡ Some answer → TellsEnd k op answer → IsHere site k × HasEnded k op answer (local.residents k)
 
 -- session j, which is of this node, was told this, to a line with the number n if it was given up
-record Turns (site : Site) (local : Local) (doing : Doing) (j n : ℕ) (told : Told) : Type 0 where
+pub record Turns (site : Site) (local : Local) (doing : Doing) (j n : ℕ) (told : Told) : Type 0 where
   here : IsHere site j
-  after : AfterTold j told (local.residents j) (doing.local.residents j).session (doing.local.residents j).outcome
-  others : (k : ℕ) → (j == k) ≡ false → doing.local.residents k ≡ local.residents k
+  pub after : AfterTold j told (local.residents j) (doing.local.residents j).session (doing.local.residents j).outcome
+  pub others : (k : ℕ) → (j == k) ≡ false → doing.local.residents k ≡ local.residents k
+  reserved : NotBegun told → (doing.local.residents j).reserved.op ≡ (local.residents j).reserved.op
   answer : doing.answer ≡ answer_of j n (local.residents j).session.op told
   given_up : told ≡ Abandoned → (1 ≤ n) × (n ≡ (local.residents j).session.op)
-  begins : begun_by j doing.fact ≡ None → NotBegun told
 
-data Moves (site : Site) (local : Local) (doing : Doing) : Type 0 where
+pub data Moves (site : Site) (local : Local) (doing : Doing) : Type 0 where
   Stays : IsStill site local doing → Moves site local doing
   Goes_on : (j n : ℕ) (told : Told) → Turns site local doing j n told → Moves site local doing
 
@@ -331,15 +345,37 @@ moved_named site local doing (Goes_on j n told turns) named k = elim (cases_Bool
   | inr other ↦ (subst (Named k) (sym (turns.others k other)) (named k))
 ]
 
-moved_ended : (site : Site) (local : Local) (doing : Doing) (k op : ℕ) (answer : Answer) → Moves site local doing → begun_by k doing.fact ≡ None → HasEnded k op answer (local.residents k) → HasEnded k op answer (doing.local.residents k)
+-- where the session has the same last number nothing began
+not_begun : (j : ℕ) (told : Told) (local : Local) (doing : Doing) → AfterTold j told (local.residents j) (doing.local.residents j).session (doing.local.residents j).outcome → begun_by j local doing.local ≡ None → NotBegun told
+not_begun j (Began op first count) local doing a none =
+    let last : ℕ = (local.residents j).session.op in
+    let now : ℕ = (doing.local.residents j).session.op in
+    let next : now ≡ last + 1 = a.0 in
+    let other : (now == last) ≡ false = ne_eqb now last (λ e. omega (arith, next, e)) in
+    let bad = rw other at none in
+    cc
+not_begun j told local doing a none = tt
+
+moved_ended : (site : Site) (local : Local) (doing : Doing) (k op : ℕ) (answer : Answer) → Moves site local doing → begun_by k local doing.local ≡ None → HasEnded k op answer (local.residents k) → HasEnded k op answer (doing.local.residents k)
 moved_ended site local doing k op answer (Stays still) none at = alike_ended k op answer (local.residents k) (doing.local.residents k) (still.each k) at
 moved_ended site local doing k op answer (Goes_on j n told turns) none at = elim (cases_Bool (j == k)) [
   | inl same ↦ (
       let e : j ≡ k = eqb-true j k same in
       let here : HasEnded k op answer (local.residents j) = subst (λ x. HasEnded k op answer (local.residents x)) (sym e) at in
-      let begun : NotBegun told = turns.begins (subst (λ x. begun_by x doing.fact ≡ None) (sym e) none) in
+      let begun : NotBegun told = not_begun j told local doing turns.after (subst (λ x. begun_by x local doing.local ≡ None) (sym e) none) in
       subst (λ x. HasEnded k op answer (doing.local.residents x)) e (ended_after j k op answer told (local.residents j) (doing.local.residents j) begun turns.after here))
   | inr other ↦ (subst (HasEnded k op answer) (sym (turns.others k other)) at)
+]
+
+-- and reserves nothing
+moved_reserved : (site : Site) (local : Local) (doing : Doing) (k : ℕ) → Moves site local doing → begun_by k local doing.local ≡ None → (doing.local.residents k).reserved.op ≡ (local.residents k).reserved.op
+moved_reserved site local doing k (Stays still) none = ap (λ (z : Reserved). z.op) (still.reserved k)
+moved_reserved site local doing k (Goes_on j n told turns) none = elim (cases_Bool (j == k)) [
+  | inl same ↦ (
+      let e : j ≡ k = eqb-true j k same in
+      let begun : NotBegun told = not_begun j told local doing turns.after (subst (λ x. begun_by x local doing.local ≡ None) (sym e) none) in
+      subst (λ x. (doing.local.residents x).reserved.op ≡ (local.residents x).reserved.op) e (turns.reserved begun))
+  | inr other ↦ (ap (λ (r : Resident). r.reserved.op) (turns.others k other))
 ]
 
 refused_no_end : (j n last k op : ℕ) (word : Refusal) (answer : Answer) → Some (refused_with j n last word) ≡ Some answer → TellsEnd k op answer → ⊥
@@ -356,12 +392,12 @@ turned_tells j n k op answer (Done o) old new named a given is tells =
     let e : IsDone o ≡ answer = same_answer (IsDone o) answer is in
     let h : (session_in o ≡ k) × (number_in o ≡ op) = subst (TellsEnd k op) (sym e) tells in
     let number : old.session.op ≡ op = sym a.own_number ∙ h.1 in
-    (sym a.own_session ∙ h.0, record { some = subst (λ x. 1 ≤ x) number (named.some a.busy); number = a.number ∙ number; idle = a.idle; ends = ap (ended k op) a.is ∙ e })
+    (sym a.own_session ∙ h.0, has_ended k op answer new (subst (λ x. 1 ≤ x) number (named.some a.busy)) (a.number ∙ number) a.idle (ap (ended k op) a.is ∙ e))
 turned_tells j n k op answer Abandoned old new named a given is tells =
     let e : Gone j n ≡ answer = same_answer (Gone j n) answer is in
     let h : (j ≡ k) × (n ≡ op) = subst (TellsEnd k op) (sym e) tells in
     let g = given refl in
-    (h.0, record { some = subst (λ x. 1 ≤ x) h.1 g.0; number = a.number ∙ sym g.1 ∙ h.1; idle = a.idle; ends = ap (ended k op) a.none ∙ cc (h.0, h.1, e) })
+    (h.0, has_ended k op answer new (subst (λ x. 1 ≤ x) h.1 g.0) (a.number ∙ sym g.1 ∙ h.1) a.idle (ap (ended k op) a.none ∙ cc (h.0, h.1, e)))
 turned_tells j n k op answer (Refused word) old new named a given is tells = absurd (refused_no_end j n old.session.op k op word answer is tells)
 turned_tells j n k op answer told old new named a given is tells = absurd (cc)
 
@@ -381,6 +417,7 @@ alike_refl r = record { number = refl; current = refl; same = refl }
 -- all stays, and nothing is told
 quiet : (site : Site) (local : Local) (doing : Doing) → doing.local.residents ≡ local.residents → doing.answer ≡ None → IsStill site local doing
 quiet site local doing same none = record {
+  reserved = λ k. ap (λ rs. (rs k).reserved) same;
   each = λ k. subst (λ (r : Resident). IsAlike (local.residents k) r.session r.outcome) (sym (ap (λ rs. rs k) same)) (alike_refl (local.residents k));
   tells = λ k op answer named is tells. let e = sym none ∙ is in absurd (cc);
 }
@@ -388,6 +425,7 @@ quiet site local doing same none = record {
 -- all stays, and this is told, which is no end
 says : (site : Site) (local : Local) (doing : Doing) (a : Answer) → doing.local ≡ local → doing.answer ≡ Some a → ((k op : ℕ) → TellsEnd k op a → ⊥) → IsStill site local doing
 says site local doing a same is never = record {
+  reserved = λ k. ap (λ (l : Local). (l.residents k).reserved) same;
   each = λ k. subst (λ (l : Local). IsAlike (local.residents k) (l.residents k).session (l.residents k).outcome) (sym same) (alike_refl (local.residents k));
   tells = λ k op answer named told tells. absurd (never k op (subst (TellsEnd k op) (sym (same_answer a answer (sym is ∙ told))) tells));
 }
@@ -400,31 +438,40 @@ other_resident local j k r other = rw other refl
 
 -- a session that goes on
 goes_on_turns : (site : Site) (local : Local) (j n : ℕ) (doing : Doing) (r : Resident) (told : Told) (floor : ℕ) → IsHere site j → doing.local ≡ with_resident local j r → doing.answer ≡ answer_of j n (local.residents j).session.op told →
-    doing.fact ≡ session_fact j told (local.residents j).session.floor floor →
+    r.reserved ≡ reserved_by (reserving j (local.residents j).reserved told floor) (local.residents j).reserved →
     AfterTold j told (local.residents j) r.session r.outcome → (told ≡ Abandoned → (1 ≤ n) × (n ≡ (local.residents j).session.op)) → Turns site local doing j n told
-goes_on_turns site local j n doing r told floor here part answer fact after given = record {
+goes_on_turns site local j n doing r told floor here part answer reserved after given = record {
   here = here;
-  after = subst (λ (x : Resident). AfterTold j told (local.residents j) x.session x.outcome) (sym (ap (λ (l : Local). l.residents j) part ∙ own_resident local j r)) after;
+  after = subst (λ (x : Resident). AfterTold j told (local.residents j) x.session x.outcome) (sym now) after;
   others = λ k other. ap (λ (l : Local). l.residents k) part ∙ other_resident local j k r other;
+  reserved = λ begun. ap (λ (x : Resident). x.reserved.op) now ∙ ap (λ (z : Reserved). z.op) reserved ∙ same_op told (local.residents j).reserved begun;
   answer = answer;
   given_up = given;
-  begins = λ none. not_begun j told (local.residents j).session.floor floor (ap (begun_by j) (sym fact) ∙ none);
 }
   where
-    not_begun : (k : ℕ) (told : Told) (old new : ℕ) → begun_by k (session_fact k told old new) ≡ None → NotBegun told
-    not_begun k (Began op first count) old new none = let e : (if k == k then Some op else None) ≡ None = none in let f = rw (eq-eqb k k refl) at e in cc
-    not_begun k told old new none = tt
+    now : doing.local.residents j ≡ r
+    now = ap (λ (l : Local). l.residents j) part ∙ own_resident local j r
+
+    same_op : (told : Told) (z : Reserved) → NotBegun told → (reserved_by (reserving j z told floor) z).op ≡ z.op
+    same_op (Began op first count) z begun = absurd begun
+    same_op (Round round tag first count) z begun = by (nat_le floor z.floor)
+      where
+        by : (b : Bool) → (reserved_by (if b then None else Some (Numbered j (last_of_run greatest_number floor))) z).op ≡ z.op
+        by true = refl
+        by false = refl
+    same_op told z begun = refl
 
 -- ---- a request
 
 told_still : (site : Site) (local : Local) (n j : ℕ) (b : Bool) (answer : Answer) → admission_in site local j n b ≡ Tells answer → IsStill site local (record { local = local; answer = Some answer; letters = []; fact = None })
 told_still site local n j b answer is = record {
+  reserved = λ k. refl;
   each = λ k. alike_refl (local.residents k);
   tells = λ k op end named told tells.
       let r : Resident = local.residents j in
       let e : admission_in site local j n b ≡ Tells end = is ∙ ap Tells (same_answer answer end told) in
       let h = site_ends site j n r.session.op k op b (is_some r.session.current) r.outcome end (named j).own e tells in
-      let at : HasEnded k op end r = record { some = h.1.some; number = h.1.number; idle = not_going r.session.current h.1.idle; ends = h.1.ends } in
+      let at : HasEnded k op end r = has_ended k op end r h.1.some h.1.number (not_going r.session.current h.1.idle) h.1.ends in
       (subst (IsHere site) h.1.session h.0, subst (λ x. HasEnded k op end (local.residents x)) h.1.session at);
 }
 
@@ -436,6 +483,7 @@ refusal_no_end j n last k op told answer refused is tells = absurd (cc)
 
 refused_still : (site : Site) (local : Local) (j n : ℕ) (told : Told) → is_refusal told ≡ true → IsStill site local (record { local = local; answer = answer_of j n (local.residents j).session.op told; letters = []; fact = None })
 refused_still site local j n told refused = record {
+  reserved = λ k. refl;
   each = λ k. alike_refl (local.residents k);
   tells = λ k op answer named is tells. absurd (refusal_no_end j n (local.residents j).session.op k op told answer refused is tells);
 }
@@ -505,7 +553,7 @@ request_moves op line k site local turn = by (admission_in site local k op (begi
         subst (Moves site local) (sym (same ∙ e)) (said is (is_refusal step.told) refl)
 
 begun_turn : (volumes : List VolumeRow) (k n first count : ℕ) (line : Line) (old : Resident) → AfterTold k (Began n first count) old (session_by volumes k (if k == k then Begins line else Elsewhere) old.session) None
-begun_turn volumes k n first count line old = rw (eq-eqb k k refl) (let h : 1 ≤ old.session.op + 1 = omega arith in (h, refl))
+begun_turn volumes k n first count line old = rw (eq-eqb k k refl) (refl, refl)
 
 given_turn : (volumes : List VolumeRow) (k : ℕ) (old : Resident) → is_some old.session.current ≡ true → AfterTold k Abandoned old (session_by volumes k (if k == k then Ends else Elsewhere) old.session) None
 given_turn volumes k old busy = rw (eq-eqb k k refl) (record { busy = busy; number = refl; idle = refl; none = refl })
@@ -609,12 +657,17 @@ tried_alike grid true r = record { number = refl; current = refl; same = refl }
 tried_alike grid false r = record { number = refl; current = refl; same = refl }
 
 -- the session tries on, or has waited now
-tries_still : (site : Site) (local : Local) (doing : Doing) (j : ℕ) (r : Resident) → doing.local ≡ with_resident local j r → doing.answer ≡ None → IsAlike (local.residents j) r.session r.outcome → IsStill site local doing
-tries_still site local doing j r part none a = record {
+tries_still : (site : Site) (local : Local) (doing : Doing) (j : ℕ) (r : Resident) → doing.local ≡ with_resident local j r → doing.answer ≡ None → r.reserved ≡ (local.residents j).reserved → IsAlike (local.residents j) r.session r.outcome → IsStill site local doing
+tries_still site local doing j r part none numbers a = record {
+  reserved = λ k. ap (λ (l : Local). (l.residents k).reserved) part ∙ numbers_at k (j == k) refl;
   each = λ k. subst (λ (l : Local). IsAlike (local.residents k) (l.residents k).session (l.residents k).outcome) (sym part) (one k (j == k) refl);
   tells = λ k op answer named is tells. let e = sym none ∙ is in absurd (cc);
 }
   where
+    numbers_at : (k : ℕ) (b : Bool) → (j == k) ≡ b → ((with_resident local j r).residents k).reserved ≡ (local.residents k).reserved
+    numbers_at k true same = rw same (numbers ∙ ap (λ x. (local.residents x).reserved) (eqb-true j k same))
+    numbers_at k false other = rw other refl
+
     one : (k : ℕ) (b : Bool) → (j == k) ≡ b → IsAlike (local.residents k) ((with_resident local j r).residents k).session ((with_resident local j r).residents k).outcome
     one k true same = subst (λ (x : Resident). IsAlike (local.residents k) x.session x.outcome) (sym (own_at k same)) (subst (λ n. IsAlike (local.residents n) r.session r.outcome) (eqb-true j k same) a)
       where
@@ -632,10 +685,10 @@ ticks_move k site local = elim (cases_Bool (is_some (local.residents k).session.
     r = local.residents k
 
     by : (b : Bool) → IsStill site local (waits_on site local k b)
-    by false = tries_still site local (waits_on site local k false) k (record r { waited = true }) refl refl (record { number = refl; current = refl; same = refl })
-    by true = tries_still site local (waits_on site local k true) k (tries_next site.grid (is_collect r.session.round) r) refl refl (tried_alike site.grid (is_collect r.session.round) r)
+    by false = tries_still site local (waits_on site local k false) k (record r { waited = true }) refl refl refl (record { number = refl; current = refl; same = refl })
+    by true = tries_still site local (waits_on site local k true) k (tries_next site.grid (is_collect r.session.round) r) refl refl (tried_reserved site.grid (is_collect r.session.round) r) (tried_alike site.grid (is_collect r.session.round) r)
 
-all_move : (input : Input) (site : Site) (local : Local) → Moves site local (does input site local)
+pub all_move : (input : Input) (site : Site) (local : Local) → Moves site local (does input site local)
 all_move (Asked op line) site local = requests_move op line site local
 all_move AskedPlan site local = Stays (says site local (does AskedPlan site local) _ refl refl (λ k op h. h))
 all_move (Brought from letter) site local = letters_move from letter site local
@@ -681,10 +734,12 @@ fresh_named k r fresh = record {
 
 -- ---- all nodes
 
--- node n has these volumes, its facts tell its numbers, and its sessions are sound
+-- node n has these volumes, its facts tell what is reserved, no session used another number, and its sessions are sound
 record IsSound (s : Setting) (n : ℕ) (local : Local) (facts : List OwnFact) : Type 0 where
   volumes : local.volumes ≡ s.volumes
   journal : kept_of (part_in (started s n facts)) ≡ kept_of (part_in local)
+  home : AtHome (site_in s n) local
+  used : AllUsed local
   named : AllNamed local
 
 abbrev AllSound : Setting → Nodes → Type 0
@@ -694,15 +749,31 @@ fresh_start : (s : Setting) (n : ℕ) (facts : List OwnFact) → AllFresh (start
 fresh_start s n facts = started_fresh s n facts (new_local s.grid n s.volumes) (λ k. record { idle = refl; none = refl })
 
 new_all_sound : (s : Setting) → AllSound s (new_nodes s)
-new_all_sound s n = record { volumes = refl; journal = refl; named = λ k. fresh_named k _ (record { idle = refl; none = refl }) }
+new_all_sound s n = record {
+  volumes = refl;
+  journal = refl;
+  home = idle_home (site_in s n) (new_local s.grid n s.volumes) (λ k. refl);
+  used = rests_used (new_local s.grid n s.volumes) (new_rests s.grid n s.volumes);
+  named = λ k. fresh_named k _ (record { idle = refl; none = refl });
+}
+
+-- what comes leaves it so
+does_sound : (input : Input) (site : Site) (local : Local) → AtHome site local → AllUsed local → AtHome site (does input site local).local × AllUsed (does input site local).local
+does_sound (Asked op line) site local home used = let b = all_requests_act op line site local home in (b.home, bridged_used site local _ _ _ _ b used)
+does_sound AskedPlan site local home used = (home, used)
+does_sound (Brought from letter) site local home used = let b = all_letters_act from letter site local home in (b.home, bridged_used site local _ _ _ _ b used)
+does_sound (Ticked session) site local home used = let b = all_ticks_act session site local home in (b.home, bridged_used site local _ _ _ _ b used)
 
 input_sound : (s : Setting) (nodes : Nodes) (n : ℕ) (input : Input) → AllSound s nodes → SameVolumes (nodes.local n) (does input (site_in s n) (nodes.local n)) → AllSound s (after_doing nodes n (does input (site_in s n) (nodes.local n)))
 input_sound s nodes n input sound volumes =
     let local : Local = nodes.local n in
     let doing : Doing = does input (site_in s n) local in
+    let still = does_sound input (site_in s n) local (sound n).home (sound n).used in
     at_nodes (IsSound s) nodes n doing (record {
       volumes = volumes ∙ (sound n).volumes;
       journal = journal_by s n (nodes.facts n) local doing.fact (part_in doing.local) (sound n).journal (sound n).volumes (does_keep input (site_in s n) local);
+      home = still.0;
+      used = still.1;
       named = moved_named (site_in s n) local doing (all_move input (site_in s n) local) (sound n).named;
     }) (λ m away. sound m)
 
@@ -714,6 +785,8 @@ event_sound s nodes (TickCame n k) sound = input_sound s nodes n (Ticked k) soun
 event_sound s nodes (Started n) sound = at_start (IsSound s) s nodes n (record {
   volumes = started_volumes s n (nodes.facts n) (new_local s.grid n s.volumes) refl;
   journal = refl;
+  home = idle_home (site_in s n) (started s n (nodes.facts n)) (λ k. (fresh_start s n (nodes.facts n) k).idle);
+  used = rests_used (started s n (nodes.facts n)) (started_rests s n (nodes.facts n));
   named = λ k. fresh_named k _ (fresh_start s n (nodes.facts n) k);
 }) (λ m away. sound m)
 
@@ -723,73 +796,90 @@ all_sound s (event ∷ events) nodes sound = all_sound s events (after_event s n
 
 -- ---- one event
 
--- session k at node n has ended its operation so, after the event
-abbrev EndedAt : Nodes → (n k op : ℕ) → Answer → Type 0
-EndedAt nodes n k op answer = HasEnded k op answer ((nodes.local n).residents k)
+-- of operation op of session k this is told at node n, and that is the last number reserved for the session's operations
+record EndedAt (nodes : Nodes) (n k op last : ℕ) (answer : Answer) : Type 0 where
+  ended : HasEnded k op answer ((nodes.local n).residents k)
+  reserved : ((nodes.local n).residents k).reserved.op ≡ last
 
-input_ended : (s : Setting) (nodes : Nodes) (m : ℕ) (input : Input) (n k op : ℕ) (answer : Answer) → (if m == n then begun_by k (does input (site_in s m) (nodes.local m)).fact else None) ≡ None →
-    EndedAt nodes n k op answer → EndedAt (after_doing nodes m (does input (site_in s m) (nodes.local m))) n k op answer
-input_ended s nodes m input n k op answer none at = elim (cases_Bool (n == m)) [
-  | inr other ↦ (rw other at)
+input_ended : (s : Setting) (nodes : Nodes) (m : ℕ) (input : Input) (n k op last : ℕ) (answer : Answer) → begun_by k (nodes.local n) ((after_doing nodes m (does input (site_in s m) (nodes.local m))).local n) ≡ None →
+    EndedAt nodes n k op last answer → EndedAt (after_doing nodes m (does input (site_in s m) (nodes.local m))) n k op last answer
+input_ended s nodes m input n k op last answer none at = elim (cases_Bool (n == m)) [
+  | inr other ↦ (record { ended = rw other at.ended; reserved = rw other at.reserved })
   | inl same ↦ (
       let e : n ≡ m = eqb-true n m same in
-      let fact : begun_by k (does input (site_in s m) (nodes.local m)).fact ≡ None = rw (eq-eqb m n (sym e)) at none in
-      rw same (moved_ended (site_in s m) (nodes.local m) (does input (site_in s m) (nodes.local m)) k op answer (all_move input (site_in s m) (nodes.local m)) fact (subst (λ x. EndedAt nodes x k op answer) e at)))
+      let doing : Doing = does input (site_in s m) (nodes.local m) in
+      let here : begun_by k (nodes.local n) doing.local ≡ None = rw same at none in
+      let begun : begun_by k (nodes.local m) doing.local ≡ None = subst (λ x. begun_by k (nodes.local x) doing.local ≡ None) e here in
+      let moves : Moves (site_in s m) (nodes.local m) doing = all_move input (site_in s m) (nodes.local m) in
+      record {
+        ended = rw same (moved_ended (site_in s m) (nodes.local m) doing k op answer moves begun (subst (λ x. HasEnded k op answer ((nodes.local x).residents k)) e at.ended));
+        reserved = rw same (moved_reserved (site_in s m) (nodes.local m) doing k moves begun ∙ ap (λ x. ((nodes.local x).residents k).reserved.op) (sym e) ∙ at.reserved);
+      })
 ]
 
 -- what is told of it then
-abbrev end_by : (n k op : ℕ) → Event → Answer → Answer
-end_by n k op event answer = if is_start n event then Gone k op else answer
+abbrev end_by : (n k op last : ℕ) → Event → Answer → Answer
+end_by n k op last event answer = if is_start n event then forgotten k op last else answer
 
-start_ended : (s : Setting) (nodes : Nodes) (m n k op : ℕ) (answer : Answer) → AllSound s nodes → EndedAt nodes n k op answer → EndedAt (after_event s nodes (Started m)) n k op (if m == n then Gone k op else answer)
-start_ended s nodes m n k op answer sound at = elim (cases_Bool (n == m)) [
-  | inr other ↦ (rw (other, not_same m n other) at)
+start_ended : (s : Setting) (nodes : Nodes) (m n k op last : ℕ) (answer : Answer) → AllSound s nodes → EndedAt nodes n k op last answer → EndedAt (after_event s nodes (Started m)) n k op last (if m == n then forgotten k op last else answer)
+start_ended s nodes m n k op last answer sound at = elim (cases_Bool (n == m)) [
+  | inr other ↦ (record { ended = rw (other, not_same m n other) at.ended; reserved = rw other at.reserved })
   | inl same ↦ (
       let e : n ≡ m = eqb-true n m same in
       let facts : List OwnFact = nodes.facts m in
-      let fresh : IsFresh ((started s m facts).residents k) = fresh_start s m facts k in
-      let number : ((started s m facts).residents k).session.op ≡ op = ap (λ (z : KeptPart). z.op k) (sound m).journal ∙ ap (λ x. ((nodes.local x).residents k).session.op) (sym e) ∙ at.number in
-      let after : HasEnded k op (Gone k op) ((started s m facts).residents k) = record { some = at.some; number = number; idle = fresh.idle; ends = ap (ended k op) fresh.none } in
-      rw (same, eq-eqb m n (sym e)) after)
+      let r : Resident = (started s m facts).residents k in
+      let fresh : IsFresh r = fresh_start s m facts k in
+      let reserved : r.reserved.op ≡ last = ap (λ (z : KeptPart). z.op k) (sound m).journal ∙ ap (λ x. ((nodes.local x).residents k).reserved.op) (sym e) ∙ at.reserved in
+      let number : r.session.op ≡ last = (started_rests s m facts k).op ∙ reserved in
+      let low = at.ended.low in
+      let used = ((sound n).used k).op in
+      let was = at.reserved in
+      let after : HasEnded k op (forgotten k op last) r = record {
+        some = at.ended.some;
+        low = omega (arith, low, used, was, number);
+        idle = fresh.idle;
+        ends = λ i. end_of k op (number i) (fresh.none i);
+      } in
+      record { ended = rw (same, eq-eqb m n (sym e)) after; reserved = rw same reserved })
 ]
   where
     not_same : (m n : ℕ) → (n == m) ≡ false → (m == n) ≡ false
     not_same m n other = ne_eqb m n (λ e. let f = sym other ∙ eq-eqb n m (sym e) in absurd (cc))
 
-event_ended : (s : Setting) (nodes : Nodes) (event : Event) (n k op : ℕ) (answer : Answer) → AllSound s nodes → begun_at s nodes n k event ≡ None → EndedAt nodes n k op answer → EndedAt (after_event s nodes event) n k op (end_by n k op event answer)
-event_ended s nodes (LineCame m number line) n k op answer sound none at = input_ended s nodes m (Asked number line) n k op answer none at
-event_ended s nodes (PlanCame m) n k op answer sound none at = input_ended s nodes m AskedPlan n k op answer none at
-event_ended s nodes (LetterCame m from letter) n k op answer sound none at = input_ended s nodes m (Brought from letter) n k op answer none at
-event_ended s nodes (TickCame m j) n k op answer sound none at = input_ended s nodes m (Ticked j) n k op answer none at
-event_ended s nodes (Started m) n k op answer sound none at = start_ended s nodes m n k op answer sound at
+event_ended : (s : Setting) (nodes : Nodes) (event : Event) (n k op last : ℕ) (answer : Answer) → AllSound s nodes → begun_at s nodes n k event ≡ None → EndedAt nodes n k op last answer → EndedAt (after_event s nodes event) n k op last (end_by n k op last event answer)
+event_ended s nodes (LineCame m number line) n k op last answer sound none at = input_ended s nodes m (Asked number line) n k op last answer none at
+event_ended s nodes (PlanCame m) n k op last answer sound none at = input_ended s nodes m AskedPlan n k op last answer none at
+event_ended s nodes (LetterCame m from letter) n k op last answer sound none at = input_ended s nodes m (Brought from letter) n k op last answer none at
+event_ended s nodes (TickCame m j) n k op last answer sound none at = input_ended s nodes m (Ticked j) n k op last answer none at
+event_ended s nodes (Started m) n k op last answer sound none at = start_ended s nodes m n k op last answer sound at
 
-end_more : (n k op : ℕ) (event : Event) (events : List Event) (answer : Answer) → end_after n k op events (end_by n k op event answer) ≡ end_after n k op (event ∷ events) answer
-end_more n k op event events answer = by (is_start n event) (list_any (is_start n) events)
+end_more : (n k op last : ℕ) (event : Event) (events : List Event) (answer : Answer) → end_after n k op last events (end_by n k op last event answer) ≡ end_after n k op last (event ∷ events) answer
+end_more n k op last event events answer = by (is_start n event) (list_any (is_start n) events)
   where
-    by : (a b : Bool) → (if b then Gone k op else if a then Gone k op else answer) ≡ (if (a || b) then Gone k op else answer)
+    by : (a b : Bool) → (if b then forgotten k op last else if a then forgotten k op last else answer) ≡ (if (a || b) then forgotten k op last else answer)
     by true true = refl
     by true false = refl
     by false true = refl
     by false false = refl
 
-events_ended : (s : Setting) (events : List Event) (nodes : Nodes) (n k op : ℕ) (answer : Answer) → AllSound s nodes → NoneBegins s nodes n k events → EndedAt nodes n k op answer → EndedAt (nodes_after s nodes events) n k op (end_after n k op events answer)
-events_ended s [] nodes n k op answer sound none at = at
-events_ended s (event ∷ events) nodes n k op answer sound none at =
+events_ended : (s : Setting) (events : List Event) (nodes : Nodes) (n k op last : ℕ) (answer : Answer) → AllSound s nodes → NoneBegins s nodes n k events → EndedAt nodes n k op last answer → EndedAt (nodes_after s nodes events) n k op last (end_after n k op last events answer)
+events_ended s [] nodes n k op last answer sound none at = at
+events_ended s (event ∷ events) nodes n k op last answer sound none at =
     let new : Nodes = after_event s nodes event in
-    subst (EndedAt (nodes_after s new events) n k op) (end_more n k op event events answer)
-    (events_ended s events new n k op (end_by n k op event answer) (event_sound s nodes event sound) none.1 (event_ended s nodes event n k op answer sound none.0 at))
+    subst (EndedAt (nodes_after s new events) n k op last) (end_more n k op last event events answer)
+    (events_ended s events new n k op last (end_by n k op last event answer) (event_sound s nodes event sound) none.1 (event_ended s nodes event n k op last answer sound none.0 at))
 
 -- ---- the end that is told
 
 input_tells : (s : Setting) (nodes : Nodes) (n : ℕ) (input : Input) (k op : ℕ) (answer : Answer) → AllSound s nodes → (does input (site_in s n) (nodes.local n)).answer ≡ Some answer → TellsEnd k op answer →
-    IsHere (site_in s n) k × EndedAt (after_doing nodes n (does input (site_in s n) (nodes.local n))) n k op answer
+    IsHere (site_in s n) k × HasEnded k op answer (((after_doing nodes n (does input (site_in s n) (nodes.local n))).local n).residents k)
 input_tells s nodes n input k op answer sound is tells =
     let doing : Doing = does input (site_in s n) (nodes.local n) in
     let h = moved_tells (site_in s n) (nodes.local n) doing k op answer (sound n).named (all_move input (site_in s n) (nodes.local n)) is tells in
     (h.0, rw (eq-eqb n n refl) h.1)
 
 event_tells : (s : Setting) (nodes : Nodes) (event : Event) (k op : ℕ) (answer : Answer) → AllSound s nodes → (doing_of s nodes event).answer ≡ Some answer → TellsEnd k op answer →
-    IsHere (site_in s (node_in event)) k × EndedAt (after_event s nodes event) (node_in event) k op answer
+    IsHere (site_in s (node_in event)) k × HasEnded k op answer (((after_event s nodes event).local (node_in event)).residents k)
 event_tells s nodes (LineCame n number line) k op answer sound is tells = input_tells s nodes n (Asked number line) k op answer sound is tells
 event_tells s nodes (PlanCame n) k op answer sound is tells = input_tells s nodes n AskedPlan k op answer sound is tells
 event_tells s nodes (LetterCame n from letter) k op answer sound is tells = input_tells s nodes n (Brought from letter) k op answer sound is tells
@@ -804,5 +894,6 @@ all_ends_told_again s before event between k op answer line is tells none its =
     let sound : AllSound s nodes = all_sound s before (new_nodes s) (new_all_sound s) in
     let h = event_tells s nodes event k op answer sound is tells in
     let later : Nodes = nodes_after s told between in
-    let end : EndedAt later n k op (end_after n k op between answer) = events_ended s between told n k op answer (event_sound s nodes event sound) none h.1 in
-    ended_tells (site_in s n) (later.local n) op line k (end_after n k op between answer) h.0 end its
+    let last : ℕ = ((told.local n).residents k).reserved.op in
+    let end : EndedAt later n k op last (end_after n k op last between answer) = events_ended s between told n k op last answer (event_sound s nodes event sound) none (record { ended = h.1; reserved = refl }) in
+    ended_tells (site_in s n) (later.local n) op line k (end_after n k op last between answer) h.0 end.ended its

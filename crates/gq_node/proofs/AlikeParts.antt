@@ -1,6 +1,6 @@
 -- Parts that are alike do the same.
 use Rattle.std.proofs.Common.{◌≡◌, ◌∙◌, ℕ, Bool, true, false, List, [], ◌∷◌, ◌++◌, refl, sym, ap, subst, Option, Some, None, inl, inr}
-use Rattle.std.specs.Prelude.{option_map, is_some, ◌&&◌, ◌==◌, if◌then◌else◌}
+use Rattle.std.specs.Prelude.{option_map, is_some, ◌&&◌, ◌==◌, max, if◌then◌else◌}
 use Rattle.std.proofs.lemmas.Bool.{cases_Bool}
 use Rattle.gq_grid.specs.Grid.{Servers}
 use Rattle.gq_tag.specs.declared.StoredCopy.{StoredCopy}
@@ -14,9 +14,10 @@ use Rattle.gq_model.specs.declared.events.Line.{Line}
 use Rattle.gq_model.specs.declared.events.Line.TheVariants.{Write, Read, List as ListFiles, Retry, Abandon}
 use Rattle.gq_model.specs.declared.events.Refusal.TheVariants.{NoSession, Idle}
 use Rattle.gq_model.specs.Told.{Refused, Replied}
-use Rattle.gq_model.specs.Trace.{Entry, State, Session, Deed, Elsewhere, Begins, Hears, Moves, Ends, changed, deed, operation_with, session_by, brought_by}
+use Rattle.gq_model.specs.Trace.{State, Session, Deed, Elsewhere, Begins, Hears, Moves, Ends, Leaps, changed, deed, operation_with, session_by, brought_by}
 use Rattle.gq_model.specs.Lone.{Step, is_refusal, asked_step, hear_step, reply_to, quiet}
-use Rattle.gq_cluster.specs.Cluster.{Setting, Part, Act, Asks, Comes, part_of, node_of, step_of, part_after, act_entry, aim_of, asker, IsOfSession, copy_in, state_of}
+use Rattle.gq_cluster.specs.Facts.{OwnFact, Begun, Numbered, Kept, Reserved, none_reserved, reserving, with_reserved, replaced_in}
+use Rattle.gq_cluster.specs.Cluster.{Setting, Part, Act, Asks, Comes, part_of, node_of, step_of, state_after, fact_in, fact_of, part_after, act_entry, aim_of, session_named, IsOfSession, copy_in, state_of}
 use Rattle.gq_laws.proofs.Holding.{greatest-push}
 use Rattle.gq_node.specs.Nodes.{SessionAlike, PartAlike}
 
@@ -40,15 +41,16 @@ deed_alike volumes k (Begins line) a b None is alike =
 deed_alike volumes k (Hears m) a b None is alike = idle_alike _ _ alike.op alike.floor (alike.current ∙ is) is
 deed_alike volumes k (Moves m round tag) a b None is alike = rw (is, alike.current ∙ is) (idle_alike _ _ alike.op alike.floor refl refl)
 deed_alike volumes k Ends a b None is alike = idle_alike _ _ alike.op alike.floor refl refl
+deed_alike volumes k (Leaps op number) a b None is alike = idle_alike _ _ (ap (λ n. max n op) alike.op) (ap (λ n. max n number) alike.floor) refl refl
 
 -- ---- what is told and sent
 
 -- a part of which only this is known
 abbrev just : Setting → Servers → (op : ℕ) → Option Task → (floor : ℕ) → State
-just s aim op current floor = state_of s.volumes aim (record { brought = λ file. []; session = λ j. record { op = op; current = current; round = 1; heard = []; collected = []; floor = floor } })
+just s aim op current floor = state_of s.volumes aim (record { brought = λ file. []; session = λ j. record { op = op; current = current; round = 1; heard = []; collected = []; floor = floor }; reserved = λ j. none_reserved })
 
 abbrev only : Setting → Servers → Session → State
-only s aim session = state_of s.volumes aim (record { brought = λ file. []; session = λ j. session })
+only s aim session = state_of s.volumes aim (record { brought = λ file. []; session = λ j. session; reserved = λ j. none_reserved })
 
 retry_idle : (s : Setting) (aim : Servers) (p : Part) (k : ℕ) → (p.session k).current ≡ None → step_of s p (Asks (Retry k) aim) ≡ (if is_in 1 s.row.sessions k then quiet (Refused Idle) else quiet (Refused NoSession))
 retry_idle s aim p k idle = elim (cases_Bool (is_in 1 s.row.sessions k)) [
@@ -60,7 +62,7 @@ retry_alike : (s : Setting) (aim : Servers) (p q : Part) (k : ℕ) (current : Op
 retry_alike s aim p q k None is alike = retry_idle s aim p k (alike.current ∙ is) ∙ sym (retry_idle s aim q k is)
 retry_alike s aim p q k (Some task) is alike = λ i. asked_step s.grid s.row (only s aim (alike.going (ap is_some is) i)) (Retry k)
 
-asked_alike : (s : Setting) (aim : Servers) (p q : Part) (line : Line) → IsOfSession line → SessionAlike (p.session (asker line)) (q.session (asker line)) → step_of s p (Asks line aim) ≡ step_of s q (Asks line aim)
+asked_alike : (s : Setting) (aim : Servers) (p q : Part) (line : Line) → IsOfSession line → SessionAlike (p.session (session_named line)) (q.session (session_named line)) → step_of s p (Asks line aim) ≡ step_of s q (Asks line aim)
 asked_alike s aim p q (Write k v f bytes) its alike = λ i. asked_step s.grid s.row (just s aim (alike.op i) (alike.current i) (alike.floor i)) (Write k v f bytes)
 asked_alike s aim p q (Read k v f) its alike = λ i. asked_step s.grid s.row (just s aim (alike.op i) (alike.current i) (alike.floor i)) (Read k v f)
 asked_alike s aim p q (ListFiles k v) its alike = λ i. asked_step s.grid s.row (just s aim (alike.op i) (alike.current i) (alike.floor i)) (ListFiles k v)
@@ -90,7 +92,7 @@ IsAct (Asks line aim) = IsOfSession line
 IsAct (Comes m aim) = Unit {0}
 
 pub step_alike : (s : Setting) (n : ℕ) (p q : Part) (act : Act) → IsAct act → node_of s.home act ≡ n → PartAlike s.home n p q → step_of s p act ≡ step_of s q act
-step_alike s n p q (Asks line aim) its here alike = asked_alike s aim p q line its (alike.sessions (asker line) here)
+step_alike s n p q (Asks line aim) its here alike = asked_alike s aim p q line its (alike.sessions (session_named line) here)
 step_alike s n p q (Comes m aim) its here alike = elim (cases_Bool (to_server m.body)) [
   | inl goes ↦ (served_alike s p q m aim goes (alike.copies m.file))
   | inr goes ↦ (heard_alike s p q m aim goes (alike.sessions m.session (rw goes at here)))
@@ -115,19 +117,59 @@ brought_alike up (Some m) p q n file same = by m.session m.op m.round m.server m
     by session op round server f (Store copy) = stored ((server == n) && is_file f file && up n) copy
     by session op round server f Stored = same
 
-pub entry_alike : (s : Setting) (aim : Servers) (e : Entry) (n : ℕ) (p q : Part) → PartAlike s.home n p q → PartAlike s.home n (part_of n (changed e (state_of s.volumes aim p))) (part_of n (changed e (state_of s.volumes aim q)))
-entry_alike s aim e n p q alike = record {
-  copies = λ file. brought_alike aim e.message p q n file (alike.copies file);
-  sessions = λ k here. deed_alike s.volumes k (deed k e) (p.session k) (q.session k) (q.session k).current refl (alike.sessions k here);
-}
+-- what is reserved for session j behind the fact
+reserved_alike : (fact : Option OwnFact) (a b : ℕ → Reserved) (j : ℕ) → a j ≡ b j → with_reserved fact a j ≡ with_reserved fact b j
+reserved_alike None a b j same = same
+reserved_alike (Some (Begun k op)) a b j same = λ i. if k == j then record (same i) { op = op } else same i
+reserved_alike (Some (Numbered k number)) a b j same = λ i. if k == j then record (same i) { floor = number } else same i
+reserved_alike (Some (Kept file copy)) a b j same = same
+
+-- the fact that session k gives by the act
+told_fact_alike : (s : Setting) (n : ℕ) (p q : Part) (act : Act) (k : ℕ) → s.home k ≡ n → step_of s p act ≡ step_of s q act → PartAlike s.home n p q → fact_in s p act k ≡ fact_in s q act k
+told_fact_alike s n p q act k here same alike = λ i. reserving k (alike.reserved k here i) (same i).told (floor i)
+  where
+    floor : ((state_after s p act).session k).floor ≡ ((state_after s q act).session k).floor
+    floor =
+        ap (λ (z : Step). (session_by s.volumes k (deed k (act_entry act z)) (p.session k)).floor) same
+        ∙ (deed_alike s.volumes k (deed k (act_entry act (step_of s q act))) (p.session k) (q.session k) (q.session k).current refl (alike.sessions k here)).floor
+
+fact_alike : (s : Setting) (n : ℕ) (p q : Part) (act : Act) → node_of s.home act ≡ n → step_of s p act ≡ step_of s q act → PartAlike s.home n p q → fact_of s p act ≡ fact_of s q act
+fact_alike s n p q (Asks line aim) here same alike = told_fact_alike s n p q (Asks line aim) (session_named line) here same alike
+fact_alike s n p q (Comes m aim) here same alike = by (to_server m.body) refl
+  where
+    fact : Part → Bool → Option OwnFact
+    fact x b = if b then replaced_in (copy_in x m.file) m.file m.body else fact_in s x (Comes m aim) m.session
+
+    by : (b : Bool) → to_server m.body ≡ b → fact p (to_server m.body) ≡ fact q (to_server m.body)
+    by true goes = ap (fact p) goes ∙ ap (λ copy. replaced_in copy m.file m.body) (alike.copies m.file) ∙ sym (ap (fact q) goes)
+    by false goes = ap (fact p) goes ∙ told_fact_alike s n p q (Comes m aim) m.session (rw goes at here) same alike ∙ sym (ap (fact q) goes)
+
+-- the part after the act, where this is told and sent by it, and this is its fact
+abbrev part_by : Setting → ℕ → Act → Option OwnFact → Step → Part → Part
+part_by s n act fact step x = if is_refusal step.told then x else part_of n (with_reserved fact x.reserved) (changed (act_entry act step) (state_of s.volumes (aim_of act) x))
 
 pub part_alike : (s : Setting) (n : ℕ) (p q : Part) (act : Act) → IsAct act → node_of s.home act ≡ n → PartAlike s.home n p q → PartAlike s.home n (part_after s n p act) (part_after s n q act)
-part_alike s n p q act its here alike =
-    let same : step_of s p act ≡ step_of s q act = step_alike s n p q act its here alike in
-    let P : Step → Part → Part = λ z x. if is_refusal z.told then x else part_of n (changed (act_entry act z) (state_of s.volumes (aim_of act) x)) in
-    subst (λ (z : Step). PartAlike s.home n (P z p) (P (step_of s q act) q)) (sym same) (by (is_refusal (step_of s q act).told) refl)
+part_alike s n p q act its here alike = subst (λ (x : Part). PartAlike s.home n x (part_after s n q act)) (sym same_by) (by (is_refusal step.told) refl)
   where
-    by : (b : Bool) → is_refusal (step_of s q act).told ≡ b →
-        PartAlike s.home n (if is_refusal (step_of s q act).told then p else part_of n (changed (act_entry act (step_of s q act)) (state_of s.volumes (aim_of act) p))) (part_after s n q act)
+    step : Step
+    step = step_of s q act
+
+    fact : Option OwnFact
+    fact = fact_of s q act
+
+    same_step : step_of s p act ≡ step
+    same_step = step_alike s n p q act its here alike
+
+    same_by : part_after s n p act ≡ part_by s n act fact step p
+    same_by = λ i. part_by s n act (fact_alike s n p q act here same_step alike i) (same_step i) p
+
+    accepted : PartAlike s.home n (part_of n (with_reserved fact p.reserved) (changed (act_entry act step) (state_of s.volumes (aim_of act) p))) (part_of n (with_reserved fact q.reserved) (changed (act_entry act step) (state_of s.volumes (aim_of act) q)))
+    accepted = record {
+      copies = λ file. brought_alike (aim_of act) (act_entry act step).message p q n file (alike.copies file);
+      reserved = λ k at. reserved_alike fact p.reserved q.reserved k (alike.reserved k at);
+      sessions = λ k at. deed_alike s.volumes k (deed k (act_entry act step)) (p.session k) (q.session k) (q.session k).current refl (alike.sessions k at);
+    }
+
+    by : (b : Bool) → is_refusal step.told ≡ b → PartAlike s.home n (part_by s n act fact step p) (part_by s n act fact step q)
     by true is = rw is alike
-    by false is = rw is (entry_alike s (aim_of act) (act_entry act (step_of s q act)) n p q alike)
+    by false is = rw is accepted

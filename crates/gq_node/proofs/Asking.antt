@@ -35,12 +35,15 @@ use Rattle.gq_node.specs.declared.output.Admission.TheVariants.{Tells, Passes, G
 use Rattle.gq_node.specs.declared.output.Fact.TheVariants.{Began as FactBegan}
 use Rattle.gq_node.specs.declared.output.Output.{Output}
 use Rattle.gq_node.specs.Sites.{Site, site_of}
-use Rattle.gq_node.specs.Local.{Local, Doing, state_for, nothing, tells, goes_on, asks, asks_in, asked_by, again, own_admission, admission, admission_in, refused_with, aim_at, begins as begins_line, asker}
+use Rattle.gq_node.specs.Local.{Local, Doing, state_for, nothing, tells, goes_on, session_fact, asks, asks_in, asked_by, again, own_admission, admission, admission_in, refused_with, aim_at, begins as begins_line, asker}
 use Rattle.gq_node.proofs.Aiming.{all_aims_have_quorums}
 use Rattle.gq_node.specs.Asking.{volume_causes, file_causes, write_causes, admission_at, MayGo, HasBegunWith, Starts}
+use Rattle.gq_cluster.specs.Facts.{Reserved, reserved_by, greatest_op}
+use Rattle.gq_node.specs.Heard.{new_run}
 use Rattle.gq_node.specs.Seats.{busy_seat, rested_seat, last_in, seat_aim, GivesNothing}
 use Rattle.gq_node.specs.Shape.{IsShaped}
 use Rattle.gq_node.specs.Tables.{Tables, Agrees, Acts, Gives, Sits, seat_at, with_seat}
+use Rattle.gq_node.proofs.Reserving.{begun_reserves, begun_keeps, begun_gives_fact}
 use Rattle.gq_node.proofs.Seating.{Settles, aim_is, in_range, seat_of, seat_leads, same_leads, place_there, tenant_there, last_agrees}
 
 -- ---- a session of the tables
@@ -439,11 +442,33 @@ begun_settles w t k op task line causes code messages local h agrees =
     let seat = seat_of w t k local agrees s.0 s.1 in
     let step : Step = first_step w t k task local in
     let P : Session → Type 0 = λ x. (old.op + 1 ≡ x.op) × Sits w.plan.grid t old.floor (Some code) x.floor (option_map (operation_with k x) x.current) in
-    let now : P ((changed (entry_of state (Own line) step) state).session k) = subst P (sym (r.does local agrees step))
+    let session : Session = (local.residents k).session in
+    let after : Session = (changed (entry_of state (Own line) step) state).session k in
+    let first : ℕ = length state.sent in
+    let count : ℕ = length step.new in
+    let r' : Reserved = (local.residents k).reserved in
+    let now : P after = subst P (sym (r.does local agrees step))
     (ap (λ n. n + 1) seat.op, subst (StandsFor w.plan.grid t code) (first_is w t k task local agrees s) h.begins.0) in
     record {
-      resident = record (local.residents k) { session = (changed (entry_of state (Own line) step) state).session k; outcome = None; waited = false };
-      agrees = record { op = now.0; sits = now.1; outcome = refl; row = seat.row; column = seat.column; waited = refl };
+      resident = record (local.residents k) {
+        session = after;
+        reserved = reserved_by (session_fact local k state (entry_of state (Own line) step)) r';
+        outcome = None;
+        waited = false;
+      };
+      agrees = record {
+        op = now.0;
+        reserved_op =
+            ap (λ n. unwrap_or (new_run greatest_op (n + 1) old.reserved_op) old.reserved_op) seat.op
+            ∙ ap (λ n. unwrap_or (new_run greatest_op (session.op + 1) n) n) seat.reserved_op
+            ∙ begun_reserves k (session.op + 1) first count after.floor r';
+        reserved_floor = seat.reserved_floor ∙ begun_keeps k (session.op + 1) first count after.floor r';
+        sits = now.1;
+        outcome = refl;
+        row = seat.row;
+        column = seat.column;
+        waited = refl;
+      };
       left = ap (λ (d : Doing). d.local) (does_is w t k op task line causes code messages local h agrees);
     }
 
@@ -455,6 +480,9 @@ begun_gives w t k op task line causes code messages out new local h gives agrees
     let s = r.session h.asked in
     let seat = seat_of w t k local agrees s.0 s.1 in
     let first = first_is w t k task local agrees s in
+    let session : Session = (local.residents k).session in
+    let state : State = state_at w t k local in
+    let step : Step = first_step w t k task local in
     let sends : messages ≡ map (message_of t) (first_messages w t k task local) =
     h.begins.1
     ∙ ap (λ o. map (message_of t) (round_messages w.plan.grid (seat_aim w.plan.grid old) o)) first
@@ -462,7 +490,10 @@ begun_gives w t k op task line causes code messages out new local h gives agrees
     subst (λ (d : Doing). Gives t d out) (sym (does_is w t k op task line causes code messages local h agrees)) (record {
       answer = gives.answer;
       letters = gives.letters ∙ sends;
-      fact = gives.fact ∙ ap (λ n. Some (FactBegan t k (n + 1))) seat.op;
+      fact = gives.fact
+          ∙ ap (λ n. option_map (FactBegan t k) (new_run greatest_op (n + 1) old.reserved_op)) seat.op
+          ∙ ap (λ n. option_map (FactBegan t k) (new_run greatest_op (session.op + 1) n)) seat.reserved_op
+          ∙ begun_gives_fact t k (session.op + 1) (length state.sent) (length step.new) ((changed (entry_of state (Own line) step) state).session k).floor (local.residents k).reserved;
     })
 
 -- what comes of the request
@@ -522,7 +553,7 @@ abandon_acts w t k op out shaped within goes told =
           let now : P ((changed (entry_of state (Own (Abandon k)) (quiet Abandoned)) state).session k) = subst P (sym ended) (seat.op, last_agrees w.plan.grid t k old (local.residents k) seat) in
           record {
             resident = record (local.residents k) { session = (changed (entry_of state (Own (Abandon k)) (quiet Abandoned)) state).session k; outcome = None };
-            agrees = record { op = now.0; sits = now.1; outcome = refl; row = seat.row; column = seat.column; waited = seat.waited };
+            agrees = record { op = now.0; reserved_op = seat.reserved_op; reserved_floor = seat.reserved_floor; sits = now.1; outcome = refl; row = seat.row; column = seat.column; waited = seat.waited };
             left = ap (λ (d : Doing). d.local) (does local agrees);
           });
       gives = λ local agrees. subst (λ (d : Doing). Gives t d out) (sym (does local agrees)) (record { answer = told.answer_is; letters = told.letters; fact = told.fact });

@@ -1,6 +1,6 @@
 -- A letter comes to a session.
 use Rattle.std.proofs.Common.{◌≡◌, ◌∙◌, ℕ, ◌-◌, ◌<◌, ◌≤◌, Bool, true, false, List, [], length, map, refl, sym, ap, subst, Option, Some, None, inl, inr}
-use Rattle.std.specs.Prelude.{option_map, slice_set, ◌==◌, ◌&&◌, if◌then◌else◌}
+use Rattle.std.specs.Prelude.{option_map, slice_set, ◌&&◌, unwrap_or}
 use Rattle.std.proofs.lemmas.Bool.{cases_Bool, eq-eqb}
 use Rattle.std.proofs.lemmas.List.{set-get_or}
 use Rattle.gq_grid.specs.Grid.{Grid, Servers}
@@ -20,15 +20,15 @@ use Rattle.gq_model.specs.Trace.{Own, Entry, State, Session, changed, operation,
 use Rattle.gq_model.specs.Lone.{heard_step, hear_step}
 use Rattle.gq_node.specs.declared.seats.Seat.{Seat}
 use Rattle.gq_node.specs.declared.output.Output.{Output}
-use Rattle.gq_node.specs.declared.output.Fact.TheVariants.{Numbered as HasNumber}
 use Rattle.gq_node.specs.Sites.{Site, site_of}
-use Rattle.gq_cluster.specs.Facts.{Numbered}
+use Rattle.gq_cluster.specs.Facts.{Reserved, reserved_by}
 use Rattle.gq_node.specs.Local.{Local, Resident, Doing, state_of, state_for, nothing, goes_on, brings, hears, has_above, of_round, aim_at, outcome_after, waits_after, answer_of, session_fact}
-use Rattle.gq_node.specs.Heard.{HeardGives, heard_answer, heard_fact, heard_outcome, heard_waits}
+use Rattle.gq_node.specs.Heard.{HeardGives, heard_answer, heard_fact, heard_run, heard_outcome, heard_waits}
 use Rattle.gq_node.specs.Seats.{has_heard, is_of_round, seat_aim, SeatHears, SeatAttends, SaysAndGives, GivesNothing, said_by, operation_after, last_of, last_in}
 use Rattle.gq_node.specs.Shape.{IsShaped}
-use Rattle.gq_node.specs.Tables.{Tables, Agrees, Acts, Leads, Gives, SeatAgrees, Sits, seats_at, seat_at, with_seat, fact_of, no_seat}
-use Rattle.gq_node.proofs.Seating.{Settles, aim_is, seat_of, seat_leads, same_leads, place_there, tenant_there, last_agrees}
+use Rattle.gq_node.specs.Tables.{Tables, Agrees, Acts, Leads, Gives, SeatAgrees, Sits, seats_at, seat_at, with_seat, no_seat}
+use Rattle.gq_node.proofs.Reserving.{heard_keeps, heard_reserves, heard_gives_fact}
+use Rattle.gq_node.proofs.Seating.{Settles, aim_is, seat_of, seat_leads, same_leads, place_there, tenant_there, last_is, last_agrees}
 
 -- ---- what the model says
 
@@ -131,14 +131,19 @@ round_is grid t k own (Some code) session (Some task) file sits = ap (λ (id : F
 abbrev heard_resident : Local → State → OwnMessage → Saying → Resident
 heard_resident local state m s = record (local.residents m.session) {
   session = (changed (delivery m s) state).session m.session;
+  reserved = reserved_by (session_fact local m.session state (delivery m s)) (local.residents m.session).reserved;
   outcome = outcome_after (heard_step 0 s).told (local.residents m.session).outcome;
   waited = waits_after (heard_step 0 s).told (heard_servers (local.residents m.session).session.heard m.server) (local.residents m.session).waited;
 }
 
+-- the run that had to be reserved is
+abbrev IsReservedFor : Seat → Seat → Heard → Type 0
+IsReservedFor old new heard = new.reserved_floor ≡ unwrap_or (heard_run old.reserved_floor (last_in new) heard) old.reserved_floor
+
 heard_agrees : (grid : Grid) (t : ℕ) (local : Local) (up : Servers) (M : Message) (old new : Seat) (heard : Heard) → to_server M.body ≡ false →
-    SeatAgrees grid t M.session old (local.residents M.session) → SeatHears old new up M heard →
+    SeatAgrees grid t M.session old (local.residents M.session) → SeatHears old new up M heard → IsReservedFor old new heard →
     SeatAgrees grid t M.session new (heard_resident local (state_of up local) (own_message M) (said_by grid up (operation (state_of up local) M.session) (own_message M)))
-heard_agrees grid t local up M old new heard goes agrees h =
+heard_agrees grid t local up M old new heard goes agrees h reserved =
     let k : ℕ = M.session in
     let m : OwnMessage = own_message M in
     let state : State = state_of up local in
@@ -150,14 +155,24 @@ heard_agrees grid t local up M old new heard goes agrees h =
       heard_sits grid t k state.volumes m session.op session.current session.round session.heard session.collected session.floor s new.floor new.operation
           (says_stale grid up k session m s refl) (h.sits grid t session.floor (operation state k) agrees.sits),
     ) in
-    let now : P ((changed (delivery m s) state).session k) = subst P (sym (own_session state m s goes)) both in
+    let after : Session = (changed (delivery m s) state).session k in
+    let now : P after = subst P (sym (own_session state m s goes)) both in
+    let r : Reserved = (local.residents k).reserved in
+    let is : heard ≡ heard_as t s = h.says grid t session.floor (operation state k) agrees.sits in
+    let last : last_in new ≡ after.floor = last_is grid t new.floor 0 new.operation k after after.current now.1 in
     record {
       op = now.0;
+      reserved_op = h.reserved_op ∙ agrees.reserved_op ∙ heard_keeps k after.floor r s;
+      reserved_floor = reserved
+          ∙ ap (λ x. unwrap_or (heard_run old.reserved_floor (last_in new) x) old.reserved_floor) is
+          ∙ ap (λ n. unwrap_or (heard_run n (last_in new) (heard_as t s)) n) agrees.reserved_floor
+          ∙ ap (λ n. unwrap_or (heard_run r.floor n (heard_as t s)) r.floor) last
+          ∙ heard_reserves t k after.floor r s;
       sits = now.1;
-      outcome = h.outcome ∙ ap (λ x. heard_outcome x old.outcome) (h.says grid t session.floor (operation state k) agrees.sits) ∙ outcome_as t s old.outcome (local.residents k).outcome agrees.outcome;
+      outcome = h.outcome ∙ ap (λ x. heard_outcome x old.outcome) is ∙ outcome_as t s old.outcome (local.residents k).outcome agrees.outcome;
       row = h.row ∙ agrees.row;
       column = h.column ∙ agrees.column;
-      waited = h.waited ∙ ap (λ x. heard_waits x (has_heard old.operation M.server) old.waited) (h.says grid t session.floor (operation state k) agrees.sits)
+      waited = h.waited ∙ ap (λ x. heard_waits x (has_heard old.operation M.server) old.waited) is
           ∙ waits_is grid up t k old.floor old.operation session session.current m old.waited (local.residents k).waited agrees.sits agrees.waited;
     }
 
@@ -175,33 +190,27 @@ sent_as t HeardNoted = refl
 sent_as t (HeardNext round tag messages) = refl
 sent_as t (HeardDone outcome) = refl
 
-next_fact : (t k before after : ℕ) (same : Bool) → (if same then None else Some (HasNumber t k after)) ≡ option_map (fact_of t) (if same then None else Some (Numbered k after))
-next_fact t k before after true = refl
-next_fact t k before after false = refl
-
-fact_as : (t k before after : ℕ) (s : Saying) → heard_fact t k before after (heard_as t s) ≡ option_map (fact_of t) (session_fact k (heard_step 0 s).told before after)
-fact_as t k before after HeardStale = refl
-fact_as t k before after HeardNoted = refl
-fact_as t k before after (HeardNext round tag messages) = next_fact t k before after (after == before)
-fact_as t k before after (HeardDone outcome) = refl
-
 heard_gives : (grid : Grid) (t : ℕ) (local : Local) (up : Servers) (M : Message) (old new : Seat) (heard : Heard) (out : Output) → to_server M.body ≡ false →
-    SeatAgrees grid t M.session old (local.residents M.session) → SeatHears old new up M heard → HeardGives t M.session (last_in old) (last_in new) heard out →
+    SeatAgrees grid t M.session old (local.residents M.session) → SeatHears old new up M heard → IsReservedFor old new heard → HeardGives t M.session (heard_run old.reserved_floor (last_in new) heard) heard out →
     Gives t (goes_on local M.session (local.residents M.session).session.op (heard_servers (local.residents M.session).session.heard M.server) (state_of up local)
     (delivery (own_message M) (said_by grid up (operation (state_of up local) M.session) (own_message M)))) out
-heard_gives grid t local up M old new heard out goes agrees h gives =
+heard_gives grid t local up M old new heard out goes agrees h reserved gives =
     let k : ℕ = M.session in
     let m : OwnMessage = own_message M in
     let state : State = state_of up local in
     let s : Saying = said_by grid up (operation state k) m in
     let is : heard ≡ heard_as t s = h.says grid t (state.session k).floor (operation state k) agrees.sits in
-    let before : last_in old ≡ (state.session k).floor = last_agrees grid t k old (local.residents k) agrees in
-    let after : last_in new ≡ ((changed (delivery m s) state).session k).floor = last_agrees grid t k new (heard_resident local state m s) (heard_agrees grid t local up M old new heard goes agrees h) in
+    let r : Reserved = (local.residents k).reserved in
+    let after : Resident = heard_resident local state m s in
+    let last : last_in new ≡ after.session.floor = last_agrees grid t k new after (heard_agrees grid t local up M old new heard goes agrees h reserved) in
     record {
       answer = gives.answer ∙ ap heard_answer is ∙ answer_as k (state.session k).op (state.session k).op t s;
       letters = gives.letters ∙ ap messages_of is ∙ sent_as t s;
-      fact = gives.fact ∙ ap (heard_fact t k (last_in old) (last_in new)) is ∙ ap (λ x. heard_fact t k x (last_in new) (heard_as t s)) before
-          ∙ ap (λ x. heard_fact t k (state.session k).floor x (heard_as t s)) after ∙ fact_as t k (state.session k).floor ((changed (delivery m s) state).session k).floor s;
+      fact = gives.fact
+          ∙ ap (λ x. heard_fact t k (heard_run old.reserved_floor (last_in new) x) x) is
+          ∙ ap (λ n. heard_fact t k (heard_run n (last_in new) (heard_as t s)) (heard_as t s)) agrees.reserved_floor
+          ∙ ap (λ n. heard_fact t k (heard_run r.floor n (heard_as t s)) (heard_as t s)) last
+          ∙ heard_gives_fact t k after.session.floor r s;
     }
 
 -- ---- the tables
@@ -246,10 +255,10 @@ attended w t M seat out local goes low high fits attends agrees =
     record {
       settles = record {
         resident = heard_resident local state m s;
-        agrees = heard_agrees grid t local (aim_at grid r) M old seat h.heard goes before hears';
+        agrees = heard_agrees grid t local (aim_at grid r) M old seat h.heard goes before hears' h.reserved;
         left = ap (λ (d : Doing). d.local) is;
       };
-      gives = subst (λ (d : Doing). Gives t d out) (sym is) (heard_gives grid t local (aim_at grid r) M old seat h.heard out goes before hears' h.gives);
+      gives = subst (λ (d : Doing). Gives t d out) (sym is) (heard_gives grid t local (aim_at grid r) M old seat h.heard out goes before hears' h.reserved h.gives);
     }
 
 gives_nothing : (t : ℕ) (local : Local) (out : Output) → GivesNothing out → Gives t (nothing local) out

@@ -1,6 +1,6 @@
 -- What a node does is an act of the law of clusters, or nothing.
-use Rattle.std.proofs.Common.{◌≡◌, ◌∙◌, ℕ, Bool, true, false, List, [], ◌∷◌, refl, sym, ap, subst, Option, Some, None, inl, inr}
-use Rattle.std.specs.Prelude.{option_map, is_some, is_none, ◌&&◌, ◌==◌}
+use Rattle.std.proofs.Common.{◌≡◌, ◌∙◌, ℕ, Bool, true, false, List, [], ◌∷◌, length, refl, sym, ap, subst, Option, Some, None, inl, inr}
+use Rattle.std.specs.Prelude.{option_map, is_some, is_none, ◌&&◌, ◌==◌, if◌then◌else◌}
 use Rattle.std.proofs.lemmas.Bool.{cases_Bool, eqb-true, and_parts}
 use Rattle.gq_grid.specs.Grid.{Grid, Servers}
 use Rattle.gq_tag.specs.declared.StoredCopy.{StoredCopy}
@@ -8,20 +8,23 @@ use Rattle.gq_tag.specs.declared.Body.{Body}
 use Rattle.gq_tag.specs.declared.Body.TheVariants.{Ask, Copy, Store, Stored}
 use Rattle.gq_tag.specs.Tag.{File, OwnMessage, to_server}
 use Rattle.gq_desk.specs.Plans.{is_in}
-use Rattle.gq_phase.specs.Phase.{Task, Operation, Heard, HeardStale, HeardNoted, HeardNext, HeardDone, hear, is_collect, round_quorum, heard_servers}
+use Rattle.gq_phase.specs.Phase.{Task, Operation, Heard, HeardStale, HeardNoted, HeardNext, HeardDone, hear, is_collect, round_quorum, resent, heard_servers}
 use Rattle.gq_model.specs.declared.events.Line.{Line}
 use Rattle.gq_model.specs.declared.events.Line.TheVariants.{Write, Read, List as ListFiles, Retry, Abandon}
+use Rattle.gq_model.specs.declared.events.Refusal.{Refusal}
 use Rattle.gq_model.specs.declared.events.Refusal.TheVariants.{Idle, NoQuorum}
-use Rattle.gq_model.specs.Told.{Told}
+use Rattle.gq_model.specs.Told.{Told, Resent, Refused}
 use Rattle.gq_model.specs.Trace.{Own, Entry, State, Session, Deed, Elsewhere, changed, deed, session_by, operation, operation_with, limit_at, brought_by}
-use Rattle.gq_model.specs.Lone.{Step, is_refusal, entry_of, asked_step, hear_step, serve_step, heard_step, retry_step, first_cause, unless}
-use Rattle.gq_cluster.specs.Cluster.{Setting, Part, Act, Asks, Comes, everyone, part_of, step_of, part_after, act_entry, aim_of, asker as session_of, state_of as state_of_part}
+use Rattle.gq_model.specs.Lone.{Step, is_refusal, entry_of, asked_step, hear_step, serve_step, heard_step, retry_step, session_causes, first_cause, unless, quiet as quiet_step}
+use Rattle.gq_cluster.specs.Facts.{OwnFact, Reserved, reserving, reserved_by, with_reserved, replaced_in}
+use Rattle.gq_cluster.specs.Cluster.{Setting, Part, Act, Asks, Comes, everyone, copy_in, part_of, step_of, fact_in, fact_of, part_after, act_entry, aim_of, session_named, state_of as state_of_part}
 use Rattle.gq_cluster.proofs.Parts.{refused_quiet}
+use Rattle.gq_cluster.proofs.Reserving.{IsOfNumbers, reserves_numbers, reserved_is, replaced_none}
 use Rattle.gq_node.specs.declared.output.Answer.{Answer}
 use Rattle.gq_node.specs.declared.output.Answer.TheVariants.{Bad as IsBad}
 use Rattle.gq_node.specs.declared.output.Admission.{Admission}
 use Rattle.gq_node.specs.declared.output.Admission.TheVariants.{Tells, Passes, Goes}
-use Rattle.gq_node.specs.Local.{Local, Resident, Doing, part_in, state_of, state_for, aim_at, tries_next, answer_of, asker, begins, admission_in, asks, asked_by, goes_on, with_resident, tells, nothing, receives, serves, hears, brings, ticks, waits_on, outcome_after, waits_after, letter_fits, goes_between, has_above, of_round}
+use Rattle.gq_node.specs.Local.{Local, Resident, Doing, part_in, state_of, state_for, aim_at, tries_next, answer_of, asker, begins, admission_in, asks, asked_by, goes_on, with_resident, tells, nothing, session_fact, receives, serves, hears, brings, ticks, waits_on, outcome_after, waits_after, letter_fits, goes_between, has_above, of_round}
 use Rattle.gq_node.specs.Sites.{Site}
 use Rattle.gq_node.specs.Bridge.{setting_in, AtHome, request_act, request_answer, letter_act, waited_act, tick_act, Bridges, AllRequestsAct, AllQuestionsTell, AllLettersAct, AllTicksAct}
 use Rattle.gq_node.proofs.Asking.{goes_home}
@@ -45,25 +48,41 @@ home_with site local k r inside here home j some = elim (cases_Bool (k == j)) [
 ]
 
 -- a session goes on, and all else stays
-goes_part : (local : Local) (k op n : ℕ) (known : Bool) (up : Servers) (e : Entry) →
+goes_part : (local : Local) (k op n : ℕ) (known : Bool) (up : Servers) (e : Entry) (fact : Option OwnFact) → fact ≡ session_fact local k (state_of up local) e →
     ((j : ℕ) → (k == j) ≡ false → (changed e (state_of up local)).session j ≡ (local.residents j).session) →
     ((file : File) → (changed e (state_of up local)).brought n file ≡ local.brought file) →
-    part_in (goes_on local k op known (state_of up local) e).local ≡ part_of n (changed e (state_of up local))
-goes_part local k op n known up e others copies = λ i. record { brought = λ file. sym (copies file) i; session = λ j. by j (k == j) refl i }
+    part_in (goes_on local k op known (state_of up local) e).local ≡ part_of n (with_reserved fact (part_in local).reserved) (changed e (state_of up local))
+goes_part local k op n known up e fact its others copies = λ i. record { brought = λ file. sym (copies file) i; session = λ j. by j (k == j) refl i; reserved = λ j. reserved j i }
   where
     by : (j : ℕ) (b : Bool) → (k == j) ≡ b → (part_in (goes_on local k op known (state_of up local) e).local).session j ≡ (changed e (state_of up local)).session j
     by j true is = rw is (ap (λ x. (changed e (state_of up local)).session x) (eqb-true k j is))
     by j false is = rw is (sym (others j is))
 
+    numbers : IsOfNumbers k (session_fact local k (state_of up local) e)
+    numbers = reserves_numbers k (local.residents k).reserved e.told ((changed e (state_of up local)).session k).floor
+
+    resident : (j : ℕ) (b : Bool) → (k == j) ≡ b → (part_in (goes_on local k op known (state_of up local) e).local).reserved j
+        ≡ (if k == j then reserved_by (session_fact local k (state_of up local) e) (local.residents k).reserved else (local.residents j).reserved)
+    resident j true is = rw is refl
+    resident j false is = rw is refl
+
+    reserved : (j : ℕ) → (part_in (goes_on local k op known (state_of up local) e).local).reserved j ≡ with_reserved fact (part_in local).reserved j
+    reserved j =
+        resident j (k == j) refl
+        ∙ sym (reserved_is (session_fact local k (state_of up local) e) k j (part_in local).reserved numbers)
+        ∙ ap (λ (z : Option OwnFact). with_reserved z (part_in local).reserved j) (sym its)
+
 -- the resident that goes on
 abbrev went : Local → ℕ → Bool → State → Entry → Resident
 went local k known state e = record (local.residents k) {
   session = (changed e state).session k;
+  reserved = reserved_by (session_fact local k state e) (local.residents k).reserved;
   outcome = outcome_after e.told (local.residents k).outcome;
   waited = waits_after e.told known (local.residents k).waited;
 }
 
-accepted : (s : Setting) (n : ℕ) (part : Part) (act : Act) → is_refusal (step_of s part act).told ≡ false → part_after s n part act ≡ part_of n (changed (act_entry act (step_of s part act)) (state_of_part s.volumes (aim_of act) part))
+accepted : (s : Setting) (n : ℕ) (part : Part) (act : Act) → is_refusal (step_of s part act).told ≡ false →
+    part_after s n part act ≡ part_of n (with_reserved (fact_of s part act) part.reserved) (changed (act_entry act (step_of s part act)) (state_of_part s.volumes (aim_of act) part))
 accepted s n part act is = rw is refl
 
 refused : (s : Setting) (n : ℕ) (part : Part) (act : Act) → is_refusal (step_of s part act).told ≡ true → part_after s n part act ≡ part
@@ -73,13 +92,13 @@ refused s n part act is = rw is refl
 
 -- the line is a request of its session
 record IsRequestLine (line : Line) : Type 0 where
-  its : asker line ≡ Some (session_of line)
+  its : asker line ≡ Some (session_named line)
   entry : (state : State) (aim : Servers) (step : Step) → entry_of state (Own line) step ≡ act_entry (Asks line aim) step
-  others : (aim : Servers) (step : Step) (j : ℕ) → (session_of line == j) ≡ false → deed j (act_entry (Asks line aim) step) ≡ Elsewhere
+  others : (aim : Servers) (step : Step) (j : ℕ) → (session_named line == j) ≡ false → deed j (act_entry (Asks line aim) step) ≡ Elsewhere
   quiet : (up : Servers) (local : Local) (aim : Servers) (step : Step) (n : ℕ) (file : File) → (changed (act_entry (Asks line aim) step) (state_of up local)).brought n file ≡ local.brought file
 
-asked_act : (op : ℕ) (line : Line) (site : Site) (local : Local) → IsRequestLine line → AtHome site local → is_in 1 site.row.sessions (session_of line) ≡ true → site.home (session_of line) ≡ site.here →
-    let k : ℕ = session_of line in
+asked_act : (op : ℕ) (line : Line) (site : Site) (local : Local) → IsRequestLine line → AtHome site local → is_in 1 site.row.sessions (session_named line) ≡ true → site.home (session_named line) ≡ site.here →
+    let k : ℕ = session_named line in
     let state : State = state_for site local k in
     Bridges site local (Some (Asks line (aim_at site.grid (local.residents k)))) None (answer_of k op (local.residents k).session.op) (asked_by local k op state line (asked_step site.grid site.row state line))
 asked_act op line site local l home inside here = elim (cases_Bool (is_refusal step.told)) [
@@ -97,7 +116,7 @@ asked_act op line site local l home inside here = elim (cases_Bool (is_refusal s
     does = record {
       here = here;
       part = ap (λ (d : Doing). part_in d.local) (said_so is)
-          ∙ goes_part local k op site.here false aim (act_entry act step)
+          ∙ goes_part local k op site.here false aim (act_entry act step) (fact_of s (part_in local) act) refl
           (λ j other. ap (λ d. session_by' j d) (l.others aim step j other)) (l.quiet aim local aim step site.here)
           ∙ sym (accepted s site.here (part_in local) act is);
       letters = ap (λ (d : Doing). d.letters) (said_so is);
@@ -109,7 +128,7 @@ asked_act op line site local l home inside here = elim (cases_Bool (is_refusal s
 ]
   where
     k : ℕ
-    k = session_of line
+    k = session_named line
 
     s : Setting
     s = setting_in site local
@@ -136,11 +155,11 @@ asked_act op line site local l home inside here = elim (cases_Bool (is_refusal s
     said_so is = (rw is refl) ∙ ap (goes_on local k op false state) (l.entry state aim step)
 
 request_in : (op : ℕ) (line : Line) (site : Site) (local : Local) → IsRequestLine line → AtHome site local →
-    Bridges site local (request_act op line site local) (request_answer op line site local) (answer_of (session_of line) op (local.residents (session_of line)).session.op) (asks op line site local)
+    Bridges site local (request_act op line site local) (request_answer op line site local) (answer_of (session_named line) op (local.residents (session_named line)).session.op) (asks op line site local)
 request_in op line site local l home = by (admission_in site local k op (begins line)) refl
   where
     k : ℕ
-    k = session_of line
+    k = session_named line
 
     tell : Told → Option Answer
     tell = answer_of k op (local.residents k).session.op
@@ -205,7 +224,8 @@ served_act : (site : Site) (local : Local) (m : OwnMessage) (tell : Told → Opt
 served_act site local m tell goes here home = record {
   does = record {
     here = (rw goes refl) ∙ here;
-    part = (λ i. record { brought = (changed (brings m step) state).brought site.here; session = λ k. sym (sessions k) i }) ∙ sym (ap (λ (z : Step). part_of site.here (changed (act_entry act z) state)) law_step) ∙ sym law_part;
+    part = (λ i. record { brought = (changed (brings m step) state).brought site.here; session = λ k. sym (sessions k) i; reserved = λ k. sym (reserved k) i })
+        ∙ sym (ap (λ (z : Step). part_of site.here (with_reserved (fact_of s (part_in local) act) (part_in local).reserved) (changed (act_entry act z) state)) law_step) ∙ sym law_part;
     letters = ap (λ (z : Step). z.new) (sym law_step);
     told = ap (λ (z : Step). answer_of m.session (local.residents m.session).session.op (local.residents m.session).session.op z.told) (sym law_step);
   };
@@ -231,8 +251,18 @@ served_act site local m tell goes here home = record {
     accepts : is_refusal (step_of s (part_in local) act).told ≡ false
     accepts = ap (λ (z : Step). is_refusal z.told) law_step
 
-    law_part : part_after s site.here (part_in local) act ≡ part_of site.here (changed (act_entry act (step_of s (part_in local) act)) state)
-    law_part = accepted s site.here (part_in local) act accepts ∙ (rw goes refl)
+    law_part : part_after s site.here (part_in local) act ≡ part_of site.here (with_reserved (fact_of s (part_in local) act) (part_in local).reserved) (changed (act_entry act (step_of s (part_in local) act)) state)
+    law_part = accepted s site.here (part_in local) act accepts
+        ∙ ap (λ up. part_of site.here (with_reserved (fact_of s (part_in local) act) (part_in local).reserved) (changed (act_entry act (step_of s (part_in local) act)) (state_of up local))) aims
+      where
+        aims : aim_of act ≡ everyone
+        aims = rw goes refl
+
+    fact : Bool → Option OwnFact
+    fact b = if b then replaced_in (copy_in (part_in local) m.file) m.file m.body else fact_in s (part_in local) act m.session
+
+    reserved : (k : ℕ) → with_reserved (fact (to_server m.body)) (part_in local).reserved k ≡ (local.residents k).reserved
+    reserved k = ap (λ b. with_reserved (fact b) (part_in local).reserved k) goes ∙ replaced_none (copy_in (part_in local) m.file) m.file m.body (part_in local).reserved k
 
     sessions : (k : ℕ) → (changed (brings m step) state).session k ≡ (local.residents k).session
     sessions k = rw goes refl
@@ -263,8 +293,8 @@ heard_act : (site : Site) (local : Local) (m : OwnMessage) → to_server m.body 
 heard_act site local m goes inside here home = record {
   does = record {
     here = (rw goes refl) ∙ here;
-    part = goes_part local k last site.here known aim (brings m step) (λ j other. rw (goes, other) refl) (λ file. reply_brings aim m.session m.op m.round m.server m.file m.body state.brought site.here file goes)
-        ∙ sym (ap (λ (z : Step). part_of site.here (changed (act_entry act z) state)) law_step) ∙ sym law_part;
+    part = goes_part local k last site.here known aim (brings m step) (fact_of s (part_in local) act) its_fact (λ j other. rw (goes, other) refl) (λ file. reply_brings aim m.session m.op m.round m.server m.file m.body state.brought site.here file goes)
+        ∙ sym (ap (λ (z : Step). part_of site.here (with_reserved (fact_of s (part_in local) act) (part_in local).reserved) (changed (act_entry act z) state)) law_step) ∙ sym law_part;
     letters = ap (λ (z : Step). z.new) (sym law_step);
     told = ap (λ (z : Step). answer_of k last last z.told) (sym law_step);
   };
@@ -302,12 +332,21 @@ heard_act site local m goes inside here home = record {
     accepts : is_refusal (step_of s (part_in local) act).told ≡ false
     accepts = ap (λ (z : Step). is_refusal z.told) law_step ∙ hear_fine site.grid state m (operation state k)
 
-    law_part : part_after s site.here (part_in local) act ≡ part_of site.here (changed (act_entry act (step_of s (part_in local) act)) state)
+    fact : Bool → Option OwnFact
+    fact b = if b then replaced_in (copy_in (part_in local) m.file) m.file m.body else fact_in s (part_in local) act k
+
+    aims : aim_of act ≡ aim
+    aims = rw goes refl
+
+    fact_at : Servers → Step → Option OwnFact
+    fact_at up z = reserving k (local.residents k).reserved z.told ((changed (act_entry act z) (state_of up local)).session k).floor
+
+    its_fact : fact_of s (part_in local) act ≡ session_fact local k state (brings m step)
+    its_fact = ap fact goes ∙ (λ i. fact_at (aims i) (law_step i))
+
+    law_part : part_after s site.here (part_in local) act ≡ part_of site.here (with_reserved (fact_of s (part_in local) act) (part_in local).reserved) (changed (act_entry act (step_of s (part_in local) act)) state)
     law_part = accepted s site.here (part_in local) act accepts
-        ∙ ap (λ up. part_of site.here (changed (act_entry act (step_of s (part_in local) act)) (state_of up local))) aims
-      where
-        aims : aim_of act ≡ aim
-        aims = rw goes refl
+        ∙ ap (λ up. part_of site.here (with_reserved (fact_of s (part_in local) act) (part_in local).reserved) (changed (act_entry act (step_of s (part_in local) act)) (state_of up local))) aims
 
 pub all_letters_act : AllLettersAct
 all_letters_act from m site local home = elim (cases_Bool (letter_fits site (limit_at (state_of everyone local) m.file.volume m.file.place) from m)) [
@@ -349,17 +388,25 @@ all_questions_tell site local home = record { does = record { part = refl; lette
 
 -- ---- a tick
 
--- the resident that a tick leaves has the same session
-pub same_sessions : (local : Local) (k : ℕ) (r : Resident) → r.session ≡ (local.residents k).session → part_in (with_resident local k r) ≡ part_in local
-same_sessions local k r same = λ i. record { brought = local.brought; session = λ j. by j (k == j) refl i }
+-- the resident that a tick leaves has the same session, and the same numbers are reserved
+pub same_sessions : (local : Local) (k : ℕ) (r : Resident) → r.session ≡ (local.residents k).session → r.reserved ≡ (local.residents k).reserved → part_in (with_resident local k r) ≡ part_in local
+same_sessions local k r same numbers = λ i. record { brought = local.brought; session = λ j. by j (k == j) refl i; reserved = λ j. reserved j (k == j) refl i }
   where
     by : (j : ℕ) (b : Bool) → (k == j) ≡ b → (part_in (with_resident local k r)).session j ≡ (local.residents j).session
     by j true is = rw is (same ∙ ap (λ x. (local.residents x).session) (eqb-true k j is))
     by j false is = rw is refl
 
+    reserved : (j : ℕ) (b : Bool) → (k == j) ≡ b → (part_in (with_resident local k r)).reserved j ≡ (local.residents j).reserved
+    reserved j true is = rw is (numbers ∙ ap (λ x. (local.residents x).reserved) (eqb-true k j is))
+    reserved j false is = rw is refl
+
 pub tried_session : (grid : Grid) (collects : Bool) (r : Resident) → (tries_next grid collects r).session ≡ r.session
 tried_session grid true r = refl
 tried_session grid false r = refl
+
+pub tried_reserved : (grid : Grid) (collects : Bool) (r : Resident) → (tries_next grid collects r).reserved ≡ r.reserved
+tried_reserved grid true r = refl
+tried_reserved grid false r = refl
 
 some_here : (current : Option Task) → is_some current ≡ true → is_none current ≡ false
 some_here None is = absurd (cc)
@@ -388,19 +435,41 @@ retried site local k aim inside = retries site.grid (state_of aim local) k (loca
         ≡ unless (first_cause ((is_none (local.residents k).session.current, Idle) ∷ (is_none (round_quorum site.grid aim (local.residents k).session.round), NoQuorum) ∷ [])) (retry_step site.grid state (operation state k))
     law = rw inside refl
 
+-- a retry uses no number
+retry_none : (grid : Grid) (state : State) (k : ℕ) (reserved : Reserved) (floor : ℕ) (o : Option Operation) → reserving k reserved (retry_step grid state o).told floor ≡ None
+retry_none grid state k reserved floor None = refl
+retry_none grid state k reserved floor (Some o) = by (round_quorum grid state.up o.round) refl
+  where
+    none : Step → Option OwnFact
+    none step = reserving k reserved step.told floor
+
+    by : (q : Option Servers) → round_quorum grid state.up o.round ≡ q → none (retry_step grid state (Some o)) ≡ None
+    by None is = let same : retry_step grid state (Some o) ≡ quiet_step (Refused NoQuorum) = rw is refl in ap none same
+    by (Some set) is = let same : retry_step grid state (Some o) ≡ record { told = Resent (length state.sent) (length (resent grid o set)); new = resent grid o set } = rw is refl in ap none same
+
+unless_none : (k : ℕ) (reserved : Reserved) (floor : ℕ) (word : Option Refusal) (step : Step) → reserving k reserved step.told floor ≡ None → reserving k reserved (unless word step).told floor ≡ None
+unless_none k reserved floor None step none = none
+unless_none k reserved floor (Some word) step none = refl
+
 -- whatever it is told, a retry changes nothing
 retry_stays : (s : Setting) (n : ℕ) (part : Part) (k : ℕ) (aim : Servers) → part_after s n part (Asks (Retry k) aim) ≡ part
 retry_stays s n part k aim = elim (cases_Bool (is_refusal (step_of s part (Asks (Retry k) aim)).told)) [
   | inl is ↦ (refused s n part (Asks (Retry k) aim) is)
-  | inr is ↦ (accepted s n part (Asks (Retry k) aim) is)
+  | inr is ↦ (accepted s n part (Asks (Retry k) aim) is ∙ ap (λ (fact : Option OwnFact). record { brought = part.brought; session = part.session; reserved = with_reserved fact part.reserved }) none)
 ]
+  where
+    state : State
+    state = state_of_part s.volumes aim part
+
+    none : fact_of s part (Asks (Retry k) aim) ≡ None
+    none = unless_none k (part.reserved k) (part.session k).floor (first_cause (session_causes s.grid s.row state (Retry k))) (retry_step s.grid state (operation state k)) (retry_none s.grid state k (part.reserved k) (part.session k).floor (operation state k))
 
 retry_act : (site : Site) (local : Local) (k : ℕ) → is_in 1 site.row.sessions k ≡ true → site.home k ≡ site.here → AtHome site local →
     Bridges site local (Some (Asks (Retry k) (aim_at site.grid (tries_next site.grid (is_collect (local.residents k).session.round) (local.residents k))))) None (λ told. None) (waits_on site local k true)
 retry_act site local k inside here home = record {
   does = record {
     here = here;
-    part = same_sessions local k r (tried_session site.grid (is_collect (local.residents k).session.round) (local.residents k)) ∙ sym (retry_stays (setting_in site local) site.here (part_in local) k (aim_at site.grid r));
+    part = same_sessions local k r (tried_session site.grid (is_collect (local.residents k).session.round) (local.residents k)) (tried_reserved site.grid (is_collect (local.residents k).session.round) (local.residents k)) ∙ sym (retry_stays (setting_in site local) site.here (part_in local) k (aim_at site.grid r));
     letters = retried site local k (aim_at site.grid r) inside;
     told = refl;
   };
@@ -432,7 +501,7 @@ all_ticks_act k site local home = elim (cases_Bool (is_some (local.residents k).
       where
         by : (b : Bool) → is_in 1 site.row.sessions k ≡ true → site.home k ≡ site.here → Bridges site local (waited_act site local k b) None tell (waits_on site local k b)
         by false inside here = record {
-          does = record { part = same_sessions local k (record (local.residents k) { waited = true }) refl; letters = refl; told = refl };
+          does = record { part = same_sessions local k (record (local.residents k) { waited = true }) refl refl; letters = refl; told = refl };
           volumes = refl;
           home = home_with site local k (record (local.residents k) { waited = true }) inside here home;
         }

@@ -2,12 +2,12 @@
 use Rattle.std.proofs.Common.{◌≡◌, ◌≢◌, ◌∙◌, ℕ, ◌+◌, ◌*◌, ◌≤◌, length, arith, Bool, true, false, List, [], ◌∷◌, ◌++◌, refl, sym, ap, subst, append-nil, Option, Some, None, inl, inr}
 use Rattle.std.specs.Prelude.{is_some, ◌&&◌, ◌==◌, Contains, ⊤, fold, slice_get}
 use Rattle.std.specs.Option.{option_and_then}
-use Rattle.std.proofs.lemmas.Bool.{cases_Bool, cases_eq, eq-eqb, ne_eqb}
+use Rattle.std.proofs.lemmas.Bool.{cases_Bool, cases_eq, eq-eqb, ne_eqb, true≢false}
 use Rattle.std.proofs.lemmas.List.{length-append}
 use Rattle.std.proofs.lemmas.Nat.{mul-le}
 use Rattle.std.proofs.lemmas.List.Sums.{fold-append}
 use Rattle.gq_tag.specs.declared.Body.TheVariants.{Store}
-use Rattle.gq_tag.specs.Tag.{File, OwnMessage, is_less, to_server}
+use Rattle.gq_tag.specs.Tag.{File, OwnMessage, first_copy, greatest, is_less, to_server}
 use Rattle.gq_desk.specs.Plans.{is_in}
 use Rattle.gq_desk.specs.Volumes.{limit_in}
 use Rattle.gq_phase.specs.Phase.{Task}
@@ -17,8 +17,8 @@ use Rattle.gq_model.specs.Told.{Told}
 use Rattle.gq_model.specs.Trace.{operation, limit_at}
 use Rattle.gq_model.specs.Lone.{Step}
 use Rattle.gq_cluster.specs.Cluster.{Setting, Part, Act, NodeStep, Restarts, Cluster, everyone, copy_in, node_of, step_of, step_in, part_after, parts_after, after_step, new_cluster, CanAct, CanFollow}
-use Rattle.gq_cluster.specs.Facts.{KeptPart, kept_of, with_fact}
-use Rattle.gq_cluster.specs.Restarts.{without_operation, GivesUp}
+use Rattle.gq_cluster.specs.Keeping.{KeptPart, kept_of, with_fact, IsReserved}
+use Rattle.gq_cluster.specs.Restarts.{begun_anew, GivesUp}
 use Rattle.gq_cluster.proofs.Restarting.{node_gives}
 use Rattle.gq_node.specs.declared.output.Answer.{Answer}
 use Rattle.gq_node.specs.declared.output.Admission.{Admission}
@@ -26,7 +26,7 @@ use Rattle.gq_node.specs.declared.output.Admission.TheVariants.{Tells, Passes, G
 use Rattle.gq_cluster.specs.Laws.{setting_of}
 use Rattle.gq_cluster.proofs.Clusters.{all_clusters_serve}
 use Rattle.gq_node.specs.Bridge.{setting_in, AtHome, Bridges, request_act, letter_act, waited_act, tick_act}
-use Rattle.gq_cluster.specs.Facts.{OwnFact, Begun, Numbered, Kept}
+use Rattle.gq_cluster.specs.Facts.{OwnFact, Begun, Numbered, Kept, Reserved, none_reserved}
 use Rattle.gq_node.specs.Local.{Local, Doing, new_local, part_in, nothing, state_of, state_for, admission_in, asks, tells_holding, receives, ticks, recalls, recalled, fact_fits, file_fits, file_in, letter_fits, has_above, of_round}
 use Rattle.gq_node.specs.Nodes.{Nodes, site_in, recalls_one, started, new_nodes, Event, LineCame, PlanCame, LetterCame, TickCame, Started, fact_list, after_doing, after_event, nodes_after, CanCome, AllCanCome, act_steps, act_of, steps_of, all_steps, SessionAlike, PartAlike, IsAlike, answer_in, own_answer, doing_of, SaidBy, Follows, AllNodesFollow, AllNodesServe}
 use Rattle.gq_node.specs.Sites.{Site}
@@ -34,6 +34,7 @@ use Rattle.gq_node.proofs.AlikeParts.{IsAct, session_refl, idle_alike, step_alik
 use Rattle.gq_node.proofs.Bridging.{all_requests_act, all_questions_tell, all_letters_act, all_ticks_act, tick_waits}
 use Rattle.gq_node.proofs.Journal.{FactIn, KeepsBy, Keeps, all_requests_keep, all_letters_keep, all_ticks_keep, recall_keeps}
 use Rattle.gq_node.proofs.Recalling.{recalls_fits, recalls_not}
+use Rattle.gq_node.proofs.Using.{AllUsed, bridged_used, AllRest, rests_used, new_rests, started_rests, started_outside}
 
 -- ---- a start
 
@@ -78,7 +79,7 @@ started_idle : (s : Setting) (n : ℕ) (facts : List OwnFact) (local : Local) �
 started_idle s n [] local idle = idle
 started_idle s n (fact ∷ facts) local idle = started_idle s n facts (recalls_one s n local fact) (recall_idle fact (site_in s n) local idle)
 
-idle_home : (site : Site) (local : Local) → AllIdle local → AtHome site local
+pub idle_home : (site : Site) (local : Local) → AllIdle local → AtHome site local
 idle_home site local idle k some = let e = sym (ap is_some (idle k)) ∙ some in absurd (cc)
 
 -- ---- the facts of a node
@@ -102,10 +103,15 @@ journal_by s n facts local (Some fact) part same volumes keeps =
     ∙ ap (λ z. with_fact z (Some fact)) same
     ∙ sym keeps.0
 
+-- the same is reserved where the same is kept
+kept_reserved : (a b : Local) → kept_of (part_in a) ≡ kept_of (part_in b) → (k : ℕ) → (a.residents k).reserved ≡ (b.residents k).reserved
+kept_reserved a b same k = λ i. record { op = (same i).op k; floor = (same i).floor k }
+
 -- ---- the nodes
 
 record Sound (s : Setting) (nodes : Nodes) : Type 0 where
   home : (n : ℕ) → AtHome (site_in s n) (nodes.local n)
+  used : (n : ℕ) → AllUsed (nodes.local n)
   volumes : (n : ℕ) → (nodes.local n).volumes ≡ s.volumes
   journal : (n : ℕ) → kept_of (part_in (started s n (nodes.facts n))) ≡ kept_of (part_in (nodes.local n))
 
@@ -121,9 +127,10 @@ pub at_start : (P : ℕ → Local → List OwnFact → Type 0) (s : Setting) (no
     (m : ℕ) → P m ((after_event s nodes (Started n)).local m) ((after_event s nodes (Started n)).facts m)
 at_start P s nodes n here there = at_nodes P nodes n (nothing (started s n (nodes.facts n))) (subst (P n (started s n (nodes.facts n))) (sym (append-nil (nodes.facts n))) here) there
 
-doing_sound : (s : Setting) (nodes : Nodes) (n : ℕ) (doing : Doing) → Sound s nodes → AtHome (site_in s n) doing.local → doing.local.volumes ≡ (nodes.local n).volumes → Keeps (site_in s n) (nodes.local n) doing → Sound s (after_doing nodes n doing)
-doing_sound s nodes n doing sound home volumes keeps = record {
+doing_sound : (s : Setting) (nodes : Nodes) (n : ℕ) (doing : Doing) → Sound s nodes → AtHome (site_in s n) doing.local → AllUsed doing.local → doing.local.volumes ≡ (nodes.local n).volumes → Keeps (site_in s n) (nodes.local n) doing → Sound s (after_doing nodes n doing)
+doing_sound s nodes n doing sound home used volumes keeps = record {
   home = at_nodes (λ m l fs. AtHome (site_in s m) l) nodes n doing home (λ m away. sound.home m);
+  used = at_nodes (λ m l fs. AllUsed l) nodes n doing used (λ m away. sound.used m);
   volumes = at_nodes (λ m l fs. l.volumes ≡ s.volumes) nodes n doing (volumes ∙ sound.volumes n) (λ m away. sound.volumes m);
   journal = at_nodes (λ m l fs. kept_of (part_in (started s m fs)) ≡ kept_of (part_in l)) nodes n doing
       (journal_by s n (nodes.facts n) (nodes.local n) doing.fact (part_in doing.local) (sound.journal n) (sound.volumes n) keeps) (λ m away. sound.journal m);
@@ -154,7 +161,7 @@ does_follow s nodes c n None answer tell doing sound alike b keeps can = record 
     parts = at_nodes (λ m l fs. PartAlike s.home m (part_in l) (c.part m)) nodes n doing (subst (λ p. PartAlike s.home n p (c.part n)) (sym b.does.part) (alike.parts n)) (λ m away. alike.parts m);
     written = ap (λ xs. nodes.written ++ xs) b.does.letters ∙ append-nil nodes.written ∙ alike.written;
   };
-  sound = doing_sound s nodes n doing sound b.home b.volumes keeps;
+  sound = doing_sound s nodes n doing sound b.home (bridged_used (site_in s n) (nodes.local n) None answer tell doing b (sound.used n)) b.volumes keeps;
 }
 does_follow s nodes c n (Some act) answer tell doing sound alike b keeps can =
     let local : Local = nodes.local n in
@@ -175,7 +182,7 @@ does_follow s nodes c n (Some act) answer tell doing sound alike b keeps can =
             (λ m away. subst (PartAlike s.home m (part_in (nodes.local m))) (sym (others m away)) (alike.parts m));
         written = ap (λ xs. nodes.written ++ xs) letters ∙ ap (λ xs. xs ++ (step_in s c act).new) alike.written;
       };
-      sound = doing_sound s nodes n doing sound b.home b.volumes keeps;
+      sound = doing_sound s nodes n doing sound b.home (bridged_used (site_in s n) local (Some act) answer tell doing b (sound.used n)) b.volumes keeps;
     }
 
 request_can : (c : Cluster) (op : ℕ) (line : Line) (site : Site) (local : Local) → CanIf c (request_act op line site local)
@@ -238,43 +245,84 @@ start_follows s nodes c n sound alike = record {
   };
   sound = record {
     home = at_start (λ m l fs. AtHome (site_in s m) l) s nodes n (idle_home (site_in s n) start idle) (λ m away. sound.home m);
+    used = at_start (λ m l fs. AllUsed l) s nodes n (rests_used start rests) (λ m away. sound.used m);
     volumes = at_start (λ m l fs. l.volumes ≡ s.volumes) s nodes n (started_volumes s n (nodes.facts n) (new_local s.grid n s.volumes) refl) (λ m away. sound.volumes m);
     journal = at_start (λ m l fs. kept_of (part_in (started s m fs)) ≡ kept_of (part_in l)) s nodes n refl (λ m away. sound.journal m);
   };
 }
   where
+    local : Local
+    local = nodes.local n
+
     start : Local
     start = started s n (nodes.facts n)
 
     idle : AllIdle start
     idle = started_idle s n (nodes.facts n) (new_local s.grid n s.volumes) (λ k. refl)
 
+    rests : AllRest start
+    rests = started_rests s n (nodes.facts n)
+
     new : Cluster
     new = after_step s c (Restarts n)
 
-    going : (k : ℕ) (task : Task) → ((c.part (s.home k)).session k).current ≡ Some task → is_in 1 s.row.sessions k ≡ true
-    going k task busy =
-        let its = (alike.parts (s.home k)).sessions k refl in
-        (sound.home (s.home k) k (ap is_some (its.current ∙ busy))).0
+    -- what is reserved for a session at its home is so in the cluster too, and again behind the start
+    reserved : (k : ℕ) → s.home k ≡ n → (start.residents k).reserved ≡ (c.part n).reserved k
+    reserved k at = kept_reserved start local (sound.journal n) k ∙ (alike.parts n).reserved k at
+
+    used : (k : ℕ) → s.home k ≡ n → IsReserved (c.part n) k
+    used k at =
+        let its = (alike.parts n).sessions k at in
+        let numbers = (alike.parts n).reserved k at in
+        let op = its.op in
+        let floor = its.floor in
+        let last_op : (local.residents k).reserved.op ≡ ((c.part n).reserved k).op = ap (λ (z : Reserved). z.op) numbers in
+        let last_floor : (local.residents k).reserved.floor ≡ ((c.part n).reserved k).floor = ap (λ (z : Reserved). z.floor) numbers in
+        let low_op = (sound.used n k).op in
+        let low_floor = (sound.used n k).floor in
+        record { op = omega (arith, op, last_op, low_op); floor = omega (arith, floor, last_floor, low_floor) }
 
     gives : GivesUp s n c new
-    gives = node_gives s c n going
+    gives = node_gives s c n used
 
     copies : (m : ℕ) (file : File) → copy_in (c.part m) file ≡ copy_in (new.part m) file
-    copies m file = ap (λ xs. copy_in (record { brought = λ f. xs; session = (c.part m).session }) file) (sym (gives.copies m file))
+    copies m file = ap (λ xs. greatest (first_copy ∷ xs)) (sym (gives.copies m file))
+
+    -- a session that the tenant has goes on behind its reserved numbers; another one never used any
+    session : (k : ℕ) → s.home k ≡ n → (b : Bool) → is_in 1 s.row.sessions k ≡ b → SessionAlike (start.residents k).session ((new.part n).session k)
+    session k at true inside =
+        subst (SessionAlike (start.residents k).session) (sym (gives.own k at inside))
+        (idle_alike (start.residents k).session (begun_anew ((c.part n).reserved k) ((c.part n).session k)) ((rests k).op ∙ ap (λ (z : Reserved). z.op) (reserved k at)) ((rests k).floor ∙ ap (λ (z : Reserved). z.floor) (reserved k at)) (idle k) refl)
+    session k at false out =
+        let its = (alike.parts n).sessions k at in
+        let none : (start.residents k).reserved ≡ none_reserved = started_outside s n (nodes.facts n) k out in
+        let same : (local.residents k).reserved ≡ none_reserved = sym (kept_reserved start local (sound.journal n) k) ∙ none in
+        let low_op = (sound.used n k).op in
+        let low_floor = (sound.used n k).floor in
+        let last_op : (local.residents k).reserved.op ≡ 0 = ap (λ (z : Reserved). z.op) same in
+        let last_floor : (local.residents k).reserved.floor ≡ 0 = ap (λ (z : Reserved). z.floor) same in
+        let op : (local.residents k).session.op ≡ 0 = omega (arith, low_op, last_op) in
+        let floor : (local.residents k).session.floor ≡ 0 = omega (arith, low_floor, last_floor) in
+        let start_op : (start.residents k).session.op ≡ 0 = (rests k).op ∙ ap (λ (z : Reserved). z.op) none in
+        let start_floor : (start.residents k).session.floor ≡ 0 = (rests k).floor ∙ ap (λ (z : Reserved). z.floor) none in
+        subst (SessionAlike (start.residents k).session) (sym (gives.outside k at out))
+        (idle_alike (start.residents k).session ((c.part n).session k) (start_op ∙ sym op ∙ its.op) (start_floor ∙ sym floor ∙ its.floor) (idle k) (sym its.current ∙ none_going (local.residents k).session.current refl))
+      where
+        none_going : (current : Option Task) → (local.residents k).session.current ≡ current → (local.residents k).session.current ≡ None
+        none_going None is = is
+        none_going (Some task) is = absurd (true≢false (sym (sound.home n k (ap is_some is)).0 ∙ out))
 
     here : PartAlike s.home n (part_in start) (new.part n)
     here = record {
       copies = λ file. ap (λ (z : KeptPart). z.copy file) (sound.journal n) ∙ (alike.parts n).copies file ∙ copies n file;
-      sessions = λ k at.
-          let was = (alike.parts n).sessions k at in
-          subst (SessionAlike (start.residents k).session) (sym (gives.own k at))
-          (idle_alike (start.residents k).session (without_operation ((c.part n).session k)) (ap (λ (z : KeptPart). z.op k) (sound.journal n) ∙ was.op) (ap (λ (z : KeptPart). z.floor k) (sound.journal n) ∙ was.floor) (idle k) refl);
+      reserved = λ k at. reserved k at ∙ sym (gives.reserved n k);
+      sessions = λ k at. session k at (is_in 1 s.row.sessions k) refl;
     }
 
     there : (m : ℕ) → m ≢ n → PartAlike s.home m (part_in (nodes.local m)) (new.part m)
     there m away = record {
       copies = λ file. (alike.parts m).copies file ∙ copies m file;
+      reserved = λ k at. (alike.parts m).reserved k at ∙ sym (gives.reserved m k);
       sessions = λ k at.
           let P : ℕ → Type 0 = λ x. (new.part x).session k ≡ (c.part x).session k in
           let same : P m = subst P at (gives.others k (λ e. away (sym at ∙ e))) in
@@ -309,7 +357,12 @@ follows s [] nodes c sound alike can = record {
   can = tt;
   said = tt;
   alike = alike;
-  again = λ n. record { kept = sound.journal n; idle = started_idle s n (nodes.facts n) (new_local s.grid n s.volumes) (λ k. refl) };
+  again = λ n. record {
+    kept = sound.journal n;
+    ops = λ k. (started_rests s n (nodes.facts n) k).op ∙ ap (λ (z : KeptPart). z.op k) (sound.journal n);
+    floors = λ k. (started_rests s n (nodes.facts n) k).floor ∙ ap (λ (z : KeptPart). z.floor k) (sound.journal n);
+    idle = started_idle s n (nodes.facts n) (new_local s.grid n s.volumes) (λ k. refl);
+  };
 }
 follows s (event ∷ events) nodes c sound alike can =
     let one = one_event s nodes c event sound alike can.0 in
@@ -326,13 +379,14 @@ follows s (event ∷ events) nodes c sound alike can =
 new_sound : (s : Setting) → Sound s (new_nodes s)
 new_sound s = record {
   home = λ n. idle_home (site_in s n) (new_local s.grid n s.volumes) (λ k. refl);
+  used = λ n. rests_used (new_local s.grid n s.volumes) (new_rests s.grid n s.volumes);
   volumes = λ n. refl;
   journal = λ n. refl;
 }
 
 new_alike : (s : Setting) → IsAlike s (new_nodes s) new_cluster
 new_alike s = record {
-  parts = λ n. record { copies = λ file. refl; sessions = λ k at. session_refl _ };
+  parts = λ n. record { copies = λ file. refl; reserved = λ k at. refl; sessions = λ k at. session_refl _ };
   written = refl;
 }
 

@@ -1,34 +1,34 @@
 -- The fact of a step is all that the step changes of what a node must not forget; and a start that reads it knows it again.
-use Rattle.std.proofs.Common.{◌≡◌, ◌∙◌, ℕ, ◌+◌, Bool, true, false, List, [], ◌∷◌, ◌++◌, refl, sym, ap, subst, Option, Some, None, inl, inr}
-use Rattle.std.specs.Prelude.{is_some, ◌&&◌, ◌==◌, if◌then◌else◌}
+use Rattle.std.proofs.Common.{◌≡◌, ◌∙◌, ℕ, Bool, true, false, List, [], ◌∷◌, ◌++◌, refl, sym, ap, subst, Option, Some, None, inl, inr}
+use Rattle.std.specs.Prelude.{is_some, ◌&&◌, ◌==◌, nat_le, if◌then◌else◌}
 use Rattle.std.proofs.lemmas.Bool.{cases_Bool, eq-eqb, eqb-true}
-use Rattle.gq_grid.specs.Grid.{Grid, Servers}
+use Rattle.gq_grid.specs.Grid.{Servers}
 use Rattle.gq_tag.specs.declared.StoredCopy.{StoredCopy}
 use Rattle.gq_tag.specs.declared.Body.{Body}
 use Rattle.gq_tag.specs.declared.Body.TheVariants.{Ask, Copy, Store, Stored}
 use Rattle.gq_tag.specs.Tag.{File, OwnMessage, is_file, is_less, to_server, first_copy, greatest, newer_of}
 use Rattle.gq_desk.specs.Plans.{is_in}
-use Rattle.gq_desk.specs.declared.volumes.VolumeRow.{VolumeRow}
-use Rattle.gq_phase.specs.Phase.{Operation, Heard, HeardStale, HeardNoted, HeardNext, HeardDone, hear, heard_servers, is_collect}
+use Rattle.gq_phase.specs.Phase.{heard_servers, is_collect}
 use Rattle.gq_model.specs.declared.events.Line.{Line}
 use Rattle.gq_model.specs.declared.events.Line.TheVariants.{Write, Read, List as ListFiles, Abandon}
 use Rattle.gq_model.specs.declared.events.Refusal.{Refusal}
-use Rattle.gq_model.specs.Told.{Told, Began, Round, Abandoned}
-use Rattle.gq_model.specs.Trace.{Own, State, Session, Deed, Elsewhere, Begins, Ends, changed, heard_deed, operation, session_by, limit_at, brought_by}
-use Rattle.gq_model.specs.Lone.{Step, is_refusal, entry_of, asked_step, session_causes, session_step, hear_step, heard_step, first_cause, unless}
-use Rattle.gq_cluster.specs.Cluster.{Part, everyone, copy_in, asker as session_of}
-use Rattle.gq_cluster.specs.Facts.{kept_of, with_fact}
+use Rattle.gq_model.specs.Told.{Told, Began, Round}
+use Rattle.gq_model.specs.Trace.{Own, State, operation, limit_at, brought_by}
+use Rattle.gq_model.specs.Lone.{Step, is_refusal, entry_of, asked_step, hear_step, unless}
+use Rattle.gq_cluster.specs.Cluster.{Part, everyone, copy_in, session_named}
+use Rattle.gq_cluster.specs.Keeping.{kept_of, with_fact}
 use Rattle.gq_laws.proofs.Holding.{greatest-push}
 use Rattle.gq_laws.proofs.OperationMoments.{same_file}
 use Rattle.gq_node.specs.declared.output.Admission.{Admission}
 use Rattle.gq_node.specs.declared.output.Admission.TheVariants.{Tells, Passes, Goes}
-use Rattle.gq_cluster.specs.Facts.{OwnFact, Begun, Numbered, Kept}
-use Rattle.gq_node.specs.Local.{Local, Resident, Doing, part_in, state_of, state_for, aim_at, tries_next, asker, begins, admission_in, asks, asked_by, goes_on, answer_of, with_resident, session_fact, receives, serves, hears, brings, ticks, waits_on, letter_fits, file_fits, has_above, of_round, recalls, recalled, rested}
+use Rattle.gq_cluster.specs.Facts.{OwnFact, Begun, Numbered, Kept, Reserved, greatest_op, greatest_number, last_of_run, reserving, reserved_by}
+use Rattle.gq_node.specs.Local.{Local, Resident, Doing, part_in, state_of, state_for, aim_at, tries_next, asker, begins, admission_in, asks, asked_by, goes_on, answer_of, with_resident, receives, serves, hears, brings, ticks, waits_on, letter_fits, file_fits, has_above, of_round, recalls, recalled, rested}
+use Rattle.gq_node.specs.Inputs.{Input, Asked, AskedPlan, Brought, Ticked, does}
 use Rattle.gq_node.specs.Sites.{Site}
 use Rattle.gq_node.proofs.Asking.{goes_home}
 use Rattle.gq_node.proofs.Recalling.{recalls_fits}
 use Rattle.gq_node.proofs.Ticking.{busy_is}
-use Rattle.gq_node.proofs.Bridging.{same_sessions, tried_session}
+use Rattle.gq_node.proofs.Bridging.{same_sessions, tried_session, tried_reserved}
 use Rattle.gq_node.proofs.Receiving.{Parts, parts, its_server, to_a_session, to_the_server}
 
 -- ---- what a fact says
@@ -49,55 +49,55 @@ Keeps site local doing = KeepsBy site local doing.fact (part_in doing.local)
 
 -- ---- another resident
 
-kept_same : (local : Local) (k : ℕ) (r : Resident) → r.session.op ≡ (local.residents k).session.op → r.session.floor ≡ (local.residents k).session.floor → kept_of (part_in (with_resident local k r)) ≡ kept_of (part_in local)
-kept_same local k r op floor = λ i. record { copy = copy_in (part_in local); op = λ j. ops j (k == j) refl i; floor = λ j. floors j (k == j) refl i }
+kept_same : (local : Local) (k : ℕ) (r : Resident) → r.reserved ≡ (local.residents k).reserved → kept_of (part_in (with_resident local k r)) ≡ kept_of (part_in local)
+kept_same local k r same = λ i. record { copy = copy_in (part_in local); op = λ j. (reserved j (k == j) refl i).op; floor = λ j. (reserved j (k == j) refl i).floor }
   where
-    ops : (j : ℕ) (b : Bool) → (k == j) ≡ b → ((with_resident local k r).residents j).session.op ≡ (local.residents j).session.op
-    ops j true is = rw is (op ∙ ap (λ x. (local.residents x).session.op) (eqb-true k j is))
+    reserved : (j : ℕ) (b : Bool) → (k == j) ≡ b → ((with_resident local k r).residents j).reserved ≡ (local.residents j).reserved
+    reserved j true is = rw is (same ∙ ap (λ x. (local.residents x).reserved) (eqb-true k j is))
+    reserved j false is = rw is refl
+
+kept_began : (local : Local) (k n : ℕ) (r : Resident) → r.reserved ≡ reserved_by (Some (Begun k n)) (local.residents k).reserved → kept_of (part_in (with_resident local k r)) ≡ with_fact (kept_of (part_in local)) (Some (Begun k n))
+kept_began local k n r same = λ i. record { copy = copy_in (part_in local); op = λ j. ops j (k == j) refl i; floor = λ j. floors j (k == j) refl i }
+  where
+    ops : (j : ℕ) (b : Bool) → (k == j) ≡ b → ((with_resident local k r).residents j).reserved.op ≡ (if k == j then n else (local.residents j).reserved.op)
+    ops j true is = rw is (ap (λ (z : Reserved). z.op) same)
     ops j false is = rw is refl
 
-    floors : (j : ℕ) (b : Bool) → (k == j) ≡ b → ((with_resident local k r).residents j).session.floor ≡ (local.residents j).session.floor
-    floors j true is = rw is (floor ∙ ap (λ x. (local.residents x).session.floor) (eqb-true k j is))
+    floors : (j : ℕ) (b : Bool) → (k == j) ≡ b → ((with_resident local k r).residents j).reserved.floor ≡ (local.residents j).reserved.floor
+    floors j true is = rw is (ap (λ (z : Reserved). z.floor) same ∙ ap (λ x. (local.residents x).reserved.floor) (eqb-true k j is))
     floors j false is = rw is refl
 
-kept_began : (local : Local) (k n : ℕ) (r : Resident) → r.session.op ≡ n → r.session.floor ≡ (local.residents k).session.floor → kept_of (part_in (with_resident local k r)) ≡ with_fact (kept_of (part_in local)) (Some (Begun k n))
-kept_began local k n r op floor = λ i. record { copy = copy_in (part_in local); op = λ j. ops j (k == j) refl i; floor = λ j. floors j (k == j) refl i }
+kept_numbered : (local : Local) (k n : ℕ) (r : Resident) → r.reserved ≡ reserved_by (Some (Numbered k n)) (local.residents k).reserved → kept_of (part_in (with_resident local k r)) ≡ with_fact (kept_of (part_in local)) (Some (Numbered k n))
+kept_numbered local k n r same = λ i. record { copy = copy_in (part_in local); op = λ j. ops j (k == j) refl i; floor = λ j. floors j (k == j) refl i }
   where
-    ops : (j : ℕ) (b : Bool) → (k == j) ≡ b → ((with_resident local k r).residents j).session.op ≡ (if k == j then n else (local.residents j).session.op)
-    ops j true is = rw is op
+    ops : (j : ℕ) (b : Bool) → (k == j) ≡ b → ((with_resident local k r).residents j).reserved.op ≡ (local.residents j).reserved.op
+    ops j true is = rw is (ap (λ (z : Reserved). z.op) same ∙ ap (λ x. (local.residents x).reserved.op) (eqb-true k j is))
     ops j false is = rw is refl
 
-    floors : (j : ℕ) (b : Bool) → (k == j) ≡ b → ((with_resident local k r).residents j).session.floor ≡ (local.residents j).session.floor
-    floors j true is = rw is (floor ∙ ap (λ x. (local.residents x).session.floor) (eqb-true k j is))
+    floors : (j : ℕ) (b : Bool) → (k == j) ≡ b → ((with_resident local k r).residents j).reserved.floor ≡ (if k == j then n else (local.residents j).reserved.floor)
+    floors j true is = rw is (ap (λ (z : Reserved). z.floor) same)
     floors j false is = rw is refl
 
-kept_numbered : (local : Local) (k n : ℕ) (r : Resident) → r.session.op ≡ (local.residents k).session.op → r.session.floor ≡ n → kept_of (part_in (with_resident local k r)) ≡ with_fact (kept_of (part_in local)) (Some (Numbered k n))
-kept_numbered local k n r op floor = λ i. record { copy = copy_in (part_in local); op = λ j. ops j (k == j) refl i; floor = λ j. floors j (k == j) refl i }
+-- what is kept where session k was told this, and its own last number is then this one
+told_keeps : (site : Site) (local : Local) (k : ℕ) (r : Resident) (told : Told) (floor : ℕ) → is_in 1 site.row.sessions k ≡ true → r.reserved ≡ reserved_by (reserving k (local.residents k).reserved told floor) (local.residents k).reserved →
+    KeepsBy site local (reserving k (local.residents k).reserved told floor) (part_in (with_resident local k r))
+told_keeps site local k r (Began op first count) floor inside same = by (nat_le op (local.residents k).reserved.op) same
   where
-    ops : (j : ℕ) (b : Bool) → (k == j) ≡ b → ((with_resident local k r).residents j).session.op ≡ (local.residents j).session.op
-    ops j true is = rw is (op ∙ ap (λ x. (local.residents x).session.op) (eqb-true k j is))
-    ops j false is = rw is refl
+    fact : Bool → Option OwnFact
+    fact b = if b then None else Some (Begun k (last_of_run greatest_op op))
 
-    floors : (j : ℕ) (b : Bool) → (k == j) ≡ b → ((with_resident local k r).residents j).session.floor ≡ (if k == j then n else (local.residents j).session.floor)
-    floors j true is = rw is floor
-    floors j false is = rw is refl
-
--- what a session's numbers are after it was told this
-abbrev NumbersBy : Told → Session → Session → Type 0
-NumbersBy (Began op first count) old new = (new.op ≡ op) × (new.floor ≡ old.floor)
-NumbersBy (Round round tag first count) old new = (new.op ≡ old.op) × Unit {0}
-NumbersBy _ old new = (new.op ≡ old.op) × (new.floor ≡ old.floor)
-
-told_keeps : (site : Site) (local : Local) (k : ℕ) (r : Resident) (told : Told) → is_in 1 site.row.sessions k ≡ true → NumbersBy told (local.residents k).session r.session →
-    KeepsBy site local (session_fact k told (local.residents k).session.floor r.session.floor) (part_in (with_resident local k r))
-told_keeps site local k r (Began op first count) inside n = (kept_began local k op r n.0 n.1, inside)
-told_keeps site local k r (Round round tag first count) inside n = by (r.session.floor == (local.residents k).session.floor) refl
+    by : (b : Bool) → r.reserved ≡ reserved_by (fact b) (local.residents k).reserved → KeepsBy site local (fact b) (part_in (with_resident local k r))
+    by true same = kept_same local k r same
+    by false same = (kept_began local k (last_of_run greatest_op op) r same, inside)
+told_keeps site local k r (Round round tag first count) floor inside same = by (nat_le floor (local.residents k).reserved.floor) same
   where
-    by : (b : Bool) → (r.session.floor == (local.residents k).session.floor) ≡ b →
-        KeepsBy site local (if r.session.floor == (local.residents k).session.floor then None else Some (Numbered k r.session.floor)) (part_in (with_resident local k r))
-    by true is = rw is (kept_same local k r n.0 (eqb-true r.session.floor (local.residents k).session.floor is))
-    by false is = rw is (kept_numbered local k r.session.floor r n.0 refl, inside)
-told_keeps site local k r told inside n = kept_same local k r n.0 n.1
+    fact : Bool → Option OwnFact
+    fact b = if b then None else Some (Numbered k (last_of_run greatest_number floor))
+
+    by : (b : Bool) → r.reserved ≡ reserved_by (fact b) (local.residents k).reserved → KeepsBy site local (fact b) (part_in (with_resident local k r))
+    by true same = kept_same local k r same
+    by false same = (kept_numbered local k (last_of_run greatest_number floor) r same, inside)
+told_keeps site local k r told floor inside same = kept_same local k r same
 
 -- ---- a request
 
@@ -105,18 +105,11 @@ pub not_refused : (o : Option Refusal) (step : Step) → is_refusal (unless o st
 not_refused None step is = refl
 not_refused (Some word) step is = absurd (cc)
 
--- a line that begins or gives up
-record ItsNumbers (line : Line) : Type 0 where
-  its : asker line ≡ Some (session_of line)
-  numbers : (site : Site) (aim : Servers) (local : Local) → is_refusal (asked_step site.grid site.row (state_of aim local) line).told ≡ false →
-      NumbersBy (asked_step site.grid site.row (state_of aim local) line).told (local.residents (session_of line)).session
-      ((changed (entry_of (state_of aim local) (Own line) (asked_step site.grid site.row (state_of aim local) line)) (state_of aim local)).session (session_of line))
-
-request_keeps : (op : ℕ) (line : Line) (site : Site) (local : Local) → ItsNumbers line → Keeps site local (asks op line site local)
-request_keeps op line site local l = by (admission_in site local k op (begins line)) refl
+request_keeps : (op : ℕ) (line : Line) (site : Site) (local : Local) → asker line ≡ Some (session_named line) → Keeps site local (asks op line site local)
+request_keeps op line site local its = by (admission_in site local k op (begins line)) refl
   where
     k : ℕ
-    k = session_of line
+    k = session_named line
 
     aim : Servers
     aim = aim_at site.grid (local.residents k)
@@ -124,14 +117,11 @@ request_keeps op line site local l = by (admission_in site local k op (begins li
     step : Step
     step = asked_step site.grid site.row (state_of aim local) line
 
-    its : asker line ≡ Some k
-    its = l.its
-
     said : is_in 1 site.row.sessions k ≡ true → (b : Bool) → is_refusal step.told ≡ b → Keeps site local (asked_by local k op (state_of aim local) line step)
     said inside true is = let same : asked_by local k op (state_of aim local) line step ≡ record { local = local; answer = answer_of k op (local.residents k).session.op step.told; letters = []; fact = None } = rw is refl in subst (Keeps site local) (sym same) refl
     said inside false is =
         let same : asked_by local k op (state_of aim local) line step ≡ goes_on local k op false (state_of aim local) (entry_of (state_of aim local) (Own line) step) = rw is refl in
-        subst (Keeps site local) (sym same) (told_keeps site local k _ step.told inside (l.numbers site aim local is))
+        subst (Keeps site local) (sym same) (told_keeps site local k _ step.told _ inside refl)
 
     by : (g : Admission) → admission_in site local k op (begins line) ≡ g → Keeps site local (asks op line site local)
     by (Tells answer) is = rw (its, is) refl
@@ -144,61 +134,24 @@ request_keeps op line site local l = by (admission_in site local k op (begins li
 no_line_keeps : (op : ℕ) (line : Line) (site : Site) (local : Local) → asker line ≡ None → Keeps site local (asks op line site local)
 no_line_keeps op line site local none = rw none refl
 
-begun_numbers : (volumes : List VolumeRow) (k op first count : ℕ) (line : Line) (s : Session) → op ≡ s.op + 1 → NumbersBy (Began op first count) s (session_by volumes k (if k == k then Begins line else Elsewhere) s)
-begun_numbers volumes k op first count line s is = rw (eq-eqb k k refl) (sym is, refl)
-
-its_numbers : (site : Site) (aim : Servers) (local : Local) (line : Line) (k : ℕ) (d : Deed) → is_refusal (asked_step site.grid site.row (state_of aim local) line).told ≡ false →
-    NumbersBy (session_step site.grid (state_of aim local) line).told (local.residents k).session (session_by local.volumes k d (local.residents k).session) →
-    NumbersBy (asked_step site.grid site.row (state_of aim local) line).told (local.residents k).session (session_by local.volumes k d (local.residents k).session)
-its_numbers site aim local line k d is numbers =
-    let same = not_refused (first_cause (session_causes site.grid site.row (state_of aim local) line)) (session_step site.grid (state_of aim local) line) is in
-    subst (λ (z : Step). NumbersBy z.told (local.residents k).session (session_by local.volumes k d (local.residents k).session)) (sym same) numbers
-
 pub all_requests_keep : (op : ℕ) (line : Line) (site : Site) (local : Local) → Keeps site local (asks op line site local)
-all_requests_keep op (Write k v f bytes) site local = request_keeps op (Write k v f bytes) site local (record {
-  its = refl;
-  numbers = λ site aim local is. its_numbers site aim local (Write k v f bytes) k _ is (begun_numbers local.volumes k _ 0 0 (Write k v f bytes) (local.residents k).session refl);
-})
-all_requests_keep op (Read k v f) site local = request_keeps op (Read k v f) site local (record {
-  its = refl;
-  numbers = λ site aim local is. its_numbers site aim local (Read k v f) k _ is (begun_numbers local.volumes k _ 0 0 (Read k v f) (local.residents k).session refl);
-})
-all_requests_keep op (ListFiles k v) site local = request_keeps op (ListFiles k v) site local (record {
-  its = refl;
-  numbers = λ site aim local is. its_numbers site aim local (ListFiles k v) k _ is (begun_numbers local.volumes k _ 0 0 (ListFiles k v) (local.residents k).session refl);
-})
-all_requests_keep op (Abandon k) site local = request_keeps op (Abandon k) site local (record {
-  its = refl;
-  numbers = λ site aim local is. its_numbers site aim local (Abandon k) k (if k == k then Ends else Elsewhere) is (given_up local.volumes k (local.residents k).session);
-})
-  where
-    given_up : (volumes : List VolumeRow) (k : ℕ) (s : Session) → NumbersBy Abandoned s (session_by volumes k (if k == k then Ends else Elsewhere) s)
-    given_up volumes k s = rw (eq-eqb k k refl) (refl, refl)
+all_requests_keep op (Write k v f bytes) site local = request_keeps op (Write k v f bytes) site local refl
+all_requests_keep op (Read k v f) site local = request_keeps op (Read k v f) site local refl
+all_requests_keep op (ListFiles k v) site local = request_keeps op (ListFiles k v) site local refl
+all_requests_keep op (Abandon k) site local = request_keeps op (Abandon k) site local refl
 all_requests_keep op line site local = no_line_keeps op line site local refl
 
 -- ---- a letter
 
-heard_numbers : (volumes : List VolumeRow) (k first : ℕ) (m : OwnMessage) (h : Heard) (s : Session) → NumbersBy (heard_step first h).told s (session_by volumes k (heard_deed m (heard_step first h).told) s)
-heard_numbers volumes k first m HeardStale s = (refl, refl)
-heard_numbers volumes k first m HeardNoted s = (refl, refl)
-heard_numbers volumes k first m (HeardNext round tag messages) s = (refl, tt)
-heard_numbers volumes k first m (HeardDone outcome) s = (refl, refl)
-
-hear_numbers : (volumes : List VolumeRow) (k : ℕ) (grid : Grid) (state : State) (m : OwnMessage) (o : Option Operation) (s : Session) → NumbersBy (hear_step grid state m o).told s (session_by volumes k (heard_deed m (hear_step grid state m o).told) s)
-hear_numbers volumes k grid state m None s = (refl, refl)
-hear_numbers volumes k grid state m (Some o) s = heard_numbers volumes k _ m (hear grid state.up o m) s
-
-heard_keeps : (site : Site) (local : Local) (m : OwnMessage) → to_server m.body ≡ false → is_in 1 site.row.sessions m.session ≡ true →
+heard_keeps : (site : Site) (local : Local) (m : OwnMessage) → is_in 1 site.row.sessions m.session ≡ true →
     let k : ℕ = m.session in
     let state : State = state_for site local k in
     Keeps site local (goes_on local k (local.residents k).session.op (heard_servers (local.residents k).session.heard m.server) state (brings m (hear_step site.grid state m (operation state k))))
-heard_keeps site local m goes inside =
+heard_keeps site local m inside =
     let k : ℕ = m.session in
     let state : State = state_for site local k in
     let step : Step = hear_step site.grid state m (operation state k) in
-    let s : Session = (local.residents k).session in
-    let same : (changed (brings m step) state).session k ≡ session_by local.volumes k (heard_deed m step.told) s = rw (goes, eq-eqb k k refl) refl in
-    told_keeps site local k _ step.told inside (subst (NumbersBy step.told s) (sym same) (hear_numbers local.volumes k site.grid state m (operation state k) s))
+    told_keeps site local k _ step.told _ inside refl
 
 -- a store, at its server
 stored_keeps : (site : Site) (local : Local) (session op round server : ℕ) (file : File) (body : Body) → server ≡ site.here → file_fits (limit_at (state_of everyone local) file.volume file.place) body ≡ true →
@@ -227,12 +180,12 @@ stored_keeps site local session op round server file (Store copy) here fits = by
     in_file f same = ap (copy_in (part_in local)) (sym (same_file file f same))
 
     by : (b : Bool) → is_less held.tag copy.tag ≡ b → Keeps site local (serves site local m)
-    by true is = rw is ((λ i. record { copy = λ f. now f (is_file file f) refl i; op = λ k. (local.residents k).session.op; floor = λ k. (local.residents k).session.floor }), (fits, is))
+    by true is = rw is ((λ i. record { copy = λ f. now f (is_file file f) refl i; op = λ k. (local.residents k).reserved.op; floor = λ k. (local.residents k).reserved.floor }), (fits, is))
       where
         now : (f : File) (b : Bool) → is_file file f ≡ b → greatest (first_copy ∷ after f) ≡ (if is_file file f then copy else copy_in (part_in local) f)
         now f true same = more f same ∙ ap (λ c. newer_of c copy) (in_file f same) ∙ (rw (is, same) refl)
         now f false other = less f other ∙ (rw other refl)
-    by false is = rw is (λ i. record { copy = λ f. now f (is_file file f) refl i; op = λ k. (local.residents k).session.op; floor = λ k. (local.residents k).session.floor })
+    by false is = rw is (λ i. record { copy = λ f. now f (is_file file f) refl i; op = λ k. (local.residents k).reserved.op; floor = λ k. (local.residents k).reserved.floor })
       where
         now : (f : File) (b : Bool) → is_file file f ≡ b → greatest (first_copy ∷ after f) ≡ copy_in (part_in local) f
         now f true same = more f same ∙ ap (λ c. newer_of c copy) (in_file f same) ∙ (rw is refl) ∙ sym (in_file f same)
@@ -245,14 +198,14 @@ all_letters_keep from m site local = elim (cases_Bool (letter_fits site (limit_a
       let p : Parts site (limit_at (state_of everyone local) m.file.volume m.file.place) from m = parts site (limit_at (state_of everyone local) m.file.volume m.file.place) from m fits in
       elim (cases_Bool (to_server m.body)) [
         | inl goes ↦ (subst (Keeps site local) (sym (to_the_server from m site local fits goes)) (stored_keeps site local m.session m.op m.round m.server m.file m.body (its_server site from m goes p.between) p.file))
-        | inr goes ↦ (subst (Keeps site local) (sym (to_a_session from m site local fits goes)) (by goes p.session (has_above (local.residents m.session).session.floor && of_round (operation (state_for site local m.session) m.session) m.file) refl))
+        | inr goes ↦ (subst (Keeps site local) (sym (to_a_session from m site local fits goes)) (by p.session (has_above (local.residents m.session).session.floor && of_round (operation (state_for site local m.session) m.session) m.file) refl))
       ])
 ]
   where
-    by : to_server m.body ≡ false → is_in 1 site.row.sessions m.session ≡ true → (b : Bool) → (has_above (local.residents m.session).session.floor && of_round (operation (state_for site local m.session) m.session) m.file) ≡ b → Keeps site local (hears site local m)
-    by goes inside true is = let same : hears site local m ≡ goes_on local m.session (local.residents m.session).session.op (heard_servers (local.residents m.session).session.heard m.server) (state_for site local m.session) (brings m (hear_step site.grid (state_for site local m.session) m (operation (state_for site local m.session) m.session))) = rw is refl in
-        subst (Keeps site local) (sym same) (heard_keeps site local m goes inside)
-    by goes inside false is = rw is refl
+    by : is_in 1 site.row.sessions m.session ≡ true → (b : Bool) → (has_above (local.residents m.session).session.floor && of_round (operation (state_for site local m.session) m.session) m.file) ≡ b → Keeps site local (hears site local m)
+    by inside true is = let same : hears site local m ≡ goes_on local m.session (local.residents m.session).session.op (heard_servers (local.residents m.session).session.heard m.server) (state_for site local m.session) (brings m (hear_step site.grid (state_for site local m.session) m (operation (state_for site local m.session) m.session))) = rw is refl in
+        subst (Keeps site local) (sym same) (heard_keeps site local m inside)
+    by inside false is = rw is refl
 
 -- ---- a tick
 
@@ -263,19 +216,27 @@ all_ticks_keep k site local = elim (cases_Bool (is_some (local.residents k).sess
 ]
   where
     by : (b : Bool) → Keeps site local (waits_on site local k b)
-    by false = ap kept_of (same_sessions local k (record (local.residents k) { waited = true }) refl)
-    by true = ap kept_of (same_sessions local k (tries_next site.grid (is_collect (local.residents k).session.round) (local.residents k)) (tried_session site.grid (is_collect (local.residents k).session.round) (local.residents k)))
+    by false = ap kept_of (same_sessions local k (record (local.residents k) { waited = true }) refl refl)
+    by true = ap kept_of (same_sessions local k (tries_next site.grid (is_collect (local.residents k).session.round) (local.residents k)) (tried_session site.grid (is_collect (local.residents k).session.round) (local.residents k)) (tried_reserved site.grid (is_collect (local.residents k).session.round) (local.residents k)))
+
+-- ---- all that comes
+
+pub does_keep : (input : Input) (site : Site) (local : Local) → Keeps site local (does input site local)
+does_keep (Asked op line) site local = all_requests_keep op line site local
+does_keep AskedPlan site local = refl
+does_keep (Brought from letter) site local = all_letters_keep from letter site local
+does_keep (Ticked session) site local = all_ticks_keep session site local
 
 -- ---- a start reads it
 
 pub recall_keeps : (site : Site) (local : Local) (fact : OwnFact) → FactIn site local fact → kept_of (part_in (recalls fact site local).local) ≡ with_fact (kept_of (part_in local)) (Some fact)
 recall_keeps site local (Begun k op) inside =
-    ap (λ (d : Doing). kept_of (part_in d.local)) (recalls_fits (Begun k op) site local inside) ∙ kept_began local k op (rested (local.residents k) op (local.residents k).session.floor) refl refl
+    ap (λ (d : Doing). kept_of (part_in d.local)) (recalls_fits (Begun k op) site local inside) ∙ kept_began local k op (rested (local.residents k) (reserved_by (Some (Begun k op)) (local.residents k).reserved)) refl
 recall_keeps site local (Numbered k number) inside =
-    ap (λ (d : Doing). kept_of (part_in d.local)) (recalls_fits (Numbered k number) site local inside) ∙ kept_numbered local k number (rested (local.residents k) (local.residents k).session.op number) refl refl
+    ap (λ (d : Doing). kept_of (part_in d.local)) (recalls_fits (Numbered k number) site local inside) ∙ kept_numbered local k number (rested (local.residents k) (reserved_by (Some (Numbered k number)) (local.residents k).reserved)) refl
 recall_keeps site local (Kept file copy) fits =
     ap (λ (d : Doing). kept_of (part_in d.local)) (recalls_fits (Kept file copy) site local fits.0)
-    ∙ (λ i. record { copy = λ f. now f (is_file file f) refl i; op = λ k. (local.residents k).session.op; floor = λ k. (local.residents k).session.floor })
+    ∙ (λ i. record { copy = λ f. now f (is_file file f) refl i; op = λ k. (local.residents k).reserved.op; floor = λ k. (local.residents k).reserved.floor })
   where
     now : (f : File) (b : Bool) → is_file file f ≡ b → copy_in (part_in (recalled (Kept file copy) local)) f ≡ (if is_file file f then copy else copy_in (part_in local) f)
     now f true same =

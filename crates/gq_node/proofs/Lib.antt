@@ -4,6 +4,7 @@ pub mod AlikeParts
 pub mod Apart
 pub mod Asking
 pub mod Attending
+pub mod Beginning
 pub mod Bounds
 pub mod Bridging
 pub mod Following
@@ -16,6 +17,7 @@ pub mod Opening
 pub mod Progress
 pub mod Recalling
 pub mod Receiving
+pub mod Reserving
 pub mod Seating
 pub mod Sending
 pub mod Serving
@@ -23,5 +25,6 @@ pub mod Sitting
 pub mod Starting
 pub mod Staying
 pub mod Ticking
+pub mod Using
 pub mod Volumes
 pub mod WorkedCases

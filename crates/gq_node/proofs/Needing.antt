@@ -28,14 +28,14 @@ use Rattle.gq_node.specs.Local.{Local, new_local, state_of, recalled, fact_fits,
 use Rattle.gq_node.specs.Recalling.{tenant_of, own_fact, fits_in}
 use Rattle.gq_node.specs.Resting.{recall_one, recall_all, those_of, IsAtRest, AllOfPlan, Needed}
 use Rattle.gq_node.specs.Needing.{begun_facts, number_facts, numbers_facts, seat_facts, copy_facts, place_of, place_facts, files_in, volume_facts, volumes_facts, tenant_facts, all_facts, IsReadable, PlaceReadable, AllReadable, IsRefusedOf, IsRefusedIn}
-use Rattle.gq_node.specs.Seats.{last_in}
 use Rattle.gq_node.specs.Shape.{IsShaped}
 use Rattle.gq_node.specs.Sites.{Site, site_of}
 use Rattle.gq_node.specs.Tables.{Tables, Agrees, seat_at, fact_of}
 use Rattle.gq_node.proofs.Listing.{files_at}
-use Rattle.gq_node.proofs.Recalling.{recalls_fits}
+use Rattle.gq_node.proofs.Recalling.{recalls_fits, all_behind}
 use Rattle.gq_node.proofs.Serving.{limit_is, is_same_file}
-use Rattle.gq_node.proofs.Seating.{in_range, seat_of, last_agrees}
+use Rattle.gq_node.proofs.Reserving.{same_reserved}
+use Rattle.gq_node.proofs.Seating.{in_range, seat_of}
 
 -- ---- lists of lists
 
@@ -180,8 +180,8 @@ fit_flat site limit g a (suc n) fit = fit_append site limit (g a) (flat_map g (r
 record Makes (local : Local) (facts : List OwnFact) (made : Local) : Type 0 where
   volumes : made.volumes ≡ local.volumes
   brought : (f : File) → made.brought f ≡ local.brought f ++ copies_of f facts
-  ops : (j : ℕ) → (made.residents j).session.op ≡ last_of (local.residents j).session.op (ops_of j facts)
-  floors : (j : ℕ) → (made.residents j).session.floor ≡ last_of (local.residents j).session.floor (numbers_of j facts)
+  ops : (j : ℕ) → (made.residents j).reserved.op ≡ last_of (local.residents j).reserved.op (ops_of j facts)
+  floors : (j : ℕ) → (made.residents j).reserved.floor ≡ last_of (local.residents j).reserved.floor (numbers_of j facts)
   idle : (j : ℕ) → (local.residents j).session.current ≡ None → (made.residents j).session.current ≡ None
 
 -- by one fact first
@@ -194,12 +194,12 @@ makes_first (Begun k op) local facts made m = record {
   idle = λ j idle. m.idle j (rest_is j idle (k == j) refl);
 }
   where
-    op_is : (j : ℕ) (b : Bool) → (k == j) ≡ b → last_of ((recalled (Begun k op) local).residents j).session.op (ops_of j facts) ≡ last_of (local.residents j).session.op (ops_of j (Begun k op ∷ facts))
+    op_is : (j : ℕ) (b : Bool) → (k == j) ≡ b → last_of ((recalled (Begun k op) local).residents j).reserved.op (ops_of j facts) ≡ last_of (local.residents j).reserved.op (ops_of j (Begun k op ∷ facts))
     op_is j true is = rw is refl
     op_is j false is = rw is refl
 
-    floor_is : (j : ℕ) (b : Bool) → (k == j) ≡ b → ((recalled (Begun k op) local).residents j).session.floor ≡ (local.residents j).session.floor
-    floor_is j true is = rw is (ap (λ x. (local.residents x).session.floor) (eqb-true k j is))
+    floor_is : (j : ℕ) (b : Bool) → (k == j) ≡ b → ((recalled (Begun k op) local).residents j).reserved.floor ≡ (local.residents j).reserved.floor
+    floor_is j true is = rw is (ap (λ x. (local.residents x).reserved.floor) (eqb-true k j is))
     floor_is j false is = rw is refl
 
     rest_is : (j : ℕ) → (local.residents j).session.current ≡ None → (b : Bool) → (k == j) ≡ b → ((recalled (Begun k op) local).residents j).session.current ≡ None
@@ -213,11 +213,11 @@ makes_first (Numbered k number) local facts made m = record {
   idle = λ j idle. m.idle j (rest_is j idle (k == j) refl);
 }
   where
-    op_is : (j : ℕ) (b : Bool) → (k == j) ≡ b → ((recalled (Numbered k number) local).residents j).session.op ≡ (local.residents j).session.op
-    op_is j true is = rw is (ap (λ x. (local.residents x).session.op) (eqb-true k j is))
+    op_is : (j : ℕ) (b : Bool) → (k == j) ≡ b → ((recalled (Numbered k number) local).residents j).reserved.op ≡ (local.residents j).reserved.op
+    op_is j true is = rw is (ap (λ x. (local.residents x).reserved.op) (eqb-true k j is))
     op_is j false is = rw is refl
 
-    floor_is : (j : ℕ) (b : Bool) → (k == j) ≡ b → last_of ((recalled (Numbered k number) local).residents j).session.floor (numbers_of j facts) ≡ last_of (local.residents j).session.floor (numbers_of j (Numbered k number ∷ facts))
+    floor_is : (j : ℕ) (b : Bool) → (k == j) ≡ b → last_of ((recalled (Numbered k number) local).residents j).reserved.floor (numbers_of j facts) ≡ last_of (local.residents j).reserved.floor (numbers_of j (Numbered k number ∷ facts))
     floor_is j true is = rw is refl
     floor_is j false is = rw is refl
 
@@ -485,7 +485,7 @@ tenant_limit w t f = limit_of w.desk (file_of t f)
 
 tenant_fit : (w : Tables) (t : ℕ) → AllReadable w t → FactsFit (site_of w.plan w.server t) (tenant_limit w t) (tenant_facts w t)
 tenant_fit w t readable = fit_append site limit (flat_map (seat_facts w t) (range_with_len 1 n)) (volumes_facts w t)
-    (fit_flat site limit (seat_facts w t) 1 n (λ u low high. seat_fit site limit u (seat_at w t u).op (last_in (seat_at w t u)) (inside_is u low high)))
+    (fit_flat site limit (seat_facts w t) 1 n (λ u low high. seat_fit site limit u (seat_at w t u).reserved_op (seat_at w t u).reserved_floor (inside_is u low high)))
     (fit_flat site limit (volume_facts w t) 0 (length (account_at w.desk t).volumes) (λ u a b. fit_flat site limit (place_facts w t u) 0 (files_in w t u) (λ p c d. there u p (omega arith) (omega arith))))
   where
     n : ℕ
@@ -515,16 +515,8 @@ at_rest w t local shaped readable agrees = record {
   copies = λ f.
       ap (λ xs. greatest (first_copy ∷ xs)) (made.brought f ∙ (copies_split f).join s v ∙ ap (λ z. z ++ copies_of f v) (seats_copies f))
       ∙ copies_again w t f shaped readable ∙ agrees.copies f;
-  ops = λ k inside. (
-      let range = in_range n k inside in
-      made.ops k ∙ ap (last_of 0) ((ops_split k).join s v ∙ ap (λ z. ops_of k s ++ z) (volume_ops w t k) ∙ append-nil (ops_of k s)
-      ∙ flat_one (ops_of k) (ops_split k) (seat_facts w t) k 1 n range.0 (let h : k < 1 + n = omega (arith, range.1) in h) (λ u other. other_ops k u (seat_at w t u).op (last_in (seat_at w t u)) other))
-      ∙ own_op k (seat_at w t k).op (last_in (seat_at w t k)) ∙ (seat_of w t k local agrees range.0 range.1).op);
-  floors = λ k inside. (
-      let range = in_range n k inside in
-      made.floors k ∙ ap (last_of 0) ((numbers_split k).join s v ∙ ap (λ z. numbers_of k s ++ z) (volume_numbers w t k) ∙ append-nil (numbers_of k s)
-      ∙ flat_one (numbers_of k) (numbers_split k) (seat_facts w t) k 1 n range.0 (let h : k < 1 + n = omega (arith, range.1) in h) (λ u other. other_numbers k u (seat_at w t u).op (last_in (seat_at w t u)) other))
-      ∙ own_number k (seat_at w t k).op (last_in (seat_at w t k)) ∙ last_agrees w.plan.grid t k (seat_at w t k) (local.residents k) (seat_of w t k local agrees range.0 range.1));
+  reserved = λ k inside. same_reserved ((recall_all site fresh (s ++ v)).residents k).reserved (local.residents k).reserved (op_is k inside) (floor_is k inside);
+  behind = all_behind site fresh (s ++ v) (λ k. record { op = refl; floor = refl });
   idle = λ k. made.idle k refl;
 }
   where
@@ -544,10 +536,24 @@ at_rest w t local shaped readable agrees = record {
     fresh = new_local w.plan.grid w.server local.volumes
 
     seats_copies : (f : File) → copies_of f s ≡ []
-    seats_copies f = flat_none (copies_of f) (copies_split f) (seat_facts w t) 1 n (λ u a b. seat_copies f u (seat_at w t u).op (last_in (seat_at w t u)))
+    seats_copies f = flat_none (copies_of f) (copies_split f) (seat_facts w t) 1 n (λ u a b. seat_copies f u (seat_at w t u).reserved_op (seat_at w t u).reserved_floor)
 
     made : Makes fresh (s ++ v) (recall_all site fresh (s ++ v))
     made = all_make site (tenant_limit w t) (s ++ v) fresh (λ f. sym (limit_is w t (file_of t f) local refl agrees)) (tenant_fit w t readable)
+
+    op_is : (k : ℕ) → is_in 1 n k ≡ true → ((recall_all site fresh (s ++ v)).residents k).reserved.op ≡ (local.residents k).reserved.op
+    op_is k inside =
+        let range = in_range n k inside in
+        made.ops k ∙ ap (last_of 0) ((ops_split k).join s v ∙ ap (λ z. ops_of k s ++ z) (volume_ops w t k) ∙ append-nil (ops_of k s)
+        ∙ flat_one (ops_of k) (ops_split k) (seat_facts w t) k 1 n range.0 (let h : k < 1 + n = omega (arith, range.1) in h) (λ u other. other_ops k u (seat_at w t u).reserved_op (seat_at w t u).reserved_floor other))
+        ∙ own_op k (seat_at w t k).reserved_op (seat_at w t k).reserved_floor ∙ (seat_of w t k local agrees range.0 range.1).reserved_op
+
+    floor_is : (k : ℕ) → is_in 1 n k ≡ true → ((recall_all site fresh (s ++ v)).residents k).reserved.floor ≡ (local.residents k).reserved.floor
+    floor_is k inside =
+        let range = in_range n k inside in
+        made.floors k ∙ ap (last_of 0) ((numbers_split k).join s v ∙ ap (λ z. numbers_of k s ++ z) (volume_numbers w t k) ∙ append-nil (numbers_of k s)
+        ∙ flat_one (numbers_of k) (numbers_split k) (seat_facts w t) k 1 n range.0 (let h : k < 1 + n = omega (arith, range.1) in h) (λ u other. other_numbers k u (seat_at w t u).reserved_op (seat_at w t u).reserved_floor other))
+        ∙ own_number k (seat_at w t k).reserved_op (seat_at w t k).reserved_floor ∙ (seat_of w t k local agrees range.0 range.1).reserved_floor
 
 -- ---- all tenants
 

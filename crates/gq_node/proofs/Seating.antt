@@ -3,7 +3,7 @@ use Rattle.std.proofs.Common.{◌≡◌, ◌≢◌, ◌∙◌, ℕ, ◌+◌, ◌
 use Rattle.std.specs.Prelude.{slice_set, option_map, slice_index_or, nat_le}
 use Rattle.std.proofs.lemmas.Bool.{cases_eq, ne_eqb, eq-eqb, and_parts, le-leb}
 use Rattle.std.proofs.lemmas.Bool.Decides.{nat_tests}
-use Rattle.std.proofs.lemmas.List.{get_or_default, get_or-set_same, get_or-set_other}
+use Rattle.std.proofs.lemmas.List.{get_or_default, get_or-set_same, get_or-set_other, length-set}
 use Rattle.gq_grid.specs.Grid.{Grid}
 use Rattle.gq_desk.specs.CheckedPlan.{row_at}
 use Rattle.gq_desk.specs.Plans.{is_in}
@@ -106,6 +106,25 @@ seated_other w t u k seat local other agrees =
       copies = agrees.copies;
       seats = λ p within. subst (λ all. SeatAgrees w.plan.grid u (p + 1) (seat_in all p) (local.residents (p + 1))) (sym there) (agrees.seats p within);
     }
+
+-- as many sessions of the tenant leave the tables shaped
+pub seated_shaped : (w : Tables) (t : ℕ) (seats : List Seat) → IsShaped w → length seats ≡ length (seats_at w.seats t) → IsShaped (record w { seats = slice_set w.seats t seats })
+seated_shaped w t seats shaped count = record {
+  server = shaped.server;
+  grid = shaped.grid;
+  desk = shaped.desk;
+  accounts = shaped.accounts;
+  volumes = shaped.volumes;
+  tenants = length-set w.seats t seats ∙ shaped.tenants;
+  seats = λ u within. elim (cases_eq u t) [
+    | inr other ↦ (ap length (get_or-set_other w.seats t u seats [] other) ∙ shaped.seats u within)
+    | inl same ↦ (
+        let P : ℕ → Type 0 = λ n. length (seats_at (slice_set w.seats t seats) n) ≡ (row_at w.plan n).sessions in
+        let here : t < length w.plan.rows = subst (λ n. n < length w.plan.rows) same within in
+        subst P (sym same) (ap length (get_or-set_same w.seats t seats [] (tenant_there w t shaped here)) ∙ count ∙ shaped.seats t here))
+  ];
+  sessions = shaped.sessions;
+}
 
 -- ---- what a step of a session leads to
 

@@ -13,7 +13,7 @@ use Rattle.gq_model.specs.declared.events.Line.TheVariants.{Write, Read, List as
 use Rattle.gq_model.specs.declared.events.Refusal.{Refusal}
 use Rattle.gq_model.specs.Trace.{State, Session, operation, operation_with, limit_at, task_of}
 use Rattle.gq_model.specs.Lone.{Step, unless, first_cause, session_causes, session_step, begin_step, asked_step, retry_step, hear_step, heard_step, is_refusal, first_operation}
-use Rattle.gq_cluster.specs.Cluster.{everyone, asker as session_of}
+use Rattle.gq_cluster.specs.Cluster.{everyone, session_named}
 use Rattle.gq_node.specs.declared.output.Admission.{Admission}
 use Rattle.gq_node.specs.declared.output.Admission.TheVariants.{Tells, Passes, Goes}
 use Rattle.gq_node.specs.Local.{Local, Doing, state_of, state_for, aim_at, tries_next, asker, begins, admission_in, asks, asked_by, receives, hears, ticks, waits_on, letter_fits, has_above, of_round}
@@ -124,7 +124,7 @@ its_session : (k : ℕ) (s : Session) (current : Option Task) → 1 ≤ k → (p
 its_session k s None one p is = absurd (cc)
 its_session k s (Some task) one p is = let same : operation_with k s task ≡ p = cc in subst (λ (o : Operation). 1 ≤ o.session) same one
 
-session_counted : (grid : Grid) (state : State) (line : Line) → 1 ≤ session_of line → Counted (session_step grid state line).new
+session_counted : (grid : Grid) (state : State) (line : Line) → 1 ≤ session_named line → Counted (session_step grid state line).new
 session_counted grid state (Write k v f bytes) one = begin_counted grid state k (task_of state.volumes (Write k v f bytes)) one
 session_counted grid state (Read k v f) one = begin_counted grid state k (task_of state.volumes (Read k v f)) one
 session_counted grid state (ListFiles k v) one = begin_counted grid state k (task_of state.volumes (ListFiles k v)) one
@@ -141,7 +141,7 @@ unless_counted (Some word) step counted = tt
 counted_from : (row : TenantRow) (k : ℕ) → is_in 1 row.sessions k ≡ true → 1 ≤ k
 counted_from row k inside = leb-true 1 k (and_parts (nat_le 1 k) (nat_le k row.sessions) inside).0
 
-request_counted : (op : ℕ) (line : Line) (k : ℕ) (site : Site) (local : Local) → asker line ≡ Some k → session_of line ≡ k → Counted (asks op line site local).letters
+request_counted : (op : ℕ) (line : Line) (k : ℕ) (site : Site) (local : Local) → asker line ≡ Some k → session_named line ≡ k → Counted (asks op line site local).letters
 request_counted op line k site local its same = by (admission_in site local k op (begins line)) refl
   where
     step : Step

@@ -1,19 +1,23 @@
 -- What a session's seat stands for after a message.
-use Rattle.std.proofs.Common.{◌≡◌, ◌∙◌, ℕ, Bool, false, Option, Some, None, refl, sym, ap}
+use Rattle.std.proofs.Common.{◌≡◌, ◌≢◌, ◌∙◌, ℕ, ◌<◌, Bool, true, false, Option, Some, None, refl, sym, ap, subst, arith}
+use Rattle.std.specs.Prelude.{◌&&◌, unwrap_or}
+use Rattle.std.proofs.lemmas.Bool.{lt-ltb}
 use Rattle.gq_grid.specs.Grid.{Grid, Servers}
 use Rattle.gq_grid.specs.Sets.{servers}
 use Rattle.gq_tag.specs.declared.Message.{Message}
-use Rattle.gq_tag.specs.Tag.{OwnMessage, own_message}
+use Rattle.gq_tag.specs.Tag.{File, OwnMessage, own_message, file_place}
 use Rattle.gq_phase.specs.declared.Outcome.{Outcome}
 use Rattle.gq_phase.specs.declared.Heard.{Heard}
 use Rattle.gq_phase.specs.declared.Heard.TheVariants.{Stale, Noted, Next, Done}
 use Rattle.gq_phase.specs.declared.operation.Operation.{Operation as Code}
 use Rattle.gq_phase.specs.Phase.{Operation, Heard as Saying, HeardStale, HeardNoted, HeardNext, HeardDone, hear}
 use Rattle.gq_phase.specs.Standing.{StandsAfter, HearsAs, heard_as, floor_of}
-use Rattle.gq_node.specs.Heard.{heard_outcome, heard_waits}
+use Rattle.gq_node.specs.Heard.{heard_run, heard_outcome, heard_waits, HeardGives}
+use Rattle.gq_node.specs.Local.{has_above}
 use Rattle.gq_node.specs.Tables.{Sits}
+use Rattle.gq_node.specs.declared.output.Output.{Output}
 use Rattle.gq_node.specs.declared.seats.Seat.{Seat}
-use Rattle.gq_node.specs.Seats.{has_heard, said_by, operation_after, last_of, SeatHears}
+use Rattle.gq_node.specs.Seats.{has_heard, is_of_round, said_by, operation_after, last_of, last_in, seat_aim, SeatHears, SeatAttends, SaysAndGives}
 
 -- what the value says is what the operation says
 pub seat_says : (old new : Code) (floor : ℕ) (up : Servers) (m : Message) (heard : Heard) → HearsAs old new up m heard →
@@ -78,6 +82,7 @@ pub seat_hears : (old : Seat) (code new : Code) (waited : Bool) (up : Servers) (
     waited ≡ heard_waits heard (servers code.heard m.server) old.waited → SeatHears old (record old { operation = Some new; waited = waited }) up m heard
 seat_hears old code new waited up m heard is hears not waits = record {
   op = refl;
+  reserved_op = refl;
   row = refl;
   column = refl;
   outcome = not_done heard old.outcome not;
@@ -96,6 +101,7 @@ pub seat_ends : (old : Seat) (code new : Code) (floor : ℕ) (up : Servers) (m :
     SeatHears old (record old { floor = floor; operation = None; outcome = Some outcome; waited = false }) up m (Done outcome)
 seat_ends old code new floor up m outcome is hears own = record {
   op = refl;
+  reserved_op = refl;
   row = refl;
   column = refl;
   outcome = refl;
@@ -107,6 +113,7 @@ seat_ends old code new floor up m outcome is hears own = record {
 pub seat_is_empty : (old : Seat) (up : Servers) (m : Message) → old.operation ≡ None → SeatHears old old up m Stale
 seat_is_empty old up m is = record {
   op = refl;
+  reserved_op = refl;
   row = refl;
   column = refl;
   outcome = refl;
@@ -114,3 +121,41 @@ seat_is_empty old up m is = record {
   says = λ grid t last o sits. empty_says old.floor up m grid t last o (rw is at sits);
   sits = λ grid t last o sits. rw is (empty_stays old.floor up m grid t last o (rw is at sits));
 }
+
+-- ---- a run of numbers is reserved for what it said
+
+seat_reserves : (old heard_by : Seat) (floor : ℕ) (up : Servers) (m : Message) (heard : Heard) → SeatHears old heard_by up m heard → SeatHears old (record heard_by { reserved_floor = floor }) up m heard
+seat_reserves old heard_by floor up m heard h = record {
+  op = h.op;
+  reserved_op = h.reserved_op;
+  row = h.row;
+  column = h.column;
+  outcome = h.outcome;
+  waited = h.waited;
+  says = h.says;
+  sits = h.sits;
+}
+
+pub seat_attends : (t k : ℕ) (grid : Grid) (old heard_by new : Seat) (up : Servers) (m : Message) (heard : Heard) (run : Option ℕ) (out : Output) →
+    (has_above (last_in old) && is_of_round old.operation (file_place m.file)) ≡ true → up ≡ seat_aim grid old → SeatHears old heard_by up m heard → heard_by.reserved_floor ≡ old.reserved_floor →
+    run ≡ heard_run heard_by.reserved_floor (last_in heard_by) heard → new ≡ record heard_by { reserved_floor = unwrap_or run heard_by.reserved_floor } → HeardGives t k run heard out → SeatAttends t k grid old new m out
+seat_attends t k grid old heard_by new up m heard run out fits aims hears same reserves after gives =
+    let floor : ℕ = unwrap_or run heard_by.reserved_floor in
+    let run_is : run ≡ heard_run old.reserved_floor (last_in heard_by) heard = reserves ∙ ap (λ n. heard_run n (last_in heard_by) heard) same in
+    let S : Servers → Type 0 = λ x. SeatHears old (record heard_by { reserved_floor = floor }) x m heard in
+    let G : Option ℕ → Type 0 = λ r. HeardGives t k r heard out in
+    let says : SaysAndGives t k (seat_aim grid old) old (record heard_by { reserved_floor = floor }) m out = record {
+      heard = heard;
+      hears = subst S aims (seat_reserves old heard_by floor up m heard hears);
+      reserved = ap (λ r. unwrap_or r heard_by.reserved_floor) run_is ∙ ap (unwrap_or (heard_run old.reserved_floor (last_in heard_by) heard)) same;
+      gives = subst G run_is gives;
+    } in
+    rw fits (subst (λ (x : Seat). SaysAndGives t k (seat_aim grid old) old x m out) (sym after) says)
+
+-- ---- whether it hears
+
+pub may_hear : (seat : Seat) (file : File) (last : ℕ) (of_round : Bool) → last ≡ last_in seat → last < 18446744073709551616 → last ≢ 18446744073709551615 → of_round ≡ is_of_round seat.operation file → of_round ≡ true →
+    (has_above (last_in seat) && is_of_round seat.operation file) ≡ true
+may_hear seat file last of_round last_is small below round is =
+    let less : last_in seat < 18446744073709551615 = subst (λ n. n < 18446744073709551615) last_is (omega arith) in
+    rw (lt-ltb (last_in seat) 18446744073709551615 less, sym round ∙ is) refl

@@ -81,7 +81,7 @@ first_agrees plan server w t first within =
       (λ place inside.
           let are : seats_at w.seats t ≡ replicate (row_at plan t).sessions (first_seat plan.grid server) = ap (λ all. seats_at all t) first.seats ∙ seats_are (first_seat plan.grid server) plan.rows t within in
           let is : seat_in (seats_at w.seats t) place ≡ first_seat plan.grid server = ap (λ (seats : List Seat). seat_in seats place) are ∙ get_or-replicate (row_at plan t).sessions place (first_seat plan.grid server) no_seat inside in
-          subst (λ (seat : Seat). SeatAgrees plan.grid t (place + 1) seat (new_resident plan.grid server)) (sym is) (record { op = refl; sits = refl; outcome = refl; row = refl; column = refl; waited = refl })),
+          subst (λ (seat : Seat). SeatAgrees plan.grid t (place + 1) seat (new_resident plan.grid server)) (sym is) (record { op = refl; reserved_op = refl; reserved_floor = refl; sits = refl; outcome = refl; row = refl; column = refl; waited = refl })),
     ) in
     let h : P w.plan = subst P (sym first.plan_is) all in
     record {

@@ -56,23 +56,29 @@ TellsEnd k op (Done outcome) = (session_in outcome ≡ k) × (number_in outcome 
 TellsEnd k op (Gone j number) = (j ≡ k) × (number ≡ op)
 TellsEnd k op _ = ⊥
 
--- the operation of session k that began at node n by the event, if one did
+-- whether node n starts again by the event
+abbrev pub is_start : ℕ → Event → Bool
+is_start n (Started m) = m == n
+is_start n _ = false
+
+-- the operation of session k that began at node n by the event, if one did; none does by a start
 abbrev pub begun_at : Setting → Nodes → (n k : ℕ) → Event → Option ℕ
-begun_at s nodes n k event = if node_in event == n then begun_by k (doing_of s nodes event).fact else None
+begun_at s nodes n k event = if is_start n event then None else begun_by k (nodes.local n) ((after_event s nodes event).local n)
 
 -- none begins by these
 abbrev pub NoneBegins : Setting → Nodes → (n k : ℕ) → List Event → Type 0
 NoneBegins s nodes n k [] = ⊤
 NoneBegins s nodes n k (event ∷ events) = (begun_at s nodes n k event ≡ None) × NoneBegins s (after_event s nodes event) n k events
 
--- whether node n starts again by one of these
-abbrev pub is_start : ℕ → Event → Bool
-is_start n (Started m) = m == n
-is_start n _ = false
+-- what a node that started again tells of operation op of session k, where it goes on behind that number: that it is gone; or that its
+-- number is old, as it goes on behind a greater one
+abbrev pub forgotten : (k op last : ℕ) → Answer
+forgotten k op last = if op == last then Gone k op else Old k op last
 
--- what is told of the operation's end after these events: the same as before, or that it is gone, where the node was started again since
-abbrev pub end_after : (n k op : ℕ) → List Event → Answer → Answer
-end_after n k op events answer = if list_any (is_start n) events then Gone k op else answer
+-- what is told of the operation's end after these events: the same as before; or, where the node was started again since, what is told
+-- of one that is forgotten, this number being the last that was reserved for the session
+abbrev pub end_after : (n k op last : ℕ) → List Event → Answer → Answer
+end_after n k op last events answer = if list_any (is_start n) events then forgotten k op last else answer
 
 -- of any nodes that were never started, whatever came to them: once a node told how operation op of session k ended, each line that
 -- comes to it for this session with this number is told the same again, whatever came to all nodes between, until the session begins
@@ -84,4 +90,4 @@ AllEndsToldAgain = (s : Setting) (before : List Event) (event : Event) (between 
     let n : ℕ = node_in event in
     (doing_of s nodes event).answer ≡ Some answer → TellsEnd k op answer →
     NoneBegins s told n k between → asker line ≡ Some k →
-    (doing_of s (nodes_after s told between) (LineCame n op line)).answer ≡ Some (end_after n k op between answer)
+    (doing_of s (nodes_after s told between) (LineCame n op line)).answer ≡ Some (end_after n k op ((told.local n).residents k).reserved.op between answer)

@@ -1,5 +1,5 @@
 -- Why the tables refuse a request, and what they are once it began.
-use Rattle.std.specs.Prelude.{ℕ, ◌≡◌, ◌+◌, List, [], ◌∷◌, ◌++◌, Bool, Option, Some, None, Result, Ok, Err, not, nat_lt, is_some, is_none, unwrap_or, length}
+use Rattle.std.specs.Prelude.{ℕ, ◌≡◌, ◌+◌, List, [], ◌∷◌, ◌++◌, Bool, Option, Some, None, Result, Ok, Err, not, nat_lt, is_some, is_none, option_map, unwrap_or, length}
 use Rattle.gq_tag.specs.declared.Message.{Message}
 use Rattle.gq_tag.specs.Tag.{file_of}
 use Rattle.gq_desk.specs.CheckedPlan.{row_at}
@@ -14,8 +14,12 @@ use Rattle.gq_node.specs.declared.output.Admission.{Admission}
 use Rattle.gq_node.specs.declared.output.Admission.TheVariants.{Goes}
 use Rattle.gq_node.specs.Local.{admission, asker, begins}
 use Rattle.gq_node.specs.Sites.{site_of}
+use Rattle.gq_cluster.specs.Facts.{greatest_op}
+use Rattle.gq_node.specs.declared.seats.Seat.{Seat}
+use Rattle.gq_node.specs.declared.output.Fact.{Fact}
 use Rattle.gq_node.specs.declared.output.Fact.TheVariants.{Began}
 use Rattle.gq_node.specs.declared.output.Output.{Output}
+use Rattle.gq_node.specs.Heard.{new_run}
 use Rattle.gq_node.specs.Seats.{busy_seat}
 use Rattle.gq_node.specs.Tables.{Tables, seat_at, with_seat}
 
@@ -49,12 +53,16 @@ MayGo w t op line = by (asker line)
     by None = Unit {0}
     by (Some k) = admission_at w t k op (begins line) ≡ Goes
 
+-- the fact by which session k reserves a run of numbers of operations, where its next one is not reserved
+abbrev pub begun_fact : (t k : ℕ) → Seat → Option Fact
+begun_fact t k seat = option_map (Began t k) (new_run greatest_op (seat.op + 1) seat.reserved_op)
+
 -- session k has the operation from now on, and these messages go out
 pub record HasBegunWith (old : Tables) (t k : ℕ) (code : Code) (messages : List Message) (out : Output) (new : Tables) : Type 0 where
   pub busy : new ≡ with_seat old t k (busy_seat (seat_at old t k) code)
   pub answer : out.answer ≡ None
   pub letters : out.letters.items ≡ messages
-  pub fact : out.fact ≡ Some (Began t k ((seat_at old t k).op + 1))
+  pub fact : out.fact ≡ begun_fact t k (seat_at old t k)
 
 -- what comes of an operation that began; none is wanting a quorum, and without memory nothing comes of it
 abbrev pub Starts : Tables → (t k : ℕ) → Result (Code × List Message) BeginRefused → Output → Tables → Type 0

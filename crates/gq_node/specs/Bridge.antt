@@ -7,7 +7,7 @@ use Rattle.gq_model.specs.declared.events.Line.{Line}
 use Rattle.gq_model.specs.declared.events.Line.TheVariants.{Retry}
 use Rattle.gq_model.specs.Told.{Told}
 use Rattle.gq_model.specs.Trace.{operation, limit_at}
-use Rattle.gq_cluster.specs.Cluster.{Setting, Act, Asks, Comes, everyone, node_of, step_of, part_after, asker as session_of}
+use Rattle.gq_cluster.specs.Cluster.{Setting, Act, Asks, Comes, everyone, node_of, step_of, part_after, session_named}
 use Rattle.gq_node.specs.declared.output.Answer.{Answer}
 use Rattle.gq_node.specs.declared.output.Answer.TheVariants.{Has, Bad as IsBad}
 use Rattle.gq_node.specs.declared.output.Admission.{Admission}
@@ -106,7 +106,7 @@ pub record Bridges (site : Site) (local : Local) (act : Option Act) (answer : Op
 -- each line, letter and tick is an act or nothing; that a tenant asks what it has is none
 abbrev pub AllRequestsAct : Type 0
 AllRequestsAct = (op : ℕ) (line : Line) (site : Site) (local : Local) → AtHome site local →
-    Bridges site local (request_act op line site local) (request_answer op line site local) (answer_of (session_of line) op (local.residents (session_of line)).session.op) (asks op line site local)
+    Bridges site local (request_act op line site local) (request_answer op line site local) (answer_of (session_named line) op (local.residents (session_named line)).session.op) (asks op line site local)
 
 abbrev pub AllQuestionsTell : Type 0
 AllQuestionsTell = (site : Site) (local : Local) → AtHome site local → Bridges site local None (Some (Has (holding site local.volumes))) (λ told. None) (tells_holding site local)

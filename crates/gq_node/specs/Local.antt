@@ -23,15 +23,16 @@ use Rattle.gq_node.specs.declared.output.Holding.{Holding}
 use Rattle.gq_node.specs.declared.output.Admission.{Admission}
 use Rattle.gq_node.specs.declared.output.Admission.TheVariants.{Tells, Passes, Goes}
 use Rattle.gq_cluster.specs.Cluster.{Part, everyone, state_of as state_of_part}
-use Rattle.gq_cluster.specs.Facts.{OwnFact, Begun, Numbered, Kept, replaced_in}
+use Rattle.gq_cluster.specs.Facts.{OwnFact, Begun, Numbered, Kept, Reserved, none_reserved, reserving, reserved_by, replaced_in}
 use Rattle.gq_node.specs.Sites.{Site, aim, next_of}
 
 -- ---- a tenant's part
 
--- a session of the tenant: the model's, the outcome of its last operation if that was done since the start, the row and the
--- column that it tries, and whether a tick came since it last heard something new
+-- a session of the tenant: the model's, the last numbers that are reserved for it, the outcome of its last operation if that was done
+-- since the start, the row and the column that it tries, and whether a tick came since it last heard something new
 pub record Resident : Type 0 where
   pub session : Session
+  pub reserved : Reserved
   pub outcome : Option Outcome
   pub row : ℕ
   pub column : ℕ
@@ -45,7 +46,7 @@ pub record Local : Type 0 where
 
 -- a session that tries the row and the column of this server
 abbrev pub new_resident : Grid → ℕ → Resident
-new_resident grid server = record { session = new_session; outcome = None; row = server / grid.cols; column = server % grid.cols; waited = false }
+new_resident grid server = record { session = new_session; reserved = none_reserved; outcome = None; row = server / grid.cols; column = server % grid.cols; waited = false }
 
 -- of the node of that server which was never started, with these volumes
 abbrev pub new_local : Grid → ℕ → List VolumeRow → Local
@@ -53,7 +54,7 @@ new_local grid server volumes = record { volumes = volumes; brought = λ file. [
 
 -- what the law of clusters calls the node's part
 abbrev pub part_in : Local → Part
-part_in local = record { brought = local.brought; session = λ k. (local.residents k).session }
+part_in local = record { brought = local.brought; session = λ k. (local.residents k).session; reserved = λ k. (local.residents k).reserved }
 
 -- the answers to the model's questions, where these servers are up
 abbrev pub state_of : Servers → Local → State
@@ -118,24 +119,22 @@ outcome_after (Done outcome) before = Some outcome
 outcome_after Abandoned outcome = None
 outcome_after _ outcome = outcome
 
--- what must not be forgotten where session k was told this: that the operation began, and the session's own last number
--- where it is a new one
-abbrev pub session_fact : ℕ → Told → (old new : ℕ) → Option OwnFact
-session_fact k (Began op first count) old new = Some (Begun k op)
-session_fact k (Round round tag first count) old new = if new == old then None else Some (Numbered k new)
-session_fact k _ old new = None
+-- what must not be forgotten behind the entry: a run of numbers, where session k uses one that was not reserved
+abbrev pub session_fact : Local → ℕ → State → Entry → Option OwnFact
+session_fact local k state e = reserving k (local.residents k).reserved e.told ((changed e state).session k).floor
 
 -- session k goes on by the entry, as the model says; it came with the number op, from a server that was heard or was not
 abbrev pub goes_on : Local → (k op : ℕ) → (known : Bool) → State → Entry → Doing
 goes_on local k op known state e = record {
   local = with_resident local k (record (local.residents k) {
     session = (changed e state).session k;
+    reserved = reserved_by (session_fact local k state e) (local.residents k).reserved;
     outcome = outcome_after e.told (local.residents k).outcome;
     waited = waits_after e.told known (local.residents k).waited;
   });
   answer = answer_of k op (local.residents k).session.op e.told;
   letters = e.new;
-  fact = session_fact k e.told (state.session k).floor ((changed e state).session k).floor;
+  fact = session_fact local k state e;
 }
 
 -- ---- a request
@@ -331,14 +330,14 @@ ticks k site local = by (is_some (local.residents k).session.current)
 
 -- ---- a start
 
--- a session that has no operation, with the number of its last operation and its own last number
-abbrev pub rested : Resident → ℕ → ℕ → Resident
-rested r op floor = record { session = record new_session { op = op; floor = floor }; outcome = None; row = r.row; column = r.column; waited = false }
+-- a session that has no operation, and goes on behind these numbers
+abbrev pub rested : Resident → Reserved → Resident
+rested r reserved = record { session = record new_session { op = reserved.op; floor = reserved.floor }; reserved = reserved; outcome = None; row = r.row; column = r.column; waited = false }
 
 -- what a start makes of a fact
 abbrev pub recalled : OwnFact → Local → Local
-recalled (Begun k op) local = with_resident local k (rested (local.residents k) op (local.residents k).session.floor)
-recalled (Numbered k number) local = with_resident local k (rested (local.residents k) (local.residents k).session.op number)
+recalled (Begun k op) local = with_resident local k (rested (local.residents k) (reserved_by (Some (Begun k op)) (local.residents k).reserved))
+recalled (Numbered k number) local = with_resident local k (rested (local.residents k) (reserved_by (Some (Numbered k number)) (local.residents k).reserved))
 recalled (Kept file copy) local = record local { brought = λ f. if is_file file f then local.brought f ++ copy ∷ [] else local.brought f }
 
 -- whether a fact can be one of this tenant, in a file of that limit

@@ -12,10 +12,9 @@ use Rattle.gq_node.specs.declared.output.NeedRefused.{NeedRefused}
 use Rattle.gq_node.specs.declared.output.NeedRefused.TheVariants.{Memory, Unreadable}
 use Rattle.gq_cluster.specs.Facts.{OwnFact, Begun, Numbered, Kept}
 use Rattle.gq_node.specs.Local.{copy_fits}
-use Rattle.gq_node.specs.Seats.{last_in}
 use Rattle.gq_node.specs.Tables.{Tables, seat_at, fact_of}
 
--- the session's last operation, and its own last number, where they are not 0
+-- the last numbers that are reserved for the session, of its operations and of its tags, where they are not 0
 abbrev pub begun_facts : (k op : ℕ) → List OwnFact
 begun_facts k op = if op == 0 then [] else Begun k op ∷ []
 
@@ -26,7 +25,7 @@ abbrev pub numbers_facts : (k op number : ℕ) → List OwnFact
 numbers_facts k op number = begun_facts k op ++ number_facts k number
 
 abbrev pub seat_facts : Tables → (t k : ℕ) → List OwnFact
-seat_facts w t k = numbers_facts k (seat_at w t k).op (last_in (seat_at w t k))
+seat_facts w t k = numbers_facts k (seat_at w t k).reserved_op (seat_at w t k).reserved_floor
 
 -- the copy of a file, where it is above the first one
 abbrev pub copy_facts : File → StoredCopy → List OwnFact

@@ -8,8 +8,8 @@ use Rattle.gq_desk.specs.declared.volumes.VolumeRow.{VolumeRow}
 use Rattle.gq_model.specs.declared.events.Line.{Line}
 use Rattle.gq_model.specs.Told.{Told}
 use Rattle.gq_model.specs.Trace.{Session}
-use Rattle.gq_cluster.specs.Cluster.{Setting, Part, Act, NodeStep, Acts, Restarts, Cluster, copy_in, step_in, after_step, new_cluster, CanFollow, asker as session_of}
-use Rattle.gq_cluster.specs.Facts.{kept_of}
+use Rattle.gq_cluster.specs.Cluster.{Setting, Part, Act, NodeStep, Acts, Restarts, Cluster, copy_in, step_in, after_step, new_cluster, CanFollow, session_named}
+use Rattle.gq_cluster.specs.Keeping.{kept_of}
 use Rattle.gq_cluster.specs.Laws.{IsServed, setting_of}
 use Rattle.gq_node.specs.declared.output.Answer.{Answer}
 use Rattle.gq_node.specs.declared.output.Answer.TheVariants.{Has}
@@ -121,16 +121,17 @@ all_steps s nodes (event ∷ events) = steps_of s nodes event ++ all_steps s (af
 
 -- ---- the nodes and the cluster
 
--- the two sessions began as many operations, and have the same own last number; they have the same operation, or none has one
+-- the two sessions have the same last number of an operation, and the same own last number; they have the same operation, or none has one
 pub record SessionAlike (a b : Session) : Type 0 where
   pub op : a.op ≡ b.op
   pub floor : a.floor ≡ b.floor
   pub current : a.current ≡ b.current
   pub going : is_some b.current ≡ true → a ≡ b
 
--- the two parts of node n have the same copies, and are alike in the sessions whose home it is
+-- the two parts of node n have the same copies, and are alike in the sessions whose home it is, for which the same numbers are reserved
 pub record PartAlike (home : ℕ → ℕ) (n : ℕ) (p q : Part) : Type 0 where
   pub copies : (file : File) → copy_in p file ≡ copy_in q file
+  pub reserved : (k : ℕ) → home k ≡ n → p.reserved k ≡ q.reserved k
   pub sessions : (k : ℕ) → home k ≡ n → SessionAlike (p.session k) (q.session k)
 
 -- the cluster is as the nodes are
@@ -140,7 +141,7 @@ pub record IsAlike (s : Setting) (nodes : Nodes) (c : Cluster) : Type 0 where
 
 -- what the tenant is told where the law tells its session this, by a line with a number
 abbrev pub answer_in : Nodes → Event → Told → Option Answer
-answer_in nodes (LineCame n op line) told = answer_of (session_of line) op ((nodes.local n).residents (session_of line)).session.op told
+answer_in nodes (LineCame n op line) told = answer_of (session_named line) op ((nodes.local n).residents (session_named line)).session.op told
 answer_in nodes (PlanCame n) told = None
 answer_in nodes (LetterCame n from m) told = answer_of m.session ((nodes.local n).residents m.session).session.op ((nodes.local n).residents m.session).session.op told
 answer_in nodes (TickCame n k) told = None
@@ -172,10 +173,11 @@ AllSaid s nodes c (event ∷ events) =
     SaidBy s c (act_of s nodes event) (own_answer s nodes event) (answer_in nodes event) (doing_of s nodes event)
     × AllSaid s (after_event s nodes event) (fold (after_step s) c (steps_of s nodes event)) events
 
--- a node that starts has the same copies; of each session it knows how many operations it began, and its own last number; and no
--- session has an operation
+-- a node that starts has the same copies, and the same numbers are reserved; each session goes on behind these; and none has an operation
 pub record KnowsAgain (start local : Local) : Type 0 where
   pub kept : kept_of (part_in start) ≡ kept_of (part_in local)
+  pub ops : (k : ℕ) → (start.residents k).session.op ≡ (local.residents k).reserved.op
+  pub floors : (k : ℕ) → (start.residents k).session.floor ≡ (local.residents k).reserved.floor
   pub idle : (k : ℕ) → (start.residents k).session.current ≡ None
 
 -- so it is at each node, if it starts by the facts that it gave

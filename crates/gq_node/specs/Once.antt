@@ -2,7 +2,6 @@
 use Rattle.std.specs.Prelude.{◌≡◌, ℕ, ◌+◌, List, [], ◌∷◌, length, Bool, true, false, ◌&&◌, ◌==◌, nat_le, Option, Some, None, if◌then◌else◌}
 use Rattle.std.specs.List.{range_with_len}
 use Rattle.gq_node.specs.Inputs.{Input, Asked, does, after_one, after_all, doings}
-use Rattle.gq_cluster.specs.Facts.{OwnFact, Begun}
 use Rattle.gq_node.specs.Local.{Local, Doing, asker, begins}
 use Rattle.gq_node.specs.Sites.{Site}
 
@@ -53,22 +52,22 @@ AllTakeOnce = (site : Site) (local : Local) (inputs : List Input) → TakesOnce 
 
 -- ---- each number begins once
 
--- the number of the operation of session k that began by the fact, if one did
-abbrev pub begun_by : ℕ → Option OwnFact → Option ℕ
-begun_by k (Some (Begun j op)) = if j == k then Some op else None
-begun_by k _ = None
+-- the number of the operation of session k that began where the second part comes of the first, if one did: the session has another
+-- last number
+abbrev pub begun_by : ℕ → (before after : Local) → Option ℕ
+begun_by k before after = if (after.residents k).session.op == (before.residents k).session.op then None else Some (after.residents k).session.op
 
 -- and the numbers of those that began, in order
 abbrev pub with_number : Option ℕ → List ℕ → List ℕ
 with_number None numbers = numbers
 with_number (Some op) numbers = op ∷ numbers
 
-abbrev pub numbers_begun : ℕ → List Doing → List ℕ
-numbers_begun k [] = []
-numbers_begun k (doing ∷ rest) = with_number (begun_by k doing.fact) (numbers_begun k rest)
+abbrev pub numbers_begun : ℕ → Local → List Doing → List ℕ
+numbers_begun k before [] = []
+numbers_begun k before (doing ∷ rest) = with_number (begun_by k before doing.local) (numbers_begun k doing.local rest)
 
 -- they are those that follow the number of the session's last operation, each one once
 abbrev pub AllBeginOnce : Type 0
 AllBeginOnce = (site : Site) (local : Local) (inputs : List Input) (k : ℕ) →
-    let numbers : List ℕ = numbers_begun k (doings site local inputs) in
+    let numbers : List ℕ = numbers_begun k local (doings site local inputs) in
     numbers ≡ range_with_len ((local.residents k).session.op + 1) (length numbers)

@@ -8,7 +8,7 @@ use Rattle.gq_desk.specs.declared.plans.TenantRow.{TenantRow}
 use Rattle.gq_cluster.specs.Cluster.{copy_in}
 use Rattle.gq_node.specs.declared.output.Fact.{Fact}
 use Rattle.gq_cluster.specs.Facts.{OwnFact}
-use Rattle.gq_node.specs.Local.{Local, new_local, part_in, recalls}
+use Rattle.gq_node.specs.Local.{Local, Resident, new_local, part_in, recalls}
 use Rattle.gq_node.specs.Recalling.{tenant_of, own_fact, fits_in}
 use Rattle.gq_node.specs.Sites.{Site, site_of}
 use Rattle.gq_node.specs.Tables.{Tables, Agrees}
@@ -25,13 +25,18 @@ abbrev pub those_of : ℕ → List Fact → List OwnFact
 those_of t [] = []
 those_of t (fact ∷ facts) = if tenant_of fact == t then own_fact fact ∷ those_of t facts else those_of t facts
 
--- The one part is the other at rest: it has the same volumes and copies, and of each session of the row the same number of its last
--- operation and the same own last number; and no session has an operation.
+-- the session goes on behind the numbers that are reserved for it
+pub record GoesBehind (r : Resident) : Type 0 where
+  pub op : r.session.op ≡ r.reserved.op
+  pub floor : r.session.floor ≡ r.reserved.floor
+
+-- The one part is the other at rest: it has the same volumes and copies, and the same numbers are reserved for each session of the row;
+-- its sessions go on behind these, and none has an operation.
 pub record IsAtRest (row : TenantRow) (rest local : Local) : Type 0 where
   pub volumes : rest.volumes ≡ local.volumes
   pub copies : (file : File) → copy_in (part_in rest) file ≡ copy_in (part_in local) file
-  pub ops : (k : ℕ) → is_in 1 row.sessions k ≡ true → (rest.residents k).session.op ≡ (local.residents k).session.op
-  pub floors : (k : ℕ) → is_in 1 row.sessions k ≡ true → (rest.residents k).session.floor ≡ (local.residents k).session.floor
+  pub reserved : (k : ℕ) → is_in 1 row.sessions k ≡ true → (rest.residents k).reserved ≡ (local.residents k).reserved
+  pub behind : (k : ℕ) → GoesBehind (rest.residents k)
   pub idle : (k : ℕ) → (rest.residents k).session.current ≡ None
 
 -- the facts are of tenants of the plan

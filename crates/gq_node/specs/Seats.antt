@@ -1,5 +1,5 @@
 -- What a letter and a tick do in a session, whatever is known of it.
-use Rattle.std.specs.Prelude.{◌≡◌, ℕ, ◌+◌, ◌<◌, ◌&&◌, List, [], Bool, true, false, Option, Some, None}
+use Rattle.std.specs.Prelude.{◌≡◌, ℕ, ◌+◌, ◌<◌, ◌&&◌, List, [], Bool, true, false, Option, Some, None, unwrap_or}
 use Rattle.gq_grid.specs.Grid.{Grid, Servers}
 use Rattle.gq_tag.specs.declared.Message.{Message}
 use Rattle.gq_tag.specs.Tag.{File, file_place, is_file, OwnMessage, own_message}
@@ -13,7 +13,8 @@ use Rattle.gq_node.specs.Sites.{aim, next_of}
 use Rattle.gq_node.specs.Tables.{Sits}
 use Rattle.gq_node.specs.declared.output.Output.{Output}
 use Rattle.gq_node.specs.Local.{has_above}
-use Rattle.gq_node.specs.Heard.{heard_outcome, heard_waits, HeardGives}
+use Rattle.gq_node.specs.Heard.{new_run, heard_run, heard_outcome, heard_waits, HeardGives}
+use Rattle.gq_cluster.specs.Facts.{greatest_op}
 
 -- the session's own last number
 abbrev pub last_in : Seat → ℕ
@@ -21,15 +22,15 @@ last_in seat = last_number seat.floor seat.operation
 
 -- the seat with one operation more
 abbrev pub busy_seat : Seat → Code → Seat
-busy_seat seat code = record seat { op = seat.op + 1; operation = Some code; outcome = None; waited = false }
+busy_seat seat code = record seat { op = seat.op + 1; reserved_op = unwrap_or (new_run greatest_op (seat.op + 1) seat.reserved_op) seat.reserved_op; operation = Some code; outcome = None; waited = false }
 
 -- the seat without its operation, whose last number it keeps
 abbrev pub rested_seat : Seat → Seat
 rested_seat seat = record seat { floor = last_in seat; operation = None; outcome = None }
 
--- a seat of a start
+-- a seat of a start, for which these numbers are reserved
 abbrev pub recalled_seat : Seat → ℕ → ℕ → Seat
-recalled_seat seat op floor = record seat { op = op; floor = floor; operation = None; outcome = None; waited = false }
+recalled_seat seat op floor = record seat { op = op; floor = floor; reserved_op = op; reserved_floor = floor; operation = None; outcome = None; waited = false }
 
 -- whom the seat asks
 abbrev pub seat_aim : Grid → Seat → Servers
@@ -71,6 +72,7 @@ last_of last (Some o) = o.floor
 -- whatever operation the seat stands for, this is what it says, and the seat stands for it afterwards
 pub record SeatHears (old new : Seat) (up : Servers) (message : Message) (heard : Heard) : Type 0 where
   pub op : new.op ≡ old.op
+  pub reserved_op : new.reserved_op ≡ old.reserved_op
   pub row : new.row ≡ old.row
   pub column : new.column ≡ old.column
   pub outcome : new.outcome ≡ heard_outcome heard old.outcome
@@ -120,11 +122,12 @@ pub record GivesNothing (out : Output) : Type 0 where
   pub letters : out.letters.items ≡ []
   pub fact : out.fact ≡ None
 
--- the operation of session k says this to the message, and this is given
+-- the operation of session k says this to the message, a run of numbers of tags is reserved for it where one has to be, and this is given
 pub record SaysAndGives (t k : ℕ) (up : Servers) (old new : Seat) (message : Message) (out : Output) : Type 0 where
   pub heard : Heard
   pub hears : SeatHears old new up message heard
-  pub gives : HeardGives t k (last_in old) (last_in new) heard out
+  pub reserved : new.reserved_floor ≡ unwrap_or (heard_run old.reserved_floor (last_in new) heard) old.reserved_floor
+  pub gives : HeardGives t k (heard_run old.reserved_floor (last_in new) heard) heard out
 
 -- session k hears the message where a number is above its own last one, and the message is of the round's file
 abbrev pub SeatAttends : ℕ → ℕ → Grid → Seat → Seat → Message → Output → Type 0

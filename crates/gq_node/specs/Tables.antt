@@ -27,11 +27,11 @@ pub record Tables : Type 0 where
 
 -- a session that began nothing
 abbrev pub no_seat : Seat
-no_seat = record { op = 0; floor = 0; operation = None; outcome = None; row = 0; column = 0; waited = false }
+no_seat = record { op = 0; floor = 0; reserved_op = 0; reserved_floor = 0; operation = None; outcome = None; row = 0; column = 0; waited = false }
 
 -- and one that tries the row and the column of this server
 abbrev pub first_seat : Grid → ℕ → Seat
-first_seat grid server = record { op = 0; floor = 0; operation = None; outcome = None; row = server / grid.cols; column = server % grid.cols; waited = false }
+first_seat grid server = record { op = 0; floor = 0; reserved_op = 0; reserved_floor = 0; operation = None; outcome = None; row = server / grid.cols; column = server % grid.cols; waited = false }
 
 -- the sessions of the tenant at place t, and the one at a place of them, which is the session of one more
 abbrev pub seats_at : List (List Seat) → ℕ → List Seat
@@ -59,6 +59,8 @@ Sits grid t floor (Some code) last (Some o) = StandsFor grid t code o
 
 pub record SeatAgrees (grid : Grid) (t k : ℕ) (seat : Seat) (r : Resident) : Type 0 where
   pub op : seat.op ≡ r.session.op
+  pub reserved_op : seat.reserved_op ≡ r.reserved.op
+  pub reserved_floor : seat.reserved_floor ≡ r.reserved.floor
   pub sits : Sits grid t seat.floor seat.operation r.session.floor (option_map (operation_with k r.session) r.session.current)
   pub outcome : seat.outcome ≡ r.outcome
   pub row : seat.row ≡ r.row

@@ -13,7 +13,7 @@ ghost use Rattle.gq_node.specs.Recalling.{tenant_of, own_fact, fits_in};
 ghost use Rattle.gq_node.specs.Tables.{fact_of, Leads, seat_at, with_seat};
 ghost use Rattle.std.specs.List.{flat_map, range_with_len};
 ghost use Rattle.gq_node.specs.Resting.{Needed};
-ghost use Rattle.gq_node.specs.Seats.{last_in, recalled_seat};
+ghost use Rattle.gq_node.specs.Seats.{recalled_seat};
 
 use crate::letters::copy_fits;
 use crate::output::{Fact, NeedRefused, put_begun, put_number};
@@ -60,7 +60,7 @@ fn put_copy(
 }
 
 impl Core {
-    // A session of a start has these numbers, where there is the session.
+    // For a session of a start these numbers are reserved, where there is the session.
     fn recall_session(
         &mut self,
         tenant: u8,
@@ -72,7 +72,7 @@ impl Core {
         ensures fits { result ≡ is_in 1 (row_at self.old.plan tenant).sessions session }
         ensures none { result ≡ false → self.new ≡ self.old }
         ensures recalled { result ≡ true → self.new ≡ with_seat self.old tenant session
-            (recalled_seat (seat_at self.old tenant session) (unwrap_or op (seat_at self.old tenant session).op) (unwrap_or number (last_in (seat_at self.old tenant session)))) }
+            (recalled_seat (seat_at self.old tenant session) (unwrap_or op (seat_at self.old tenant session).reserved_op) (unwrap_or number (seat_at self.old tenant session).reserved_floor)) }
         ensures desk { self.new.desk ≡ self.old.desk }
     {
         if !self.has(tenant, u32::from(session)) {
@@ -135,8 +135,8 @@ impl Core {
             return Ok(());
         }
         let seat = &self.seats[tenant as usize].items[session as usize - 1];
-        put_begun(tenant, session as u8, seat.op, facts)?;
-        put_number(tenant, session as u8, seat.last(), facts)
+        put_begun(tenant, session as u8, seat.reserved_op, facts)?;
+        put_number(tenant, session as u8, seat.reserved_floor, facts)
     }
 
     // Appends what a start needs of the tenant's sessions.

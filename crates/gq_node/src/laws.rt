@@ -22,8 +22,8 @@ pub fn acts()
 /// Whatever comes to the nodes of a tenant that were never started, of which each letter was written before: lines, questions what
 /// the tenant has, letters, ticks, and starts, at which a node reads the facts that it gave. All this is a list of steps of the law of clusters, which
 /// may follow one another; what they tell and send is what the nodes do; and in the end each server's copies are the same, and
-/// each session is as its home has it. And a node that starts knows its copies again, how many operations each of its sessions
-/// began, and each session's own last number; what was going on is gone.
+/// each session is as its home has it. And a node that starts knows its copies again, and the numbers that are reserved for each of
+/// its sessions, of operations and of tags; each session goes on behind these, used or not, and what was going on is gone.
 pub fn nodes()
     ensures follow { AllNodesFollow }
     ensures serve { AllNodesServe }
@@ -56,7 +56,8 @@ pub fn requests_once()
 /// What is told of a request that comes again. While its operation goes on nothing is; once it is done its outcome, or that it is gone,
 /// where the node does not know the outcome; and of an operation before the last one that its number is old. And once the tenant was told how an
 /// operation ended, it is told the same, byte for byte, at each line of the session with this number, whatever comes to the nodes
-/// between, until the session begins its next operation; where the node started again since, it is told that the operation is gone.
+/// between, until the session begins its next operation; where the node started again since, it is told that the operation is gone, or
+/// that its number is old, where the session goes on behind a greater one.
 pub fn told_again()
     ensures again { AllToldAgain }
     ensures ends { AllEndsToldAgain }

@@ -81,7 +81,7 @@ impl Node {
         })
     }
 
-    /// Reads a fact of an earlier run. Answers whether it fits the plan and its volumes; one that does not changes nothing.
+    /// Reads a fact of an earlier run: a session goes on behind the numbers that it reserves. Answers whether it fits the plan and its volumes; one that does not changes nothing.
     pub fn recall(&mut self, fact: &Fact) -> bool
         requires { tenant_of fact.now < length self.old.tables.plan.rows }
         ensures leads { Leads self.old.tables (tenant_of fact.now) (recalls (own_fact fact.now)) self.new.tables }
@@ -105,7 +105,8 @@ impl Node {
         }
     }
 
-    /// The facts that a start needs to know what this node knows, its sessions' operations gone. `Unreadable` comes only where a file has a
+    /// The facts that a start needs to know what this node knows, its sessions' operations gone, and the sessions behind the numbers that
+    /// are reserved for them. `Unreadable` comes only where a file has a
     /// copy that a start would not take again.
     pub fn needed(&self) -> Result<Vec<Fact>, NeedRefused>
         ensures needed { IfOk result (λ facts. Needed self.now.tables facts.items) }

@@ -1,6 +1,6 @@
 //! What a node gives.
 
-ghost use Rattle.std.specs.Prelude.{◌≡◌, ◌++◌, [], None, Some, IfOk, OnOk, map, unwrap_or};
+ghost use Rattle.std.specs.Prelude.{◌≡◌, ◌++◌, [], None, Some, IfOk, OnOk, map, option_map, unwrap_or};
 ghost use Rattle.gq_node.specs.Needing.{begun_facts, number_facts};
 ghost use Rattle.gq_node.specs.Tables.{fact_of};
 ghost use Rattle.gq_node.specs.Heard.{HeardGives};
@@ -64,7 +64,7 @@ pub enum Answer {
         op: u32,
         last: u32,
     },
-    /// The session's home is this node.
+    /// The session's home is another node, `home`.
     Away {
         session: u32,
         op: u32,
@@ -87,16 +87,17 @@ pub(crate) enum Admission {
     Goes,
 }
 
-/// What must not be forgotten.
+/// What must not be forgotten. A session's numbers are reserved ahead, a run of them by one fact, and a start goes on behind all that
+/// are reserved, used or not.
 #[derive(Debug, Drop)]
 pub enum Fact {
-    /// The session's operation of this number began.
+    /// The session's operations may have the numbers up to this one.
     Began {
         tenant: u8,
         session: u8,
         op: u32,
     },
-    /// A write of the session stores under a tag of this number.
+    /// The tags of the session's writes may have the numbers up to this one.
     Numbered {
         tenant: u8,
         session: u8,
@@ -183,35 +184,54 @@ pub(crate) fn letters_of(
     }
 }
 
-// What is given where an operation of the session said this. Its own last number was `before`, and is `after`.
+// The fact by which the numbers of the session's operations are reserved up to this one, if they are.
+pub(crate) fn begun_fact(tenant: u8, session: u8, run: Option<u32>) -> Option<Fact>
+    ensures { result ≡ option_map (Fact.Began tenant session) run }
+{
+    match run {
+        Some(op) => Some(Fact::Began {
+            tenant,
+            session,
+            op,
+        }),
+        None => None,
+    }
+}
+
+// And the numbers of its tags.
+fn numbered_fact(tenant: u8, session: u8, run: Option<u64>) -> Option<Fact>
+    ensures { result ≡ option_map (Fact.Numbered tenant session) run }
+{
+    match run {
+        Some(number) => Some(Fact::Numbered {
+            tenant,
+            session,
+            number,
+        }),
+        None => None,
+    }
+}
+
+// What is given where an operation of the session said this, and a run of numbers of tags was reserved for it up to that one, if
+// it was.
 pub(crate) fn heard_output(
     alloc: Global,
     tenant: u8,
     session: u8,
-    before: u64,
-    after: u64,
+    run: Option<u64>,
     heard: Heard,
 ) -> Result<Output, OutOfMemory>
-    ensures { IfOk result (λ out. HeardGives tenant session before after heard out) }
+    ensures { IfOk result (λ out. HeardGives tenant session run heard out) }
 {
     match heard {
         Heard::Stale => Ok(Output::nothing(alloc)),
         Heard::Noted => Ok(Output::nothing(alloc)),
         Heard::Next { messages, .. } => {
             let letters = messages.to_vec(alloc)?;
-            let fact = if after == before {
-                None
-            } else {
-                Some(Fact::Numbered {
-                    tenant,
-                    session,
-                    number: after,
-                })
-            };
             Ok(Output {
                 answer: None,
                 letters,
-                fact,
+                fact: numbered_fact(tenant, session, run),
             })
         }
         Heard::Done(outcome) => Ok(Output::told(alloc, Answer::Done(outcome))),
@@ -237,7 +257,7 @@ impl From<OutOfMemory> for NeedRefused {
     }
 }
 
-// Appends that the session began this operation, if it began one.
+// Appends that the numbers of the session's operations are reserved up to this one, if any are.
 pub(crate) fn put_begun(
     tenant: u8,
     session: u8,
@@ -256,7 +276,7 @@ pub(crate) fn put_begun(
     })
 }
 
-// Appends the session's own last number, if it gave one.
+// Appends that the numbers of the session's tags are reserved up to this one, if any are.
 pub(crate) fn put_number(
     tenant: u8,
     session: u8,

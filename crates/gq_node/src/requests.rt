@@ -13,7 +13,7 @@ ghost use Rattle.gq_node.specs.Seats.{seat_aim};
 
 use crate::aims::aim;
 use crate::homes::home;
-use crate::output::{Admission, Answer, Fact, Output, refused_answer};
+use crate::output::{Admission, Answer, Output, begun_fact, refused_answer};
 use crate::tables::Core;
 use bytes::Bytes;
 use gq_grid::ServerSet;
@@ -170,15 +170,11 @@ impl Core {
         ensures begins { IfOk result (λ out. HasBegunWith self.old tenant session operation messages out self.new) }
     {
         let letters = messages.to_vec(self.alloc)?;
-        let op = self.seats[tenant as usize].begin(session as usize - 1, operation);
+        let run = self.seats[tenant as usize].begin(session as usize - 1, operation);
         Ok(Output {
             answer: None,
             letters,
-            fact: Some(Fact::Began {
-                tenant,
-                session: session as u8,
-                op,
-            }),
+            fact: begun_fact(tenant, session as u8, run),
         })
     }
 

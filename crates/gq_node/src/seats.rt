@@ -5,9 +5,11 @@ ghost use Rattle.gq_grid.specs.Sets.{servers};
 ghost use Rattle.gq_grid.specs.declared.TheConstants.{MOST_SERVERS};
 ghost use Rattle.gq_tag.specs.Tag.{file_place};
 ghost use Rattle.gq_phase.specs.Best.{copied_number};
+ghost use Rattle.gq_cluster.specs.Facts.{greatest_op, greatest_number, last_of_run};
 
 use crate::aims::{aim, next_of};
 use crate::output::{Admission, Answer, Output, ended, heard_output};
+use gq_cluster::NUMBERS_IN_A_RUN;
 use gq_grid::{Grid, ServerSet};
 use gq_memory::{OutOfMemory, room_for};
 use gq_phase::{Heard, Messages, Operation, Outcome, ResendRefused};
@@ -15,13 +17,15 @@ use gq_tag::{FileId, Message};
 use std::alloc::Global;
 use std::marker::Model;
 
-/// A session: how many operations it began, its operation if it has one, its own last number while it has none, the outcome of
-/// its last operation if that was done since the start, the row and the column that it tries, and whether a tick came since it
-/// last heard something new.
+/// A session: the number of its last operation, its operation if it has one, its own last number while it has none, the last numbers
+/// that are reserved for it, of its operations and of its tags, the outcome of its last operation if that was done since the start, the
+/// row and the column that it tries, and whether a tick came since it last heard something new.
 #[derive(Drop)]
 pub(crate) struct Seat {
     pub(crate) op: u32,
     pub(crate) floor: u64,
+    pub(crate) reserved_op: u32,
+    pub(crate) reserved_floor: u64,
     pub(crate) operation: Option<Operation>,
     pub(crate) outcome: Option<Outcome>,
     pub(crate) row: u32,
@@ -46,7 +50,8 @@ impl Model for Seats {
 
 impl Seats {
     ghost use Rattle.gq_node.specs.Tables.{first_seat, seat_in};
-    ghost use Rattle.gq_node.specs.Seats.{SeatAttends, SeatTicks, Goes, last_in, busy_seat, rested_seat, recalled_seat};
+    ghost use Rattle.gq_node.specs.Heard.{new_run};
+    ghost use Rattle.gq_node.specs.Seats.{SeatAttends, SeatTicks, Goes, busy_seat, rested_seat, recalled_seat};
 
     // So many sessions that began nothing, at the node of the server.
     pub(crate) fn new(
@@ -65,6 +70,8 @@ impl Seats {
             items.push_reserved(Seat {
                 op: 0,
                 floor: 0,
+                reserved_op: 0,
+                reserved_floor: 0,
                 operation: None,
                 outcome: None,
                 row,
@@ -75,11 +82,12 @@ impl Seats {
         Ok(Seats { items })
     }
 
-    // The session at the place has the operation from now on. Answers the operation's number.
-    pub(crate) fn begin(&mut self, place: usize, operation: Operation) -> u32
+    // The session at the place has the operation from now on. Answers the last number of the run that had to be reserved for it,
+    // if one had.
+    pub(crate) fn begin(&mut self, place: usize, operation: Operation) -> Option<u32>
         requires place { place < length self.old }
         requires number { (seat_in self.old place).op < 4294967295 }
-        ensures number { result ≡ (seat_in self.old place).op + 1 }
+        ensures run { result ≡ new_run greatest_op ((seat_in self.old place).op + 1) (seat_in self.old place).reserved_op }
         ensures begun { self.new ≡ slice_set self.old place (busy_seat (seat_in self.old place) operation) }
     {
         self.items[place].begin(operation)
@@ -93,11 +101,11 @@ impl Seats {
         self.items[place].abandon();
     }
 
-    // The session at the place is one of a start, with these numbers in place of those that it has, where they are given.
+    // The session at the place is one of a start, for which these numbers are reserved in place of those that were, where they are given.
     pub(crate) fn recall(&mut self, place: usize, op: Option<u32>, number: Option<u64>)
         requires { place < length self.old }
         ensures { self.new ≡ slice_set self.old place
-            (recalled_seat (seat_in self.old place) (unwrap_or op (seat_in self.old place).op) (unwrap_or number (last_in (seat_in self.old place)))) }
+            (recalled_seat (seat_in self.old place) (unwrap_or op (seat_in self.old place).reserved_op) (unwrap_or number (seat_in self.old place).reserved_floor)) }
     {
         self.items[place].recall(op, number);
     }
@@ -135,21 +143,62 @@ impl Seats {
     }
 }
 
+// The last number of the run of operations' numbers that begins with this one.
+fn last_op_of_run(first: u32) -> u32
+    ensures { result ≡ last_of_run greatest_op first }
+{
+    first.saturating_add(NUMBERS_IN_A_RUN - 1)
+}
+
+// And of tags' numbers.
+fn last_number_of_run(first: u64) -> u64
+    ensures { result ≡ last_of_run greatest_number first }
+{
+    first.saturating_add(u64::from(NUMBERS_IN_A_RUN - 1))
+}
+
 impl Seat {
+    ghost use Rattle.gq_node.specs.Heard.{new_run, heard_run};
     ghost use Rattle.gq_node.specs.Seats.{SeatHears, SeatAttends, SeatTicks, ResendsIn, FloorIsBelow, Goes, last_in, busy_seat, rested_seat, recalled_seat, is_of_round, collects_in, seat_tries};
     ghost use Rattle.gq_node.specs.Local.{again, own_admission};
 
-    // The session has the operation from now on. Answers the operation's number.
-    fn begin(&mut self, operation: Operation) -> u32
+    // The number of the session's last operation is reserved from now on. Answers the last number of the run that had to be
+    // reserved for it, if one had.
+    fn reserve_op(&mut self) -> Option<u32>
+        ensures run { result ≡ new_run greatest_op self.old.op self.old.reserved_op }
+        ensures reserved { self.new ≡ record self.old { reserved_op = unwrap_or result self.old.reserved_op } }
+    {
+        if self.op <= self.reserved_op {
+            return None;
+        }
+        self.reserved_op = last_op_of_run(self.op);
+        Some(self.reserved_op)
+    }
+
+    // So is the session's own last number.
+    fn reserve_number(&mut self) -> Option<u64>
+        ensures run { result ≡ new_run greatest_number (last_in self.old) self.old.reserved_floor }
+        ensures reserved { self.new ≡ record self.old { reserved_floor = unwrap_or result self.old.reserved_floor } }
+    {
+        let number = self.last();
+        if number <= self.reserved_floor {
+            return None;
+        }
+        self.reserved_floor = last_number_of_run(number);
+        Some(self.reserved_floor)
+    }
+
+    // The session has the operation from now on. Answers the last number of the run that had to be reserved for it, if one had.
+    fn begin(&mut self, operation: Operation) -> Option<u32>
         requires { self.old.op < 4294967295 }
-        ensures number { result ≡ self.old.op + 1 }
+        ensures run { result ≡ new_run greatest_op (self.old.op + 1) self.old.reserved_op }
         ensures begun { self.new ≡ busy_seat self.old operation }
     {
         self.op += 1;
         self.operation = Some(operation);
         self.outcome = None;
         self.waited = false;
-        self.op
+        self.reserve_op()
     }
 
     // The session's own last number.
@@ -172,12 +221,15 @@ impl Seat {
         self.outcome = None;
     }
 
-    // The session is one of a start, with these numbers in place of its own, where they are given.
+    // The session is one of a start, for which these numbers are reserved in place of those that were, where they are given: it goes on
+    // behind what is reserved.
     fn recall(&mut self, op: Option<u32>, number: Option<u64>)
-        ensures { self.new ≡ recalled_seat self.old (unwrap_or op self.old.op) (unwrap_or number (last_in self.old)) }
+        ensures { self.new ≡ recalled_seat self.old (unwrap_or op self.old.reserved_op) (unwrap_or number self.old.reserved_floor) }
     {
-        self.op = op.unwrap_or(self.op);
-        self.floor = number.unwrap_or(self.last());
+        self.reserved_op = op.unwrap_or(self.reserved_op);
+        self.reserved_floor = number.unwrap_or(self.reserved_floor);
+        self.op = self.reserved_op;
+        self.floor = self.reserved_floor;
         self.operation = None;
         self.outcome = None;
         self.waited = false;
@@ -189,6 +241,7 @@ impl Seat {
         requires number { copied_number message.now.body < u64.MAX }
         requires floor { FloorIsBelow self.old.operation }
         ensures hears { IfOk result (λ heard. SeatHears self.old self.new (servers up) message.now heard) }
+        ensures reserved { self.new.reserved_floor ≡ self.old.reserved_floor }
     {
         let Some(operation) = &mut self.operation else {
             return Ok(Heard::Stale);
@@ -238,13 +291,24 @@ impl Seat {
         requires number { copied_number message.now.body < u64.MAX }
         ensures attends { IfOk result (λ out. SeatAttends message.now.tenant message.now.session grid.now self.old self.new message.now out) }
     {
-        let before = self.last();
-        if before == u64::MAX || !self.is_of_round(message.file) {
+        if self.last() == u64::MAX || !self.is_of_round(message.file) {
             return Ok(Output::nothing(alloc));
         }
         let heard = self.hear(message, aim(grid, self.row, self.column))?;
-        let after = self.last();
-        heard_output(alloc, message.tenant, message.session, before, after, heard)
+        let run = self.reserve_for(&heard);
+        heard_output(alloc, message.tenant, message.session, run, heard)
+    }
+
+    // Where the operation said that a round begins, the session's own last number is reserved from now on. Answers the last number of
+    // the run that had to be reserved for it, if one had.
+    fn reserve_for(&mut self, heard: &Heard) -> Option<u64>
+        ensures run { result ≡ heard_run self.old.reserved_floor (last_in self.old) heard.now }
+        ensures reserved { self.new ≡ record self.old { reserved_floor = unwrap_or result self.old.reserved_floor } }
+    {
+        match heard {
+            Heard::Next { .. } => self.reserve_number(),
+            _ => None,
+        }
     }
 
     // A reply was noted, from a server that was heard before or was not.

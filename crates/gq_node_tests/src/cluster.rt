@@ -267,14 +267,16 @@ fn again(rt: &impl Abort, node: &mut Node, facts: &[Fact], op: u32, line: &Line)
 fn starts(rt: &impl Abort, cluster: &mut Cluster, node: &mut Node, one: &Line) {
     assert_eq!(rt; cluster.ask(rt, 0, 1, one), Told::Nothing);
     assert_eq!(rt; cluster.run(rt, NONE), Told::Wrote(1));
-    // a node that reads all facts, another's too, knows again the number of the last operation, and not how it ended
-    assert_eq!(rt; again(rt, node, &cluster.facts, 1, one), Told::Gone(1));
+    // a node that reads all facts, another's too, goes on behind the numbers that were reserved, and does not know how an operation ended
+    assert_eq!(rt; again(rt, node, &cluster.facts, 1, one), Told::Old(1024));
+    assert_eq!(rt; again(rt, node, &[], 1024, one), Told::Gone(1024));
     let needed = node.needed().expect(rt, "memory");
     assert_eq!(rt; needed.len(), 3);
-    assert_eq!(rt; again(rt, node, &needed, 2, one), Told::Nothing);
+    assert_eq!(rt; again(rt, node, &needed, 1, one), Told::Old(1024));
+    assert_eq!(rt; again(rt, node, &[], 1025, one), Told::Nothing);
     assert_eq!(rt;
-        again(rt, node, &[], 2, &Line::Abandon { session: 1 }),
-        Told::Gone(2)
+        again(rt, node, &[], 1025, &Line::Abandon { session: 1 }),
+        Told::Gone(1025)
     );
 }
 
@@ -283,6 +285,200 @@ fn a_start_from_facts(rt: HostRuntime) -> Result<(), Fail> {
     let mut cluster = Cluster::new(&rt, rt.alloc());
     let mut fresh = node(&rt, rt.alloc(), 0);
     starts(&rt, &mut cluster, &mut fresh, &write(1, b"one"));
+    Ok(())
+}
+
+// ---- numbers that are reserved ahead
+
+// What a fact reserves: numbers of operations, or of tags, up to this one.
+#[derive(Clone, Copy, Debug, PartialEq, Eq)]
+enum Reserved {
+    Nothing,
+    Ops(u32),
+    Numbers(u64),
+}
+
+fn reserves(fact: Option<&Fact>) -> Reserved {
+    match fact {
+        Some(Fact::Began { op, .. }) => Reserved::Ops(*op),
+        Some(Fact::Numbered { number, .. }) => Reserved::Numbers(*number),
+        _ => Reserved::Nothing,
+    }
+}
+
+// The first tenant's session 1 begins a read with that number, and gives it up.
+fn begins(rt: &impl Abort, node: &mut Node, op: u32) -> Reserved {
+    let read = Line::Read {
+        session: 1,
+        volume: 0,
+        file: 1,
+    };
+    let began = ask(rt, node, op, &read);
+    assert_eq!(rt; shown(&began.answer), Told::Nothing);
+    let gone = ask(rt, node, op, &Line::Abandon { session: 1 });
+    assert_eq!(rt; shown(&gone.answer), Told::Gone(op));
+    assert!(rt; gone.fact.is_none());
+    reserves(began.fact.as_ref())
+}
+
+#[test]
+fn a_run_of_operations_has_one_fact(rt: HostRuntime) -> Result<(), Fail> {
+    let mut node = node(&rt, rt.alloc(), 0);
+    assert_eq!(rt; begins(&rt, &mut node, 1), Reserved::Ops(1024));
+    for op in 2..1025u32 {
+        assert_eq!(rt; begins(&rt, &mut node, op), Reserved::Nothing);
+    }
+    assert_eq!(rt; begins(&rt, &mut node, 1025), Reserved::Ops(2048));
+    assert_eq!(rt; begins(&rt, &mut node, 1026), Reserved::Nothing);
+    Ok(())
+}
+
+fn began(op: u32) -> Fact {
+    Fact::Began {
+        tenant: 0,
+        session: 1,
+        op,
+    }
+}
+
+fn numbered(number: u64) -> Fact {
+    Fact::Numbered {
+        tenant: 0,
+        session: 1,
+        number,
+    }
+}
+
+// A start goes on behind what is reserved, with the next run.
+fn goes_on_behind(rt: &impl Abort, node: &mut Node, one: &Line) {
+    recall(rt, node, &began(1024));
+    assert_eq!(rt; again(rt, node, &[], 3, one), Told::Old(1024));
+    assert_eq!(rt; again(rt, node, &[], 1024, one), Told::Gone(1024));
+    assert_eq!(rt; again(rt, node, &[], 1026, one), Told::Early(1024));
+    assert_eq!(rt; begins(rt, node, 1025), Reserved::Ops(2048));
+    // of a journal with single numbers too
+    recall(rt, node, &began(5));
+    assert_eq!(rt; again(rt, node, &[], 5, one), Told::Gone(5));
+    assert_eq!(rt; begins(rt, node, 6), Reserved::Ops(1029));
+}
+
+#[test]
+fn a_start_behind_reserved_operations(rt: HostRuntime) -> Result<(), Fail> {
+    let mut node = node(&rt, rt.alloc(), 0);
+    goes_on_behind(&rt, &mut node, &write(1, b"one"));
+    Ok(())
+}
+
+// The numbers of operations end.
+fn ends(rt: &impl Abort, node: &mut Node, one: &Line) {
+    recall(rt, node, &began(4294966272));
+    assert_eq!(rt; begins(rt, node, 4294966273), Reserved::Ops(4294967295));
+    assert_eq!(rt; begins(rt, node, 4294966274), Reserved::Nothing);
+    recall(rt, node, &began(4294966273));
+    assert_eq!(rt; begins(rt, node, 4294966274), Reserved::Ops(4294967295));
+    recall(rt, node, &began(4294967294));
+    assert_eq!(rt; begins(rt, node, 4294967295), Reserved::Ops(4294967295));
+    recall(rt, node, &began(4294967295));
+    assert_eq!(rt;
+        again(rt, node, &[], 4294967294, one),
+        Told::Old(4294967295)
+    );
+    assert_eq!(rt;
+        again(rt, node, &[], 4294967295, one),
+        Told::Gone(4294967295)
+    );
+    assert_eq!(rt; again(rt, node, &[], 0, one), Told::Old(4294967295));
+    let abandon = Line::Abandon { session: 1 };
+    assert_eq!(rt;
+        again(rt, node, &[], 4294967295, &abandon),
+        Told::Gone(4294967295)
+    );
+}
+
+#[test]
+fn the_last_operations_of_a_session(rt: HostRuntime) -> Result<(), Fail> {
+    let mut node = node(&rt, rt.alloc(), 0);
+    ends(&rt, &mut node, &write(1, b"one"));
+    Ok(())
+}
+
+impl Cluster {
+    // The first tenant's session 1 writes. Answers the number of the tag, and what was reserved for it.
+    fn write(&mut self, rt: &impl Abort, op: u32, one: &Line) -> (Told, Reserved) {
+        self.facts.truncate(0);
+        assert_eq!(rt; self.ask(rt, 0, op, one), Told::Nothing);
+        let told = self.run(rt, NONE);
+        let mut numbers = Reserved::Nothing;
+        for fact in &self.facts {
+            if matches!(fact, Fact::Numbered { .. }) {
+                numbers = reserves(Some(fact));
+            }
+        }
+        (told, numbers)
+    }
+
+    // Node 0 starts again, from these facts.
+    fn restart(&mut self, rt: &impl Abort, mut node: Node, facts: &[Fact]) {
+        for fact in facts {
+            recall(rt, &mut node, fact);
+        }
+        *self.node(rt, 0) = node;
+    }
+}
+
+#[test]
+fn a_run_of_tags_has_one_fact(rt: HostRuntime) -> Result<(), Fail> {
+    let mut cluster = Cluster::new(&rt, rt.alloc());
+    let one = write(1, b"one");
+    assert_eq!(rt;
+        cluster.write(&rt, 1, &one),
+        (Told::Wrote(1), Reserved::Numbers(1024))
+    );
+    assert_eq!(rt;
+        cluster.write(&rt, 2, &one),
+        (Told::Wrote(2), Reserved::Nothing)
+    );
+    // a write behind a start has a tag above all that were reserved
+    let fresh = node(&rt, rt.alloc(), 0);
+    cluster.restart(&rt, fresh, &[began(1024), numbered(1024)]);
+    assert_eq!(rt;
+        cluster.write(&rt, 1025, &one),
+        (Told::Wrote(1025), Reserved::Numbers(2048))
+    );
+    Ok(())
+}
+
+#[test]
+fn a_journal_with_single_numbers(rt: HostRuntime) -> Result<(), Fail> {
+    let mut cluster = Cluster::new(&rt, rt.alloc());
+    let one = write(1, b"one");
+    let fresh = node(&rt, rt.alloc(), 0);
+    cluster.restart(&rt, fresh, &[began(5), numbered(3)]);
+    assert_eq!(rt; cluster.ask(&rt, 0, 5, &one), Told::Gone(5));
+    assert_eq!(rt;
+        cluster.write(&rt, 6, &one),
+        (Told::Wrote(4), Reserved::Numbers(1027))
+    );
+    Ok(())
+}
+
+#[test]
+fn the_last_tags_of_a_session(rt: HostRuntime) -> Result<(), Fail> {
+    let mut cluster = Cluster::new(&rt, rt.alloc());
+    let one = write(1, b"one");
+    let fresh = node(&rt, rt.alloc(), 0);
+    cluster.restart(&rt, fresh, &[numbered(18446744073709551000)]);
+    assert_eq!(rt;
+        cluster.write(&rt, 1, &one),
+        (
+            Told::Wrote(18446744073709551001),
+            Reserved::Numbers(18446744073709551615)
+        )
+    );
+    assert_eq!(rt;
+        cluster.write(&rt, 2, &one),
+        (Told::Wrote(18446744073709551002), Reserved::Nothing)
+    );
     Ok(())
 }
 

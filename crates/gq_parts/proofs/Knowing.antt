@@ -10,12 +10,15 @@ use Rattle.gq_desk.specs.declared.plans.TenantRow.{TenantRow}
 use Rattle.gq_desk.specs.declared.volumes.VolumeRow.{VolumeRow}
 use Rattle.gq_model.specs.Trace.{limit_at}
 use Rattle.gq_cluster.specs.Cluster.{everyone}
-use Rattle.gq_cluster.specs.Facts.{KeptPart, OwnFact, Begun, Numbered, Kept, kept_of, with_fact}
+use Rattle.gq_cluster.specs.Facts.{OwnFact, Begun, Numbered, Kept, Reserved, reserved_by}
+use Rattle.gq_cluster.specs.Keeping.{KeptPart, kept_of, with_fact}
 use Rattle.gq_node.specs.Inputs.{Input, Asked, AskedPlan, Brought, Ticked, does, after_one, after_all}
 use Rattle.gq_node.specs.Local.{Local, Doing, part_in, state_of, file_fits, fact_fits, file_in, with_resident, recalled, rested}
-use Rattle.gq_node.specs.Resting.{recall_one, recall_all, IsAtRest}
+use Rattle.gq_node.specs.Resting.{GoesBehind, recall_one, recall_all, IsAtRest}
 use Rattle.gq_node.specs.Sites.{Site}
 use Rattle.gq_node.proofs.Journal.{FactIn, KeepsBy, Keeps, all_requests_keep, all_letters_keep, all_ticks_keep, recall_keeps}
+use Rattle.gq_node.proofs.Recalling.{one_behind}
+use Rattle.gq_node.proofs.Reserving.{same_reserved}
 use Rattle.gq_node.proofs.Staying.{SameVolumes, asks_volumes, receives_volumes, ticks_volumes}
 use Rattle.gq_parts.specs.Texts.{own_facts}
 
@@ -39,15 +42,15 @@ does_keeps (Ticked session) site local = all_ticks_keep session site local
 
 -- ---- a start reads a fact
 
-rested_idle : (local : Local) (k op floor j : ℕ) → (local.residents j).session.current ≡ None → ((with_resident local k (rested (local.residents k) op floor)).residents j).session.current ≡ None
-rested_idle local k op floor j idle = elim (cases_Bool (k == j)) [
+rested_idle : (local : Local) (k : ℕ) (reserved : Reserved) (j : ℕ) → (local.residents j).session.current ≡ None → ((with_resident local k (rested (local.residents k) reserved)).residents j).session.current ≡ None
+rested_idle local k reserved j idle = elim (cases_Bool (k == j)) [
   | inl same ↦ (rw same refl)
   | inr other ↦ (rw other idle)
 ]
 
 recalled_idle : (fact : OwnFact) (local : Local) → ((k : ℕ) → (local.residents k).session.current ≡ None) → (j : ℕ) → ((recalled fact local).residents j).session.current ≡ None
-recalled_idle (Begun k op) local idle j = rested_idle local k op (local.residents k).session.floor j (idle j)
-recalled_idle (Numbered k number) local idle j = rested_idle local k (local.residents k).session.op number j (idle j)
+recalled_idle (Begun k op) local idle j = rested_idle local k (reserved_by (Some (Begun k op)) (local.residents k).reserved) j (idle j)
+recalled_idle (Numbered k number) local idle j = rested_idle local k (reserved_by (Some (Numbered k number)) (local.residents k).reserved) j (idle j)
 recalled_idle (Kept file copy) local idle j = idle j
 
 recalled_volumes : (fact : OwnFact) (local : Local) → (recalled fact local).volumes ≡ local.volumes
@@ -81,9 +84,9 @@ pub all_recalled_volumes : (site : Site) (local : Local) (facts : List OwnFact) 
 all_recalled_volumes site local [] = refl
 all_recalled_volumes site local (fact ∷ facts) = all_recalled_volumes site (recall_one site local fact) facts ∙ recall_volumes site local fact
 
--- a part without operations is itself at rest
-pub rests_itself : (row : TenantRow) (local : Local) → ((k : ℕ) → (local.residents k).session.current ≡ None) → IsAtRest row local local
-rests_itself row local idle = record { volumes = refl; copies = λ file. refl; ops = λ k inside. refl; floors = λ k inside. refl; idle = idle }
+-- a part without operations, of which each session goes on behind what is reserved for it, is itself at rest
+pub rests_itself : (row : TenantRow) (local : Local) → ((k : ℕ) → GoesBehind (local.residents k)) → ((k : ℕ) → (local.residents k).session.current ≡ None) → IsAtRest row local local
+rests_itself row local behind idle = record { volumes = refl; copies = λ file. refl; reserved = λ k inside. refl; behind = behind; idle = idle }
 
 -- a fact that the part may give, the start takes
 fact_in : (site : Site) (row : TenantRow) (rest local : Local) (fact : OwnFact) → IsAtRest row rest local → FactIn site local fact → FactIn site rest fact
@@ -114,8 +117,9 @@ step_rests : (site : Site) (row : TenantRow) (rest local : Local) (doing : Doing
 step_rests site row rest local doing None is volumes keeps = record {
   volumes = is.volumes ∙ sym volumes;
   copies = λ file. is.copies file ∙ sym (ap (λ (z : KeptPart). z.copy file) keeps);
-  ops = λ k inside. is.ops k inside ∙ sym (ap (λ (z : KeptPart). z.op k) keeps);
-  floors = λ k inside. is.floors k inside ∙ sym (ap (λ (z : KeptPart). z.floor k) keeps);
+  reserved = λ k inside. is.reserved k inside
+      ∙ same_reserved (local.residents k).reserved (doing.local.residents k).reserved (sym (ap (λ (z : KeptPart). z.op k) keeps)) (sym (ap (λ (z : KeptPart). z.floor k) keeps));
+  behind = is.behind;
   idle = is.idle;
 }
 step_rests site row rest local doing (Some fact) is volumes keeps =
@@ -125,8 +129,11 @@ step_rests site row rest local doing (Some fact) is volumes keeps =
     record {
       volumes = recall_volumes site rest fact ∙ is.volumes ∙ sym volumes;
       copies = λ file. ap (λ (z : KeptPart). z.copy file) now ∙ same_copy a b fact file (is.copies file) ∙ sym (ap (λ (z : KeptPart). z.copy file) keeps.0);
-      ops = λ k inside. ap (λ (z : KeptPart). z.op k) now ∙ same_op a b fact k (is.ops k inside) ∙ sym (ap (λ (z : KeptPart). z.op k) keeps.0);
-      floors = λ k inside. ap (λ (z : KeptPart). z.floor k) now ∙ same_floor a b fact k (is.floors k inside) ∙ sym (ap (λ (z : KeptPart). z.floor k) keeps.0);
+      reserved = λ k inside.
+          let op = ap (λ (z : KeptPart). z.op k) now ∙ same_op a b fact k (ap (λ (r : Reserved). r.op) (is.reserved k inside)) ∙ sym (ap (λ (z : KeptPart). z.op k) keeps.0) in
+          let floor = ap (λ (z : KeptPart). z.floor k) now ∙ same_floor a b fact k (ap (λ (r : Reserved). r.floor) (is.reserved k inside)) ∙ sym (ap (λ (z : KeptPart). z.floor k) keeps.0) in
+          same_reserved ((recall_one site rest fact).residents k).reserved (doing.local.residents k).reserved op floor;
+      behind = one_behind site rest fact is.behind;
       idle = recall_idle site rest fact is.idle;
     }
 

@@ -1,13 +1,12 @@
 -- A start reads the facts of a node's steps, those that a start needs, and what another start read.
-use Rattle.std.proofs.Common.{◌≡◌, ◌∙◌, ℕ, zero, suc, ◌+◌, ◌<◌, ◌≤◌, Bool, true, false, List, [], ◌∷◌, ◌++◌, length, map, Option, Some, None, refl, sym, ap, subst, arith}
+use Rattle.std.proofs.Common.{◌≡◌, ◌∙◌, ℕ, zero, suc, ◌+◌, ◌<◌, ◌≤◌, Bool, true, List, [], ◌∷◌, length, map, Option, Some, None, refl, sym, ap, subst, arith}
 use Rattle.std.specs.Prelude.{slice_get, nat_lt, All}
 use Rattle.std.specs.List.{list_all, flat_map, range_with_len}
 use Rattle.std.specs.Option.{option_and_then, option_to_list}
 use Rattle.std.proofs.lemmas.Bool.{cases_Bool, and_parts}
 use Rattle.std.proofs.lemmas.List.Folds.{list_all-append}
-use Rattle.gq_tag.specs.Tag.{File, file_of}
 use Rattle.gq_desk.specs.CheckedPlan.{CheckedPlan}
-use Rattle.gq_desk.specs.Volumes.{Account, limit_of, limit_in}
+use Rattle.gq_desk.specs.Volumes.{Account, limit_in}
 use Rattle.gq_desk.specs.declared.volumes.VolumeRow.{VolumeRow}
 use Rattle.gq_text.specs.Canonical.{IsPlan}
 use Rattle.gq_cluster.specs.Cluster.{Part}
@@ -24,9 +23,9 @@ use Rattle.gq_facts.specs.Facts.{fact_line, fact_of_line}
 use Rattle.gq_facts.specs.Laws.{FitsFact}
 use Rattle.gq_facts.proofs.FactsBack.{facts_read_back}
 use Rattle.gq_parts.specs.Inputs.{line_inputs}
-use Rattle.gq_parts.specs.Texts.{own_facts, facts_for, facts_by}
+use Rattle.gq_parts.specs.Texts.{own_facts, facts_for}
 use Rattle.gq_parts.specs.Steps.{AllAgree, fact_lines, StepsTo}
-use Rattle.gq_parts.specs.Recalls.{IsRecalled, RecallsFact, RecallsTo, reads_fact, reads_line}
+use Rattle.gq_parts.specs.Recalls.{RecallsFact, RecallsTo, reads_fact, reads_line}
 use Rattle.gq_parts.specs.Resting.{volumes_at, IsBlank}
 use Rattle.gq_parts.proofs.Knowing.{does_volumes, does_keeps}
 use Rattle.gq_parts.proofs.Resting.{its_volumes, of_case, of_case_has}

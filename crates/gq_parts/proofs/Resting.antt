@@ -20,6 +20,7 @@ use Rattle.gq_parts.specs.Texts.{own_facts, facts_by}
 use Rattle.gq_parts.specs.Steps.{AllAgree, fact_lines, StepsTo}
 use Rattle.gq_parts.specs.Recalls.{RecallsTo, facts_said}
 use Rattle.gq_parts.specs.Resting.{IsNodeOf, IsNewNode, volumes_at, IsBlank, RestsIn, Rests}
+use Rattle.gq_node.proofs.Recalling.{all_behind}
 use Rattle.gq_parts.proofs.Knowing.{all_idle, all_volumes, all_recalled_volumes, rests_itself, all_rest}
 use Rattle.gq_parts.proofs.Reading.{those-by, said_back, Recalled, all_recalled, same_node}
 
@@ -162,7 +163,7 @@ starts_again first last new again lines blank to_last other to_again = record {
           again = recall_all site (fresh t) (facts t);
           was = (made t within).agrees;
           is = read.agrees;
-          rests = rests_itself (row_at last.plan t) (recall_all site (fresh t) (facts t)) (all_idle site (fresh t) (facts t) (λ k. refl));
+          rests = rests_itself (row_at last.plan t) (recall_all site (fresh t) (facts t)) (all_behind site (fresh t) (facts t) (λ k. record { op = refl; floor = refl })) (all_idle site (fresh t) (facts t) (λ k. refl));
         }
 
 -- a blank node that reads the facts which a start needs is the node at rest

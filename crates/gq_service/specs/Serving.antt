@@ -44,7 +44,8 @@ journal_found false seen = seen
 -- ---- what it writes
 
 -- From this journal a node started, and its steps took these lines. What is shown after `base` is what they told; and a start from
--- what is synced reads the node that they left, the operations of its sessions gone.
+-- what is synced reads the node that they left, the operations of its sessions gone, and these behind the numbers that are reserved
+-- for them.
 pub record Serves (setup : Setup) (number : ℕ) (journal : List ℕ) (lines : List Line) (base synced shown : List ℕ) : Type 0 where
   pub first : NodeMachine
   pub last : NodeMachine

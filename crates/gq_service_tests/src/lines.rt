@@ -54,7 +54,7 @@ fn a_write_line_by_line(rt: HostRuntime) -> Result<(), Fail> {
         alloc,
         m,
         b"0 ann write 1 1 0 0 aB",
-        b"began ann 1 1\n",
+        b"began ann 1 1024\n",
         b"0 0 ann 1 1 1 0 0 ask\n",
     );
     step(&rt, alloc, m, b"0 ann write 1 1 0 0 aB", b"", b"");
@@ -79,7 +79,7 @@ fn a_write_line_by_line(rt: HostRuntime) -> Result<(), Fail> {
         alloc,
         m,
         b"0 0 ann 1 1 1 0 0 copy 0 0 -",
-        b"numbered ann 1 1\n",
+        b"numbered ann 1 1024\n",
         b"0 0 ann 1 1 2 0 0 store 1 1 ab\n",
     );
     step(&rt, alloc, m, b"0 0 tick", b"", b"");
@@ -186,6 +186,48 @@ fn a_start(rt: HostRuntime) -> Result<(), Fail> {
 }
 
 #[test]
+fn the_last_number_of_operations(rt: HostRuntime) -> Result<(), Fail> {
+    let alloc = rt.alloc();
+    let mut m = machine(&rt, alloc);
+    let m = &mut m;
+    assert!(rt; m.recall(b"began ann 1 4294967294").is_ok());
+    step(
+        &rt,
+        alloc,
+        m,
+        b"0 ann read 1 4294967295 0 0",
+        b"began ann 1 4294967295\n",
+        b"0 0 ann 1 4294967295 1 0 0 ask\n",
+    );
+    assert!(rt; m.recall(b"began ann 1 4294967295").is_ok());
+    step(
+        &rt,
+        alloc,
+        m,
+        b"0 ann read 1 4294967294 0 0",
+        b"",
+        b"ann 0 refused old 1 4294967294 4294967295\n",
+    );
+    step(
+        &rt,
+        alloc,
+        m,
+        b"0 ann read 1 4294967295 0 0",
+        b"",
+        b"ann 0 gone 1 4294967295\n",
+    );
+    step(
+        &rt,
+        alloc,
+        m,
+        b"0 ann read 1 4294967296 0 0",
+        b"",
+        b"ann 0 refused bad\n",
+    );
+    Ok(())
+}
+
+#[test]
 fn two_tenants_tick(rt: HostRuntime) -> Result<(), Fail> {
     let alloc = rt.alloc();
     let mut m = machine(&rt, alloc);
@@ -195,7 +237,7 @@ fn two_tenants_tick(rt: HostRuntime) -> Result<(), Fail> {
         alloc,
         m,
         b"0 ann read 1 1 0 1",
-        b"began ann 1 1\n",
+        b"began ann 1 1024\n",
         b"0 0 ann 1 1 1 0 1 ask\n",
     );
     step(
@@ -203,7 +245,7 @@ fn two_tenants_tick(rt: HostRuntime) -> Result<(), Fail> {
         alloc,
         m,
         b"0 ann list 2 1 0",
-        b"began ann 2 1\n",
+        b"began ann 2 1024\n",
         b"0 0 ann 2 1 1 0 0 ask\n",
     );
     step(
@@ -239,7 +281,7 @@ fn what_a_start_needs(rt: HostRuntime) -> Result<(), Fail> {
         alloc,
         m,
         b"0 ann write 1 1 0 1 ab",
-        b"began ann 1 1\n",
+        b"began ann 1 1024\n",
         b"0 0 ann 1 1 1 0 1 ask\n",
     );
     step(
@@ -247,7 +289,7 @@ fn what_a_start_needs(rt: HostRuntime) -> Result<(), Fail> {
         alloc,
         m,
         b"0 0 ann 1 1 1 0 1 copy 0 0 -",
-        b"numbered ann 1 1\n",
+        b"numbered ann 1 1024\n",
         b"0 0 ann 1 1 2 0 1 store 1 1 ab\n",
     );
     step(
@@ -271,13 +313,13 @@ fn what_a_start_needs(rt: HostRuntime) -> Result<(), Fail> {
         alloc,
         m,
         b"0 ann list 2 1 0",
-        b"began ann 2 1\n",
+        b"began ann 2 1024\n",
         b"0 0 ann 2 1 1 0 0 ask\n",
     );
     assert!(rt; m.put_needed(&mut facts).is_ok());
     assert_eq!(rt;
         facts.as_slice(),
-        b"began ann 1 1\nnumbered ann 1 1\nbegan ann 2 1\nkept ann 0 1 1 1 ab\n".as_slice()
+        b"began ann 1 1024\nnumbered ann 1 1024\nbegan ann 2 1024\nkept ann 0 1 1 1 ab\n".as_slice()
     );
     Ok(())
 }

@@ -15,7 +15,7 @@ const PLAN: &str = "grid 1 1\nblocks 16\ntenant ann 8 2 100\ngo\nann open 2 1\n"
 // The digests are those of `sha256sum`.
 const JOURNAL: &str =
     "node 0 of 1 by 1\ngrid 1 1\nblocks 16\ntenant ann 8 2 100\ngo\nann open 2 1\nsync 1 71 9b33ab045e011a53\n\
-began ann 1 1\nnumbered ann 1 1\nkept ann 0 0 1 1 ab\nsync 2 51 3bb937959064ff28\n";
+began ann 1 1024\nnumbered ann 1 1024\nkept ann 0 0 1 1 ab\nsync 2 57 6e5dd83d61a8f8be\n";
 
 // A journal of the same node, in which a right batch has a line of nobody.
 const STRANGE: &str =
@@ -139,7 +139,7 @@ fn starts_again_from_its_journal(rt: HostRuntime) -> Result<(), Fail> {
     fs::write(&rt, "again", torn.as_str())?;
     let watch = Watch::new();
     let lines: &[u8] = b"0 0 ann 2 1 1 0 0 ask\n0 ann write 1 1 0 0 ab\n";
-    let text = " ?\n0 0 ann 2 1 1 0 0 copy 1 1 ab\nann 0 gone 1 1\n";
+    let text = " ?\n0 0 ann 2 1 1 0 0 copy 1 1 ab\nann 0 refused old 1 1 1024\n";
     writes(&rt, rt.alloc(), &node("again", false), &watch, lines, text)?;
     assert_eq!(&rt; watch.facts.get(), Some(3));
     assert_eq!(&rt; watch.cut.get(), Some(JOURNAL.len()));

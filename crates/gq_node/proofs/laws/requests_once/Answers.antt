@@ -1,4 +1,5 @@
-use Rattle.gq_node.proofs.Once.{again_leave, take_once, begin_once}
+use Rattle.gq_node.proofs.Beginning.{begin_once}
+use Rattle.gq_node.proofs.Once.{again_leave, take_once}
 use Rattle.gq_node.proofs.laws.requests_once.Goals as goal
 
 pub returns : goal.returns

@@ -1,5 +1,5 @@
 -- The seat stands for what the letter leaves of the operation.
-use Rattle.std.proofs.Common.{Bool, false, Some, None, refl, sym, subst}
+use Rattle.std.proofs.Common.{Bool, false, Some, None, refl, sym, ap, subst}
 use Rattle.std.specs.Prelude.{◌&&◌}
 use Rattle.gq_grid.specs.Sets.{servers}
 use Rattle.gq_phase.specs.declared.Outcome.{Outcome}
@@ -17,6 +17,7 @@ returns-in-Stale c =
     record {
       hears = seat_hears c.args.self.now c.in-Some.operation c.hear.new.self c.args.self.now.waited (servers c.args.up) c.args.message.now Stale
           c.in-Some.is (subst P c.in-Stale.is c.in_ok-heard.ensures.hears) (λ x e. cc) refl;
+      reserved = refl;
     }
 
 pub returns-in-Noted : goal.returns-in-Noted
@@ -27,6 +28,7 @@ returns-in-Noted c =
     record {
       hears = subst Q (sym c.note.ensures) (subst R (sym c.has_heard-known.ensures) (seat_hears c.args.self.now c.in-Some.operation c.hear.new.self (servers c.in-Some.operation.heard c.args.message.now.server && c.args.self.now.waited) (servers c.args.up) c.args.message.now Noted
           c.in-Some.is (subst P c.in-Noted.is c.in_ok-heard.ensures.hears) (λ x e. cc) refl));
+      reserved = ap (λ (seat : Seat). seat.reserved_floor) c.note.ensures;
     }
 
 pub returns-in_ok-share-in-Done : goal.returns-in_ok-share-in-Done
@@ -37,10 +39,12 @@ returns-in_ok-share-in-Done c =
     record {
       hears = subst Q (sym c.rest.ensures) (subst R (sym c.in_ok-share-in-Done.ensures) (seat_ends c.args.self.now c.in-Some.operation c.hear.new.self c.floor-floor.result (servers c.args.up) c.args.message.now c.in-Done.outcome
           c.in-Some.is (subst P c.in-Done.is c.in_ok-heard.ensures.hears) c.floor-floor.ensures));
+      reserved = ap (λ (seat : Seat). seat.reserved_floor) c.rest.ensures;
     }
 
 pub returns-in_default-heard : goal.returns-in_default-heard
 returns-in_default-heard c = record {
   hears = seat_moves c.args.self.now c.in-Some.operation c.hear.new.self (servers c.args.up) c.args.message.now c.in_ok-heard.heard
       c.in-Some.is c.in_ok-heard.ensures.hears c.in_default-heard.not-Done c.in_default-heard.not-Stale c.in_default-heard.not-Noted;
+  reserved = refl;
 }

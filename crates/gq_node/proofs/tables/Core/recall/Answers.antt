@@ -1,5 +1,5 @@
 -- What the start reads is recalled, where it fits.
-use Rattle.std.proofs.Common.{◌≡◌, ◌∙◌, ℕ, ◌<◌, length, ap, sym, subst, inl, inr}
+use Rattle.std.proofs.Common.{◌∙◌, ℕ, ◌<◌, length, ap, sym, subst, inl, inr}
 use Rattle.std.proofs.lemmas.Bool.{cases_Bool}
 use Rattle.gq_node.specs.declared.output.Fact.{Fact}
 use Rattle.gq_cluster.specs.Facts.{Begun, Numbered}
