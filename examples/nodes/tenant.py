@@ -3,7 +3,8 @@
 The rules are those of docs/FORMATS.md (Lines of nodes). A request is sent again until it is answered; the number behind its session says
 which request an answer is of. A client that begins anew asks its session's home for the last number, by a request to give up an
 operation of a number that is far too high. Then it reads, and believes nothing of the answer: a line of the client before it may
-still be under way with the same number. No clock is asked here, and nothing is sent: the caller does both.
+still be under way with the same number. A home that was started again tells a later last number, behind which the session goes on. No clock
+is asked here, and nothing is sent: the caller does both.
 """
 
 import collections
@@ -97,6 +98,9 @@ class Session:
                 self.last, self.going = int(words[4]), None
                 self.waiting.appendleft(Request(b"read", [b"0", b"0"]))
                 return
+            if words[1] == b"old":
+                self.go_on_behind(int(words[4]))
+                return
             if not request.is_refused(words[1], words[4:]):
                 return
         else:
@@ -104,3 +108,12 @@ class Session:
         self.going = None
         if request.tell:
             request.tell(body)
+
+    def go_on_behind(self, last):
+        """The home was started again since the request was sent, and goes on behind this number. The request is gone; what changes nothing is
+        asked for again, unless it was given up."""
+        request, self.going, self.last = self.going, None, last
+        if request.kind != b"write" and not request.is_given_up:
+            self.waiting.appendleft(Request(request.kind, request.words, tell=request.tell))
+        elif request.tell:
+            request.tell(b"gone %s %d" % (self.session, request.number))

@@ -50,7 +50,8 @@ class Session:
     tells, and its faults, stand at `Files`.
 
     A request of which the node says that it is gone is made again under the next number: so a write may take effect more than
-    once, with the same content. Whoever is the only writer of a file may look at that as one write.
+    once, with the same content. Whoever is the only writer of a file may look at that as one write. So it is where the node was started
+    again, and goes on behind numbers that were reserved: then it tells a later last number.
     """
 
     def __init__(
@@ -94,10 +95,23 @@ class Session:
                 raise
             if isinstance(answer, Gone):
                 continue
-            if isinstance(answer, Refusal) or answer.kind != kind:
+            if isinstance(answer, Refusal):
+                last = self.behind_a_start(answer)
+                continue
+            if answer.kind != kind:
                 raise self.taken()
             self.last = last
             return answer
+
+    def behind_a_start(self, told: Done | Gone | Refusal) -> int:
+        """The last number, where a request is told to be old. A start reserves it, and no operation has it; else somebody else uses the session."""
+        last = 0
+        while isinstance(told, Refusal) and told.word == "old":
+            last = told.numbers[0]
+            told = self.request("abandon", last)
+        if not isinstance(told, Gone):
+            raise self.taken()
+        return last
 
     def start(self) -> int:
         """Learns the last number, ends what goes on, and takes the one number that a line of an earlier client may have."""
@@ -105,11 +119,13 @@ class Session:
         told = self.request("abandon", self.draw.randrange(1 << 31, LAST_NUMBER))
         if not isinstance(told, Refusal):
             raise self.taken()
-        last = told.numbers[0]
-        if last:
-            self.request("abandon", last)
-        # What is told of the next one may be of the earlier client's line, so it isn't looked at.
-        self.request("read", last + 1, (0, 0))
+        last = 0
+        while isinstance(told, Refusal):
+            last = told.numbers[0]
+            if last:
+                self.request("abandon", last)
+            # What is told of the next one may be of the earlier client's line, so it isn't looked at, but for a start of the home meanwhile.
+            told = self.request("read", last + 1, (0, 0))
         self.last = last + 1
         return self.last
 
@@ -118,7 +134,7 @@ class Session:
         return SessionTaken(f"session {self.number} is used by another client")
 
     def request(self, kind: str, operation: int, place: tuple[int, ...] = (), content: bytes | None = None) -> Done | Gone | Refusal:
-        """Sends a line until it is answered. A refusal is told for an `abandon` only, and raised else."""
+        """Sends a line until it is answered. That it is old is told, and for an `abandon` that it is early; other refusals are raised."""
         line = " ".join(map(str, (kind, self.number, operation, *place))).encode()
         about = place
         if content is not None:
@@ -149,10 +165,8 @@ class Session:
         """Whether a refusal of a request with the right number answers it."""
         if refusal.word == "nosession":
             raise Refused(f"there is no session {self.number}")
-        if kind == "abandon" and refusal.word in ("early", "old"):
+        if refusal.word == "old" or (kind == "abandon" and refusal.word == "early"):
             return True
-        if refusal.word == "old":
-            raise self.taken()
         if refusal.word in ("novolume", "nofile", "toolong") and refusal.numbers == about[: len(refusal.numbers)]:
             what = {
                 "novolume": "there is no volume {0}",
