@@ -138,10 +138,15 @@ class Clients:
         status, told, _ = self.run(*asked, "read", "0", "6")
         told = json.loads(told or "{}")
         self.held("the next client is answered", (status, told.get("content") in (b"aa".hex(), b"bb".hex()), number()[2]), (DONE, True, "answered"))
-        # another client of the session, whose numbers are not here
+        # numbers that somebody else has used, as where the home was started again, and one that nobody has
         self.run("--session", "5", "ann", "read", "0", "6")
+        last = int(number()[1])
+        status, told, _ = self.run(*asked, "read", "0", "6")
+        self.held("a number below the session's last", (status, json.loads(told or "{}").get("operation", 0) > last + 1), (DONE, True))
+        with open("numbers/ann.5", "w", encoding="ascii") as out:
+            out.write(f"0 {last + 100_000} answered\n")
         status, _, said = self.run(*asked, "read", "0", "6")
-        self.held("a number that is not the session's last", (status, "not the session's last number" in said), (MEND, True))
+        self.held("a number above the session's last", (status, "not the session's last number" in said), (MEND, True))
         with open("numbers/ann.5", "w", encoding="ascii") as out:
             out.write("no number\n")
         self.held("a file of numbers without a form", self.run(*asked, "read", "0", "6")[0], MEND)
@@ -162,15 +167,13 @@ class Clients:
         for number in (1, 2, 3):
             os.kill(self.grid.node(number), signal.SIGSTOP)
         client = subprocess.Popen(self.words(*asked, "write", "0", "8", "bb"), stdout=subprocess.PIPE, stderr=subprocess.PIPE)
-        journal = os.path.join(os.getcwd(), "node0.journal")
-        with open("numbers/ann.1", encoding="ascii") as file:
-            last = int(file.read().split()[1])
 
-        def has_begun():
-            with open(journal, "rb") as file:
-                return b"began ann 1 %d\n" % (last + 1) in file.read()
+        def is_sent():
+            with open("numbers/ann.1", encoding="ascii") as file:
+                return file.read().endswith(" sent\n")
 
-        self.held("the write has begun", wait_for(has_begun), True)
+        self.held("the write is sent", wait_for(is_sent), True)
+        time.sleep(0.5)  # (that it has begun shows nowhere: its number was reserved)
         self.grid.kill_node(0)
         self.grid.start_node(0)
         out, said = client.communicate(timeout=60)

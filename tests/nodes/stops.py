@@ -10,6 +10,7 @@ import re
 
 from journals import sealed
 from processes import MARKER, SECONDS, Streamed, Wrong, disk, ended, get, lose_power, put, words_of
+from reserved import RUN, reserved_in
 
 PLAN = f"grid 2 2\nblocks 2048\ntenant ann 2047 8 1\n{MARKER}go\nann open 4 2\nann open 2 16\n".encode()
 HEAD = b"node 3 of 2 by 2\n" + PLAN
@@ -41,6 +42,7 @@ class Play:
         self.draw, self.is_large = draw, is_large
         self.copies = {}  # of each server and file, the copy as a store's words
         self.given = {file: {(0, 0): b"-"} for file in FILES}  # of each file, the contents of tags
+        self.before = {session: 0 for session in SESSIONS}  # the last number of an earlier play
         self.asked = {session: 0 for session in SESSIONS}  # the number of the last request
         self.stores = {}  # of the other homes' stores, by their heads: file and tag
         self.due = []
@@ -153,17 +155,20 @@ def check_copies(play, answers):
             raise Wrong(f"the copy of {place} has tag {tag}, and {play.acknowledged[place]} was acknowledged")
 
 
-def check_session(play, node, session, line):
-    """The last number is that of an operation that was asked for, and none less than was seen; the next write has a number of its own."""
+def check_session(play, node, session, line, reserved):
+    """The last number is the last of a run that was reserved, which none was unless something was asked for, and no less than was seen. The
+    next write has the first number behind those that are reserved for tags, and none that was seen."""
     told = re.fullmatch(rb"ann 3 refused early %d %d (\d+)" % (session, TOO_HIGH), line)
-    if not told or not play.begun[session] <= int(told[1]) <= play.asked[session]:
+    before = play.before[session]
+    runs = [before] * (play.begun[session] == before) + [before + RUN] * (play.asked[session] > before)
+    if not told or int(told[1]) not in runs:
         raise Wrong(f"the last number of session {session}: {line!r}; {play.begun[session]} was seen, {play.asked[session]} asked for")
     number = int(told[1]) + 1
     head = b"3 %%d ann %d %d 1 0 0 copy 0 0 -\n" % (session, number)
     wrote, lives = node.step(b"3 ann write %d %d 0 0 ee\n" % (session, number) + head % 2 + head % 3)
     stores = [LETTER.fullmatch(it) for it in wrote.split(b"\n") if b" store " in it]
-    if not lives or not stores or any(int(it[8]) <= play.numbers[session] for it in stores):
-        raise Wrong(f"session {session} had the number {play.numbers[session]}, and writes {wrote!r}")
+    if not lives or not stores or reserved < play.numbers[session] or any(int(it[8]) != reserved + 1 for it in stores):
+        raise Wrong(f"session {session} had the number {play.numbers[session]}, {reserved} is reserved, and it writes {wrote!r}")
 
 
 def words(program, folder):
@@ -180,6 +185,7 @@ def check_again(program, folder, play):
     told = os.path.join(folder, "told3")
     if os.path.exists(told):
         os.unlink(told)
+    _, reserved = reserved_in(os.path.join(folder, "journal"))
     node = start(program, folder)
     try:
         wrote, lives = node.step(b"".join(line + b"\n" for line in questions(play)))
@@ -190,7 +196,7 @@ def check_again(program, folder, play):
             raise Wrong(f"it is asked {len(FILES) + len(SESSIONS)} questions and answers {answers}")
         check_copies(play, answers)
         for session, line in zip(SESSIONS, answers[len(FILES) :]):
-            check_session(play, node, session, line)
+            check_session(play, node, session, line, reserved.get((b"ann", b"%d" % session), 0))
     finally:
         node.kill()
 
@@ -230,7 +236,7 @@ def played(program, folder, seed, kind, environment):
         put(os.path.join(folder, "journal.synced"), b"%d" % len(text))
         for place, (tag, content) in kept.items():
             play.given[place][tag], play.acknowledged[place] = content, tag
-        play.asked, play.begun, play.numbers = (dict.fromkeys(SESSIONS, it) for it in (LAST, LAST, LAST_TAG))
+        play.before, play.asked, play.begun, play.numbers = (dict.fromkeys(SESSIONS, it) for it in (LAST, LAST, LAST, LAST_TAG))
     node, lives, turn = start(program, folder, environment), True, 0
     try:
         while lives and turn < TURNS:

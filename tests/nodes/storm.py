@@ -2,6 +2,8 @@
 clients that begin anew, nonsense, and a plan that gets a tenant more; all drawn from a seed. What each session was told of a
 file is kept as a history, and what each node was given and wrote, life by life.
 
+Which numbers nodes use, and which were reserved, is looked at in each line (reserved.Numbers).
+
 Nodes are led step by step (processes.Stepped), one after another, so that a seed makes the same storm again.
 """
 
@@ -14,6 +16,7 @@ sys.path.insert(0, os.path.join(HERE, "..", "linearizable"))
 sys.path.insert(0, os.path.join(HERE, "..", "..", "examples", "nodes"))
 from checker import is_linearizable
 from processes import MARKER, Stepped, Wrong, disk, get, lose_power, put, words_of
+from reserved import Numbers
 from spoiling import written
 from tenant import Session, homes
 
@@ -158,7 +161,7 @@ class Storm:
         self.write_plan()
         self.count, _ = homes(self.plan)
         self.turn = self.given = self.done = self.gone = self.deaths = self.processes = 0
-        self.events, self.tags = {}, {}
+        self.events, self.tags, self.numbers = {}, {}, Numbers()
         self.lives = [[] for _ in range(self.count)]
         self.ways = [[] for _ in range(self.count)]
         self.stale, self.clients, self.by_name = [], {}, {}
@@ -203,6 +206,7 @@ class Storm:
 
     def start(self, number):
         """Starts a node, whose disk may stop at some call."""
+        self.numbers.start(number, self.journal(number))
         words = words_of(self.program, number, "plan", self.journal(number), not os.path.exists(self.journal(number)))
         environment = None
         if self.library:
@@ -290,6 +294,7 @@ class Storm:
         self.alive(number).wrote.append(wrote)
         lines = wrote.split(b"\n")[:-1]  # (the last one is torn, or empty)
         for line in lines:
+            self.numbers.see(number, line)
             if line[:1].isdigit():
                 if b" store " in line or b" copy " in line:
                     words = line.split(b" ")

@@ -5,6 +5,7 @@ import random
 
 from journals import batches, sealed
 from processes import MARKER, WRONG, Wrong, ended, get, put, words_of
+from reserved import RUN
 
 PLAN = f"grid 2 2\nblocks 64\ntenant ann 16 4 1\ntenant bob 16 2 1\n{MARKER}go\nann open 4 2\nbob open 1 1\n".encode()
 HEAD = b"node 0 of 2 by 2\n" + PLAN
@@ -12,9 +13,9 @@ HEAD = b"node 0 of 2 by 2\n" + PLAN
 LINES = [
     line
     for at in (1, 2, 3)
-    for line in (b"0 ann read 1 %d 0 0\n" % at, b"0 ann abandon 1 %d\n" % at, b"0 2 ann 3 %d 2 0 %d store %d 3 %04x\n" % (at, at, 7 * at, at))
+    for line in (b"0 ann read 1 %d 0 0\n" % (RUN * at - RUN + 1), b"0 ann abandon 1 %d\n" % (RUN * at), b"0 2 ann 3 %d 2 0 %d store %d 3 %04x\n" % (at, at, 7 * at, at))
 ]
-QUESTIONS = b"".join(b"0 2 ann 3 9 1 0 %d ask\n" % file for file in range(4)) + b"0 ann abandon 1 9\n"
+QUESTIONS = b"".join(b"0 2 ann 3 9 1 0 %d ask\n" % file for file in range(4)) + b"0 ann abandon 1 9999\n"
 OTHER = b"gridfs: journal: of another node or plan\n"
 
 
@@ -49,9 +50,9 @@ class Journal:
             if fact.startswith(b"kept"):
                 words = fact.split(b" ")
                 copies[int(words[3])] = words[4:]
-        last = sum(fact.startswith(b"began") for fact in facts)
+        last = RUN * sum(fact.startswith(b"began") for fact in facts)
         answers = [b"2 0 ann 3 9 1 0 %d copy %s" % (file, b" ".join(copies.get(file, [b"0", b"0", b"-"]))) for file in range(4)]
-        wrote = b"\n".join([b" ?", *answers, b"ann 0 refused early 1 9 %d" % last, b""])
+        wrote = b"\n".join([b" ?", *answers, b"ann 0 refused early 1 9999 %d" % last, b""])
         cut = b"gridfs: journal: cut at byte %d\n" % end if is_cut else b""
         return 0, cut + b"gridfs: node 0 of 2 by 2: %d facts\n" % len(facts), wrote, self.whole[:end]
 
