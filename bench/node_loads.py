@@ -44,6 +44,8 @@ def resident(pid):
 class Load:
     """Sessions that each ask for the next operation once the last is done: half are writes, half reads, of any file."""
 
+    writes = 0.5
+
     def __init__(self, program, folder, rows, cols, **more):
         self.folder, plan = folder, os.path.join(folder, "plan")
         with open(plan, "w", encoding="ascii") as out:
@@ -65,7 +67,7 @@ class Load:
         name, number = session
         home, file = self.homes[name.decode(), number], self.draw.randrange(FILES)
         operation = self.numbers[session] = self.numbers.get(session, 0) + 1
-        kind, behind = (b"write", b" " + CONTENT) if self.draw.random() < 0.5 else (b"read", b"")
+        kind, behind = (b"write", b" " + CONTENT) if self.draw.random() < self.writes else (b"read", b"")
         self.begun[session] = time.perf_counter()
         self.carrier.send(b"%d %s %s %d %d 0 %d%s" % (home, name, kind, number, operation, file, behind))
 
