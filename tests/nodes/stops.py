@@ -1,5 +1,5 @@
 """One node, whose disk stops at each of its calls in turn, is full from it on, or fails at it: what the node acknowledged is there when
-it starts again, and no number is used twice.
+it starts again, and no number is used twice; so it is where it lives on behind a stop, and power is lost then.
 
 The node is number 3 of 2 by 2. Sessions 4 and 8 of ann have their home there; the other three servers are played here.
 """
@@ -17,6 +17,7 @@ HEAD = b"node 3 of 2 by 2\n" + PLAN
 FILES = [(0, 0), (0, 1), (0, 2), (0, 3), (1, 0), (1, 1)]
 SESSIONS = [4, 8]
 TURNS = 14
+LATER = 3  # turns of a second life
 TOO_HIGH = 4_000_000_000
 # A play has short contents and begins with no journal; or it begins with one that is written anew, of short facts or of large ones.
 SHORT, LONG_JOURNAL, LARGE = "short", "long", "large"
@@ -273,6 +274,23 @@ def stopped(program, library, folder, seed, kind, how, loses, again, lies):
             lose_power(os.path.join(folder, "journal"), draw)
         if stop:
             ended(words(program, folder), cwd=folder, env=disk(library, STOP=stop, **lie))
+    check_again(program, folder, play)
+
+
+def lived_on(program, library, folder, seed, kind, how):
+    """A play that is killed at a call. The node starts again, takes stores and is killed, and then power is lost: what it acknowledged in its
+    second life rests on all that this read, which has to be there too."""
+    play, _ = played(program, folder, seed, kind, disk(library, STOP=how))
+    node = start(program, folder, disk(library))
+    try:
+        for turn in range(TURNS, TURNS + LATER):
+            wrote, lives = node.step(b"".join(play.store(turn) + b"\n" for _ in range(2)))
+            if not lives:
+                raise Wrong("it ends in its second life")
+            play.hear(wrote)
+    finally:
+        node.kill()
+    lose_power(os.path.join(folder, "journal"), random.Random(f"{seed} {how} later"))
     check_again(program, folder, play)
 
 
