@@ -10,7 +10,7 @@ import socket
 from carrier import Lines
 
 READ = 65_536  # bytes of one read
-MOST_WAITING = 1 << 25  # bytes that may wait for one client, or of one line of it: a line of each of sixteen sessions, as long as lines may be
+MOST_WAITING = 16 * (2_097_407 + 1)  # bytes that may wait for one client, or of one line of it: a line of each of sixteen sessions, as long as lines may be
 
 
 class Caller:
@@ -88,7 +88,7 @@ class Callers:
         """Gives a line to each client of the tenant that it is to."""
         name = line.split(b" ", 1)[0]
         for caller in self.callers:
-            if caller.name == name and len(caller.waiting) + len(line) < MOST_WAITING:
+            if caller.name == name and len(caller.waiting) + len(line) + 1 <= MOST_WAITING:
                 caller.waiting += line + b"\n"
 
     def end(self):
