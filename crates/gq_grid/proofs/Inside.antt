@@ -6,7 +6,7 @@ use Rattle.gq_grid.specs.Grid.{Grid, Servers, server_at, is_full_row, is_full_co
 use Rattle.gq_grid.proofs.Meeting.{all_at, found_passes}
 
 -- of some numbers, one passes where any does
-one_of : (p : ℕ → Bool) (a n : ℕ) → list_any p (range_with_len a n) ≡ true → (x : ℕ) × (a ≤ x) × (x < a + n) × (p x ≡ true)
+pub one_of : (p : ℕ → Bool) (a n : ℕ) → list_any p (range_with_len a n) ≡ true → (x : ℕ) × (a ≤ x) × (x < a + n) × (p x ≡ true)
 one_of p a zero h = absurd (cc)
 one_of p a (suc n) h =
     elim (cases_Bool (p a)) [

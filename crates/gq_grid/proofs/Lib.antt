@@ -1,5 +1,6 @@
 pub mod Agreeing
 pub mod Meeting
 pub mod Inside
+pub mod Columns
 pub mod Ranges
 pub mod Same

@@ -1,7 +1,7 @@
 -- What makes covering sets quorums: any two of them meet (Maekawa 1985), and the chooser gives only such sets.
 -- What makes rows and columns split quorums: each row meets each column.
 use Rattle.std.specs.Prelude.{◌≡◌, ℕ, ◌*◌, ◌<◌, true, Some}
-use Rattle.gq_grid.specs.Grid.{Grid, Servers, Choice, covers, choose, choice_servers, has_row, has_column, least_row, least_column, row_servers, column_servers}
+use Rattle.gq_grid.specs.Grid.{Grid, Servers, Choice, covers, choose, choice_servers, share_column, has_row, has_column, least_row, least_column, row_servers, column_servers}
 
 -- any two sets that cover share a server of the grid
 abbrev pub CoveringSetsMeet : Type 0
@@ -28,3 +28,13 @@ RowUpIsRow = (grid : Grid) (up : Servers) (row : ℕ) → least_row grid up ≡ 
 abbrev pub ColumnUpIsColumn : Type 0
 ColumnUpIsColumn =
     (grid : Grid) (up : Servers) (col : ℕ) → least_column grid up ≡ Some col → has_column grid (column_servers grid col) ≡ true
+
+-- a set that has a full column has servers that have one, too, with each of which all that share its column are among them
+abbrev pub ColumnsHaveMates : Type 0
+ColumnsHaveMates =
+    (grid : Grid) (set : Servers) → has_column grid set ≡ true →
+    (some : Servers) × (has_column grid some ≡ true) × ((server : ℕ) → some server ≡ true → set server ≡ true) × ((server mate : ℕ) → some server ≡ true → share_column grid server mate ≡ true → some mate ≡ true)
+
+-- who shares a column with a server that shares one with a third shares one with that
+abbrev pub MatesOfMates : Type 0
+MatesOfMates = (grid : Grid) (server mate other : ℕ) → share_column grid server mate ≡ true → share_column grid mate other ≡ true → share_column grid server other ≡ true

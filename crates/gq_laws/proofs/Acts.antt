@@ -1,26 +1,29 @@
 -- What each accepted turn does: whose it is, and what follows from it. The one file that looks at how a step is made.
-use Rattle.std.proofs.Common.{◌≡◌, ◌≢◌, ◌⊎◌, ℕ, zero, suc, ◌+◌, Bool, true, false, ◌&&◌, List, [], ◌∷◌, length, map, refl, sym, ap, ◌∙◌, subst, inl, inr, Option, Some, None, not, eqb, nat_lt, ◌<◌}
+use Rattle.std.proofs.Common.{◌≡◌, ◌≢◌, ◌⊎◌, ℕ, zero, suc, ◌+◌, Bool, true, false, ◌&&◌, List, [], ◌∷◌, length, map, refl, sym, ap, ◌∙◌, subst, inl, inr, Option, Some, None, not, eqb, nat_lt, ◌<◌, arith}
 use Rattle.std.specs.Prelude.{Contains, slice_get, slice_index, ⊤, nat_le, if◌then◌else◌}
-use Rattle.std.proofs.lemmas.Bool.{cases_eq, eq-eqb, ne_eqb, eqb-true, and_parts, true≢false, ltb-true, not-false}
+use Rattle.std.specs.List.{list_any}
+use Rattle.std.proofs.lemmas.Bool.{cases_eq, eq-eqb, ne_eqb, eqb-true, and_parts, true≢false, ltb-true, not-false, or_parts}
 use Rattle.gq_grid.specs.Grid.{Grid, Servers, Choice}
 use Rattle.gq_tag.specs.declared.Tag.{Tag}
 use Rattle.gq_tag.specs.declared.StoredCopy.{StoredCopy}
 use Rattle.gq_tag.specs.declared.Body.TheVariants.{Ask, Copy, Store, Stored}
-use Rattle.gq_tag.specs.Tag.{OwnMessage, to_server, answer_body}
+use Rattle.gq_tag.specs.Tag.{File, OwnMessage, to_server, answer_body}
 use Rattle.gq_desk.specs.declared.plans.TenantRow.{TenantRow}
 use Rattle.gq_desk.specs.Volumes.{OpenFault, WrongSize, NoVolumeLeft, OverShare}
 use Rattle.gq_desk.specs.Volumes.{open_fault}
 use Rattle.gq_phase.specs.Phase.{Task, Writing, Reading, Listing, Operation, Heard, HeardStale, HeardNoted, HeardNext, HeardDone, hear, hear_current, with_reply, is_current, round_quorum, round_messages, messages_to, heard_servers}
 use Rattle.gq_phase.specs.declared.Outcome.{Outcome}
-use Rattle.gq_model.specs.Trace.{files_of, Past, up_by, Turn, Own, Serving, Leaping, Entry, Trace, Elsewhere, Begins, Hears, Moves, Ends, Leaps, deed, is_lost, sent, up, task_of, volumes, questions, session, operation_with, account_of, State}
+use Rattle.gq_phase.specs.Quorums.{are_mates}
+use Rattle.gq_model.specs.Trace.{files_of, Past, up_by, Turn, Own, Serving, Leaping, Losing, Returning, Entry, is_loss, lacks, serves, Trace, Elsewhere, Begins, Hears, Moves, Ends, Leaps, deed, is_lost, sent, up, task_of, volumes, questions, session, operation_with, account_of, State}
 use Rattle.gq_model.specs.declared.events.Line.{Line}
 use Rattle.gq_model.specs.declared.events.ServerLine.{ServerLine}
 use Rattle.gq_model.specs.declared.events.Line.TheVariants.{Bad, Quorum, NewVolume, Volumes, Write, Read, List as ListFiles, Deliver, Lose, Retry, Abandon}
-use Rattle.gq_model.specs.Told.{Told, Opened, Began, Replied, Noted, Round, Done, Resent, Abandoned, Refused, ServerOk}
-use Rattle.gq_model.specs.Lone.{after, said, step_at, entry_of, is_refusal, server_refusal, server_told, choice_told, open_told, lose_told, deliver_step, first_operation, reply_to, Step, Cause, unless, first_cause, session_causes, session_step, line_step, no_session, busy, no_volume, no_quorum}
+use Rattle.gq_model.specs.Told.{Told, Opened, Began, Replied, Noted, Round, Done, Resent, Abandoned, Refused, ServerOk, ServerRefused}
+use Rattle.gq_model.specs.Lone.{after, said, step_at, entry_of, is_refusal, is_awaited, is_counted, loss_told, equal_copies, return_told, server_refusal, server_told, choice_told, open_told, lose_told, deliver_step, first_operation, reply_to, Step, Cause, unless, first_cause, session_causes, session_step, line_step, no_session, busy, no_volume, no_quorum}
 use Rattle.gq_model.specs.declared.events.Refusal.{Refusal}
-use Rattle.gq_model.specs.declared.events.Refusal.TheVariants.{Busy}
+use Rattle.gq_model.specs.declared.events.Refusal.TheVariants.{Busy, NoMessage}
 use Rattle.gq_model.specs.declared.events.ServerRefusal.{ServerRefusal}
+use Rattle.gq_model.specs.declared.events.ServerRefusal.TheVariants.{Same}
 use Rattle.gq_laws.proofs.Words.{delivered, message_at, step_on, current, op, round, held}
 use Rattle.gq_laws.specs.Operations.{session_of}
 use Rattle.gq_laws.proofs.Runs.{Follows}
@@ -179,7 +182,7 @@ pub record Comes (t : Trace) (k : ℕ) (l : OwnMessage) (task : Task) : Type 0 w
 -- what an entry does in session k
 pub data Doing (grid : Grid) (t : Trace) (e : Entry) (k : ℕ) : Type 0 where
   Requests : (line : Line) (task : Task) (first : ℕ) → e.turn ≡ Own line → task_of (volumes t) line ≡ Some task → deed k e ≡ Begins line → e.told ≡ Began (op t k + 1) first (length e.new) → e.new ≡ round_messages grid (up t) (first_round t k task) → Doing grid t e k
-  Serves : (l : OwnMessage) (n : ℕ) → Contains (sent t) l → l.session ≡ k → to_server l.body ≡ true → up t l.server ≡ true → e.message ≡ Some l → deed k e ≡ Elsewhere → e.told ≡ Replied n → e.new ≡ back t l ∷ [] → Doing grid t e k
+  Serves : (l : OwnMessage) (n : ℕ) → Contains (sent t) l → l.session ≡ k → to_server l.body ≡ true → serves (up t) (lacks t) l.server l.file ≡ true → e.message ≡ Some l → deed k e ≡ Elsewhere → e.told ≡ Replied n → e.new ≡ back t l ∷ [] → Doing grid t e k
   Notes : (l : OwnMessage) (task : Task) → Comes t k l task → deed k e ≡ Hears l → e.told ≡ Noted → e.new ≡ [] → Doing grid t e k
   Turns : (l : OwnMessage) (task : Task) (r : ℕ) (tag : Option Tag) (first : ℕ) → Comes t k l task → e.message ≡ Some l → deed k e ≡ Moves l r tag → e.told ≡ Round r tag first (length e.new) → hear_current grid (up t) (with_reply (going t k task) l) ≡ HeardNext r tag e.new → Doing grid t e k
   Finishes : (l : OwnMessage) (task : Task) (outcome : Outcome) → Comes t k l task → deed k e ≡ Ends → e.told ≡ Done outcome → e.new ≡ [] → hear_current grid (up t) (with_reply (going t k task) l) ≡ HeardDone outcome → Doing grid t e k
@@ -194,6 +197,48 @@ pub record Act (grid : Grid) (t : Trace) (e : Entry) : Type 0 where
   pub about : session_of (sessions (sent t)) e.turn ≡ k
   pub others : (s : ℕ) → k ≢ s → deed s e ≡ Elsewhere
   pub what : Doing grid t e k
+
+-- ---- what no turn takes
+
+-- a test that fails of all fails of each
+none_passes : (p : OwnMessage → Bool) (ms : List OwnMessage) (m : OwnMessage) → list_any p ms ≡ false → Contains ms m → p m ≡ false
+none_passes p [] m none within = absurd (omega (arith, within.1))
+none_passes p (x ∷ ms) m none (zero, low, is) = let P : OwnMessage → Type 0 = λ z. p z ≡ false in subst P is (or_parts (p x) (list_any p ms) none).0
+none_passes p (x ∷ ms) m none (suc i, low, is) = none_passes p ms m (or_parts (p x) (list_any p ms) none).1 (i, omega arith, is)
+
+-- no copy is lost at a server of which a reply of session k's operation and round was sent
+pub awaited_kept : (grid : Grid) (row : TenantRow) (t : Trace) (e : Entry) (k : ℕ) (l : OwnMessage) (task : Task) → Follows grid row t e → Comes t k l task → is_loss e.turn l.server l.file ≡ false
+awaited_kept grid row t e k l task follows comes = go e.turn e.message e.told e.new follows
+  where
+    -- the session of the reply awaits it
+    awaited : is_awaited (session t l.session) l ≡ true
+    awaited =
+        let busy_there : current t l.session ≡ Some task = ap (current t) comes.its ∙ comes.busy in
+        let same_op : l.op ≡ op t l.session = comes.same_op ∙ ap (op t) (sym comes.its) in
+        let same_round : l.round ≡ round t l.session = comes.same_round ∙ ap (round t) (sym comes.its) in
+        rw (busy_there, eq-eqb l.op (op t l.session) same_op, eq-eqb l.round (round t l.session) same_round) refl
+
+    by : (turn : Turn) (said : Told) → loss_told (questions t) turn ≡ said → is_refusal said ≡ false → (b : Bool) → list_any (is_counted (questions t) turn) (sent t) ≡ b → is_loss turn l.server l.file ≡ false
+    by turn said told fine true found = absurd (let is : Refused Busy ≡ said = rw found at told in true≢false (ap is_refusal is ∙ fine))
+    by turn said told fine false none =
+        let not_counted : is_counted (questions t) turn l ≡ false = none_passes (is_counted (questions t) turn) (sent t) l none comes.inside in
+        uncounted (is_loss turn l.server l.file) (rw (comes.reply, awaited) at not_counted)
+      where
+        uncounted : (b : Bool) → b && true ≡ false → b ≡ false
+        uncounted true h = h
+        uncounted false h = refl
+
+    go : (turn : Turn) (message : Option OwnMessage) (said : Told) (new : List OwnMessage) → Follows grid row t (record { turn = turn; message = message; told = said; new = new }) → is_loss turn l.server l.file ≡ false
+    go (Losing s volumes) message said new f = by (Losing s volumes) said f.told f.accepted (list_any (is_counted (questions t) (Losing s volumes)) (sent t)) refl
+    go (Own line) message said new f = refl
+    go (Serving line) message said new f = refl
+    go (Leaping s last number) message said new f = refl
+    go (Returning s file mate copy) message said new f = refl
+
+-- an entry that delivers a message is of a line that does
+pub delivers_by : (grid : Grid) (row : TenantRow) (t : Trace) (turn : Turn) (message : Option OwnMessage) (l : OwnMessage) → message ≡ delivered t turn → message ≡ Some l → (n : ℕ) × (turn ≡ Own (Deliver n))
+delivers_by grid row t (Own (Deliver n)) message l comes is = (n, refl)
+delivers_by grid row t _ message l comes is = absurd (let bad : None ≡ Some l = sym comes ∙ is in cc)
 
 session_at : (ms : List OwnMessage) (n : ℕ) (l : OwnMessage) → slice_get ms n ≡ Some l → slice_index (sessions ms) n ≡ l.session
 session_at [] n l h = absurd (let bad : None ≡ Some l = h in cc)
@@ -213,7 +258,7 @@ deliver_act grid t n (Some l) found = go (to_server l.body) refl
     within : Contains (sent t) l
     within = contains_at (sent t) n l (message_sent t n l found)
 
-    served : to_server l.body ≡ true → (b : Bool) → up t l.server ≡ b → Doing grid t x l.session
+    served : to_server l.body ≡ true → (b : Bool) → serves (up t) (lacks t) l.server l.file ≡ b → Doing grid t x l.session
     served e true is = Serves l (length (sent t)) within refl e is refl (rw e) (rw (e, is)) (rw (e, is))
     served e false is = Silent (rw e) (rw (e, is) tt) (rw (e, is))
 
@@ -236,7 +281,7 @@ deliver_act grid t n (Some l) found = go (to_server l.body) refl
     in_session e (Some task) busy = by e task busy (is_current (going t l.session task) l) refl (hear grid (up t) (going t l.session task) l) refl
 
     go : (b : Bool) → to_server l.body ≡ b → Act grid t x
-    go true e = record { k = l.session; about = deliver_about t n l found; others = λ s ne. rw e; what = served e (up t l.server) refl }
+    go true e = record { k = l.session; about = deliver_about t n l found; others = λ s ne. rw e; what = served e (serves (up t) (lacks t) l.server l.file) refl }
     go false e = record { k = l.session; about = deliver_about t n l found; others = λ s ne. rw (e, ne_eqb l.session s ne); what = in_session e (current t l.session) refl }
 
 retry_act : (grid : Grid) (row : TenantRow) (t : Trace) (k : ℕ) → Doing grid t (own_entry grid row t (Retry k)) k
@@ -303,6 +348,26 @@ leap_act grid row t k last number message said new f = by (current t k) refl
         let is : Refused Busy ≡ said = rw busy at told in
         absurd (true≢false (ap is_refusal is ∙ f.accepted))
 
+-- a turn that is told what no session is told, and sends nothing
+silent_act : (grid : Grid) (row : TenantRow) (t : Trace) (turn : Turn) (message : Option OwnMessage) (said : Told) (new : List OwnMessage) → ((s : ℕ) → deed s (record { turn = turn; message = message; told = said; new = new }) ≡ Elsewhere) → session_of (sessions (sent t)) turn ≡ 0 → IsPassive said → [] ≡ new →
+    Act grid t (record { turn = turn; message = message; told = said; new = new })
+silent_act grid row t turn message said new none about passive is = record { k = 0; about = about; others = λ s ne. none s; what = Silent (none 0) passive (sym is) }
+
+loss_passive : (state : State) (turn : Turn) → IsPassive (loss_told state turn)
+loss_passive state turn = by (list_any (is_counted state turn) state.sent)
+  where
+    by : (b : Bool) → IsPassive (if b then Refused Busy else ServerOk)
+    by true = tt
+    by false = tt
+
+return_passive : (grid : Grid) (state : State) (server : ℕ) (file : File) (mate : ℕ) (copy : StoredCopy) → IsPassive (return_told grid state server file mate copy)
+return_passive grid state server file mate copy = by (not (state.lacks server file)) (are_mates grid server mate && list_any (equal_copies copy) (state.shown server file mate))
+  where
+    by : (b c : Bool) → IsPassive (if b then ServerRefused Same else if c then ServerOk else Refused NoMessage)
+    by true c = tt
+    by false true = tt
+    by false false = tt
+
 -- and what each entry of a run does
 pub act : (grid : Grid) (row : TenantRow) (t : Trace) (e : Entry) → Follows grid row t e → Act grid t e
 act grid row t e follows = go e.turn e.message e.told e.new follows
@@ -313,6 +378,12 @@ act grid row t e follows = go e.turn e.message e.told e.new follows
         let P : Told → Type 0 = λ x. IsPassive x in
         record { k = 0; about = refl; others = λ s ne. refl; what = Silent refl (subst P f.told (server_said grid (up t) line)) (sym f.new) }
     go (Leaping k last number) message said new f = leap_act grid row t k last number message said new f
+    go (Losing s volumes) message said new f =
+        let P : Told → Type 0 = λ x. IsPassive x in
+        silent_act grid row t (Losing s volumes) message said new (λ k. refl) refl (subst P f.told (loss_passive (questions t) (Losing s volumes))) f.new
+    go (Returning s file mate copy) message said new f =
+        let P : Told → Type 0 = λ x. IsPassive x in
+        silent_act grid row t (Returning s file mate copy) message said new (λ k. refl) refl (subst P f.told (return_passive grid (questions t) s file mate copy)) f.new
 
 -- the reply with which a round of session k ends
 pub record Turning (grid : Grid) (t : Trace) (e : Entry) (k r : ℕ) (tag : Option Tag) : Type 0 where

@@ -16,7 +16,7 @@ use Rattle.gq_laws.proofs.Words.{floor}
 use Rattle.gq_laws.specs.declared.ops.Op.{Op}
 use Rattle.gq_laws.specs.Operations.{answered, operations, SessionAnswer, opened_in, begun_in, is_write, Gives, Precedes, At, WroteWith, Tagged}
 use Rattle.gq_laws.proofs.Runs.{IsKnown, Settled, Extends, op_start}
-use Rattle.gq_laws.proofs.Reaching.{reach_between, reach_first, reach_same, reach_extends, reach_floor}
+use Rattle.gq_laws.proofs.Reaching.{reach_between, reach_first, reach_same, reach_run, reach_extends, reach_floor}
 use Rattle.gq_laws.proofs.Telling.{tells}
 use Rattle.gq_laws.proofs.Beginnings.{OpAt, op_at, begins_differ}
 use Rattle.gq_laws.proofs.Sessions.{settled_since}
@@ -84,7 +84,7 @@ same_moment grid row turns file a b s t tag A B = go (cases_lt A.m B.m) (cases_l
 -- what was settled when an operation ended is settled when a later one begins
 settled_later : (grid : Grid) (row : TenantRow) (turns : List Turn) (file : File) (a b : Op) (s : Trace) (e : ℕ) (A : Completed grid row file start 0 turns a s e) (w : OpMoment grid row turns file b) → e < b.begin → Settled grid w.q.trace file A.c.tag
 settled_later grid row turns file a b s e A w low =
-    settled_since grid w.q.trace A.q.trace file A.c.tag (reach_extends (reach_between A.reach w.reach (omega (arith, w.begun.begin)))) A.settled
+    settled_since grid row w.q.trace A.q.trace file A.c.tag (reach_run w.reach tt) (reach_extends (reach_between A.reach w.reach (omega (arith, w.begun.begin)))) A.settled
 
 is_tag_of : (tags : Option Tag) (x y : Tag) → tags ≡ Some x → tags ≡ Some y → x ≡ y
 is_tag_of tags x y p q = let both : Some x ≡ Some y = sym p ∙ q in cc

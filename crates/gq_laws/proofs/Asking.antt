@@ -15,7 +15,7 @@ use Rattle.gq_model.specs.Trace.{Own, Entry, Trace, Past, State, Begins, Ends, d
 use Rattle.gq_model.specs.Lone.{Cause, Step, begin_step, message_of_turn, after, said, past_of, is_refusal, first_operation, first_cause, session_causes, session_step, line_step, step_at, unless, quiet, no_session, busy, no_volume, no_file, too_long, no_quorum}
 use Rattle.gq_model.proofs.Changes.{operation_begins, operation_ends}
 use Rattle.gq_model.specs.Events.{IsRequestOf}
-use Rattle.gq_laws.specs.Progress.{Completes, QuorumsUp, deliveries_left, AllRequestsComplete, Frees, AllMayAbandon}
+use Rattle.gq_laws.specs.Progress.{Completes, QuorumsUp, HaveFiles, deliveries_left, AllRequestsComplete, Frees, AllMayAbandon}
 use Rattle.gq_laws.proofs.Words.{current}
 use Rattle.gq_laws.proofs.Runs.{IsRun}
 use Rattle.gq_laws.proofs.Acts.{accepted_step, line_is, step_line}
@@ -49,8 +49,8 @@ sends grid row state k (ListFiles s v) task its asks = ap (λ z. (begin_step gri
 sends grid row state k other task its asks = absurd its
 
 request_completes : (grid : Grid) (row : TenantRow) (p : Past) (k : ℕ) (line : Line) (task : Task) → IsRun grid row p.trace → IsRequestOf k line → task_of (volumes p.trace) line ≡ Some task → is_refusal (said grid row p (Own line)) ≡ false →
-    QuorumsUp grid (up p.trace) → p.lines + (1 + deliveries_left grid (first_operation (questions p.trace) k task)) ≤ row.steps → Completes grid row p (first_operation (questions p.trace) k task) line
-request_completes grid row p k line task run its asks accepted q steps = completes_after grid row p o line e q goes ready steps
+    QuorumsUp grid (up p.trace) → HaveFiles (questions p.trace) → p.lines + (1 + deliveries_left grid (first_operation (questions p.trace) k task)) ≤ row.steps → Completes grid row p (first_operation (questions p.trace) k task) line
+request_completes grid row p k line task run its asks accepted q have steps = completes_after grid row p o line e q goes ready steps
   where
     t : Trace
     t = p.trace
@@ -80,6 +80,7 @@ request_completes grid row p k line task run its asks accepted q steps = complet
     standing = record {
       run = goes.run run;
       up_is = refl;
+      whole = have;
       busy = has_now.busy;
       is = has_now.is;
       kept = λ n late. keeps k line (is_lost t) n its ∙ not_lost grid row t run n late;
@@ -90,7 +91,7 @@ request_completes grid row p k line task run its asks accepted q steps = complet
     ready = round_deliverable grid row (up t) (length (sent t)) (with_entry p e) o (sent t) s.new q standing refl (omega arith) (sends grid row (questions t) k line task its asks)
 
 pub all_requests_complete : AllRequestsComplete
-all_requests_complete grid row turns k line task its asks accepted q steps = request_completes grid row (past_of grid row turns) k line task (past_run grid row turns) its asks accepted q steps
+all_requests_complete grid row turns k line task its asks accepted q have steps = request_completes grid row (past_of grid row turns) k line task (past_run grid row turns) its asks accepted q have steps
 
 -- ---- what is abandoned
 

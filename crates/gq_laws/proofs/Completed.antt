@@ -111,7 +111,7 @@ final grid row p n es k task m outcome begin run start E = go (done_of grid (up 
     go (BySkip odd ends skips is) =
         let cs : List StoredCopy = collected t k ++ decided_copy o ∷ [] in
         let settled = skip_settled grid t task (round t k) (collected t k) (decided_copy o) (collect_number (round t k) (length (collected t k)) odd h.standing) (skip_settles grid row t run' k E.l task E.comes skips) in
-        final_from grid t task (2 * length cs) [] (with_decided o) (record { op = op_start t k; round = t }) begin outcome refl is (E.start ∙ start) (skip_holds grid t o (starts t k) t h odd ends skips (starts_along t k).0) (even_is (length cs)) settled
+        final_from grid t task (2 * length cs) [] (with_decided o) (record { op = op_start t k; round = t }) begin outcome refl is (E.start ∙ start) (skip_holds grid row t o (starts t k) t run' h odd ends skips (starts_along t k).0) (even_is (length cs)) settled
 
 is_end : (en : Option (ℕ × Outcome)) (e : ℕ) → end_place en ≡ Some e → (outcome : Outcome) × (en ≡ Some (e, outcome))
 is_end None e h = absurd (let bad : None ≡ Some e = h in cc)
@@ -297,7 +297,7 @@ made_tag grid row file p n es a tag run o writes tagged = go o.begun.like
         let both : Some tag ≡ Some new = tag_is in
         let same : tag ≡ new = cc in
         let made = new_tag grid row t T.g.e k file bytes T.l T.r tag T.g.follows T.does T.comes.busy in
-        let least : (other : Tag) → Settled grid (op_start t k) file other → is_less other new ≡ true = λ other s. number_above other (greatest (heard_copies hs)).tag k (floor t k) (greatest_least grid t (Writing file bytes) (round t k) hs (collected t k) (starts t k) other h odd ends s) in
+        let least : (other : Tag) → Settled grid (op_start t k) file other → is_less other new ≡ true = λ other s. number_above other (greatest (heard_copies hs)).tag k (floor t k) (greatest_least grid row t (Writing file bytes) (round t k) hs (collected t k) (starts t k) other run'' h odd ends s) in
         let P : Trace → Tag → Type 0 = λ z y. (other : Tag) → Settled grid z file other → is_less other y ≡ true in
         record {
           m = m;

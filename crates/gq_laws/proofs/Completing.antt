@@ -20,7 +20,7 @@ use Rattle.gq_model.specs.declared.events.Line.TheVariants.{Deliver, Retry}
 use Rattle.gq_model.specs.Told.{Told, Noted, Done}
 use Rattle.gq_model.specs.Trace.{Turn, Own, Entry, Trace, Past, questions, sent, up, operation}
 use Rattle.gq_model.specs.Lone.{after, is_refusal, told_from, heard_step, past_of}
-use Rattle.gq_laws.specs.Progress.{IsOutcomeOf, Completes, QuorumsUp, rounds_left, deliveries_left, AllOperationsComplete}
+use Rattle.gq_laws.specs.Progress.{IsOutcomeOf, Completes, QuorumsUp, HaveFiles, rounds_left, deliveries_left, AllOperationsComplete}
 use Rattle.gq_laws.proofs.Acts.{going, back}
 use Rattle.gq_laws.proofs.Runs.{IsRun}
 use Rattle.gq_laws.proofs.Words.{current}
@@ -403,14 +403,14 @@ has_operation t k o has = by (current t k) refl
         let same : going t k task ≡ o = cc in
         subst P same (record { session = refl; busy = busy; is = refl })
 
-retry_completes : (grid : Grid) (row : TenantRow) (p : Past) → IsRun grid row p.trace → (o : Operation) → HasOperation p.trace o.session o → QuorumsUp grid (up p.trace) → p.lines + (1 + deliveries_left grid o) ≤ row.steps → Completes grid row p o (Retry o.session)
-retry_completes grid row p run o s q steps = completes_after grid row p o (Retry o.session) e q retried.0 ready steps
+retry_completes : (grid : Grid) (row : TenantRow) (p : Past) → IsRun grid row p.trace → (o : Operation) → HasOperation p.trace o.session o → QuorumsUp grid (up p.trace) → HaveFiles (questions p.trace) → p.lines + (1 + deliveries_left grid o) ≤ row.steps → Completes grid row p o (Retry o.session)
+retry_completes grid row p run o s q have steps = completes_after grid row p o (Retry o.session) e q retried.0 ready steps
   where
     alive : Servers
     alive = up p.trace
 
     standing : Ongoing grid row alive (length (sent p.trace)) p o
-    standing = record { run = run; up_is = refl; busy = s.busy; is = s.is; kept = not_lost grid row p.trace run; low = omega arith }
+    standing = record { run = run; up_is = refl; whole = have; busy = s.busy; is = s.is; kept = not_lost grid row p.trace run; low = omega arith }
 
     q_of : (quorum : Servers) × (round_quorum grid alive o.round ≡ Some quorum)
     q_of = quorum_of grid alive o.round q
@@ -435,8 +435,8 @@ retry_completes grid row p run o s q steps = completes_after grid row p o (Retry
     ready = sent_deliverable grid row alive (length (sent p.trace)) (with_entry p e) o q_of.0 unheard (sent p.trace) retried.1 q_of.1 refl (omega arith) (λ server is. (and_parts (q_of.0 server) (not (heard_servers o.heard server)) is).0) all
 
 pub all_operations_complete : AllOperationsComplete
-all_operations_complete grid row turns k o has q steps =
+all_operations_complete grid row turns k o has q have steps =
     let p : Past = past_of grid row turns in
     let s = has_operation p.trace k o has in
     let P : ℕ → Type 0 = λ z. Completes grid row p o (Retry z) in
-    subst P s.session (retry_completes grid row p (past_run grid row turns) o (record { session = refl; busy = s.busy; is = s.is }) q steps)
+    subst P s.session (retry_completes grid row p (past_run grid row turns) o (record { session = refl; busy = s.busy; is = s.is }) q have steps)

@@ -1,18 +1,31 @@
--- What a server holds never goes back.
-use Rattle.std.proofs.Common.{◌≡◌, ℕ, Bool, true, false, ◌&&◌, List, [], ◌∷◌, ◌++◌, Option, Some, None, refl, sym, ap, ◌∙◌, subst, append_assoc}
-use Rattle.std.specs.Prelude.{fold, unwrap_or, ◌==◌}
+-- What a server holds goes back only where it is lost, and what it keeps never does.
+use Rattle.std.proofs.Common.{◌≡◌, ◌⊎◌, ℕ, zero, suc, ◌+◌, Bool, true, false, ◌&&◌, ◌||◌, not, List, [], ◌∷◌, ◌++◌, Option, Some, None, refl, sym, ap, ◌∙◌, subst, inl, inr, append_assoc, eqb, nat_lt, arith}
+use Rattle.std.specs.Prelude.{Contains, fold, unwrap_or, ◌==◌, if◌then◌else◌}
+use Rattle.std.specs.List.{list_any}
+use Rattle.std.specs.Str.{bytes_eq}
+use Rattle.std.proofs.lemmas.Bool.{true≢false, and_parts, eq-eqb, eqb-true}
 use Rattle.std.proofs.lemmas.List.{append-nil}
+use Rattle.std.proofs.lemmas.List.Elements.{Contains-append_cases}
+use Rattle.std.proofs.lemmas.Slice.Eq.{bytes_eq-Decides}
 use Rattle.std.proofs.lemmas.List.Sums.{fold-append}
-use Rattle.gq_grid.specs.Grid.{Servers}
+use Rattle.gq_grid.specs.Grid.{Grid}
+use Rattle.gq_tag.specs.declared.Tag.{Tag}
 use Rattle.gq_tag.specs.declared.StoredCopy.{StoredCopy}
 use Rattle.gq_tag.specs.declared.Body.{Body}
 use Rattle.gq_tag.specs.declared.Body.TheVariants.{Ask, Copy, Store, Stored}
 use Rattle.gq_tag.specs.Tag.{File, is_file, OwnMessage, newer_of, greatest, first_copy}
-use Rattle.gq_tag.proofs.Order.{IsAtMost, at_most_refl, at_most_trans, newer_of-left}
+use Rattle.gq_tag.proofs.Order.{IsAtMost, at_most_refl, at_most_trans, newer_of-left, newer_of-right}
 use Rattle.gq_tag.proofs.Greatest.{latest-cons}
-use Rattle.gq_model.specs.Trace.{Entry, Trace, up, brought, brought_by}
-use Rattle.gq_laws.proofs.Words.{held}
-use Rattle.gq_laws.proofs.Runs.{Extends, HeldBetween}
+use Rattle.gq_desk.specs.declared.plans.TenantRow.{TenantRow}
+use Rattle.gq_phase.specs.Quorums.{are_mates}
+use Rattle.gq_phase.proofs.Meeting.{mates_of_mates}
+use Rattle.gq_model.specs.Told.{Told, Refused, ServerRefused}
+use Rattle.gq_model.specs.declared.events.Refusal.TheVariants.{NoMessage}
+use Rattle.gq_model.specs.declared.events.ServerRefusal.TheVariants.{Same}
+use Rattle.gq_model.specs.Trace.{Turn, Own, Serving, Leaping, Losing, Returning, Entry, Trace, up, is_loss, lacks, lacks_by, serves, stored_by, left_by, brought, copy_of, shown, questions}
+use Rattle.gq_model.specs.Lone.{equal_copies, return_told, is_refusal}
+use Rattle.gq_laws.proofs.Words.{held, step_on}
+use Rattle.gq_laws.proofs.Runs.{Extends, Follows, IsRun, Keeps, HeldBetween}
 
 -- ---- the greatest of some copies
 
@@ -34,45 +47,228 @@ greatest_more c copies more =
     let whole : fold newer_of (fold newer_of c copies) more ≡ greatest (c ∷ copies ++ more) = sym (fold-append newer_of c copies more) ∙ sym (greatest-cons c (copies ++ more)) in
     subst (λ a. P a (greatest (c ∷ copies ++ more))) (sym (greatest-cons c copies)) (subst (λ b. P (fold newer_of c copies) b) whole (fold_grows (fold newer_of c copies) more))
 
+-- ---- what a turn does to a server's copy of a file
+
+-- the turn gives the server the file again
+pub record Gift (turn : Turn) (server : ℕ) (file : File) : Type 0 where
+  pub mate : ℕ
+  pub copy : StoredCopy
+  pub turn_is : turn ≡ Returning server file mate copy
+
+-- the copy is lost, or given, or it is as it was
+pub data Copying (turn : Turn) (server : ℕ) (file : File) : Type 0 where
+  Loses : is_loss turn server file ≡ true → Copying turn server file
+  Gains : Gift turn server file → Copying turn server file
+  Leaves : is_loss turn server file ≡ false → ((before : ℕ → File → Bool) → lacks_by turn before server file ≡ before server file) → ((before : ℕ → File → List StoredCopy) → left_by turn before server file ≡ before server file) → Copying turn server file
+
+pub copying : (turn : Turn) (server : ℕ) (file : File) → Copying turn server file
+copying (Own line) server file = Leaves refl (λ before. refl) (λ before. refl)
+copying (Serving line) server file = Leaves refl (λ before. refl) (λ before. refl)
+copying (Leaping k op number) server file = Leaves refl (λ before. refl) (λ before. refl)
+copying (Losing s volumes) server file = by (is_loss (Losing s volumes) server file) refl
+  where
+    by : (b : Bool) → is_loss (Losing s volumes) server file ≡ b → Copying (Losing s volumes) server file
+    by true is = Loses is
+    by false is = Leaves is (λ before. rw is) (λ before. rw is)
+copying (Returning s f mate copy) server file = by (eqb s server && is_file f file) refl
+  where
+    given : eqb s server && is_file f file ≡ true → Gift (Returning s f mate copy) server file
+    given h =
+        let both = and_parts (eqb s server) (is_file f file) h in
+        let files = and_parts (eqb f.volume file.volume) (eqb f.place file.place) both.1 in
+        record {
+          mate = mate;
+          copy = copy;
+          turn_is = λ i. Returning (eqb-true s server both.0 i) (record { volume = eqb-true f.volume file.volume files.0 i; place = eqb-true f.place file.place files.1 i }) mate copy;
+        }
+
+    kept : (b : Bool) → b && true ≡ b
+    kept true = refl
+    kept false = refl
+
+    by : (b : Bool) → eqb s server && is_file f file ≡ b → Copying (Returning s f mate copy) server file
+    by true h = Gains (given h)
+    by false h = Leaves refl (λ before. rw h (kept (before server file))) (λ before. rw h)
+
+-- a server whose copy is lost lacks the file
+pub loss_lacks : (turn : Turn) (before : ℕ → File → Bool) (server : ℕ) (file : File) → is_loss turn server file ≡ true → lacks_by turn before server file ≡ true
+loss_lacks (Losing s volumes) before server file is = rw is
+loss_lacks (Own line) before server file is = absurd (true≢false (sym is))
+loss_lacks (Serving line) before server file is = absurd (true≢false (sym is))
+loss_lacks (Leaping k op number) before server file is = absurd (true≢false (sym is))
+loss_lacks (Returning s f mate copy) before server file is = absurd (true≢false (sym is))
+
+-- a server that lacks the file lacked it before, or its copy is lost now
+pub lacked : (turn : Turn) (before : ℕ → File → Bool) (server : ℕ) (file : File) → is_loss turn server file ≡ false → lacks_by turn before server file ≡ true → before server file ≡ true
+lacked (Own line) before server file is h = h
+lacked (Serving line) before server file is h = h
+lacked (Leaping k op number) before server file is h = h
+lacked (Losing s volumes) before server file is h = rw is at h
+lacked (Returning s f mate copy) before server file is h = (and_parts (before server file) (not (eqb s server && is_file f file)) h).0
+
+-- ---- a copy that is given
+
+same_copy : (a b : StoredCopy) → equal_copies a b ≡ true → a ≡ b
+same_copy a b h =
+    let parts = and_parts (eqb a.tag.number b.tag.number && eqb a.tag.session b.tag.session) (bytes_eq a.bytes b.bytes) h in
+    let tags = and_parts (eqb a.tag.number b.tag.number) (eqb a.tag.session b.tag.session) parts.0 in
+    let bytes : a.bytes ≡ b.bytes = (bytes_eq-Decides a.bytes b.bytes).0 parts.1 in
+    λ i. record { tag = record { number = eqb-true a.tag.number b.tag.number tags.0 i; session = eqb-true a.tag.session b.tag.session tags.1 i }; bytes = bytes i }
+
+is_among : (copy : StoredCopy) (copies : List StoredCopy) → list_any (equal_copies copy) copies ≡ true → Contains copies copy
+is_among copy [] h = absurd (true≢false (sym h))
+is_among copy (c ∷ copies) h = by (equal_copies copy c) refl
+  where
+    by : (b : Bool) → equal_copies copy c ≡ b → Contains (c ∷ copies) copy
+    by true same = (0, omega arith, sym (same_copy copy c same))
+    by false other = let later = is_among copy copies (rw other at h) in (later.0 + 1, omega (arith, later.1), later.2)
+
+-- the server lacked the file, and a mate of it showed the copy
+pub record IsShown (grid : Grid) (t : Trace) (server : ℕ) (file : File) (mate : ℕ) (copy : StoredCopy) : Type 0 where
+  pub lacked : lacks t server file ≡ true
+  pub mates : are_mates grid server mate ≡ true
+  pub among : Contains (shown t server file mate) copy
+
+pub given_shown : (grid : Grid) (row : TenantRow) (t : Trace) (e : Entry) (server : ℕ) (file : File) → Follows grid row t e → (g : Gift e.turn server file) → IsShown grid t server file g.mate g.copy
+given_shown grid row t e server file follows g = by (lacks t server file) refl (are_mates grid server g.mate && list_any (equal_copies g.copy) (shown t server file g.mate)) refl
+  where
+    told : return_told grid (questions t) server file g.mate g.copy ≡ e.told
+    told = sym (ap (λ z. (step_on grid row follows.lines t z).told) g.turn_is) ∙ follows.told
+
+    refused : (word : Told) → is_refusal word ≡ true → return_told grid (questions t) server file g.mate g.copy ≡ word → ⊥
+    refused word bad is = true≢false (sym bad ∙ ap is_refusal (sym is ∙ told) ∙ follows.accepted)
+
+    by : (b : Bool) → lacks t server file ≡ b → (c : Bool) → (are_mates grid server g.mate && list_any (equal_copies g.copy) (shown t server file g.mate)) ≡ c → IsShown grid t server file g.mate g.copy
+    by false has c h = absurd (refused (ServerRefused Same) refl (rw has))
+    by true lack false h = absurd (refused (Refused NoMessage) refl (rw (lack, h)))
+    by true lack true h =
+        let both = and_parts (are_mates grid server g.mate) (list_any (equal_copies g.copy) (shown t server file g.mate)) h in
+        record { lacked = lack; mates = both.0; among = is_among g.copy (shown t server file g.mate) both.1 }
+
 -- ---- what a server holds
 
--- an entry brings some copies or none
-brought_more : (up : Servers) (message : Option OwnMessage) (before : ℕ → File → List StoredCopy) (server : ℕ) (file : File) → (more : List StoredCopy) × (brought_by up message before server file ≡ before server file ++ more)
-brought_more up None before server file = ([], sym (append-nil (before server file)))
-brought_more up (Some m) before server file = go m.body refl
+-- a store brings some copies or none
+stored_more : (serving : ℕ → File → Bool) (message : Option OwnMessage) (before : ℕ → File → List StoredCopy) (server : ℕ) (file : File) → (more : List StoredCopy) × (stored_by serving message before server file ≡ before server file ++ more)
+stored_more serving None before server file = ([], sym (append-nil (before server file)))
+stored_more serving (Some m) before server file = go m.body refl
   where
     Result : Type 0
-    Result = (more : List StoredCopy) × (brought_by up (Some m) before server file ≡ before server file ++ more)
+    Result = (more : List StoredCopy) × (stored_by serving (Some m) before server file ≡ before server file ++ more)
 
-    by : (c : StoredCopy) → m.body ≡ Store c → (b : Bool) → ((m.server == server) && is_file m.file file && up server) ≡ b → Result
+    by : (c : StoredCopy) → m.body ≡ Store c → (b : Bool) → ((m.server == server) && is_file m.file file && serving server file) ≡ b → Result
     by c is true e = (c ∷ [], rw (is, e) refl)
     by c is false e = ([], rw (is, e) (sym (append-nil (before server file))))
 
     go : (b : Body) → m.body ≡ b → Result
     go Ask is = ([], rw is (sym (append-nil (before server file))))
     go (Copy c) is = ([], rw is (sym (append-nil (before server file))))
-    go (Store c) is = by c is ((m.server == server) && is_file m.file file && up server) refl
+    go (Store c) is = by c is ((m.server == server) && is_file m.file file && serving server file) refl
     go Stored is = ([], rw is (sym (append-nil (before server file))))
 
--- with one more entry
-pub held_grows : (e : Entry) (t : Trace) (server : ℕ) (file : File) → IsAtMost (held t server file).tag (held (e ∷ t) server file).tag
-held_grows e t server file =
-    let more = brought_more (up t) e.message (brought t) server file in
+-- with one more entry that leaves the copy
+held_left : (e : Entry) (t : Trace) (server : ℕ) (file : File) → ((before : ℕ → File → List StoredCopy) → left_by e.turn before server file ≡ before server file) → IsAtMost (held t server file).tag (held (e ∷ t) server file).tag
+held_left e t server file left =
+    let more = stored_more (serves (up t) (lacks t)) e.message (brought t) server file in
+    let is : brought (e ∷ t) server file ≡ brought t server file ++ more.0 = left (stored_by (serves (up t) (lacks t)) e.message (brought t)) ∙ more.1 in
     let P : List StoredCopy → Type 0 = λ z. IsAtMost (held t server file).tag (greatest (first_copy ∷ z)).tag in
-    subst P (sym more.1) (greatest_more first_copy (brought t server file) more.0)
+    subst P (sym is) (greatest_more first_copy (brought t server file) more.0)
 
--- along a trace
-pub held_along : (later t : Trace) (server : ℕ) (file : File) → IsAtMost (held t server file).tag (held (later ++ t) server file).tag
-held_along [] t server file = at_most_refl (held t server file).tag
-held_along (e ∷ later) t server file =
-    at_most_trans (held t server file).tag (held (later ++ t) server file).tag (held (e ∷ (later ++ t)) server file).tag
-    (held_along later t server file) (held_grows e (later ++ t) server file)
+-- what a server holds that was given a copy
+pub held_given : (turn : Turn) (message : Option OwnMessage) (said : Told) (new : List OwnMessage) (t : Trace) (server : ℕ) (file : File) → (g : Gift turn server file) → held (record { turn = turn; message = message; told = said; new = new } ∷ t) server file ≡ newer_of first_copy g.copy
+held_given turn message said new t server file g =
+    let is : brought (record { turn = turn; message = message; told = said; new = new } ∷ t) server file ≡ g.copy ∷ [] = ap (λ z. left_by z (stored_by (serves (up t) (lacks t)) message (brought t)) server file) g.turn_is ∙ rw (eq-eqb server server refl, eq-eqb file.volume file.volume refl, eq-eqb file.place file.place refl) in
+    ap copy_of is ∙ greatest-push first_copy g.copy []
 
--- what a server holds is at least what it held at an earlier moment
-pub held_since : (later earlier : Trace) (server : ℕ) (file : File) → Extends later earlier → IsAtMost (held earlier server file).tag (held later server file).tag
-held_since later earlier server file extends =
-    let P : Trace → Type 0 = λ x. IsAtMost (held earlier server file).tag (held x server file).tag in
-    subst P extends.1 (held_along extends.0 earlier server file)
+-- ---- what a server keeps
+
+-- a server that has the file keeps what it holds, or less
+pub keeps_had : (grid : Grid) (t : Trace) (server : ℕ) (file : File) (tag : Tag) → lacks t server file ≡ false → Keeps grid t server file tag → IsAtMost tag (held t server file).tag
+keeps_had grid [] server file tag had k = k
+keeps_had grid (e ∷ t) server file tag had k = by (is_loss e.turn server file) refl
+  where
+    by : (b : Bool) → is_loss e.turn server file ≡ b → IsAtMost tag (held (e ∷ t) server file).tag
+    by true lost = absurd (true≢false (sym (loss_lacks e.turn (lacks t) server file lost) ∙ had))
+    by false is = rw (is, had) at k
+
+pub had_keeps : (grid : Grid) (t : Trace) (server : ℕ) (file : File) (tag : Tag) → lacks t server file ≡ false → IsAtMost tag (held t server file).tag → Keeps grid t server file tag
+had_keeps grid [] server file tag had k = k
+had_keeps grid (e ∷ t) server file tag had k = by (is_loss e.turn server file) refl
+  where
+    by : (b : Bool) → is_loss e.turn server file ≡ b → Keeps grid (e ∷ t) server file tag
+    by true lost = absurd (true≢false (sym (loss_lacks e.turn (lacks t) server file lost) ∙ had))
+    by false is = rw (is, had) k
+
+one_is : (x y : StoredCopy) → Contains (x ∷ []) y → x ≡ y
+one_is x y (zero, low, is) = is
+one_is x y (suc i, low, is) = absurd (omega arith)
+
+-- what a server keeps that lacks the file, its mates keep, and the copies that they showed since the loss have
+abbrev pub MatesKeep : Grid → Trace → Type 0
+MatesKeep grid t = (server : ℕ) (file : File) (tag : Tag) → lacks t server file ≡ true → Keeps grid t server file tag → (mate : ℕ) → are_mates grid server mate ≡ true →
+    Keeps grid t mate file tag × ((copy : StoredCopy) → Contains (shown t server file mate) copy → IsAtMost tag copy.tag)
+
+-- with one more entry, but a loss of it
+keeps_more : (grid : Grid) (row : TenantRow) (t : Trace) (e : Entry) → MatesKeep grid t → Follows grid row t e → (server : ℕ) (file : File) (tag : Tag) → is_loss e.turn server file ≡ false → Keeps grid t server file tag → Keeps grid (e ∷ t) server file tag
+keeps_more grid row t e mates follows server file tag none k = go (lacks (e ∷ t) server file) refl (copying e.turn server file)
+  where
+    go : (b : Bool) → lacks (e ∷ t) server file ≡ b → Copying e.turn server file → Keeps grid (e ∷ t) server file tag
+    go true lack c = rw (none, lack) k
+    go false had (Loses is) = absurd (true≢false (sym is ∙ none))
+    go false had (Gains g) =
+        let s = given_shown grid row t e server file follows g in
+        let low : IsAtMost tag g.copy.tag = (mates server file tag s.lacked k g.mate s.mates).1 g.copy s.among in
+        let P : StoredCopy → Type 0 = λ z. IsAtMost tag z.tag in
+        rw (none, had) (subst P (sym (held_given e.turn e.message e.told e.new t server file g)) (at_most_trans tag g.copy.tag (newer_of first_copy g.copy).tag low (newer_of-right first_copy g.copy)))
+    go false had (Leaves is lack left) =
+        let before : IsAtMost tag (held t server file).tag = keeps_had grid t server file tag (sym (lack (lacks t)) ∙ had) k in
+        rw (none, had) (at_most_trans tag (held t server file).tag (held (e ∷ t) server file).tag before (held_left e t server file left))
+
+mates_more : (grid : Grid) (row : TenantRow) (t : Trace) (e : Entry) → MatesKeep grid t → Follows grid row t e → MatesKeep grid (e ∷ t)
+mates_more grid row t e mates follows server file tag lack k mate are = (now mate are, λ copy within. shows copy (Contains-append_cases _ _ copy within))
+  where
+    Kept : ℕ → Type 0
+    Kept m = Keeps grid t m file tag
+
+    -- all mates kept it before
+    before : (m : ℕ) → are_mates grid server m ≡ true → Kept m
+    before m is = by (is_loss e.turn server file) refl
+      where
+        by : (b : Bool) → is_loss e.turn server file ≡ b → Kept m
+        by true lost = (rw lost at k) m is
+        by false none = let kept : Kept server = rw (none, lack) at k in (mates server file tag (lacked e.turn (lacks t) server file none lack) kept m is).0
+
+    now : (m : ℕ) → are_mates grid server m ≡ true → Keeps grid (e ∷ t) m file tag
+    now m is = by (is_loss e.turn m file) refl
+      where
+        by : (b : Bool) → is_loss e.turn m file ≡ b → Keeps grid (e ∷ t) m file tag
+        by true lost = rw lost (λ other also. before other (mates_of_mates grid server m other is also))
+        by false none = keeps_more grid row t e mates follows m file tag none (before m is)
+
+    shows : (copy : StoredCopy) → Contains (if is_loss e.turn server file then [] else shown t server file mate) copy ⊎ Contains (if lacks (e ∷ t) mate file then [] else held (e ∷ t) mate file ∷ []) copy → IsAtMost tag copy.tag
+    shows copy (inl old) = by (is_loss e.turn server file) refl
+      where
+        by : (b : Bool) → is_loss e.turn server file ≡ b → IsAtMost tag copy.tag
+        by true lost = absurd (let none : Contains [] copy = rw lost at old in omega (arith, none.1))
+        by false none =
+            let kept : Kept server = rw (none, lack) at k in
+            let within : Contains (shown t server file mate) copy = rw none at old in
+            (mates server file tag (lacked e.turn (lacks t) server file none lack) kept mate are).1 copy within
+    shows copy (inr new) = by (lacks (e ∷ t) mate file) refl
+      where
+        by : (b : Bool) → lacks (e ∷ t) mate file ≡ b → IsAtMost tag copy.tag
+        by true none = absurd (let empty : Contains [] copy = rw none at new in omega (arith, empty.1))
+        by false had =
+            let one : Contains (held (e ∷ t) mate file ∷ []) copy = rw had at new in
+            let same : held (e ∷ t) mate file ≡ copy = one_is (held (e ∷ t) mate file) copy one in
+            let P : StoredCopy → Type 0 = λ z. IsAtMost tag z.tag in
+            subst P same (keeps_had grid (e ∷ t) mate file tag had (now mate are))
+
+pub mates_keep : (grid : Grid) (row : TenantRow) (t : Trace) → IsRun grid row t → MatesKeep grid t
+mates_keep grid row [] run server file tag lack k mate are = absurd (true≢false (sym lack))
+mates_keep grid row (e ∷ t) run = mates_more grid row t e (mates_keep grid row t run.0) run.1
+
+pub keeps_step : (grid : Grid) (row : TenantRow) (t : Trace) (e : Entry) → IsRun grid row t → Follows grid row t e → (server : ℕ) (file : File) (tag : Tag) → is_loss e.turn server file ≡ false → Keeps grid t server file tag → Keeps grid (e ∷ t) server file tag
+keeps_step grid row t e run follows = keeps_more grid row t e (mates_keep grid row t run) follows
 
 -- ---- moments
 
@@ -82,17 +278,14 @@ extends_join a b c x y = (x.0 ++ y.0, rw append_assoc (ap (λ z. x.0 ++ z) y.1 �
 pub extends_more : (e : Entry) (later earlier : Trace) → Extends later earlier → Extends (e ∷ later) earlier
 extends_more e later earlier x = (e ∷ x.0, ap (λ z. e ∷ z) x.1)
 
-pub held_between_more : (e : Entry) (earlier later : Trace) (server : ℕ) (file : File) (copy : StoredCopy) → HeldBetween earlier later server file copy → HeldBetween earlier (e ∷ later) server file copy
-held_between_more e earlier later server file copy h = record { moment = h.moment; since = h.since; until = extends_more e later h.moment h.until; held_then = h.held_then }
+-- an earlier trace of a run is a run
+pub run_before : (grid : Grid) (row : TenantRow) (later earlier : Trace) → Extends later earlier → IsRun grid row later → IsRun grid row earlier
+run_before grid row later earlier x run = let P : Trace → Type 0 = λ z. IsRun grid row z in along x.0 (subst P (sym x.1) run)
+  where
+    along : (more : Trace) → IsRun grid row (more ++ earlier) → IsRun grid row earlier
+    along [] run = run
+    along (e ∷ more) run = along more run.0
 
--- what a server holds is at least a copy that it held before
-pub held_between_most : (earlier later : Trace) (server : ℕ) (file : File) (copy : StoredCopy) → HeldBetween earlier later server file copy → IsAtMost copy.tag (held later server file).tag
-held_between_most earlier later server file copy h =
-    let P : StoredCopy → Type 0 = λ c. IsAtMost c.tag (held later server file).tag in
-    subst P h.held_then (held_since later h.moment server file h.until)
-
--- a copy that was held since is at least what was held before
-pub held_between_least : (first earlier later : Trace) (server : ℕ) (file : File) (copy : StoredCopy) → Extends earlier first → HeldBetween earlier later server file copy → IsAtMost (held first server file).tag copy.tag
-held_between_least first earlier later server file copy extends h =
-    let P : StoredCopy → Type 0 = λ c. IsAtMost (held first server file).tag c.tag in
-    subst P h.held_then (held_since h.moment first server file (extends_join h.moment earlier first h.since extends))
+pub held_between_more : (grid : Grid) (row : TenantRow) (e : Entry) (earlier later : Trace) (server : ℕ) (file : File) (copy : StoredCopy) → IsRun grid row later → Follows grid row later e → is_loss e.turn server file ≡ false → HeldBetween grid earlier later server file copy → HeldBetween grid earlier (e ∷ later) server file copy
+held_between_more grid row e earlier later server file copy run follows none h =
+    record { moment = h.moment; since = h.since; until = extends_more e later h.moment h.until; held_then = h.held_then; had = h.had; kept = keeps_step grid row later e run follows server file copy.tag none h.kept }

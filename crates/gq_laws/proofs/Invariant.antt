@@ -1,8 +1,8 @@
 -- What is known of all sessions and all messages of a run, and how an entry keeps it for the sessions.
-use Rattle.std.proofs.Common.{◌≡◌, ◌≢◌, ◌⊎◌, ℕ, ◌+◌, ◌*◌, ◌<◌, ◌≤◌, Bool, true, false, ◌++◌, List, [], ◌∷◌, length, refl, sym, ap, ◌∙◌, subst, inl, inr, Option, Some, None}
+use Rattle.std.proofs.Common.{◌≡◌, ◌≢◌, ◌⊎◌, ℕ, ◌+◌, ◌*◌, ◌<◌, ◌≤◌, Bool, true, false, ◌++◌, List, [], ◌∷◌, length, refl, sym, ap, ◌∙◌, subst, inl, inr, Option, Some, None, arith}
 use Rattle.std.specs.Prelude.{Contains}
 use Rattle.std.proofs.lemmas.Bool.{cases_eq, true≢false}
-use Rattle.std.proofs.lemmas.List.Elements.{Contains-push}
+use Rattle.std.proofs.lemmas.List.Elements.{Contains-push, Contains-append_left}
 use Rattle.gq_grid.specs.Grid.{Grid}
 use Rattle.gq_tag.specs.declared.Tag.{Tag}
 use Rattle.gq_tag.specs.declared.StoredCopy.{StoredCopy}
@@ -15,16 +15,16 @@ use Rattle.gq_phase.specs.Phase.{Task, Reply, Writing, Reading, Listing, Operati
 use Rattle.gq_phase.specs.Quorums.{ends_collect, ends_store}
 use Rattle.gq_phase.proofs.Saying.{even_is}
 use Rattle.gq_model.specs.declared.events.Line.{Line}
-use Rattle.gq_model.specs.Trace.{Turn, Entry, Trace, Deed, Elsewhere, Begins, Hears, Moves, Ends, Leaps, deed, sent, up, volumes, task_of}
+use Rattle.gq_model.specs.Trace.{Turn, Entry, Trace, Deed, Elsewhere, Begins, Hears, Moves, Ends, Leaps, deed, is_loss, sent, shown, up, volumes, task_of}
 use Rattle.gq_model.specs.Told.{Told}
 use Rattle.gq_laws.proofs.Words.{held, current, round, heard, collected, op}
-use Rattle.gq_laws.proofs.Runs.{Follows, IsRun, IsKnown, Settled, made, made_of, Made, Extends, Starts, HeldBetween, op_start, round_start, starts}
+use Rattle.gq_laws.proofs.Runs.{Follows, IsRun, IsKnown, Keeps, Settled, made, made_of, Made, Extends, Starts, HeldBetween, op_start, round_start, starts}
 use Rattle.gq_laws.proofs.Holding.{extends_more}
-use Rattle.gq_laws.proofs.Acts.{Act, Doing, Requests, Serves, Notes, Turns, Finishes, Resends, Abandons, Jumps, Silent, Comes, act, going}
+use Rattle.gq_laws.proofs.Acts.{Act, Doing, Requests, Serves, Notes, Turns, Finishes, Resends, Abandons, Jumps, Silent, Comes, act, awaited_kept, going}
 use Rattle.gq_laws.proofs.RoundEnds.{Next, ToStore, ToCollect, Skips, next_of, write_stores, skip_ends, skip_greatest}
 use Rattle.gq_laws.proofs.SessionTurns.{Unmoved, elsewhere_unmoved, hears_unmoved}
-use Rattle.gq_laws.proofs.Found.{stored-push}
-use Rattle.gq_laws.proofs.Sessions.{Holds, Shown, holds_grow, holds_hear, holds_begin, holds_store, holds_greatest, holds_next, collect_number, stored_settled, told_settled, skip_settled, greatest_least, number_above}
+use Rattle.gq_laws.proofs.Found.{stored-push, hear_in}
+use Rattle.gq_laws.proofs.Sessions.{Holds, Shown, Steady, holds_grow, holds_hear, holds_begin, holds_store, holds_greatest, holds_next, collect_number, stored_settled, told_settled, skip_settled, greatest_least, number_above}
 
 -- ---- the invariant
 
@@ -36,23 +36,32 @@ IsBodyOf (Store c) odd = odd ≡ false
 IsBodyOf Stored odd = odd ≡ false
 
 -- what is known of a message that was sent
-pub record Sound (t : Trace) (m : OwnMessage) : Type 0 where
+pub record Sound (grid : Grid) (t : Trace) (m : OwnMessage) : Type 0 where
   pub parity : IsBodyOf m.body (is_collect m.round)
   pub store_known : (c : StoredCopy) → m.body ≡ Store c → IsKnown t m.file c
   pub copied_known : (c : StoredCopy) → m.body ≡ Copy c → IsKnown t m.file c
   -- it is of no later operation or round than its session
   pub bounded : (m.op < op t m.session) ⊎ ((m.op ≡ op t m.session) × (m.round ≤ round t m.session))
   -- where it is of the session's current operation and round
-  pub was_held : (task : Task) (c : StoredCopy) → current t m.session ≡ Some task → m.op ≡ op t m.session → m.round ≡ round t m.session → m.body ≡ Copy c → HeldBetween (round_start t m.session) t m.server m.file c
+  pub was_held : (task : Task) (c : StoredCopy) → current t m.session ≡ Some task → m.op ≡ op t m.session → m.round ≡ round t m.session → m.body ≡ Copy c → HeldBetween grid (round_start t m.session) t m.server m.file c
   pub file : (task : Task) → current t m.session ≡ Some task → m.op ≡ op t m.session → m.round ≡ round t m.session → m.file ≡ round_file task m.round
   pub store : (task : Task) (c : StoredCopy) → current t m.session ≡ Some task → m.op ≡ op t m.session → m.round ≡ round t m.session → m.body ≡ Store c → c ≡ stored_copy (collected t m.session)
-  pub stored : (task : Task) → current t m.session ≡ Some task → m.op ≡ op t m.session → m.round ≡ round t m.session → m.body ≡ Stored → IsAtMost (stored_copy (collected t m.session)).tag (held t m.server m.file).tag
+  pub stored : (task : Task) → current t m.session ≡ Some task → m.op ≡ op t m.session → m.round ≡ round t m.session → m.body ≡ Stored → Keeps grid t m.server m.file (stored_copy (collected t m.session)).tag
+
+-- the reply that session k heard was sent, of its operation and round
+pub record WasSent (t : Trace) (k : ℕ) (task : Task) (x : Reply) : Type 0 where
+  pub l : OwnMessage
+  pub comes : Comes t k l task
+  pub server : l.server ≡ x.server
+  pub file : l.file ≡ round_file task (round t k)
 
 -- what is known of all sessions, messages and servers
 pub record Invariant (grid : Grid) (t : Trace) : Type 0 where
   pub sessions : (k : ℕ) (task : Task) → current t k ≡ Some task → Holds grid t task (round t k) (heard t k) (collected t k) (starts t k)
-  pub messages : (m : OwnMessage) → Contains (sent t) m → Sound t m
+  pub heard_sent : (k : ℕ) (task : Task) (x : Reply) → current t k ≡ Some task → Contains (heard t k) x → WasSent t k task x
+  pub messages : (m : OwnMessage) → Contains (sent t) m → Sound grid t m
   pub held_known : (server : ℕ) (file : File) → IsKnown t file (held t server file)
+  pub shown_known : (server mate : ℕ) (file : File) (c : StoredCopy) → Contains (shown t server file mate) c → IsKnown t file c
 
 -- ---- when operations began
 
@@ -106,12 +115,12 @@ change grid t e k a = go (cases_eq a.k k)
 shown_at : (grid : Grid) (row : TenantRow) (t : Trace) (l : OwnMessage) (task : Task) → IsRun grid row t → Invariant grid t → Comes t l.session l task → Shown grid t task (round t l.session) (collected t l.session) (starts t l.session) (reply_of l)
 shown_at grid row t l task run inv comes = record {
   known = λ c is. at_file (λ f. IsKnown t f c) (message.copied_known c is);
-  was_held = λ c is. at_file (λ f. HeldBetween (round_start t l.session) t l.server f c) (message.was_held task c comes.busy comes.same_op comes.same_round is);
+  was_held = λ c is. at_file (λ f. HeldBetween grid (round_start t l.session) t l.server f c) (message.was_held task c comes.busy comes.same_op comes.same_round is);
   copied = λ odd. copied odd l.body refl;
   stored = λ even. stored even l.body refl;
 }
   where
-    message : Sound t l
+    message : Sound grid t l
     message = inv.messages l comes.inside
 
     file : l.file ≡ round_file task (round t l.session)
@@ -129,11 +138,11 @@ shown_at grid row t l task run inv comes = record {
     copied odd (Copy c) is = (c, is)
     copied odd Stored is = absurd (let P : Body → Type 0 = λ b. IsBodyOf b (is_collect l.round) in true≢false (sym odd ∙ sym same_parity ∙ subst P is message.parity))
 
-    stored : is_collect (round t l.session) ≡ false → (b : Body) → l.body ≡ b → IsAtMost (stored_copy (collected t l.session)).tag (held t l.server (round_file task (round t l.session))).tag
+    stored : is_collect (round t l.session) ≡ false → (b : Body) → l.body ≡ b → Keeps grid t l.server (round_file task (round t l.session)) (stored_copy (collected t l.session)).tag
     stored even Ask is = absurd (true≢false (ap to_server (sym is) ∙ comes.reply))
     stored even (Store c) is = absurd (true≢false (ap to_server (sym is) ∙ comes.reply))
     stored even (Copy c) is = absurd (let P : Body → Type 0 = λ b. IsBodyOf b (is_collect l.round) in true≢false (sym (subst P is message.parity) ∙ same_parity ∙ even))
-    stored even Stored is = at_file (λ f. IsAtMost (stored_copy (collected t l.session)).tag (held t l.server f).tag) (message.stored task comes.busy comes.same_op comes.same_round is)
+    stored even Stored is = at_file (λ f. Keeps grid t l.server f (stored_copy (collected t l.session)).tag) (message.stored task comes.busy comes.same_op comes.same_round is)
 
 pub shown_by : (grid : Grid) (row : TenantRow) (t : Trace) (k : ℕ) (l : OwnMessage) (task : Task) → IsRun grid row t → Invariant grid t → Comes t k l task → Shown grid t task (round t k) (collected t k) (starts t k) (reply_of l)
 shown_by grid row t k l task run inv comes =
@@ -148,6 +157,72 @@ holds_with grid row t k l task run inv comes =
     holds_hear grid t task (round t k) (heard t k) (collected t k) (starts t k) (reply_of l) (inv.sessions k task comes.busy) (shown_by grid row t k l task run inv comes)
 
 -- ---- the sessions after an entry
+
+-- the entry loses no copy at a server that session k heard in its round, nor at one of which a reply comes to it
+pub steady : (grid : Grid) (row : TenantRow) (t : Trace) (e : Entry) (k : ℕ) (task : Task) → Follows grid row t e → Invariant grid t → current t k ≡ Some task → Steady e (round_file task (round t k)) (heard t k)
+steady grid row t e k task follows inv busy x within =
+    let was = inv.heard_sent k task x busy within in
+    let P : ℕ → File → Type 0 = λ server file. is_loss e.turn server file ≡ false in
+    subst (λ server. P server (round_file task (round t k))) was.server (subst (λ file. P was.l.server file) was.file (awaited_kept grid row t e k was.l task follows was.comes))
+
+-- a message of session k's operation and round is of its round's file
+comes_file : (grid : Grid) (t : Trace) (k : ℕ) (l : OwnMessage) (task : Task) → Invariant grid t → Comes t k l task → l.file ≡ round_file task (round t k)
+comes_file grid t k l task inv comes =
+    let busy : current t l.session ≡ Some task = ap (current t) comes.its ∙ comes.busy in
+    let same_op : l.op ≡ op t l.session = comes.same_op ∙ ap (op t) (sym comes.its) in
+    let same_round : l.round ≡ round t l.session = comes.same_round ∙ ap (round t) (sym comes.its) in
+    (inv.messages l comes.inside).file task busy same_op same_round ∙ ap (round_file task) comes.same_round
+
+steady_with : (grid : Grid) (row : TenantRow) (t : Trace) (e : Entry) (k : ℕ) (l : OwnMessage) (task : Task) → Follows grid row t e → Invariant grid t → Comes t k l task → Steady e (round_file task (round t k)) (hear_reply (heard t k) (reply_of l))
+steady_with grid row t e k l task follows inv comes x within = go (hear_in (heard t k) (reply_of l) x within)
+  where
+    go : Contains (heard t k) x ⊎ (reply_of l ≡ x) → is_loss e.turn x.server (round_file task (round t k)) ≡ false
+    go (inl old) = steady grid row t e k task follows inv comes.busy x old
+    go (inr new) =
+        let P : ℕ → File → Type 0 = λ server file. is_loss e.turn server file ≡ false in
+        subst (λ server. P server (round_file task (round t k))) (ap (λ y. y.server) new) (subst (λ file. P l.server file) (comes_file grid t k l task inv comes) (awaited_kept grid row t e k l task follows comes))
+
+-- what a session heard after an entry was sent
+pub heard_step : (grid : Grid) (row : TenantRow) (t : Trace) (e : Entry) → Follows grid row t e → Invariant grid t → (k : ℕ) (task : Task) (x : Reply) → current (e ∷ t) k ≡ Some task → Contains (heard (e ∷ t) k) x → WasSent (e ∷ t) k task x
+heard_step grid row t e follows inv k task x busy within = go (change grid t e k (act grid row t e follows))
+  where
+    -- a reply sent before, where the entry leaves the operation in its round
+    kept : Unmoved (e ∷ t) t k → WasSent t k task x → WasSent (e ∷ t) k task x
+    kept u was = record {
+      l = was.l;
+      comes = record {
+        inside = Contains-append_left (sent t) e.new was.l was.comes.inside;
+        its = was.comes.its;
+        reply = was.comes.reply;
+        busy = busy;
+        same_op = was.comes.same_op ∙ sym u.op;
+        same_round = was.comes.same_round ∙ sym u.round;
+      };
+      server = was.server;
+      file = was.file ∙ ap (round_file task) (sym u.round);
+    }
+
+    nothing : heard (e ∷ t) k ≡ [] → WasSent (e ∷ t) k task x
+    nothing none = absurd (let P : List Reply → Type 0 = λ z. Contains z x in let empty : Contains [] x = subst P none within in omega (arith, empty.1))
+
+    go : Change grid t e k → WasSent (e ∷ t) k task x
+    go (Stays u hs) = let P : List Reply → Type 0 = λ z. Contains z x in kept u (inv.heard_sent k task x (sym u.current ∙ busy) (subst P hs within))
+    go (Hearing l task' comes is) =
+        let u = hears_unmoved t e k l is in
+        let both : Some task' ≡ Some task = sym comes.busy ∙ sym u.current ∙ busy in
+        let same : task' ≡ task = cc in
+        let P : Task → Type 0 = λ z. Comes t k l z in
+        let Q : List Reply → Type 0 = λ z. Contains z x in
+        let heard_now : Contains (hear_reply (heard t k) (reply_of l)) x = subst Q (rw (is, heard)) within in
+        by l u (subst P same comes) (hear_in (heard t k) (reply_of l) x heard_now)
+      where
+        by : (l : OwnMessage) → Unmoved (e ∷ t) t k → Comes t k l task → Contains (heard t k) x ⊎ (reply_of l ≡ x) → WasSent (e ∷ t) k task x
+        by l u comes (inl old) = kept u (inv.heard_sent k task x comes.busy old)
+        by l u comes (inr new) = kept u (record { l = l; comes = comes; server = ap (λ y. y.server) new; file = comes_file grid t k l task inv comes })
+    go (Moving l task' r tag comes message is heard') = nothing (rw (is, heard))
+    go (Starting line task' is does) = nothing (rw (is, heard))
+    go (Stopping is) = absurd (let bad : None ≡ Some task = rw (is, current) at busy in cc)
+    go (Jumping last number is) = absurd (let bad : None ≡ Some task = rw (is, current) at busy in cc)
 
 holds_at : (grid : Grid) (t : Trace) (task : Task) (r r' : ℕ) (hs hs' : List Reply) (cs cs' : List StoredCopy) (st st' : Starts) → r ≡ r' → hs ≡ hs' → cs ≡ cs' → st ≡ st' → Holds grid t task r hs cs st → Holds grid t task r' hs' cs' st'
 holds_at grid t task r r' hs hs' cs cs' st st' a b c d h =
@@ -173,37 +248,37 @@ made_here : (t : Trace) (e : Entry) (k : ℕ) (l : OwnMessage) (r : ℕ) (tag : 
 made_here t e = made_now t e.turn e.message e.told e.new
 
 -- a collect round ends, and the store round of what was decided begins
-begin_store_holds : (grid : Grid) (t : Trace) (e : Entry) (k : ℕ) (l : OwnMessage) (task : Task) (r : ℕ) (tag : Option Tag) → Comes t k l task → e.message ≡ Some l → deed k e ≡ Moves l r tag →
+begin_store_holds : (grid : Grid) (row : TenantRow) (t : Trace) (e : Entry) (k : ℕ) (l : OwnMessage) (task : Task) (r : ℕ) (tag : Option Tag) → IsRun grid row t → Follows grid row t e → Steady e (round_file task (round t k)) (hear_reply (heard t k) (reply_of l)) → Comes t k l task → e.message ≡ Some l → deed k e ≡ Moves l r tag →
     Holds grid t task (round t k) (hear_reply (heard t k) (reply_of l)) (collected t k) (starts t k) → is_collect (round t k) ≡ true → ends_collect grid (heard_servers (hear_reply (heard t k) (reply_of l))) ≡ true →
     tag ≡ Some (decided_copy (with_reply (going t k task) l)).tag →
     Holds grid (e ∷ t) task (2 * length (collected t k ++ decided_copy (with_reply (going t k task) l) ∷ [])) [] (collected t k ++ decided_copy (with_reply (going t k task) l) ∷ []) (record { op = op_start t k; round = e ∷ t })
-begin_store_holds grid t e k l (Writing file bytes) r tag comes message does h odd ends tag_is =
+begin_store_holds grid row t e k l (Writing file bytes) r tag run follows calm comes message does h odd ends tag_is =
     let o = with_reply (going t k (Writing file bytes)) l in
     let since = extends_more e t (op_start t k) (starts_along t k).0 in
     holds_store grid (e ∷ t) (Writing file bytes) (round t k) o.heard (collected t k) (starts t k) (e ∷ t) (decided_copy o)
-    (holds_grow grid e t (Writing file bytes) (round t k) o.heard (collected t k) (starts t k) h) odd since
+    (holds_grow grid row e t (Writing file bytes) (round t k) o.heard (collected t k) (starts t k) run follows calm h) odd since
     (inr (made_here t e k l r tag (decided_copy o).tag file bytes message comes.its does tag_is comes.busy))
-    (λ x s. less_at_most x (decided_copy o).tag (number_above x (greatest (heard_copies o.heard)).tag k o.floor (greatest_least grid t (Writing file bytes) (round t k) o.heard (collected t k) (starts t k) x h odd ends s)))
-    (λ f b x is s. number_above x (greatest (heard_copies o.heard)).tag k o.floor (greatest_least grid t (Writing file bytes) (round t k) o.heard (collected t k) (starts t k) x h odd ends s))
-begin_store_holds grid t e k l (Reading file) r tag comes message does h odd ends tag_is =
+    (λ x s. less_at_most x (decided_copy o).tag (number_above x (greatest (heard_copies o.heard)).tag k o.floor (greatest_least grid row t (Writing file bytes) (round t k) o.heard (collected t k) (starts t k) x run h odd ends s)))
+    (λ f b x is s. number_above x (greatest (heard_copies o.heard)).tag k o.floor (greatest_least grid row t (Writing file bytes) (round t k) o.heard (collected t k) (starts t k) x run h odd ends s))
+begin_store_holds grid row t e k l (Reading file) r tag run follows calm comes message does h odd ends tag_is =
     let o = with_reply (going t k (Reading file)) l in
     let since = extends_more e t (op_start t k) (starts_along t k).0 in
-    holds_greatest grid (e ∷ t) (Reading file) (round t k) o.heard (collected t k) (starts t k) (e ∷ t)
-    (holds_grow grid e t (Reading file) (round t k) o.heard (collected t k) (starts t k) h) odd ends since
+    holds_greatest grid row (e ∷ t) (Reading file) (round t k) o.heard (collected t k) (starts t k) (e ∷ t) (run, follows)
+    (holds_grow grid row e t (Reading file) (round t k) o.heard (collected t k) (starts t k) run follows calm h) odd ends since
     (λ f b is. let bad : Reading file ≡ Writing f b = is in cc)
-begin_store_holds grid t e k l (Listing v n) r tag comes message does h odd ends tag_is =
+begin_store_holds grid row t e k l (Listing v n) r tag run follows calm comes message does h odd ends tag_is =
     let o = with_reply (going t k (Listing v n)) l in
     let since = extends_more e t (op_start t k) (starts_along t k).0 in
-    holds_greatest grid (e ∷ t) (Listing v n) (round t k) o.heard (collected t k) (starts t k) (e ∷ t)
-    (holds_grow grid e t (Listing v n) (round t k) o.heard (collected t k) (starts t k) h) odd ends since
+    holds_greatest grid row (e ∷ t) (Listing v n) (round t k) o.heard (collected t k) (starts t k) (e ∷ t) (run, follows)
+    (holds_grow grid row e t (Listing v n) (round t k) o.heard (collected t k) (starts t k) run follows calm h) odd ends since
     (λ f b is. let bad : Listing v n ≡ Writing f b = is in cc)
 
 -- a collect round ends, and its store round is left out: the operation has what the store round would begin with, ..
-pub skip_holds : (grid : Grid) (t : Trace) (o : Operation) (start : Starts) (now : Trace) → Holds grid t o.task o.round o.heard o.collected start → is_collect o.round ≡ true → ends_collect grid (heard_servers o.heard) ≡ true → skips_store grid (with_decided o) ≡ true → Extends now start.op →
+pub skip_holds : (grid : Grid) (row : TenantRow) (t : Trace) (o : Operation) (start : Starts) (now : Trace) → IsRun grid row t → Holds grid t o.task o.round o.heard o.collected start → is_collect o.round ≡ true → ends_collect grid (heard_servers o.heard) ≡ true → skips_store grid (with_decided o) ≡ true → Extends now start.op →
     Holds grid t o.task (2 * length (o.collected ++ decided_copy o ∷ [])) [] (o.collected ++ decided_copy o ∷ []) (record { op = start.op; round = now })
-skip_holds grid t o start now h odd ends skips later =
+skip_holds grid row t o start now run h odd ends skips later =
     let P : StoredCopy → Type 0 = λ c. Holds grid t o.task (2 * length (o.collected ++ c ∷ [])) [] (o.collected ++ c ∷ []) (record { op = start.op; round = now }) in
-    subst P (sym (skip_greatest grid o skips)) (holds_greatest grid t o.task o.round o.heard o.collected start now h odd ends later (λ f b is. write_stores grid (with_decided o) f b is skips))
+    subst P (sym (skip_greatest grid o skips)) (holds_greatest grid row t o.task o.round o.heard o.collected start now run h odd ends later (λ f b is. write_stores grid (with_decided o) f b is skips))
 
 -- .. and its copy is settled
 pub skip_settles : (grid : Grid) (t : Trace) (o : Operation) (start : Starts) → Holds grid t o.task o.round o.heard o.collected start → skips_store grid (with_decided o) ≡ true → Settled grid t (round_file o.task o.round) (decided_copy o).tag
@@ -227,32 +302,32 @@ sessions_step grid row t e run follows inv k task busy = go (change grid t e k (
     next l r tag comes message does (ToStore odd ends r_is tag_is new_is) =
         at (2 * length (collected t k ++ decided_copy (with_reply (going t k task) l) ∷ [])) [] (collected t k ++ decided_copy (with_reply (going t k task) l) ∷ []) (record { op = op_start t k; round = e ∷ t })
         (sym r_is ∙ (rw (does, round))) (rw (does, heard)) (rw (does, collected, comes.busy, odd)) (rw does)
-        (begin_store_holds grid t e k l task r tag comes message does (holds_with grid row t k l task run inv comes) odd ends tag_is)
+        (begin_store_holds grid row t e k l task r tag run follows (steady_with grid row t e k l task follows inv comes) comes message does (holds_with grid row t k l task run inv comes) odd ends tag_is)
     next l r tag comes message does (Skips v f lists odd ends skips r_is tag_is new_is) =
         let o : Operation = with_reply (going t k task) l in
         let cs : List StoredCopy = collected t k ++ decided_copy o ∷ [] in
         let since = extends_more e t (op_start t k) (starts_along t k).0 in
-        let h = holds_grow grid e t task (round t k) o.heard (collected t k) (starts t k) (holds_with grid row t k l task run inv comes) in
+        let h = holds_grow grid row e t task (round t k) o.heard (collected t k) (starts t k) run follows (steady_with grid row t e k l task follows inv comes) (holds_with grid row t k l task run inv comes) in
         let settled = skip_settled grid (e ∷ t) task (round t k) (collected t k) (decided_copy o) (collect_number (round t k) (length (collected t k)) odd h.standing) (skip_settles grid (e ∷ t) o (starts t k) h skips) in
         at (2 * length cs + 1) [] cs (record { op = op_start t k; round = e ∷ t })
         (sym r_is ∙ (rw (does, round))) (rw (does, heard)) (rw (does, collected, comes.busy, odd)) (rw does)
-        (holds_next grid (e ∷ t) task (2 * length cs) [] cs (record { op = op_start t k; round = e ∷ t }) (e ∷ t) (skip_holds grid (e ∷ t) o (starts t k) (e ∷ t) h odd ends skips since) (even_is (length cs)) since settled)
+        (holds_next grid (e ∷ t) task (2 * length cs) [] cs (record { op = op_start t k; round = e ∷ t }) (e ∷ t) (skip_holds grid row (e ∷ t) o (starts t k) (e ∷ t) (run, follows) h odd ends skips since) (even_is (length cs)) since settled)
     next l r tag comes message does (ToCollect v f lists even ends r_is tag_is new_is) =
         let hs : List Reply = hear_reply (heard t k) (reply_of l) in
-        let h = holds_grow grid e t task (round t k) hs (collected t k) (starts t k) (holds_with grid row t k l task run inv comes) in
+        let h = holds_grow grid row e t task (round t k) hs (collected t k) (starts t k) run follows (steady_with grid row t e k l task follows inv comes) (holds_with grid row t k l task run inv comes) in
         at (2 * length (collected t k) + 1) [] (collected t k) (record { op = op_start t k; round = e ∷ t })
         (sym r_is ∙ (rw (does, round))) (rw (does, heard)) (rw (does, collected, comes.busy, even)) (rw does)
         (holds_next grid (e ∷ t) task (round t k) hs (collected t k) (starts t k) (e ∷ t) h even (extends_more e t (op_start t k) (starts_along t k).0) (stored_settled grid (e ∷ t) task (round t k) hs (collected t k) (starts t k) h even ends))
 
     go : Change grid t e k → Result
     go (Stays u hs) = at (round t k) (heard t k) (collected t k) (starts t k) (sym u.round) (sym hs) (sym u.collected) (λ i. record { op = sym u.op_start i; round = sym u.round_start i })
-        (holds_grow grid e t task (round t k) (heard t k) (collected t k) (starts t k) (inv.sessions k task (sym u.current ∙ busy)))
+        (holds_grow grid row e t task (round t k) (heard t k) (collected t k) (starts t k) run follows (steady grid row t e k task follows inv (sym u.current ∙ busy)) (inv.sessions k task (sym u.current ∙ busy)))
     go (Hearing l task' comes is) =
         let u = hears_unmoved t e k l is in
         let same = one task' comes.busy u.current in
         let P : Task → Type 0 = λ z. Comes t k l z in
         at (round t k) (hear_reply (heard t k) (reply_of l)) (collected t k) (starts t k) (sym u.round) (rw (is, heard)) (sym u.collected) (λ i. record { op = sym u.op_start i; round = sym u.round_start i })
-        (holds_grow grid e t task (round t k) (hear_reply (heard t k) (reply_of l)) (collected t k) (starts t k) (holds_with grid row t k l task run inv (subst P same comes)))
+        (holds_grow grid row e t task (round t k) (hear_reply (heard t k) (reply_of l)) (collected t k) (starts t k) run follows (steady_with grid row t e k l task follows inv (subst P same comes)) (holds_with grid row t k l task run inv (subst P same comes)))
     go (Moving l task' r tag comes message is heard) =
         let same = one task' comes.busy (rw (is, current)) in
         let P : Task → Type 0 = λ z. Comes t k l z in

@@ -1,7 +1,7 @@
 -- The invariant holds along every run.
-use Rattle.std.proofs.Common.{◌≡◌, ◌⊎◌, ℕ, ◌+◌, ◌<◌, ◌≤◌, Bool, true, false, ◌&&◌, ◌++◌, List, [], ◌∷◌, length, refl, sym, ap, ◌∙◌, subst, inl, inr, Option, Some, None, arith, eqb}
-use Rattle.std.specs.Prelude.{Contains, nat_le}
-use Rattle.std.proofs.lemmas.Bool.{true≢false, eq-eqb, eqb-true, and_parts, leb-true, leb-false}
+use Rattle.std.proofs.Common.{◌≡◌, ◌⊎◌, ℕ, ◌+◌, ◌<◌, ◌≤◌, Bool, true, false, ◌&&◌, ◌++◌, List, [], ◌∷◌, length, refl, sym, ap, ◌∙◌, subst, inl, inr, Option, Some, None, arith, eqb, not}
+use Rattle.std.specs.Prelude.{Contains, nat_le, if◌then◌else◌}
+use Rattle.std.proofs.lemmas.Bool.{true≢false, eq-eqb, eqb-true, and_parts, leb-true, leb-false, not-true}
 use Rattle.std.proofs.lemmas.List.{length_push}
 use Rattle.std.proofs.lemmas.List.Elements.{Contains-append_cases}
 use Rattle.gq_grid.specs.Grid.{Grid}
@@ -10,22 +10,22 @@ use Rattle.gq_tag.specs.declared.StoredCopy.{StoredCopy}
 use Rattle.gq_tag.specs.Tag.{File, is_file, OwnMessage, first_copy, greatest, newer_of, is_less, to_server}
 use Rattle.gq_tag.specs.declared.Body.{Body}
 use Rattle.gq_tag.specs.declared.Body.TheVariants.{Ask, Copy, Store, Stored}
-use Rattle.gq_tag.proofs.Order.{IsAtMost, at_most_trans, newer_of-right}
+use Rattle.gq_tag.proofs.Order.{IsAtMost, at_most_refl, newer_of-right}
 use Rattle.gq_desk.specs.declared.plans.TenantRow.{TenantRow}
 use Rattle.gq_phase.specs.Phase.{Task, Reply, is_collect, round_file, round_body, stored_copy, with_reply, with_decided, in_round, decided_copy}
-use Rattle.gq_model.specs.Trace.{Turn, Own, Entry, Trace, Moves, deed, brought, sent, up}
+use Rattle.gq_model.specs.Trace.{Turn, Own, Serving, Leaping, Losing, Returning, Entry, Trace, Moves, deed, is_loss, lacks, lacks_by, serves, stored_by, brought, copy_of, shown, sent, up}
 use Rattle.gq_model.specs.declared.events.Line.TheVariants.{Deliver}
 use Rattle.gq_model.specs.Told.{Told}
 use Rattle.gq_laws.proofs.Words.{held, current, round, heard, collected, op, delivered}
-use Rattle.gq_laws.proofs.Holding.{greatest-push, held_grows, held_between_more}
-use Rattle.gq_laws.proofs.Runs.{Follows, IsRun, IsKnown, Extends, Starts, HeldBetween, round_start, starts}
+use Rattle.gq_laws.proofs.Holding.{Copying, Loses, Gains, Leaves, copying, given_shown, held_given, greatest-push, one_is, keeps_step, had_keeps, held_between_more}
+use Rattle.gq_laws.proofs.Runs.{Follows, IsRun, IsKnown, Keeps, Extends, Starts, HeldBetween, round_start, starts}
 use Rattle.gq_laws.proofs.Shapes.{Shape, shape_of, shape_round, only}
-use Rattle.gq_laws.proofs.Acts.{Act, Doing, Requests, Serves, Notes, Turns, Finishes, Resends, Abandons, Jumps, Silent, Comes, act, going, first_round, back, back_to_ask, back_to_store, message_sent}
+use Rattle.gq_laws.proofs.Acts.{Act, Doing, Requests, Serves, Notes, Turns, Finishes, Resends, Abandons, Jumps, Silent, Comes, act, awaited_kept, delivers_by, going, first_round, back, back_to_ask, back_to_store, message_sent}
 use Rattle.gq_laws.proofs.RoundEnds.{Next, ToStore, ToCollect, Skips, next_of}
 use Rattle.gq_laws.proofs.SessionTurns.{Unmoved, elsewhere_unmoved, hears_unmoved}
 use Rattle.gq_laws.proofs.Found.{contains_at, last_at}
 use Rattle.gq_laws.proofs.Sessions.{Holds, known_grows, store_number, collect_number, store_file, last_number}
-use Rattle.gq_laws.proofs.Invariant.{IsBodyOf, Sound, Invariant, Change, Stays, Hearing, Moving, Starting, Stopping, Jumping, change, sessions_step, starts_along}
+use Rattle.gq_laws.proofs.Invariant.{IsBodyOf, Sound, Invariant, Change, Stays, Hearing, Moving, Starting, Stopping, Jumping, change, heard_step, sessions_step, starts_along}
 
 -- ---- messages that were sent before
 
@@ -70,7 +70,7 @@ up_to_step grid row t e k n r follows inv before = go (change grid t e k (act gr
         by false high = let more = leb-false last (op t k) high in rw (is, op, round) (inl (omega (arith, here.0)))
 
 -- where a message sent before is of the current operation and round after the entry, the entry has not moved its session
-stays_for : (grid : Grid) (row : TenantRow) (t : Trace) (e : Entry) (m : OwnMessage) (task : Task) → Follows grid row t e → Invariant grid t → Sound t m →
+stays_for : (grid : Grid) (row : TenantRow) (t : Trace) (e : Entry) (m : OwnMessage) (task : Task) → Follows grid row t e → Invariant grid t → Sound grid t m →
     current (e ∷ t) m.session ≡ Some task → m.op ≡ op (e ∷ t) m.session → m.round ≡ round (e ∷ t) m.session → Unmoved (e ∷ t) t m.session
 stays_for grid row t e m task follows inv message busy its_op its_round = go (change grid t e m.session (act grid row t e follows)) message.bounded
   where
@@ -90,13 +90,14 @@ stays_for grid row t e m task follows inv message busy its_op its_round = go (ch
     go (Stopping is) up_to = absurd (let bad : None ≡ Some task = rw (is, current) at busy in cc)
     go (Jumping last number is) up_to = absurd (let bad : None ≡ Some task = rw (is, current) at busy in cc)
 
-old_message_sound : (grid : Grid) (row : TenantRow) (t : Trace) (e : Entry) (m : OwnMessage) → Follows grid row t e → Invariant grid t → Sound t m → Sound (e ∷ t) m
-old_message_sound grid row t e m follows inv l = record {
+old_message_sound : (grid : Grid) (row : TenantRow) (t : Trace) (e : Entry) (m : OwnMessage) → IsRun grid row t → Follows grid row t e → Invariant grid t → Contains (sent t) m → Sound grid t m → Sound grid (e ∷ t) m
+old_message_sound grid row t e m run follows inv within l = record {
   bounded = up_to_step grid row t e m.session m.op m.round follows inv l.bounded;
   was_held = λ task c busy its_op its_round is.
       let u = stays_for grid row t e m task follows inv l busy its_op its_round in
-      let P : Trace → Type 0 = λ z. HeldBetween z (e ∷ t) m.server m.file c in
-      subst P (sym u.round_start) (held_between_more e (round_start t m.session) t m.server m.file c (l.was_held task c (sym u.current ∙ busy) (its_op ∙ u.op) (its_round ∙ u.round) is));
+      let P : Trace → Type 0 = λ z. HeldBetween grid z (e ∷ t) m.server m.file c in
+      let none = kept task busy its_op its_round u (ap to_server is) in
+      subst P (sym u.round_start) (held_between_more grid row e (round_start t m.session) t m.server m.file c run follows none (l.was_held task c (sym u.current ∙ busy) (its_op ∙ u.op) (its_round ∙ u.round) is));
   parity = l.parity;
   store_known = λ c is. known_grows e t m.file c (l.store_known c is);
   copied_known = λ c is. known_grows e t m.file c (l.copied_known c is);
@@ -109,9 +110,14 @@ old_message_sound grid row t e m follows inv l = record {
   stored = λ task busy its_op its_round is.
       let u = stays_for grid row t e m task follows inv l busy its_op its_round in
       let before = l.stored task (sym u.current ∙ busy) (its_op ∙ u.op) (its_round ∙ u.round) is in
-      let P : List StoredCopy → Type 0 = λ z. IsAtMost (stored_copy z).tag (held (e ∷ t) m.server m.file).tag in
-      subst P (sym u.collected) (at_most_trans (stored_copy (collected t m.session)).tag (held t m.server m.file).tag (held (e ∷ t) m.server m.file).tag before (held_grows e t m.server m.file));
+      let P : List StoredCopy → Type 0 = λ z. Keeps grid (e ∷ t) m.server m.file (stored_copy z).tag in
+      subst P (sym u.collected) (keeps_step grid row t e run follows m.server m.file (stored_copy (collected t m.session)).tag (kept task busy its_op its_round u (ap to_server is)) before);
 }
+  where
+    -- a reply of the operation and round that go on was sent, so that its server's copy is not lost
+    kept : (task : Task) → current (e ∷ t) m.session ≡ Some task → m.op ≡ op (e ∷ t) m.session → m.round ≡ round (e ∷ t) m.session → Unmoved (e ∷ t) t m.session → to_server m.body ≡ false → is_loss e.turn m.server m.file ≡ false
+    kept task busy its_op its_round u reply =
+        awaited_kept grid row t e m.session m task follows (record { inside = within; its = refl; reply = reply; busy = sym u.current ∙ busy; same_op = its_op ∙ u.op; same_round = its_round ∙ u.round })
 
 -- ---- messages of a round
 
@@ -124,7 +130,7 @@ body_cases r cs b is = go (is_collect r) refl
     go false e = inr (e, is ∙ (rw e))
 
 -- it is as the invariant has it, where that operation is the session's own
-round_message_sound : (grid : Grid) (t : Trace) (k n r : ℕ) (task : Task) (cs : List StoredCopy) (m : OwnMessage) (hs : List Reply) (start : Starts) → Shape k n r task cs m → current t k ≡ Some task → op t k ≡ n → round t k ≡ r → collected t k ≡ cs → Holds grid t task r hs cs start → Sound t m
+round_message_sound : (grid : Grid) (t : Trace) (k n r : ℕ) (task : Task) (cs : List StoredCopy) (m : OwnMessage) (hs : List Reply) (start : Starts) → Shape k n r task cs m → current t k ≡ Some task → op t k ≡ n → round t k ≡ r → collected t k ≡ cs → Holds grid t task r hs cs start → Sound grid t m
 round_message_sound grid t k n r task cs m hs start shape busy op_is round_is collected_is h = go (body_cases r cs m.body shape.body)
   where
     own : (task' : Task) → current t m.session ≡ Some task' → task ≡ task'
@@ -146,7 +152,7 @@ round_message_sound grid t k n r task cs m hs start shape busy op_is round_is co
         let P : File → Type 0 = λ f. IsKnown t f (stored_copy cs) in
         subst P (sym (shape.file ∙ store_file task r place.0 (last_number r (length cs) place.0 number.0 place.1))) (h.known place.0 (stored_copy cs) place.2)
 
-    go : ((is_collect r ≡ true) × (m.body ≡ Ask)) ⊎ ((is_collect r ≡ false) × (m.body ≡ Store (stored_copy cs))) → Sound t m
+    go : ((is_collect r ≡ true) × (m.body ≡ Ask)) ⊎ ((is_collect r ≡ false) × (m.body ≡ Store (stored_copy cs))) → Sound grid t m
     go (inl ask) = record {
       bounded = bounded;
       was_held = λ task' c is its_op its_round body. absurd (let bad : Ask ≡ Copy c = sym ask.1 ∙ body in cc);
@@ -170,50 +176,60 @@ round_message_sound grid t k n r task cs m hs start shape busy op_is round_is co
 
 -- ---- what a store leaves
 
-held_store : (t : Trace) (turn : Turn) (message : Option OwnMessage) (said : Told) (new : List OwnMessage) (l : OwnMessage) (c : StoredCopy) → message ≡ Some l → l.body ≡ Store c → up t l.server ≡ true →
-    held (record { turn = turn; message = message; told = said; new = new } ∷ t) l.server l.file ≡ newer_of (held t l.server l.file) c
-held_store t turn message said new l c is body alive =
-    let list : brought (record { turn = turn; message = message; told = said; new = new } ∷ t) l.server l.file ≡ brought t l.server l.file ++ c ∷ [] =
-    rw (is, body, alive, eq-eqb l.server l.server refl, eq-eqb l.file.volume l.file.volume refl, eq-eqb l.file.place l.file.place refl) in
+held_store : (t : Trace) (n : ℕ) (message : Option OwnMessage) (said : Told) (new : List OwnMessage) (l : OwnMessage) (c : StoredCopy) → message ≡ Some l → l.body ≡ Store c → serves (up t) (lacks t) l.server l.file ≡ true →
+    held (record { turn = Own (Deliver n); message = message; told = said; new = new } ∷ t) l.server l.file ≡ newer_of (held t l.server l.file) c
+held_store t n message said new l c is body serving =
+    let list : brought (record { turn = Own (Deliver n); message = message; told = said; new = new } ∷ t) l.server l.file ≡ brought t l.server l.file ++ c ∷ [] =
+    rw (is, body, serving, eq-eqb l.server l.server refl, eq-eqb l.file.volume l.file.volume refl, eq-eqb l.file.place l.file.place refl) in
     ap (λ z. greatest (first_copy ∷ z)) list ∙ greatest-push first_copy c (brought t l.server l.file)
 
-held_stored : (t : Trace) (e : Entry) (l : OwnMessage) (c : StoredCopy) → e.message ≡ Some l → l.body ≡ Store c → up t l.server ≡ true → held (e ∷ t) l.server l.file ≡ newer_of (held t l.server l.file) c
-held_stored t e = held_store t e.turn e.message e.told e.new
+held_stored : (grid : Grid) (row : TenantRow) (t : Trace) (e : Entry) (l : OwnMessage) (c : StoredCopy) → Follows grid row t e → e.message ≡ Some l → l.body ≡ Store c → serves (up t) (lacks t) l.server l.file ≡ true → held (e ∷ t) l.server l.file ≡ newer_of (held t l.server l.file) c
+held_stored grid row t e l c follows is body serving =
+    let by = delivers_by grid row t e.turn e.message l follows.message is in
+    let P : Turn → Type 0 = λ z. held (record { turn = z; message = e.message; told = e.told; new = e.new } ∷ t) l.server l.file ≡ newer_of (held t l.server l.file) c in
+    subst P (sym by.1) (held_store t by.0 e.message e.told e.new l c is body serving)
 
--- what a server holds after an entry: what it held, or a copy that a store brought
-held_from : (t : Trace) (turn : Turn) (message : Option OwnMessage) (said : Told) (new : List OwnMessage) (s : ℕ) (file : File) →
-    (held (record { turn = turn; message = message; told = said; new = new } ∷ t) s file ≡ held t s file) ⊎
-    ((l : OwnMessage) × (c : StoredCopy) × (message ≡ Some l) × (l.body ≡ Store c) × (l.file ≡ file) × (held (record { turn = turn; message = message; told = said; new = new } ∷ t) s file ≡ newer_of (held t s file) c))
-held_from t turn message said new s file = go message refl
+-- what a server holds of a file to which a store may have come: what it held, or a copy that the store brought
+stored_from : (t : Trace) (message : Option OwnMessage) (s : ℕ) (file : File) → let now : StoredCopy = copy_of (stored_by (serves (up t) (lacks t)) message (brought t) s file) in
+    (now ≡ held t s file) ⊎ ((l : OwnMessage) × (c : StoredCopy) × (message ≡ Some l) × (l.body ≡ Store c) × (l.file ≡ file) × (now ≡ newer_of (held t s file) c))
+stored_from t message s file = go message refl
   where
-    x : Option OwnMessage → Entry
-    x w = record { turn = turn; message = w; told = said; new = new }
+    now : Option OwnMessage → List StoredCopy
+    now w = stored_by (serves (up t) (lacks t)) w (brought t) s file
 
     Result : Type 0
-    Result = (held (x message ∷ t) s file ≡ held t s file) ⊎ ((l : OwnMessage) × (c : StoredCopy) × (message ≡ Some l) × (l.body ≡ Store c) × (l.file ≡ file) × (held (x message ∷ t) s file ≡ newer_of (held t s file) c))
+    Result = (copy_of (now message) ≡ held t s file) ⊎ ((l : OwnMessage) × (c : StoredCopy) × (message ≡ Some l) × (l.body ≡ Store c) × (l.file ≡ file) × (copy_of (now message) ≡ newer_of (held t s file) c))
 
-    same : brought (x message ∷ t) s file ≡ brought t s file → Result
-    same list = inl (ap (λ z. greatest (first_copy ∷ z)) list)
+    same : now message ≡ brought t s file → Result
+    same list = inl (ap copy_of list)
 
-    by_test : (l : OwnMessage) (c : StoredCopy) → message ≡ Some l → l.body ≡ Store c → (b : Bool) → (eqb l.server s && is_file l.file file && up t s) ≡ b → Result
+    by_test : (l : OwnMessage) (c : StoredCopy) → message ≡ Some l → l.body ≡ Store c → (b : Bool) → (eqb l.server s && is_file l.file file && serves (up t) (lacks t) s file) ≡ b → Result
     by_test l c is body false fails = same (rw (is, body, fails))
     by_test l c is body true holds =
-        let first = and_parts (eqb l.server s && is_file l.file file) (up t s) holds in
+        let first = and_parts (eqb l.server s && is_file l.file file) (serves (up t) (lacks t) s file) holds in
         let second = and_parts (eqb l.server s) (is_file l.file file) first.0 in
         let files = and_parts (eqb l.file.volume file.volume) (eqb l.file.place file.place) second.1 in
         let file_is : l.file ≡ file = λ i. record { volume = eqb-true l.file.volume file.volume files.0 i; place = eqb-true l.file.place file.place files.1 i } in
-        let list : brought (x message ∷ t) s file ≡ brought t s file ++ c ∷ [] = rw (is, body, holds) in
-        inr (l, c, is, body, file_is, ap (λ z. greatest (first_copy ∷ z)) list ∙ greatest-push first_copy c (brought t s file))
+        let list : now message ≡ brought t s file ++ c ∷ [] = rw (is, body, holds) in
+        inr (l, c, is, body, file_is, ap copy_of list ∙ greatest-push first_copy c (brought t s file))
 
     by_body : (l : OwnMessage) → message ≡ Some l → (b : Body) → l.body ≡ b → Result
     by_body l is Ask body = same (rw (is, body))
     by_body l is (Copy c) body = same (rw (is, body))
     by_body l is Stored body = same (rw (is, body))
-    by_body l is (Store c) body = by_test l c is body (eqb l.server s && is_file l.file file && up t s) refl
+    by_body l is (Store c) body = by_test l c is body (eqb l.server s && is_file l.file file && serves (up t) (lacks t) s file) refl
 
     go : (w : Option OwnMessage) → message ≡ w → Result
     go None is = same (rw is)
     go (Some l) is = by_body l is l.body refl
+
+-- and of one whose copy is lost: the first copy
+held_lost : (turn : Turn) (message : Option OwnMessage) (said : Told) (new : List OwnMessage) (t : Trace) (s : ℕ) (file : File) → is_loss turn s file ≡ true → held (record { turn = turn; message = message; told = said; new = new } ∷ t) s file ≡ first_copy
+held_lost (Losing server volumes) message said new t s file lost = ap copy_of (rw lost)
+held_lost (Own line) message said new t s file lost = absurd (true≢false (sym lost))
+held_lost (Serving line) message said new t s file lost = absurd (true≢false (sym lost))
+held_lost (Leaping k last number) message said new t s file lost = absurd (true≢false (sym lost))
+held_lost (Returning server f mate copy) message said new t s file lost = absurd (true≢false (sym lost))
 
 -- a message that is delivered was sent
 delivered_sent : (t : Trace) (turn : Turn) (l : OwnMessage) → delivered t turn ≡ Some l → Contains (sent t) l
@@ -221,7 +237,7 @@ delivered_sent t (Own (Deliver n)) l is = contains_at (sent t) n l (message_sent
 delivered_sent t _ l is = absurd (let bad : None ≡ Some l = is in cc)
 
 held_step : (grid : Grid) (row : TenantRow) (t : Trace) (e : Entry) → Follows grid row t e → Invariant grid t → (s : ℕ) (file : File) → IsKnown (e ∷ t) file (held (e ∷ t) s file)
-held_step grid row t e follows inv s file = go (held_from t e.turn e.message e.told e.new s file)
+held_step grid row t e follows inv s file = by (copying e.turn s file)
   where
     P : StoredCopy → Type 0
     P z = IsKnown (e ∷ t) file z
@@ -229,60 +245,107 @@ held_step grid row t e follows inv s file = go (held_from t e.turn e.message e.t
     old : P (held t s file)
     old = known_grows e t file (held t s file) (inv.held_known s file)
 
-    pick : (c : StoredCopy) → P c → (b : Bool) → is_less (held t s file).tag c.tag ≡ b → P (newer_of (held t s file) c)
-    pick c is true less = rw less is
-    pick c is false less = rw less old
+    pick : (before c : StoredCopy) → P before → P c → (b : Bool) → is_less before.tag c.tag ≡ b → P (newer_of before c)
+    pick before c was is true less = rw less is
+    pick before c was is false less = rw less was
 
-    go : (held (e ∷ t) s file ≡ held t s file) ⊎ ((l : OwnMessage) × (c : StoredCopy) × (e.message ≡ Some l) × (l.body ≡ Store c) × (l.file ≡ file) × (held (e ∷ t) s file ≡ newer_of (held t s file) c)) → IsKnown (e ∷ t) file (held (e ∷ t) s file)
+    stored : StoredCopy
+    stored = copy_of (stored_by (serves (up t) (lacks t)) e.message (brought t) s file)
+
+    go : (stored ≡ held t s file) ⊎ ((l : OwnMessage) × (c : StoredCopy) × (e.message ≡ Some l) × (l.body ≡ Store c) × (l.file ≡ file) × (stored ≡ newer_of (held t s file) c)) → P stored
     go (inl same) = subst P (sym same) old
     go (inr (l, c, message, body, file_is, is)) =
         let within = delivered_sent t e.turn l (sym follows.message ∙ message) in
         let Q : File → Type 0 = λ f. IsKnown (e ∷ t) f c in
         let known : P c = subst Q file_is (known_grows e t l.file c ((inv.messages l within).store_known c body)) in
-        subst P (sym is) (pick c known (is_less (held t s file).tag c.tag) refl)
+        subst P (sym is) (pick (held t s file) c old known (is_less (held t s file).tag c.tag) refl)
+
+    by : Copying e.turn s file → P (held (e ∷ t) s file)
+    by (Loses lost) = subst P (sym (held_lost e.turn e.message e.told e.new t s file lost)) (inl refl)
+    by (Gains g) =
+        let seen = given_shown grid row t e s file follows g in
+        let known : P g.copy = known_grows e t file g.copy (inv.shown_known s g.mate file g.copy seen.among) in
+        subst P (sym (held_given e.turn e.message e.told e.new t s file g)) (pick first_copy g.copy (inl refl) known (is_less first_copy.tag g.copy.tag) refl)
+    by (Leaves none lack left) = subst P (sym (ap copy_of (left (stored_by (serves (up t) (lacks t)) e.message (brought t))))) (go (stored_from t e.message s file))
+
+-- what mates have shown since a loss
+shown_step : (grid : Grid) (row : TenantRow) (t : Trace) (e : Entry) → Follows grid row t e → Invariant grid t → (s mate : ℕ) (file : File) (c : StoredCopy) → Contains (shown (e ∷ t) s file mate) c → IsKnown (e ∷ t) file c
+shown_step grid row t e follows inv s mate file c within = go (Contains-append_cases _ _ c within)
+  where
+    go : Contains (if is_loss e.turn s file then [] else shown t s file mate) c ⊎ Contains (if lacks (e ∷ t) mate file then [] else held (e ∷ t) mate file ∷ []) c → IsKnown (e ∷ t) file c
+    go (inl old) = by (is_loss e.turn s file) refl
+      where
+        by : (b : Bool) → is_loss e.turn s file ≡ b → IsKnown (e ∷ t) file c
+        by true lost = absurd (let empty : Contains [] c = rw lost at old in omega (arith, empty.1))
+        by false none = let inside : Contains (shown t s file mate) c = rw none at old in known_grows e t file c (inv.shown_known s mate file c inside)
+    go (inr new) = by (lacks (e ∷ t) mate file) refl
+      where
+        by : (b : Bool) → lacks (e ∷ t) mate file ≡ b → IsKnown (e ∷ t) file c
+        by true none = absurd (let empty : Contains [] c = rw none at new in omega (arith, empty.1))
+        by false had =
+            let one : Contains (held (e ∷ t) mate file ∷ []) c = rw had at new in
+            let P : StoredCopy → Type 0 = λ z. IsKnown (e ∷ t) file z in
+            subst P (one_is (held (e ∷ t) mate file) c one) (held_step grid row t e follows inv mate file)
 
 -- ---- messages that a server sends back
 
-reply_sound : (grid : Grid) (row : TenantRow) (t : Trace) (e : Entry) (l : OwnMessage) → IsRun grid row t → Follows grid row t e → Invariant grid t → Contains (sent t) l → to_server l.body ≡ true → up t l.server ≡ true → e.message ≡ Some l → Sound (e ∷ t) (back t l)
-reply_sound grid row t e l run follows inv within serves alive message = go l.body refl
+reply_sound : (grid : Grid) (row : TenantRow) (t : Trace) (e : Entry) (l : OwnMessage) → IsRun grid row t → Follows grid row t e → Invariant grid t → Contains (sent t) l → to_server l.body ≡ true → serves (up t) (lacks t) l.server l.file ≡ true → e.message ≡ Some l → Sound grid (e ∷ t) (back t l)
+reply_sound grid row t e l run follows inv within asks serving message = go l.body refl
   where
-    old : Sound t l
+    old : Sound grid t l
     old = inv.messages l within
 
     copy : StoredCopy
     copy = held t l.server l.file
+
+    -- the server has the file, before the entry and behind it
+    had : lacks t l.server l.file ≡ false
+    had = not-true (lacks t l.server l.file) (and_parts (not (lacks t l.server l.file)) (up t l.server) serving).0
+
+    had_now : lacks (e ∷ t) l.server l.file ≡ false
+    had_now = ap (λ z. lacks_by z (lacks t) l.server l.file) (delivers_by grid row t e.turn e.message l follows.message message).1 ∙ had
+
+    none : is_loss e.turn l.server l.file ≡ false
+    none = ap (λ z. is_loss z l.server l.file) (delivers_by grid row t e.turn e.message l follows.message message).1
 
     file : (task : Task) → current (e ∷ t) l.session ≡ Some task → l.op ≡ op (e ∷ t) l.session → l.round ≡ round (e ∷ t) l.session → l.file ≡ round_file task l.round
     file task busy its_op its_round =
         let u = stays_for grid row t e l task follows inv old busy its_op its_round in
         old.file task (sym u.current ∙ busy) (its_op ∙ u.op) (its_round ∙ u.round)
 
-    kept : (task : Task) (c : StoredCopy) → l.body ≡ Store c → current (e ∷ t) l.session ≡ Some task → l.op ≡ op (e ∷ t) l.session → l.round ≡ round (e ∷ t) l.session → IsAtMost (stored_copy (collected (e ∷ t) l.session)).tag (held (e ∷ t) l.server l.file).tag
+    kept : (task : Task) (c : StoredCopy) → l.body ≡ Store c → current (e ∷ t) l.session ≡ Some task → l.op ≡ op (e ∷ t) l.session → l.round ≡ round (e ∷ t) l.session → Keeps grid (e ∷ t) l.server l.file (stored_copy (collected (e ∷ t) l.session)).tag
     kept task c body busy its_op its_round =
         let u = stays_for grid row t e l task follows inv old busy its_op its_round in
         let same : c ≡ stored_copy (collected (e ∷ t) l.session) = old.store task c (sym u.current ∙ busy) (its_op ∙ u.op) (its_round ∙ u.round) body ∙ ap stored_copy (sym u.collected) in
-        let now : held (e ∷ t) l.server l.file ≡ newer_of copy c = held_stored t e l c message body alive in
+        let now : held (e ∷ t) l.server l.file ≡ newer_of copy c = held_stored grid row t e l c follows message body serving in
         let P : StoredCopy → StoredCopy → Type 0 = λ a b. IsAtMost a.tag b.tag in
-        subst (λ a. P a (held (e ∷ t) l.server l.file)) same (subst (λ b. P c b) (sym now) (newer_of-right copy c))
+        had_keeps grid (e ∷ t) l.server l.file (stored_copy (collected (e ∷ t) l.session)).tag had_now (subst (λ a. P a (held (e ∷ t) l.server l.file)) same (subst (λ b. P c b) (sym now) (newer_of-right copy c)))
 
     bounded : IsUpTo (e ∷ t) l.session l.op l.round
     bounded = up_to_step grid row t e l.session l.op l.round follows inv old.bounded
 
-    now_held : (task : Task) → current (e ∷ t) l.session ≡ Some task → l.op ≡ op (e ∷ t) l.session → l.round ≡ round (e ∷ t) l.session → HeldBetween (round_start (e ∷ t) l.session) (e ∷ t) l.server l.file copy
+    now_held : (task : Task) → current (e ∷ t) l.session ≡ Some task → l.op ≡ op (e ∷ t) l.session → l.round ≡ round (e ∷ t) l.session → HeldBetween grid (round_start (e ∷ t) l.session) (e ∷ t) l.server l.file copy
     now_held task busy its_op its_round =
         let u = stays_for grid row t e l task follows inv old busy its_op its_round in
         let P : Trace → Type 0 = λ z. Extends t z in
-        record { moment = t; since = subst P (sym u.round_start) (starts_along t l.session).1; until = (e ∷ [], refl); held_then = refl }
+        record {
+          moment = t;
+          since = subst P (sym u.round_start) (starts_along t l.session).1;
+          until = (e ∷ [], refl);
+          held_then = refl;
+          had = had;
+          kept = keeps_step grid row t e run follows l.server l.file copy.tag none (had_keeps grid t l.server l.file copy.tag had (at_most_refl copy.tag));
+        }
 
-    go : (b : Body) → l.body ≡ b → Sound (e ∷ t) (back t l)
-    go (Copy c) body = absurd (true≢false (sym serves ∙ ap to_server body))
-    go Stored body = absurd (true≢false (sym serves ∙ ap to_server body))
+    go : (b : Body) → l.body ≡ b → Sound grid (e ∷ t) (back t l)
+    go (Copy c) body = absurd (true≢false (sym asks ∙ ap to_server body))
+    go Stored body = absurd (true≢false (sym asks ∙ ap to_server body))
     go Ask body =
         let is : (back t l).body ≡ Copy copy = back_to_ask t l body in
         let B : Body → Type 0 = λ b. IsBodyOf b (is_collect l.round) in
         record {
           bounded = bounded;
-          was_held = λ task c busy its_op its_round h. let both : Copy copy ≡ Copy c = sym is ∙ h in let same : copy ≡ c = cc in let P : StoredCopy → Type 0 = λ z. HeldBetween (round_start (e ∷ t) l.session) (e ∷ t) l.server l.file z in subst P same (now_held task busy its_op its_round);
+          was_held = λ task c busy its_op its_round h. let both : Copy copy ≡ Copy c = sym is ∙ h in let same : copy ≡ c = cc in let P : StoredCopy → Type 0 = λ z. HeldBetween grid (round_start (e ∷ t) l.session) (e ∷ t) l.server l.file z in subst P same (now_held task busy its_op its_round);
           parity = subst B (sym is) (let asked : IsBodyOf Ask (is_collect l.round) = subst B body old.parity in asked);
           store_known = λ c h. absurd (let bad : Copy copy ≡ Store c = sym is ∙ h in cc);
           copied_known = λ c h. let both : Copy copy ≡ Copy c = sym is ∙ h in let same : copy ≡ c = cc in let P : StoredCopy → Type 0 = λ z. IsKnown (e ∷ t) l.file z in subst P same (known_grows e t l.file copy (inv.held_known l.server l.file));
@@ -306,17 +369,17 @@ reply_sound grid row t e l run follows inv within serves alive message = go l.bo
 
 -- ---- the messages after an entry
 
-new_messages_sound : (grid : Grid) (row : TenantRow) (t : Trace) (e : Entry) → IsRun grid row t → Follows grid row t e → Invariant grid t → (m : OwnMessage) → Contains e.new m → Sound (e ∷ t) m
+new_messages_sound : (grid : Grid) (row : TenantRow) (t : Trace) (e : Entry) → IsRun grid row t → Follows grid row t e → Invariant grid t → (m : OwnMessage) → Contains e.new m → Sound grid (e ∷ t) m
 new_messages_sound grid row t e run follows inv m within = go (act grid row t e follows)
   where
-    none : e.new ≡ [] → Sound (e ∷ t) m
+    none : e.new ≡ [] → Sound grid (e ∷ t) m
     none is = absurd (let inside : Contains [] m = rw is at within in omega (arith, inside.1))
 
     sessions : (k : ℕ) (task : Task) → current (e ∷ t) k ≡ Some task → Holds grid (e ∷ t) task (round (e ∷ t) k) (heard (e ∷ t) k) (collected (e ∷ t) k) (starts (e ∷ t) k)
     sessions = sessions_step grid row t e run follows inv
 
     -- a message of the session's operation as the entry leaves it
-    ours : (k n r : ℕ) (task : Task) (cs : List StoredCopy) → Shape k n r task cs m → current (e ∷ t) k ≡ Some task → op (e ∷ t) k ≡ n → round (e ∷ t) k ≡ r → collected (e ∷ t) k ≡ cs → Sound (e ∷ t) m
+    ours : (k n r : ℕ) (task : Task) (cs : List StoredCopy) → Shape k n r task cs m → current (e ∷ t) k ≡ Some task → op (e ∷ t) k ≡ n → round (e ∷ t) k ≡ r → collected (e ∷ t) k ≡ cs → Sound grid (e ∷ t) m
     ours k n r task cs shape busy op_is round_is collected_is =
         let P : ℕ → List StoredCopy → Type 0 = λ x y. Holds grid (e ∷ t) task x (heard (e ∷ t) k) y (starts (e ∷ t) k) in
         round_message_sound grid (e ∷ t) k n r task cs m (heard (e ∷ t) k) (starts (e ∷ t) k) shape busy op_is round_is collected_is (subst (λ y. P r y) collected_is (subst (λ x. P x (collected (e ∷ t) k)) round_is (sessions k task busy)))
@@ -324,7 +387,7 @@ new_messages_sound grid row t e run follows inv m within = go (act grid row t e 
     in_new : (ms : List OwnMessage) → e.new ≡ ms → Contains ms m
     in_new ms is = let P : List OwnMessage → Type 0 = λ z. Contains z m in subst P is within
 
-    turned : (k : ℕ) (l : OwnMessage) (task : Task) (r : ℕ) (tag : Option Tag) → Comes t k l task → deed k e ≡ Moves l r tag → Next grid (up t) (with_reply (going t k task) l) r tag e.new → Sound (e ∷ t) m
+    turned : (k : ℕ) (l : OwnMessage) (task : Task) (r : ℕ) (tag : Option Tag) → Comes t k l task → deed k e ≡ Moves l r tag → Next grid (up t) (with_reply (going t k task) l) r tag e.new → Sound grid (e ∷ t) m
     turned k l task r tag comes is (ToStore odd ends r_is tag_is new_is) =
         ours k (op t k) r task (collected t k ++ decided_copy (with_reply (going t k task) l) ∷ []) (shape_round grid (up t) (in_round (with_decided (with_reply (going t k task) l)) r) m (in_new _ new_is)) (rw (is, current) comes.busy) (rw (is, op)) (rw (is, round)) (rw (is, collected, comes.busy, odd))
     turned k l task r tag comes is (Skips v f lists odd ends skips r_is tag_is new_is) =
@@ -332,12 +395,12 @@ new_messages_sound grid row t e run follows inv m within = go (act grid row t e 
     turned k l task r tag comes is (ToCollect v f lists even ends r_is tag_is new_is) =
         ours k (op t k) r task (collected t k) (shape_round grid (up t) (in_round (with_reply (going t k task) l) r) m (in_new _ new_is)) (rw (is, current) comes.busy) (rw (is, op)) (rw (is, round)) (rw (is, collected, comes.busy, even))
 
-    by : (k : ℕ) → Doing grid t e k → Sound (e ∷ t) m
+    by : (k : ℕ) → Doing grid t e k → Sound grid (e ∷ t) m
     by k (Requests line task first turn does is said new) = ours k (op t k + 1) 1 task [] (shape_round grid (up t) (first_round t k task) m (in_new _ new)) (rw (is, current) does) (rw (is, op)) (rw (is, round)) (rw (is, collected))
-    by k (Serves l n inside its serves alive message is said new) =
+    by k (Serves l n inside its asks serving message is said new) =
         let same : back t l ≡ m = only (back t l) m (in_new _ new) in
-        let P : OwnMessage → Type 0 = λ z. Sound (e ∷ t) z in
-        subst P same (reply_sound grid row t e l run follows inv inside serves alive message)
+        let P : OwnMessage → Type 0 = λ z. Sound grid (e ∷ t) z in
+        subst P same (reply_sound grid row t e l run follows inv inside asks serving message)
     by k (Notes l task comes is said new) = none new
     by k (Turns l task r tag first comes message is said heard) = turned k l task r tag comes is (next_of grid (up t) (with_reply (going t k task) l) r tag e.new heard)
     by k (Finishes l task outcome comes is said new heard) = none new
@@ -348,24 +411,28 @@ new_messages_sound grid row t e run follows inv m within = go (act grid row t e 
     by k (Jumps last number idle is passive new) = none new
     by k (Silent is passive new) = none new
 
-    go : Act grid t e → Sound (e ∷ t) m
+    go : Act grid t e → Sound grid (e ∷ t) m
     go a = by a.k a.what
 
 pub invariant_step : (grid : Grid) (row : TenantRow) (t : Trace) (e : Entry) → IsRun grid row t → Follows grid row t e → Invariant grid t → Invariant grid (e ∷ t)
 invariant_step grid row t e run follows inv = record {
   sessions = sessions_step grid row t e run follows inv;
+  heard_sent = heard_step grid row t e follows inv;
   messages = λ m within. message m (Contains-append_cases (sent t) e.new m within);
   held_known = held_step grid row t e follows inv;
+  shown_known = shown_step grid row t e follows inv;
 }
   where
-    message : (m : OwnMessage) → Contains (sent t) m ⊎ Contains e.new m → Sound (e ∷ t) m
-    message m (inl old) = old_message_sound grid row t e m follows inv (inv.messages m old)
+    message : (m : OwnMessage) → Contains (sent t) m ⊎ Contains e.new m → Sound grid (e ∷ t) m
+    message m (inl old) = old_message_sound grid row t e m run follows inv old (inv.messages m old)
     message m (inr new) = new_messages_sound grid row t e run follows inv m new
 
 pub invariant_along : (grid : Grid) (row : TenantRow) (t : Trace) → IsRun grid row t → Invariant grid t
 invariant_along grid row [] run = record {
   sessions = λ k task busy. absurd (let bad : None ≡ Some task = busy in cc);
+  heard_sent = λ k task x busy within. absurd (let bad : None ≡ Some task = busy in cc);
   messages = λ m within. absurd (omega (arith, within.1));
   held_known = λ s file. inl refl;
+  shown_known = λ s mate file c within. absurd (omega (arith, within.1));
 }
 invariant_along grid row (e ∷ t) run = invariant_step grid row t e run.0 run.1 (invariant_along grid row t run.0)

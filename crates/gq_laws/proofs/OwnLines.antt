@@ -9,7 +9,7 @@ use Rattle.gq_tag.specs.declared.Tag.{Tag}
 use Rattle.gq_tag.specs.declared.StoredCopy.{StoredCopy}
 use Rattle.gq_tag.specs.declared.Body.{Body}
 use Rattle.gq_tag.specs.declared.Body.TheVariants.{Ask, Copy, Store, Stored}
-use Rattle.gq_tag.specs.Tag.{OwnMessage, to_server, answer_body}
+use Rattle.gq_tag.specs.Tag.{File, OwnMessage, to_server, answer_body}
 use Rattle.gq_desk.specs.declared.plans.TenantRow.{TenantRow}
 use Rattle.gq_desk.specs.Plans.{is_in}
 use Rattle.gq_phase.specs.declared.Outcome.{Outcome}
@@ -17,7 +17,7 @@ use Rattle.gq_phase.specs.Phase.{Task, Operation, Heard, HeardNoted, HeardNext, 
 use Rattle.gq_model.specs.declared.events.Line.{Line}
 use Rattle.gq_model.specs.declared.events.Line.TheVariants.{Deliver, Retry}
 use Rattle.gq_model.specs.Told.{Replied, Noted, Done, Resent}
-use Rattle.gq_model.specs.Trace.{Own, Entry, Trace, Past, Session, Elsewhere, Hears, Moves, Ends, deed, session, session_by, volumes, sent, is_lost, questions, up, operation, operation_with, collected_by, floor_by}
+use Rattle.gq_model.specs.Trace.{Own, Entry, Trace, Past, Session, Elsewhere, Hears, Moves, Ends, deed, session, session_by, volumes, sent, is_lost, lacks, questions, up, operation, operation_with, collected_by, floor_by}
 use Rattle.gq_model.specs.Lone.{Step, after, said, step_at, is_refusal, heard_step, hear_step, line_step, deliver_step, message_of_turn, trace_after}
 use Rattle.gq_laws.proofs.Words.{current, round, message_at, held}
 use Rattle.gq_laws.proofs.Runs.{IsRun}
@@ -68,10 +68,11 @@ accepted_as grid row p line message s steps is found fine = record {
 
 -- ---- a going operation
 
--- after this past the operation is going, these servers are up, and no message is lost but of the first so many
+-- after this past the operation is going, these servers are up and have all files, and no message is lost but of the first so many
 pub record Ongoing (grid : Grid) (row : TenantRow) (alive : Servers) (first : ℕ) (p : Past) (o : Operation) : Type 0 where
   pub run : IsRun grid row p.trace
   pub up_is : up p.trace ≡ alive
+  pub whole : (server : ℕ) (file : File) → alive server ≡ true → lacks p.trace server file ≡ false
   pub busy : current p.trace o.session ≡ Some o.task
   pub is : going p.trace o.session o.task ≡ o
   pub kept : (n : ℕ) → first ≤ n → is_lost p.trace n ≡ false
@@ -105,7 +106,7 @@ pub retries : (grid : Grid) (row : TenantRow) (alive : Servers) (first : ℕ) (p
     Accepted grid row p (Retry o.session) (retry_entry grid p.trace o quorum) × Ongoing grid row alive first (with_entry p (retry_entry grid p.trace o quorum)) o
 retries grid row alive first p o quorum s steps inside chosen = (
   goes,
-  record { run = goes.run s.run; up_is = s.up_is; busy = s.busy; is = s.is; kept = s.kept; low = lower p.trace (retry_entry grid p.trace o quorum) first s.low },
+  record { run = goes.run s.run; up_is = s.up_is; whole = s.whole; busy = s.busy; is = s.is; kept = s.kept; low = lower p.trace (retry_entry grid p.trace o quorum) first s.low },
 )
   where
     chosen_now : round_quorum grid (up p.trace) (round p.trace o.session) ≡ Some quorum
@@ -135,7 +136,7 @@ pub serves : (grid : Grid) (row : TenantRow) (alive : Servers) (first : ℕ) (p 
     Accepted grid row p (Deliver n) (serve_entry p.trace n (message_to o server)) × Ongoing grid row alive first (with_entry p (serve_entry p.trace n (message_to o server))) o
 serves grid row alive first p o n server s steps late at is_up = (
   goes,
-  record { run = goes.run s.run; up_is = s.up_is; busy = ap (λ z. z.current) now ∙ s.busy; is = ap (λ z. operation_with o.session z o.task) now ∙ s.is; kept = s.kept; low = lower p.trace e first s.low },
+  record { run = goes.run s.run; up_is = s.up_is; whole = s.whole; busy = ap (λ z. z.current) now ∙ s.busy; is = ap (λ z. operation_with o.session z o.task) now ∙ s.is; kept = s.kept; low = lower p.trace e first s.low },
 )
   where
     m : OwnMessage
@@ -154,7 +155,7 @@ serves grid row alive first p o n server s steps late at is_up = (
     found = there grid row alive first p o n m s late at
 
     served : deliver_step grid (questions p.trace) (Some m) ≡ record { told = e.told; new = e.new }
-    served = rw (to, alive_now) refl
+    served = rw (to, s.whole m.server m.file is_up, alive_now) refl
 
     goes : Accepted grid row p (Deliver n) e
     goes = accepted_as grid row p (Deliver n) (Some m) (record { told = e.told; new = e.new }) steps (ap (deliver_step grid (questions p.trace)) found ∙ served) found refl
@@ -209,6 +210,7 @@ notes grid row alive first p o n l s steps late at a noted = (
   record {
     run = goes.run s.run;
     up_is = s.up_is;
+    whole = s.whole;
     busy = ap (λ z. z.current) now ∙ s.busy;
     is = ap (λ z. operation_with o.session z o.task) now ∙ ap (λ z. with_reply z l) s.is;
     kept = s.kept;
@@ -237,6 +239,7 @@ moves grid row alive first p o n l r tag messages s steps late at a next = (
   record {
     run = goes.run s.run;
     up_is = s.up_is;
+    whole = s.whole;
     busy = ap (λ z. z.current) now ∙ s.busy;
     is = ap (λ z. operation_with o.session z o.task) now ∙ in_words ∙ ap (λ z. moved z l r tag) s.is;
     kept = s.kept;

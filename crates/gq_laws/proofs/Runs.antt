@@ -1,5 +1,5 @@
 -- Traces that come from turns, and what holds along them.
-use Rattle.std.proofs.Common.{◌≡◌, ◌⊎◌, ℕ, true, false, List, [], ◌∷◌, ◌++◌, Option, Some, None}
+use Rattle.std.proofs.Common.{◌≡◌, ◌⊎◌, ℕ, Bool, true, false, List, [], ◌∷◌, ◌++◌, Option, Some, None}
 use Rattle.std.specs.Prelude.{Contains, ⊤}
 use Rattle.gq_grid.specs.Grid.{Grid, Servers}
 use Rattle.gq_tag.specs.declared.Tag.{Tag}
@@ -8,8 +8,8 @@ use Rattle.gq_tag.specs.Tag.{first_copy, File, OwnMessage}
 use Rattle.gq_tag.proofs.Order.{IsAtMost}
 use Rattle.gq_desk.specs.declared.plans.TenantRow.{TenantRow}
 use Rattle.gq_phase.specs.Phase.{Task, Writing}
-use Rattle.gq_phase.specs.Quorums.{ends_store}
-use Rattle.gq_model.specs.Trace.{Entry, Trace, deed, Deed, Begins, Moves}
+use Rattle.gq_phase.specs.Quorums.{ends_store, are_mates}
+use Rattle.gq_model.specs.Trace.{Entry, Trace, deed, Deed, Begins, Moves, is_loss, lacks}
 use Rattle.gq_model.specs.Lone.{is_refusal}
 use Rattle.gq_laws.proofs.Words.{delivered, step_on, held, current}
 
@@ -62,12 +62,28 @@ starts t k = record { op = op_start t k; round = round_start t k }
 abbrev pub Extends : Trace → Trace → Type 0
 Extends later earlier = (more : Trace) × (more ++ earlier ≡ later)
 
--- the server held this copy of the file at a moment that is not before the earlier trace nor after the later one
-pub record HeldBetween (earlier later : Trace) (server : ℕ) (file : File) (copy : StoredCopy) : Type 0 where
+-- ---- what a server keeps
+
+-- The server keeps a tag of the file: where it has the file, it holds this tag or a greater one; where it lacks the file, all its mates
+-- kept the tag when it lost its own, so that each of them can give it no less.
+abbrev pub Keeps : Grid → Trace → ℕ → File → Tag → Type 0
+Keeps grid [] server file tag = IsAtMost tag (held [] server file).tag
+Keeps grid (e ∷ t) server file tag = by (is_loss e.turn server file) (lacks (e ∷ t) server file) (λ mate. Keeps grid t mate file tag)
+  where
+    by : Bool → Bool → (ℕ → Type 0) → Type 0
+    by true lacking before = (mate : ℕ) → are_mates grid server mate ≡ true → before mate
+    by false true before = before server
+    by false false before = IsAtMost tag (held (e ∷ t) server file).tag
+
+-- the server had the file and held this copy of it at a moment that is not before the earlier trace nor after the later one, and keeps
+-- its tag
+pub record HeldBetween (grid : Grid) (earlier later : Trace) (server : ℕ) (file : File) (copy : StoredCopy) : Type 0 where
   pub moment : Trace
   pub since : Extends moment earlier
   pub until : Extends later moment
   pub held_then : held moment server file ≡ copy
+  pub had : lacks moment server file ≡ false
+  pub kept : Keeps grid later server file copy.tag
 
 -- ---- what writes made
 
@@ -94,8 +110,9 @@ made (e ∷ t) = made t ++ by e.message
 abbrev pub IsKnown : Trace → File → StoredCopy → Type 0
 IsKnown t file copy = (copy ≡ first_copy) ⊎ Contains (made t) (record { file = file; copy = copy })
 
--- the servers of some set that ends a store round hold tags of at least this one
+-- the tag is kept by the servers of some set that ends a store round and has, with each of them, all its mates
 pub record Settled (grid : Grid) (t : Trace) (file : File) (tag : Tag) : Type 0 where
   pub set : Servers
   pub ends : ends_store grid set ≡ true
-  pub held_there : (server : ℕ) → set server ≡ true → IsAtMost tag (held t server file).tag
+  pub mates : (server mate : ℕ) → set server ≡ true → are_mates grid server mate ≡ true → set mate ≡ true
+  pub kept_there : (server : ℕ) → set server ≡ true → Keeps grid t server file tag

@@ -1,5 +1,5 @@
 -- What is known of a session's operation: of what it heard in its round, and of what it collected.
-use Rattle.std.proofs.Common.{◌≡◌, ◌≢◌, ◌⊎◌, ℕ, ◌+◌, ◌-◌, ◌*◌, ◌/◌, ◌<◌, ◌≤◌, max, true, false, ◌++◌, List, [], ◌∷◌, length, refl, sym, ap, ◌∙◌, subst, inl, inr, Some, None, arith}
+use Rattle.std.proofs.Common.{◌≡◌, ◌≢◌, ◌⊎◌, ℕ, ◌+◌, ◌-◌, ◌*◌, ◌/◌, ◌<◌, ◌≤◌, max, Bool, true, false, ◌++◌, List, [], ◌∷◌, length, refl, sym, ap, ◌∙◌, subst, inl, inr, Some, None, arith}
 use Rattle.std.specs.Prelude.{Contains, slice_get}
 use Rattle.std.proofs.lemmas.Bool.{cases_eq, true≢false}
 use Rattle.std.proofs.lemmas.List.{length_push}
@@ -12,16 +12,18 @@ use Rattle.gq_tag.specs.Tag.{File, greatest, is_less}
 use Rattle.gq_tag.specs.declared.Body.TheVariants.{Copy}
 use Rattle.gq_tag.proofs.Order.{IsAtMost, at_most_trans, less_from, at_most-parts}
 use Rattle.gq_phase.specs.Phase.{Task, Reply, Writing, Reading, Listing, is_collect, round_file, stored_copy, heard_servers, heard_copies, hear_reply, givers}
-use Rattle.gq_phase.specs.Quorums.{ends_collect, ends_store}
-use Rattle.gq_phase.proofs.Meeting.{rounds_meet}
-use Rattle.gq_model.specs.Trace.{Entry, Trace}
+use Rattle.gq_phase.specs.Quorums.{ends_collect, ends_store, are_mates}
+use Rattle.gq_phase.proofs.Meeting.{rounds_meet, stores_have_mates}
+use Rattle.gq_desk.specs.declared.plans.TenantRow.{TenantRow}
+use Rattle.gq_model.specs.Trace.{Entry, Trace, is_loss}
 use Rattle.gq_laws.proofs.Words.{held}
-use Rattle.gq_laws.proofs.Holding.{held_grows, held_since, held_between_more, held_between_least, held_between_most}
-use Rattle.gq_laws.proofs.Runs.{IsKnown, Settled, made, Extends, Starts, HeldBetween}
+use Rattle.gq_laws.proofs.Holding.{keeps_step, keeps_had, run_before, extends_join, held_between_more}
+use Rattle.gq_laws.proofs.Runs.{Follows, IsRun, IsKnown, Keeps, Settled, made, Extends, Starts, HeldBetween}
 use Rattle.gq_phase.proofs.Saying.{odd_is, even_is}
 use Rattle.gq_laws.proofs.Found.{push_at, stored-push, last_at, greatest_in, greatest_bound, hear_in, server_in, giver_in, copies_in, copies_to, position_of}
 
--- all that is used of quorums: a set that ends a store round and one that ends a collect round share a server
+-- all that is used of quorums: a set that ends a store round and one that ends a collect round share a server; and among the servers
+-- of the first are some that end it with all their mates
 quorums_meet : (grid : Grid) (left right : Servers) → ends_store grid left ≡ true → ends_collect grid right ≡ true → (server : ℕ) × (left server ≡ true) × (right server ≡ true)
 quorums_meet grid left right stored ends = let both = rounds_meet grid right left ends stored in (both.0, both.3, both.2)
 
@@ -34,12 +36,12 @@ pub record Holds (grid : Grid) (t : Trace) (task : Task) (r : ℕ) (hs : List Re
   pub standing : (r ≡ 2 * length cs + 1) ⊎ ((r ≡ 2 * length cs) × (0 < length cs))
   -- its round began no sooner than the operation
   pub later : Extends start.round start.op
-  -- copies that it heard are known, and were held at their servers since the round began
+  -- copies that it heard are known, and were held at their servers since the round began, which keep their tags
   pub heard_known : (x : Reply) (c : StoredCopy) → Contains hs x → x.body ≡ Copy c → IsKnown t (round_file task r) c
-  pub heard_held : (x : Reply) (c : StoredCopy) → Contains hs x → x.body ≡ Copy c → HeldBetween start.round t x.server (round_file task r) c
-  -- a collect round hears copies, a store round receipts of servers that hold its copy or a greater one
+  pub heard_held : (x : Reply) (c : StoredCopy) → Contains hs x → x.body ≡ Copy c → HeldBetween grid start.round t x.server (round_file task r) c
+  -- a collect round hears copies, a store round receipts of servers that keep the tag of its copy
   pub heard_copied : is_collect r ≡ true → (x : Reply) → Contains hs x → (c : StoredCopy) × (x.body ≡ Copy c)
-  pub heard_stored : is_collect r ≡ false → (x : Reply) → Contains hs x → IsAtMost (stored_copy cs).tag (held t x.server (round_file task r)).tag
+  pub heard_stored : is_collect r ≡ false → (x : Reply) → Contains hs x → Keeps grid t x.server (round_file task r) (stored_copy cs).tag
   -- copies that it collected are known, at least what was settled at the start, and settled once their file is done
   pub known : (i : ℕ) (c : StoredCopy) → slice_get cs i ≡ Some c → IsKnown t (file_at task i) c
   pub at_least : (i : ℕ) (c : StoredCopy) (tag : Tag) → slice_get cs i ≡ Some c → Settled grid start.op (file_at task i) tag → IsAtMost tag c.tag
@@ -52,24 +54,50 @@ pub known_grows : (e : Entry) (t : Trace) (file : File) (c : StoredCopy) → IsK
 known_grows e t file c (inl first) = inl first
 known_grows e t file c (inr within) = inr (Contains-append_left (made t) _ (record { file = file; copy = c }) within)
 
-pub settled_grows : (grid : Grid) (e : Entry) (t : Trace) (file : File) (tag : Tag) → Settled grid t file tag → Settled grid (e ∷ t) file tag
-settled_grows grid e t file tag s = record { set = s.set; ends = s.ends; held_there = λ server inside. at_most_trans tag (held t server file).tag (held (e ∷ t) server file).tag (s.held_there server inside) (held_grows e t server file) }
+-- the servers of a set, and all their mates in it, keep a tag
+abbrev KeepAll : Grid → Trace → File → Tag → Servers → Type 0
+KeepAll grid t file tag set = (server : ℕ) → set server ≡ true → Keeps grid t server file tag
 
-pub settled_since : (grid : Grid) (later t : Trace) (file : File) (tag : Tag) → Extends later t → Settled grid t file tag → Settled grid later file tag
-settled_since grid later t file tag extends s = record { set = s.set; ends = s.ends; held_there = λ server inside. at_most_trans tag (held t server file).tag (held later server file).tag (s.held_there server inside) (held_since later t server file extends) }
+keep_all_step : (grid : Grid) (row : TenantRow) (e : Entry) (t : Trace) (file : File) (tag : Tag) (s : Settled grid t file tag) (later : Trace) → IsRun grid row later → Follows grid row later e → KeepAll grid later file tag s.set → KeepAll grid (e ∷ later) file tag s.set
+keep_all_step grid row e t file tag s later run follows all server inside = by (is_loss e.turn server file) refl
+  where
+    by : (b : Bool) → is_loss e.turn server file ≡ b → Keeps grid (e ∷ later) server file tag
+    by true lost = rw lost (λ mate are. all mate (s.mates server mate inside are))
+    by false none = keeps_step grid row later e run follows server file tag none (all server inside)
 
-pub holds_grow : (grid : Grid) (e : Entry) (t : Trace) (task : Task) (r : ℕ) (hs : List Reply) (cs : List StoredCopy) (start : Starts) → Holds grid t task r hs cs start → Holds grid (e ∷ t) task r hs cs start
-holds_grow grid e t task r hs cs start h = record {
+pub settled_grows : (grid : Grid) (row : TenantRow) (e : Entry) (t : Trace) (file : File) (tag : Tag) → IsRun grid row t → Follows grid row t e → Settled grid t file tag → Settled grid (e ∷ t) file tag
+settled_grows grid row e t file tag run follows s = record { set = s.set; ends = s.ends; mates = s.mates; kept_there = keep_all_step grid row e t file tag s t run follows s.kept_there }
+
+-- what was settled is kept later by the same servers
+pub kept_since : (grid : Grid) (row : TenantRow) (later t : Trace) (file : File) (tag : Tag) → IsRun grid row later → Extends later t → (s : Settled grid t file tag) → (server : ℕ) → s.set server ≡ true → Keeps grid later server file tag
+kept_since grid row later t file tag run extends s =
+    let P : Trace → Type 0 = λ z. KeepAll grid z file tag s.set in
+    let Q : Trace → Type 0 = λ z. IsRun grid row z in
+    subst P extends.1 (along extends.0 (subst Q (sym extends.1) run))
+  where
+    along : (more : Trace) → IsRun grid row (more ++ t) → KeepAll grid (more ++ t) file tag s.set
+    along [] run = s.kept_there
+    along (e ∷ more) run = keep_all_step grid row e t file tag s (more ++ t) run.0 run.1 (along more run.0)
+
+pub settled_since : (grid : Grid) (row : TenantRow) (later t : Trace) (file : File) (tag : Tag) → IsRun grid row later → Extends later t → Settled grid t file tag → Settled grid later file tag
+settled_since grid row later t file tag run extends s = record { set = s.set; ends = s.ends; mates = s.mates; kept_there = kept_since grid row later t file tag run extends s }
+
+-- the entry loses no copy of the file at a server that was heard
+abbrev pub Steady : Entry → File → List Reply → Type 0
+Steady e file hs = (x : Reply) → Contains hs x → is_loss e.turn x.server file ≡ false
+
+pub holds_grow : (grid : Grid) (row : TenantRow) (e : Entry) (t : Trace) (task : Task) (r : ℕ) (hs : List Reply) (cs : List StoredCopy) (start : Starts) → IsRun grid row t → Follows grid row t e → Steady e (round_file task r) hs → Holds grid t task r hs cs start → Holds grid (e ∷ t) task r hs cs start
+holds_grow grid row e t task r hs cs start run follows steady h = record {
   standing = h.standing;
   later = h.later;
   heard_known = λ x c within is. known_grows e t (round_file task r) c (h.heard_known x c within is);
-  heard_held = λ x c within is. held_between_more e start.round t x.server (round_file task r) c (h.heard_held x c within is);
+  heard_held = λ x c within is. held_between_more grid row e start.round t x.server (round_file task r) c run follows (steady x within) (h.heard_held x c within is);
   heard_copied = h.heard_copied;
-  heard_stored = λ even x within. at_most_trans (stored_copy cs).tag (held t x.server (round_file task r)).tag (held (e ∷ t) x.server (round_file task r)).tag (h.heard_stored even x within) (held_grows e t x.server (round_file task r));
+  heard_stored = λ even x within. keeps_step grid row t e run follows x.server (round_file task r) (stored_copy cs).tag (steady x within) (h.heard_stored even x within);
   known = λ i c at. known_grows e t (file_at task i) c (h.known i c at);
   at_least = h.at_least;
   above = h.above;
-  settled = λ i c at low. settled_grows grid e t (file_at task i) c.tag (h.settled i c at low);
+  settled = λ i c at low. settled_grows grid row e t (file_at task i) c.tag run follows (h.settled i c at low);
 }
 
 -- ---- one more reply
@@ -77,9 +105,9 @@ holds_grow grid e t task r hs cs start h = record {
 -- what a reply shows
 pub record Shown (grid : Grid) (t : Trace) (task : Task) (r : ℕ) (cs : List StoredCopy) (start : Starts) (x : Reply) : Type 0 where
   pub known : (c : StoredCopy) → x.body ≡ Copy c → IsKnown t (round_file task r) c
-  pub was_held : (c : StoredCopy) → x.body ≡ Copy c → HeldBetween start.round t x.server (round_file task r) c
+  pub was_held : (c : StoredCopy) → x.body ≡ Copy c → HeldBetween grid start.round t x.server (round_file task r) c
   pub copied : is_collect r ≡ true → (c : StoredCopy) × (x.body ≡ Copy c)
-  pub stored : is_collect r ≡ false → IsAtMost (stored_copy cs).tag (held t x.server (round_file task r)).tag
+  pub stored : is_collect r ≡ false → Keeps grid t x.server (round_file task r) (stored_copy cs).tag
 
 pub holds_hear : (grid : Grid) (t : Trace) (task : Task) (r : ℕ) (hs : List Reply) (cs : List StoredCopy) (start : Starts) (y : Reply) → Holds grid t task r hs cs start → Shown grid t task r cs start y → Holds grid t task r (hear_reply hs y) cs start
 holds_hear grid t task r hs cs start y h s = record {
@@ -99,17 +127,17 @@ holds_hear grid t task r hs cs start y h s = record {
     known x c is (inl old) = h.heard_known x c old is
     known x c is (inr new) = s.known c (ap (λ z. z.body) new ∙ is)
 
-    was_held : (x : Reply) (c : StoredCopy) → x.body ≡ Copy c → Contains hs x ⊎ (y ≡ x) → HeldBetween start.round t x.server (round_file task r) c
+    was_held : (x : Reply) (c : StoredCopy) → x.body ≡ Copy c → Contains hs x ⊎ (y ≡ x) → HeldBetween grid start.round t x.server (round_file task r) c
     was_held x c is (inl old) = h.heard_held x c old is
-    was_held x c is (inr new) = let P : Reply → Type 0 = λ z. HeldBetween start.round t z.server (round_file task r) c in subst P new (s.was_held c (ap (λ z. z.body) new ∙ is))
+    was_held x c is (inr new) = let P : Reply → Type 0 = λ z. HeldBetween grid start.round t z.server (round_file task r) c in subst P new (s.was_held c (ap (λ z. z.body) new ∙ is))
 
     copied : is_collect r ≡ true → (x : Reply) → Contains hs x ⊎ (y ≡ x) → (c : StoredCopy) × (x.body ≡ Copy c)
     copied odd x (inl old) = h.heard_copied odd x old
     copied odd x (inr new) = let P : Reply → Type 0 = λ z. (c : StoredCopy) × (z.body ≡ Copy c) in subst P new (s.copied odd)
 
-    stored : is_collect r ≡ false → (x : Reply) → Contains hs x ⊎ (y ≡ x) → IsAtMost (stored_copy cs).tag (held t x.server (round_file task r)).tag
+    stored : is_collect r ≡ false → (x : Reply) → Contains hs x ⊎ (y ≡ x) → Keeps grid t x.server (round_file task r) (stored_copy cs).tag
     stored even x (inl old) = h.heard_stored even x old
-    stored even x (inr new) = let P : Reply → Type 0 = λ z. IsAtMost (stored_copy cs).tag (held t z.server (round_file task r)).tag in subst P new (s.stored even)
+    stored even x (inr new) = let P : Reply → Type 0 = λ z. Keeps grid t z.server (round_file task r) (stored_copy cs).tag in subst P new (s.stored even)
 
 -- ---- an operation begins
 
@@ -231,43 +259,52 @@ holds_next grid t task r hs cs start now h even later last = record {
 
 -- ---- the end of a round
 
+-- where the servers of a set that ends a store round keep the tag, it is settled
+settled_by : (grid : Grid) (t : Trace) (file : File) (tag : Tag) (set : Servers) → ends_store grid set ≡ true → ((server : ℕ) → set server ≡ true → Keeps grid t server file tag) → Settled grid t file tag
+settled_by grid t file tag set ends keeps =
+    let some = stores_have_mates grid set ends in
+    record { set = some.0; ends = some.1; mates = some.3; kept_there = λ server inside. keeps server (some.2 server inside) }
+
 -- where the servers heard end a store round, its copy is settled
 pub stored_settled : (grid : Grid) (t : Trace) (task : Task) (r : ℕ) (hs : List Reply) (cs : List StoredCopy) (start : Starts) → Holds grid t task r hs cs start → is_collect r ≡ false → ends_store grid (heard_servers hs) ≡ true →
     Settled grid t (round_file task r) (stored_copy cs).tag
-stored_settled grid t task r hs cs start h even ends = record { set = heard_servers hs; ends = ends; held_there = there }
+stored_settled grid t task r hs cs start h even ends = settled_by grid t (round_file task r) (stored_copy cs).tag (heard_servers hs) ends there
   where
-    there : (s : ℕ) → heard_servers hs s ≡ true → IsAtMost (stored_copy cs).tag (held t s (round_file task r)).tag
+    there : (s : ℕ) → heard_servers hs s ≡ true → Keeps grid t s (round_file task r) (stored_copy cs).tag
     there s inside =
         let x = server_in hs s inside in
-        let P : ℕ → Type 0 = λ z. IsAtMost (stored_copy cs).tag (held t z (round_file task r)).tag in
+        let P : ℕ → Type 0 = λ z. Keeps grid t z (round_file task r) (stored_copy cs).tag in
         subst P x.2 (h.heard_stored even x.0 x.1)
 
 -- where the servers heard end a collect round, the greatest copy heard is at least what was settled when the operation began
-pub greatest_least : (grid : Grid) (t : Trace) (task : Task) (r : ℕ) (hs : List Reply) (cs : List StoredCopy) (start : Starts) (tag : Tag) → Holds grid t task r hs cs start → is_collect r ≡ true → ends_collect grid (heard_servers hs) ≡ true →
+pub greatest_least : (grid : Grid) (row : TenantRow) (t : Trace) (task : Task) (r : ℕ) (hs : List Reply) (cs : List StoredCopy) (start : Starts) (tag : Tag) → IsRun grid row t → Holds grid t task r hs cs start → is_collect r ≡ true → ends_collect grid (heard_servers hs) ≡ true →
     Settled grid start.op (round_file task r) tag → IsAtMost tag (greatest (heard_copies hs)).tag
-greatest_least grid t task r hs cs start tag h odd ends s =
+greatest_least grid row t task r hs cs start tag run h odd ends s =
     let meet = quorums_meet grid s.set (heard_servers hs) s.ends ends in
     let x = server_in hs meet.0 meet.2 in
     let copied = h.heard_copied odd x.0 x.1 in
-    let P : ℕ → Type 0 = λ z. IsAtMost tag (held start.op z (round_file task r)).tag in
-    let there : IsAtMost tag (held start.op x.0.server (round_file task r)).tag = subst P (sym x.2) (s.held_there meet.0 meet.1) in
-    let fresh : IsAtMost (held start.op x.0.server (round_file task r)).tag copied.0.tag = held_between_least start.op start.round t x.0.server (round_file task r) copied.0 h.later (h.heard_held x.0 copied.0 x.1 copied.1) in
+    let was = h.heard_held x.0 copied.0 x.1 copied.1 in
+    let then_kept : Keeps grid was.moment meet.0 (round_file task r) tag = kept_since grid row was.moment start.op (round_file task r) tag (run_before grid row t was.moment was.until run) (extends_join was.moment start.round start.op was.since h.later) s meet.0 meet.1 in
+    let P : ℕ → Type 0 = λ z. Keeps grid was.moment z (round_file task r) tag in
+    let there : Keeps grid was.moment x.0.server (round_file task r) tag = subst P (sym x.2) then_kept in
+    let Q : StoredCopy → Type 0 = λ c. IsAtMost tag c.tag in
+    let fresh : IsAtMost tag copied.0.tag = subst Q was.held_then (keeps_had grid was.moment x.0.server (round_file task r) tag was.had there) in
     let place = position_of hs x.0 x.1 in
     let among = copies_to hs x.0 copied.0 place.0 place.1 copied.1 in
     let most : IsAtMost copied.0.tag (greatest (heard_copies hs)).tag = greatest_bound (heard_copies hs) copied.0 among.0 among.1 in
-    at_most_trans tag (held start.op x.0.server (round_file task r)).tag (greatest (heard_copies hs)).tag there (at_most_trans (held start.op x.0.server (round_file task r)).tag copied.0.tag (greatest (heard_copies hs)).tag fresh most)
+    at_most_trans tag copied.0.tag (greatest (heard_copies hs)).tag fresh most
 
 -- the greatest copy heard is known
 pub greatest_known : (grid : Grid) (t : Trace) (task : Task) (r : ℕ) (hs : List Reply) (cs : List StoredCopy) (start : Starts) → Holds grid t task r hs cs start → IsKnown t (round_file task r) (greatest (heard_copies hs))
 greatest_known grid t task r hs cs start h = greatest_in (IsKnown t (round_file task r)) (heard_copies hs) (inl refl) (λ c within. let x = copies_in hs c within in h.heard_known x.0 c x.1 x.2)
 
 -- an operation that is no write collects the greatest copy heard
-pub holds_greatest : (grid : Grid) (t : Trace) (task : Task) (r : ℕ) (hs : List Reply) (cs : List StoredCopy) (start : Starts) (now : Trace) → Holds grid t task r hs cs start → is_collect r ≡ true → ends_collect grid (heard_servers hs) ≡ true → Extends now start.op →
+pub holds_greatest : (grid : Grid) (row : TenantRow) (t : Trace) (task : Task) (r : ℕ) (hs : List Reply) (cs : List StoredCopy) (start : Starts) (now : Trace) → IsRun grid row t → Holds grid t task r hs cs start → is_collect r ≡ true → ends_collect grid (heard_servers hs) ≡ true → Extends now start.op →
     ((file : File) (bytes : List ℕ) → task ≢ Writing file bytes) → Holds grid t task (2 * length (cs ++ greatest (heard_copies hs) ∷ [])) [] (cs ++ greatest (heard_copies hs) ∷ []) (record { op = start.op; round = now })
-holds_greatest grid t task r hs cs start now h odd ends later no_write =
+holds_greatest grid row t task r hs cs start now run h odd ends later no_write =
     holds_store grid t task r hs cs start now (greatest (heard_copies hs)) h odd later
     (greatest_known grid t task r hs cs start h)
-    (λ tag s. greatest_least grid t task r hs cs start tag h odd ends s)
+    (λ tag s. greatest_least grid row t task r hs cs start tag run h odd ends s)
     (λ file bytes tag is s. absurd (no_write file bytes is))
 
 -- ---- a store round is left out
@@ -275,16 +312,16 @@ holds_greatest grid t task r hs cs start now h odd ends later no_write =
 -- where the servers that told copies of a tag end a store round, the tag is settled
 pub told_settled : (grid : Grid) (t : Trace) (task : Task) (r : ℕ) (hs : List Reply) (cs : List StoredCopy) (start : Starts) (tag : Tag) → Holds grid t task r hs cs start → ends_store grid (givers tag hs) ≡ true →
     Settled grid t (round_file task r) tag
-told_settled grid t task r hs cs start tag h ends = record { set = givers tag hs; ends = ends; held_there = there }
+told_settled grid t task r hs cs start tag h ends = settled_by grid t (round_file task r) tag (givers tag hs) ends there
   where
-    there : (s : ℕ) → givers tag hs s ≡ true → IsAtMost tag (held t s (round_file task r)).tag
+    there : (s : ℕ) → givers tag hs s ≡ true → Keeps grid t s (round_file task r) tag
     there s inside =
         let found = giver_in tag hs s inside in
         let x = found.0 in
         let c = found.1 in
-        let was_held = h.heard_held x c found.2 found.4 in
-        let P : ℕ → Tag → Type 0 = λ server least. IsAtMost least (held t server (round_file task r)).tag in
-        subst (λ least. P s least) found.5 (subst (λ server. P server c.tag) found.3 (held_between_most start.round t x.server (round_file task r) c was_held))
+        let was = h.heard_held x c found.2 found.4 in
+        let P : ℕ → Tag → Type 0 = λ server least. Keeps grid t server (round_file task r) least in
+        subst (λ least. P s least) found.5 (subst (λ server. P server c.tag) found.3 was.kept)
 
 -- the copy collected is as settled as after its store round
 pub skip_settled : (grid : Grid) (t : Trace) (task : Task) (r : ℕ) (cs : List StoredCopy) (c : StoredCopy) → r ≡ 2 * length cs + 1 → Settled grid t (round_file task r) c.tag → Settled grid t (round_file task (2 * length (cs ++ c ∷ []))) (stored_copy (cs ++ c ∷ [])).tag

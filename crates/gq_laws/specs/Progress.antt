@@ -5,6 +5,7 @@
 -- message-passing systems, JACM 42(1), 1995.)
 use Rattle.std.specs.Prelude.{◌≡◌, ◌≢◌, ℕ, ◌+◌, ◌-◌, ◌*◌, ◌≤◌, List, [], ◌∷◌, ◌++◌, Bool, true, false, Some, None, All, length, map, max, fold}
 use Rattle.gq_grid.specs.Grid.{Grid, Servers}
+use Rattle.gq_tag.specs.Tag.{File}
 use Rattle.gq_desk.specs.CheckedPlan.{CheckedPlan, row_at}
 use Rattle.gq_desk.specs.declared.plans.TenantRow.{TenantRow}
 use Rattle.gq_phase.specs.declared.Outcome.{Outcome}
@@ -84,6 +85,10 @@ pub record QuorumsUp (grid : Grid) (up : Servers) : Type 0 where
   pub collect_up : collect_quorum grid up ≡ Some collecting
   pub store_up : store_quorum grid up ≡ Some storing
 
+-- each server that is up has every file: none is up that lost its copies and was not given others
+abbrev pub HaveFiles : State → Type 0
+HaveFiles state = (server : ℕ) (file : File) → state.up server ≡ true → state.lacks server file ≡ false
+
 -- what the questions say after the turns
 abbrev pub state_after : Grid → TenantRow → List Turn → State
 state_after grid row turns = questions (past_of grid row turns).trace
@@ -92,10 +97,11 @@ state_after grid row turns = questions (past_of grid row turns).trace
 abbrev pub StepsLeft : Grid → TenantRow → List Turn → ℕ → Type 0
 StepsLeft grid row turns steps = (past_of grid row turns).lines + steps ≤ row.steps
 
--- whatever the turns, each operation is completed by a retry and deliveries, where quorums are up and steps are left
+-- whatever the turns, each operation is completed by a retry and deliveries, where quorums are up, all that are up have all files, and
+-- steps are left
 abbrev pub AllOperationsComplete : Type 0
 AllOperationsComplete = (grid : Grid) (row : TenantRow) (turns : List Turn) (k : ℕ) (o : Operation) →
-    operation (state_after grid row turns) k ≡ Some o → QuorumsUp grid (state_after grid row turns).up → StepsLeft grid row turns (1 + deliveries_left grid o) →
+    operation (state_after grid row turns) k ≡ Some o → QuorumsUp grid (state_after grid row turns).up → HaveFiles (state_after grid row turns) → StepsLeft grid row turns (1 + deliveries_left grid o) →
     Completes grid row (past_of grid row turns) o (Retry k)
 
 -- in the run of all tenants, the lines of tenant t by which its operation is completed are told the same
@@ -115,7 +121,7 @@ AllTenantsComplete = (plan : CheckedPlan) (events : List Event) (t k : ℕ) (o :
 abbrev pub AllRequestsComplete : Type 0
 AllRequestsComplete = (grid : Grid) (row : TenantRow) (turns : List Turn) (k : ℕ) (line : Line) (task : Task) →
     IsRequestOf k line → task_of (state_after grid row turns).volumes line ≡ Some task → is_refusal (said grid row (past_of grid row turns) (Own line)) ≡ false →
-    QuorumsUp grid (state_after grid row turns).up → StepsLeft grid row turns (1 + deliveries_left grid (first_operation (state_after grid row turns) k task)) →
+    QuorumsUp grid (state_after grid row turns).up → HaveFiles (state_after grid row turns) → StepsLeft grid row turns (1 + deliveries_left grid (first_operation (state_after grid row turns) k task)) →
     Completes grid row (past_of grid row turns) (first_operation (state_after grid row turns) k task) line
 
 -- session k abandons its operation, whatever is up, and may ask again

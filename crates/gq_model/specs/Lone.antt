@@ -3,14 +3,17 @@
 -- The words, from one line to a whole run: `line_step` is what is told to a line that is not spent, with the messages that
 -- it sends, from the answers to the questions; `step` is the same of a turn, from what is known; `told` is its first part;
 -- `said` is what is told, from the past; `lone` is what is said to all turns in order.
-use Rattle.std.specs.Prelude.{ℕ, ◌+◌, ◌*◌, List, [], ◌∷◌, Bool, true, false, not, nat_lt, nat_le, Option, Some, None, is_some, is_none, unwrap_or, length, fold, if◌then◌else◌}
+use Rattle.std.specs.Prelude.{ℕ, ◌+◌, ◌*◌, List, [], ◌∷◌, Bool, true, false, not, ◌==◌, ◌&&◌, nat_lt, nat_le, Option, Some, None, is_some, is_none, unwrap_or, length, fold, if◌then◌else◌}
+use Rattle.std.specs.List.{list_any}
+use Rattle.std.specs.Str.{bytes_eq}
 use Rattle.gq_grid.specs.Grid.{Grid, Servers, Choice, choose, choice_servers}
 use Rattle.gq_tag.specs.declared.StoredCopy.{StoredCopy}
-use Rattle.gq_tag.specs.Tag.{OwnMessage, to_server, answer_body}
+use Rattle.gq_tag.specs.Tag.{OwnMessage, File, equal_tags, to_server, answer_body}
 use Rattle.gq_desk.specs.Plans.{is_in}
 use Rattle.gq_desk.specs.declared.plans.TenantRow.{TenantRow}
 use Rattle.gq_desk.specs.Volumes.{OpenFault, WrongSize, NoVolumeLeft, OverShare, free_of, open_fault}
 use Rattle.gq_phase.specs.Phase.{Task, Operation, Heard, HeardStale, HeardNoted, HeardNext, HeardDone, begun, round_quorum, round_messages, resent, hear}
+use Rattle.gq_phase.specs.Quorums.{are_mates}
 use Rattle.gq_model.specs.declared.events.Line.{Line}
 use Rattle.gq_model.specs.declared.events.Line.TheVariants.{Bad, Quorum, NewVolume, Volumes, Write, Read, List as ListFiles, Deliver, Lose, Retry, Abandon}
 use Rattle.gq_model.specs.declared.events.ServerLine.{ServerLine}
@@ -20,7 +23,7 @@ use Rattle.gq_model.specs.declared.events.Refusal.TheVariants.{Spent, Bad as Bad
 use Rattle.gq_model.specs.declared.events.ServerRefusal.{ServerRefusal}
 use Rattle.gq_model.specs.declared.events.ServerRefusal.TheVariants.{Bad as ServerBad, NoServer, Same}
 use Rattle.gq_model.specs.Told.{Told, Chosen, Opened, VolumesAre, Began, Replied, IsDown, Stale, Noted, Round, Done, Lost, Resent, Abandoned, Refused, ServerOk, ServerRefused}
-use Rattle.gq_model.specs.Trace.{Turn, Own, Serving, Leaping, Entry, Trace, State, Known, Past, start, asked, questions, own_message_at, held, operation, account_of, limit_at, task_of}
+use Rattle.gq_model.specs.Trace.{Turn, Own, Serving, Leaping, Losing, Returning, Entry, Trace, State, Session, Known, Past, start, asked, is_loss, serves, questions, own_message_at, held, operation, account_of, limit_at, task_of}
 
 -- ---- server lines
 
@@ -139,7 +142,7 @@ reply_to copy message =
 
 -- a message comes to its server
 abbrev pub serve_step : State → OwnMessage → Step
-serve_step state message = by (state.up message.server)
+serve_step state message = by (serves state.up state.lacks message.server message.file)
   where
     by : Bool → Step
     by false = quiet IsDown
@@ -218,11 +221,35 @@ line_told grid row state line = (line_step grid row state line).told
 abbrev pub leap_told : State → ℕ → Told
 leap_told state k = if is_some (state.session k).current then Refused Busy else ServerOk
 
+-- the reply is of the session's operation and round
+abbrev pub is_awaited : Session → OwnMessage → Bool
+is_awaited s message = is_some s.current && (message.op == s.op) && (message.round == s.round)
+
+-- an operation that goes on counts on the message, a reply of a server whose copy is gone by the turn
+abbrev pub is_counted : State → Turn → OwnMessage → Bool
+is_counted state turn message = not (to_server message.body) && is_loss turn message.server message.file && is_awaited (state.session message.session) message
+
+-- no copy is lost on which an operation that goes on counts
+abbrev pub loss_told : State → Turn → Told
+loss_told state turn = if list_any (is_counted state turn) state.sent then Refused Busy else ServerOk
+
+abbrev pub equal_copies : StoredCopy → StoredCopy → Bool
+equal_copies a b = equal_tags a.tag b.tag && bytes_eq a.bytes b.bytes
+
+-- a server that lacks the file is given it by a mate, which had it and held this copy at some time since the loss
+abbrev pub return_told : Grid → State → ℕ → File → ℕ → StoredCopy → Told
+return_told grid state server file mate copy =
+    if not (state.lacks server file) then ServerRefused Same
+    else if are_mates grid server mate && list_any (equal_copies copy) (state.shown server file mate) then ServerOk
+    else Refused NoMessage
+
 -- what is told and sent to a turn
 abbrev pub step : Grid → TenantRow → Known → Turn → Step
 step grid row known (Own line) = if nat_le row.steps known.lines then quiet (Refused Spent) else line_step grid row known.state line
 step grid row known (Serving line) = quiet (server_told grid known.state.up line)
 step grid row known (Leaping k op number) = quiet (leap_told known.state k)
+step grid row known (Losing s volumes) = quiet (loss_told known.state (Losing s volumes))
+step grid row known (Returning s f mate copy) = quiet (return_told grid known.state s f mate copy)
 
 abbrev pub told : Grid → TenantRow → Known → Turn → Told
 told grid row known turn = (step grid row known turn).told
@@ -238,6 +265,8 @@ abbrev pub lines_after : ℕ → Turn → ℕ
 lines_after lines (Own line) = lines + 1
 lines_after lines (Serving line) = lines
 lines_after lines (Leaping k op number) = lines
+lines_after lines (Losing s volumes) = lines
+lines_after lines (Returning s f mate copy) = lines
 
 -- what is told to a turn, and what it sends
 abbrev pub step_at : Grid → TenantRow → Past → Turn → Step

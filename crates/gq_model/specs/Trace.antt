@@ -5,7 +5,7 @@
 -- the answer is after one more entry; in a session an entry does a *deed*, and what is asked of the session goes on by the
 -- deed. `State` has the answers to all questions. `Past` is what was before a turn: the number of lines and the trace;
 -- `Known` is what the next answer depends on: the steps taken and the state.
-use Rattle.std.specs.Prelude.{ℕ, ◌+◌, List, [], ◌∷◌, ◌++◌, Bool, true, false, ◌==◌, ◌||◌, ◌&&◌, not, Option, Some, None, option_map, slice_get, min, max, if◌then◌else◌}
+use Rattle.std.specs.Prelude.{ℕ, ◌+◌, List, [], ◌∷◌, ◌++◌, Bool, true, false, ◌==◌, ◌||◌, ◌&&◌, not, Option, Some, None, nat_lt, option_map, slice_get, min, max, if◌then◌else◌}
 use Rattle.std.specs.Option.{option_and_then}
 use Rattle.gq_grid.specs.Grid.{Servers}
 use Rattle.gq_tag.specs.declared.Tag.{Tag}
@@ -23,12 +23,18 @@ use Rattle.gq_model.specs.declared.events.ServerLine.{ServerLine}
 use Rattle.gq_model.specs.declared.events.ServerLine.TheVariants.{Bad as BadServer, Down, Up}
 use Rattle.gq_model.specs.Told.{Told, Noted, Round, Done}
 
--- what a tenant sees of an event: a line of its own, or a server line. No line makes the third: a session that has no operation passes
--- over the numbers of operations and of tags up to these, as it has to where it begins anew from numbers that were reserved for it.
+-- what a tenant sees of an event: a line of its own, or a server line. No line makes the other three; they are what happens where
+-- servers and sessions are at nodes.
 pub data Turn : Type 0 where
   Own : (line : Line) → Turn
   Serving : (line : ServerLine) → Turn
+  -- a session that has no operation passes over the numbers of operations and of tags up to these, as it has to where it begins anew
+  -- from numbers that were reserved for it
   Leaping : (session op number : ℕ) → Turn
+  -- the server's disk is lost: its copies of the files of the first volumes, so many, are gone, and it lacks these files
+  Losing : (server volumes : ℕ) → Turn
+  -- the server has the file again, with a copy that a mate gave it
+  Returning : (server : ℕ) (file : File) (mate : ℕ) (copy : StoredCopy) → Turn
 
 -- ---- the trace
 
@@ -52,6 +58,8 @@ up_by (Serving (Up n)) before server = if n == server then true else before serv
 up_by (Serving BadServer) before server = before server
 up_by (Own line) before server = before server
 up_by (Leaping k op number) before server = before server
+up_by (Losing s volumes) before server = before server
+up_by (Returning s f mate copy) before server = before server
 
 abbrev pub up : Trace → Servers
 up [] = λ server. true
@@ -80,18 +88,67 @@ abbrev pub is_lost : Trace → ℕ → Bool
 is_lost [] = λ n. false
 is_lost (e ∷ t) = lost_by e.turn (is_lost t)
 
--- the copies of the file that stores brought to the server while it was up, in order
-abbrev pub brought_by : Servers → Option OwnMessage → (ℕ → File → List StoredCopy) → ℕ → File → List StoredCopy
-brought_by up None before server file = before server file
-brought_by up (Some message) before server file = by message.body
+-- whether by the turn the server's copy of the file is gone
+abbrev pub is_loss : Turn → ℕ → File → Bool
+is_loss (Losing s volumes) server file = s == server && nat_lt file.volume volumes
+is_loss (Returning s f mate copy) server file = false
+is_loss (Own line) server file = false
+is_loss (Serving line) server file = false
+is_loss (Leaping k op number) server file = false
+
+-- whether the server lacks the file: it lost its copy, and was given none again
+abbrev pub lacks_by : Turn → (ℕ → File → Bool) → ℕ → File → Bool
+lacks_by (Losing s volumes) before server file = is_loss (Losing s volumes) server file || before server file
+lacks_by (Returning s f mate copy) before server file = before server file && not ((s == server) && is_file f file)
+lacks_by (Own line) before server file = before server file
+lacks_by (Serving line) before server file = before server file
+lacks_by (Leaping k op number) before server file = before server file
+
+abbrev pub lacks : Trace → ℕ → File → Bool
+lacks [] = λ server file. false
+lacks (e ∷ t) = lacks_by e.turn (lacks t)
+
+-- a server takes what stores bring it for the file, and answers what is asked of it, where it has the file and is up
+abbrev pub serves : Servers → (ℕ → File → Bool) → ℕ → File → Bool
+serves up lacks server file = not (lacks server file) && up server
+
+-- the copies of the file that stores brought to the server while it served it, in order
+abbrev pub stored_by : (ℕ → File → Bool) → Option OwnMessage → (ℕ → File → List StoredCopy) → ℕ → File → List StoredCopy
+stored_by serving None before server file = before server file
+stored_by serving (Some message) before server file = by message.body
   where
     by : Body → List StoredCopy
-    by (Store copy) = if (message.server == server) && is_file message.file file && up server then before server file ++ copy ∷ [] else before server file
+    by (Store copy) = if (message.server == server) && is_file message.file file && serving server file then before server file ++ copy ∷ [] else before server file
     by _ = before server file
+
+-- what a loss and a return leave of them: none, and the copy given
+abbrev pub left_by : Turn → (ℕ → File → List StoredCopy) → ℕ → File → List StoredCopy
+left_by (Losing s volumes) before server file = if is_loss (Losing s volumes) server file then [] else before server file
+left_by (Returning s f mate copy) before server file = if (s == server) && is_file f file then copy ∷ [] else before server file
+left_by (Own line) before server file = before server file
+left_by (Serving line) before server file = before server file
+left_by (Leaping k op number) before server file = before server file
+
+-- the copies of the file that came to the server and are not lost, in order
+abbrev pub brought_by : (ℕ → File → Bool) → Turn → Option OwnMessage → (ℕ → File → List StoredCopy) → ℕ → File → List StoredCopy
+brought_by serving turn message before = left_by turn (stored_by serving message before)
 
 abbrev pub brought : Trace → ℕ → File → List StoredCopy
 brought [] = λ server file. []
-brought (e ∷ t) = brought_by (up t) e.message (brought t)
+brought (e ∷ t) = brought_by (serves (up t) (lacks t)) e.turn e.message (brought t)
+
+-- the copy of the file that a server holds to which these came
+abbrev pub copy_of : List StoredCopy → StoredCopy
+copy_of copies = greatest (first_copy ∷ copies)
+
+-- the copies of the file that the mate has held since the server lost its own, while the mate had the file
+abbrev pub shown_by : Turn → (ℕ → File → Bool) → (ℕ → File → List StoredCopy) → (ℕ → File → ℕ → List StoredCopy) → ℕ → File → ℕ → List StoredCopy
+shown_by turn lacking copies before server file mate =
+    (if is_loss turn server file then [] else before server file mate) ++ (if lacking mate file then [] else copy_of (copies mate file) ∷ [])
+
+abbrev pub shown : Trace → ℕ → File → ℕ → List StoredCopy
+shown [] = λ server file mate. []
+shown (e ∷ t) = shown_by e.turn (lacks (e ∷ t)) (brought (e ∷ t)) (shown t)
 
 -- ---- questions about one session
 
@@ -204,11 +261,13 @@ pub record State : Type 0 where
   pub volumes : List VolumeRow
   pub sent : List OwnMessage
   pub is_lost : ℕ → Bool
+  pub lacks : ℕ → File → Bool
   pub brought : ℕ → File → List StoredCopy
+  pub shown : ℕ → File → ℕ → List StoredCopy
   pub session : ℕ → Session
 
 abbrev pub questions : Trace → State
-questions t = record { up = up t; volumes = volumes t; sent = sent t; is_lost = is_lost t; brought = brought t; session = session t }
+questions t = record { up = up t; volumes = volumes t; sent = sent t; is_lost = is_lost t; lacks = lacks t; brought = brought t; shown = shown t; session = session t }
 
 -- the answers after one more entry
 abbrev pub changed : Entry → State → State
@@ -217,7 +276,9 @@ changed e state = record {
   volumes = volumes_by e.turn state.volumes;
   sent = state.sent ++ e.new;
   is_lost = lost_by e.turn state.is_lost;
-  brought = brought_by state.up e.message state.brought;
+  lacks = lacks_by e.turn state.lacks;
+  brought = brought_by (serves state.up state.lacks) e.turn e.message state.brought;
+  shown = shown_by e.turn (lacks_by e.turn state.lacks) (brought_by (serves state.up state.lacks) e.turn e.message state.brought) state.shown;
   session = λ k. session_by state.volumes k (deed k e) (state.session k);
 }
 
@@ -227,7 +288,7 @@ own_message_at state n = if state.is_lost n then None else slice_get state.sent 
 
 -- the copy of the file that the server holds
 abbrev pub held : State → ℕ → File → StoredCopy
-held state server file = greatest (first_copy ∷ state.brought server file)
+held state server file = copy_of (state.brought server file)
 
 -- session k's operation as it stands, none where it has none
 abbrev pub operation : State → ℕ → Option Operation

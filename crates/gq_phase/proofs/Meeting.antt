@@ -1,12 +1,13 @@
--- The laws of the four words on quorums.
+-- The laws of the five words on quorums.
 use Rattle.std.proofs.Common.{◌≡◌, ℕ, Option, Some, None, true, ap}
 use Rattle.std.specs.Prelude.{option_map}
 use Rattle.gq_grid.specs.Grid.{Servers, has_row, has_column, least_row, least_column, row_servers, column_servers}
 use Rattle.gq_grid.proofs.Agreeing.{least_row_agree, least_column_agree}
 use Rattle.gq_grid.proofs.Meeting.{rows_meet_columns, row_up_is_row, column_up_is_column, has_row-none, has_column-none, has_row_more, has_column_more}
 use Rattle.gq_grid.proofs.Inside.{chosen_row_up, chosen_column_up}
-use Rattle.gq_phase.specs.Quorums.{collect_quorum, store_quorum, ends_collect, ends_store}
-use Rattle.gq_phase.specs.Laws.{RoundsMeet, CollectQuorumsEnd, StoreQuorumsEnd, QuorumsAreUp, NobodyEnds, MoreStillEnd, QuorumsInGrid}
+use Rattle.gq_grid.proofs.Columns as columns
+use Rattle.gq_phase.specs.Quorums.{collect_quorum, store_quorum, ends_collect, ends_store, are_mates}
+use Rattle.gq_phase.specs.Laws.{RoundsMeet, CollectQuorumsEnd, StoreQuorumsEnd, QuorumsAreUp, NobodyEnds, MoreStillEnd, QuorumsInGrid, StoresHaveMates, MatesOfMates}
 
 pub rounds_meet : RoundsMeet
 unfolding ends_collect ends_store
@@ -48,3 +49,11 @@ pub quorums_in_grid : QuorumsInGrid
 unfolding collect_quorum store_quorum
 quorums_in_grid grid up also same =
     (ap (option_map (row_servers grid)) (least_row_agree grid up also same), ap (option_map (column_servers grid)) (least_column_agree grid up also same))
+
+pub stores_have_mates : StoresHaveMates
+unfolding ends_store are_mates
+stores_have_mates grid stored ends = columns.columns_have_mates grid stored ends
+
+pub mates_of_mates : MatesOfMates
+unfolding are_mates
+mates_of_mates grid server mate other first second = columns.mates_of_mates grid server mate other first second

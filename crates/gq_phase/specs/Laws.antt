@@ -1,7 +1,7 @@
--- What the four words on quorums have to be like.
+-- What the five words on quorums have to be like.
 use Rattle.std.specs.Prelude.{◌≡◌, ℕ, ◌*◌, ◌<◌, true, false, Some}
 use Rattle.gq_grid.specs.Grid.{Grid, Servers, no_servers}
-use Rattle.gq_phase.specs.Quorums.{collect_quorum, store_quorum, ends_collect, ends_store}
+use Rattle.gq_phase.specs.Quorums.{collect_quorum, store_quorum, ends_collect, ends_store, are_mates}
 
 -- a set that ends a collect round and a set that ends a store round share a server of the grid
 abbrev pub RoundsMeet : Type 0
@@ -34,6 +34,16 @@ abbrev pub MoreStillEnd : Type 0
 MoreStillEnd =
     (grid : Grid) (fewer more : Servers) → ((server : ℕ) → server < grid.rows * grid.cols → fewer server ≡ true → more server ≡ true) →
     (ends_collect grid fewer ≡ true → ends_collect grid more ≡ true) × (ends_store grid fewer ≡ true → ends_store grid more ≡ true)
+
+-- among the servers of a set that ends a store round are some that end it, too, with each of which all its mates are among them
+abbrev pub StoresHaveMates : Type 0
+StoresHaveMates =
+    (grid : Grid) (stored : Servers) → ends_store grid stored ≡ true →
+    (some : Servers) × (ends_store grid some ≡ true) × ((server : ℕ) → some server ≡ true → stored server ≡ true) × ((server mate : ℕ) → some server ≡ true → are_mates grid server mate ≡ true → some mate ≡ true)
+
+-- a mate of a mate is a mate
+abbrev pub MatesOfMates : Type 0
+MatesOfMates = (grid : Grid) (server mate other : ℕ) → are_mates grid server mate ≡ true → are_mates grid mate other ≡ true → are_mates grid server other ≡ true
 
 -- on the grid the two sets have the same quorums
 abbrev pub SameQuorums : Grid → Servers → Servers → Type 0

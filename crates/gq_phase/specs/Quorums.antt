@@ -1,7 +1,7 @@
--- The four words on quorums: whom a round asks, and when the servers heard end it. Only the four
+-- The five words on quorums: whom a round asks, when the servers heard end it, and who can give a server back what it lost. Only the
 -- functions of src/quorums.rt, the proofs of Laws and worked cases open them: all else knows of them what Laws says.
-use Rattle.std.specs.Prelude.{Bool, Option, option_map}
-use Rattle.gq_grid.specs.Grid.{Grid, Servers, has_row, has_column, least_row, least_column, row_servers, column_servers}
+use Rattle.std.specs.Prelude.{ℕ, Bool, Option, option_map}
+use Rattle.gq_grid.specs.Grid.{Grid, Servers, has_row, has_column, share_column, least_row, least_column, row_servers, column_servers}
 
 -- the servers that a collect round asks, where the servers of up are up: a full row; none where no row is up
 unfoldable pub collect_quorum : Grid → Servers → Option Servers
@@ -18,3 +18,7 @@ ends_collect grid heard = has_row grid heard
 -- whether a store round ends where these servers were heard
 unfoldable pub ends_store : Grid → Servers → Bool
 ends_store grid heard = has_column grid heard
+
+-- whether a server that has lost its copies can be given them by the other
+unfoldable pub are_mates : Grid → ℕ → ℕ → Bool
+are_mates grid server mate = share_column grid server mate

@@ -1,0 +1,55 @@
+-- Servers that stand in one column: each server of the grid stands in one alone, and a set with a full column has, with each of these
+-- servers, all that stand in its column.
+use Rattle.std.proofs.Common.{◌≡◌, ℕ, ◌+◌, ◌*◌, ◌%◌, ◌<◌, ◌&&◌, true, sym, ◌∙◌, ap, arith, eqb}
+use Rattle.std.proofs.lemmas.Bool.{and_parts, and_from, eqb-true}
+use native.Mathlib.Nat.{add-mul-mod_self_right, mod-eq_of_lt}
+use Rattle.gq_grid.specs.Grid.{Grid, Servers, server_at, is_full_column, has_column, column_servers, share_column}
+use Rattle.gq_grid.specs.Laws.{ColumnsHaveMates, MatesOfMates}
+use Rattle.gq_grid.proofs.Meeting.{all_at, found, any_from, column_servers-column}
+use Rattle.gq_grid.proofs.Inside.{one_of}
+
+-- the place in its row of a server of column c
+column_of : (cols r c : ℕ) → c < cols → (r * cols + c) % cols ≡ c
+column_of cols r c within =
+    let turned : r * cols + c ≡ c + r * cols = omega arith in
+    ap (λ n. n % cols) turned ∙ add-mul-mod_self_right c r cols ∙ mod-eq_of_lt within
+
+is_in_column : (grid : Grid) (c server : ℕ) → c < grid.cols → column_servers grid c server ≡ true → server % grid.cols ≡ c
+is_in_column grid c server within inside =
+    let at = one_of (λ r. eqb (server_at grid r c) server) 0 grid.rows inside in
+    let same : server_at grid at.0 c ≡ server = eqb-true (server_at grid at.0 c) server at.3 in
+    ap (λ n. n % grid.cols) (sym same) ∙ column_of grid.cols at.0 c within
+
+-- the column in which both stand
+shared : (grid : Grid) (server mate : ℕ) → share_column grid server mate ≡ true → (c : ℕ) × (c < grid.cols) × (column_servers grid c server ≡ true) × (column_servers grid c mate ≡ true)
+shared grid server mate h =
+    let at = one_of (λ c. column_servers grid c server && column_servers grid c mate) 0 grid.cols h in
+    let both = and_parts (column_servers grid at.0 server) (column_servers grid at.0 mate) at.3 in
+    (at.0, omega (arith, at.2), both.0, both.1)
+
+-- of a server of column c, its mates stand there too
+mate_there : (grid : Grid) (c server mate : ℕ) → c < grid.cols → column_servers grid c server ≡ true → share_column grid server mate ≡ true → column_servers grid c mate ≡ true
+mate_there grid c server mate within inside h =
+    let s = shared grid server mate h in
+    let same : s.0 ≡ c = sym (is_in_column grid s.0 server s.1 s.2) ∙ is_in_column grid c server within inside in
+    ap (λ z. column_servers grid z mate) (sym same) ∙ s.3
+
+pub mates_of_mates : MatesOfMates
+mates_of_mates grid server mate other first second =
+    let s = shared grid server mate first in
+    any_from (λ c. column_servers grid c server && column_servers grid c other) 0 grid.cols s.0 (omega arith) (omega (arith, s.1))
+    (and_from (column_servers grid s.0 server) (column_servers grid s.0 other) s.2 (mate_there grid s.0 mate other s.1 s.3 second))
+
+pub columns_have_mates : ColumnsHaveMates
+columns_have_mates grid set h =
+    let c = found (is_full_column grid set) 0 grid.cols h in
+    let within : c.0 < grid.cols = omega (arith, c.2) in
+    (
+      column_servers grid c.0,
+      column_servers-column grid c.0 within,
+      (λ server inside.
+          let at = one_of (λ r. eqb (server_at grid r c.0) server) 0 grid.rows inside in
+          let same : server_at grid at.0 c.0 ≡ server = eqb-true (server_at grid at.0 c.0) server at.3 in
+          rw (← same) (all_at (λ r. set (server_at grid r c.0)) 0 grid.rows at.0 c.3 at.1 at.2)),
+      (λ server mate inside mates. mate_there grid c.0 server mate within inside mates),
+    )
