@@ -117,11 +117,11 @@ same_copy a b h =
 
 is_among : (copy : StoredCopy) (copies : List StoredCopy) → list_any (equal_copies copy) copies ≡ true → Contains copies copy
 is_among copy [] h = absurd (true≢false (sym h))
-is_among copy (c ∷ copies) h = by (equal_copies copy c) refl
+is_among copy (c ∷ copies) h = by (equal_copies copy c) refl (λ rest. is_among copy copies rest)
   where
-    by : (b : Bool) → equal_copies copy c ≡ b → Contains (c ∷ copies) copy
-    by true same = (0, omega arith, sym (same_copy copy c same))
-    by false other = let later = is_among copy copies (rw other at h) in (later.0 + 1, omega (arith, later.1), later.2)
+    by : (b : Bool) → equal_copies copy c ≡ b → (list_any (equal_copies copy) copies ≡ true → Contains copies copy) → Contains (c ∷ copies) copy
+    by true same among = (0, omega arith, sym (same_copy copy c same))
+    by false other among = let later = among (rw other at h) in (suc later.0, omega (arith, later.1), later.2)
 
 -- the server lacked the file, and a mate of it showed the copy
 pub record IsShown (grid : Grid) (t : Trace) (server : ℕ) (file : File) (mate : ℕ) (copy : StoredCopy) : Type 0 where
@@ -198,7 +198,7 @@ had_keeps grid (e ∷ t) server file tag had k = by (is_loss e.turn server file)
     by true lost = absurd (true≢false (sym (loss_lacks e.turn (lacks t) server file lost) ∙ had))
     by false is = rw (is, had) k
 
-one_is : (x y : StoredCopy) → Contains (x ∷ []) y → x ≡ y
+pub one_is : (x y : StoredCopy) → Contains (x ∷ []) y → x ≡ y
 one_is x y (zero, low, is) = is
 one_is x y (suc i, low, is) = absurd (omega arith)
 
@@ -264,7 +264,7 @@ mates_more grid row t e mates follows server file tag lack k mate are = (now mat
             subst P same (keeps_had grid (e ∷ t) mate file tag had (now mate are))
 
 pub mates_keep : (grid : Grid) (row : TenantRow) (t : Trace) → IsRun grid row t → MatesKeep grid t
-mates_keep grid row [] run server file tag lack k mate are = absurd (true≢false (sym lack))
+mates_keep grid row [] run = λ server file tag lack k mate are. absurd (true≢false (sym lack))
 mates_keep grid row (e ∷ t) run = mates_more grid row t e (mates_keep grid row t run.0) run.1
 
 pub keeps_step : (grid : Grid) (row : TenantRow) (t : Trace) (e : Entry) → IsRun grid row t → Follows grid row t e → (server : ℕ) (file : File) (tag : Tag) → is_loss e.turn server file ≡ false → Keeps grid t server file tag → Keeps grid (e ∷ t) server file tag

@@ -225,7 +225,9 @@ stored_from t message s file = go message refl
 
 -- and of one whose copy is lost: the first copy
 held_lost : (turn : Turn) (message : Option OwnMessage) (said : Told) (new : List OwnMessage) (t : Trace) (s : ℕ) (file : File) → is_loss turn s file ≡ true → held (record { turn = turn; message = message; told = said; new = new } ∷ t) s file ≡ first_copy
-held_lost (Losing server volumes) message said new t s file lost = ap copy_of (rw lost)
+held_lost (Losing server volumes) message said new t s file lost =
+    let none : brought (record { turn = Losing server volumes; message = message; told = said; new = new } ∷ t) s file ≡ [] = rw lost in
+    ap copy_of none
 held_lost (Own line) message said new t s file lost = absurd (true≢false (sym lost))
 held_lost (Serving line) message said new t s file lost = absurd (true≢false (sym lost))
 held_lost (Leaping k last number) message said new t s file lost = absurd (true≢false (sym lost))
