@@ -13,7 +13,7 @@ use Rattle.gq_model.specs.declared.events.Line.{Line}
 use Rattle.gq_model.specs.declared.events.Line.TheVariants.{Write, Read, List as ListFiles, Retry, Abandon}
 use Rattle.gq_model.specs.declared.events.Refusal.TheVariants.{NoQuorum}
 use Rattle.gq_model.specs.Told.{Began, Replied}
-use Rattle.gq_model.specs.Trace.{State, Session, operation, operation_with, files_of}
+use Rattle.gq_model.specs.Trace.{State, Session, serves, operation, operation_with, files_of}
 use Rattle.gq_model.specs.Lone.{Cause, asked_step, begin_step, first_operation, first_cause, session_causes, session_step, no_session, busy, idle, no_volume, no_file, too_long, retry_step, hear_step, heard_step, deliver_step, reply_to, unless}
 use Rattle.gq_cluster.specs.Cluster.{session_named, IsOfSession}
 use Rattle.gq_cluster.proofs.Numbers.{numbered_step, unless_is, heard_step_is}
@@ -28,7 +28,7 @@ pub record Alike (grid : Grid) (k : ℕ) (a b : State) : Type 0 where
 
 -- the first state with these volumes, and with this for each session
 abbrev with_these : State → List VolumeRow → Session → State
-with_these a volumes session = record { up = a.up; volumes = volumes; sent = a.sent; is_lost = a.is_lost; brought = a.brought; session = λ k. session }
+with_these a volumes session = record { up = a.up; volumes = volumes; sent = a.sent; is_lost = a.is_lost; lacks = a.lacks; brought = a.brought; shown = a.shown; session = λ k. session }
 
 -- ---- whom the quorums are taken of
 
@@ -95,9 +95,9 @@ heard_alike grid a b m reply alike = rw reply (ap (hear_step grid a m) same ∙ 
     same : operation a m.session ≡ operation b m.session
     same = λ i. option_map (operation_with m.session (alike.session i)) (alike.session i).current
 
--- ---- and to a server
+-- ---- and to a server, which has the file
 
-pub served_alike : (grid : Grid) (a b : State) (m : OwnMessage) → to_server m.body ≡ true → a.up m.server ≡ true → b.up m.server ≡ true → a.brought m.server m.file ≡ b.brought m.server m.file →
+pub served_alike : (grid : Grid) (a b : State) (m : OwnMessage) → to_server m.body ≡ true → serves a.up a.lacks m.server m.file ≡ true → serves b.up b.lacks m.server m.file ≡ true → a.brought m.server m.file ≡ b.brought m.server m.file →
     deliver_step grid a (Some m) ≡ numbered_step (length a.sent) (deliver_step grid b (Some m))
 served_alike grid a b m ask here there copies =
     rw (ask, here, there) (λ i. record { told = Replied (length a.sent); new = reply_to (greatest (first_copy ∷ copies i)) m ∷ [] })

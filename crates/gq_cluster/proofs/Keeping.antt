@@ -10,7 +10,7 @@ use Rattle.gq_tag.specs.declared.Body.TheVariants.{Ask, Copy, Store, Stored}
 use Rattle.gq_tag.specs.Tag.{File, OwnMessage, is_file, is_less, first_copy, greatest, newer_of, to_server}
 use Rattle.gq_model.specs.declared.events.Line.{Line}
 use Rattle.gq_model.specs.Told.{Told, Began, Replied, Round}
-use Rattle.gq_model.specs.Trace.{brought_by}
+use Rattle.gq_model.specs.Trace.{serves, stored_by}
 use Rattle.gq_model.specs.Lone.{is_refusal, reply_to}
 use Rattle.gq_laws.proofs.Holding.{greatest-push}
 use Rattle.gq_laws.proofs.OperationMoments.{same_file}
@@ -127,24 +127,24 @@ replaced_copy old file (Store copy) f = by (is_less (copy_in old file).tag copy.
     by false less = older (is_file file f) refl less ∙ ap (λ b. (with_fact (kept_of old) (fact b)).copy f) (sym less)
 
 -- what the letter brings to its server
-brings_copy : (up : Servers) (part : Part) (m : OwnMessage) (n : ℕ) (f : File) → m.server ≡ n → up n ≡ true →
-    greatest (first_copy ∷ brought_by up (Some m) (λ server. part.brought) n f) ≡ copy_then part m.file m.body f
-brings_copy up part m n f here alive = by m.body
+brings_copy : (serving : ℕ → File → Bool) (part : Part) (m : OwnMessage) (n : ℕ) (f : File) → m.server ≡ n → serving n f ≡ true →
+    greatest (first_copy ∷ stored_by serving (Some m) (λ server. part.brought) n f) ≡ copy_then part m.file m.body f
+brings_copy serving part m n f here alive = by m.body
   where
     with_body : Body → OwnMessage
     with_body body = record { session = m.session; op = m.op; round = m.round; server = m.server; file = m.file; body = body }
 
-    stored : (copy : StoredCopy) (b : Bool) → is_file m.file f ≡ b → greatest (first_copy ∷ brought_by up (Some (with_body (Store copy))) (λ server. part.brought) n f) ≡ copy_then part m.file (Store copy) f
+    stored : (copy : StoredCopy) (b : Bool) → is_file m.file f ≡ b → greatest (first_copy ∷ stored_by serving (Some (with_body (Store copy))) (λ server. part.brought) n f) ≡ copy_then part m.file (Store copy) f
     stored copy true e =
-        let more : brought_by up (Some (with_body (Store copy))) (λ server. part.brought) n f ≡ part.brought f ++ copy ∷ [] = rw (eq-eqb m.server n here, e, alive) refl in
+        let more : stored_by serving (Some (with_body (Store copy))) (λ server. part.brought) n f ≡ part.brought f ++ copy ∷ [] = rw (eq-eqb m.server n here, e, alive) refl in
         let newer : copy_then part m.file (Store copy) f ≡ newer_of (copy_in part f) copy = rw e refl in
         ap (λ z. greatest (first_copy ∷ z)) more ∙ greatest-push first_copy copy (part.brought f) ∙ sym newer
     stored copy false e =
-        let same : brought_by up (Some (with_body (Store copy))) (λ server. part.brought) n f ≡ part.brought f = rw (eq-eqb m.server n here, e) refl in
+        let same : stored_by serving (Some (with_body (Store copy))) (λ server. part.brought) n f ≡ part.brought f = rw (eq-eqb m.server n here, e) refl in
         let older : copy_then part m.file (Store copy) f ≡ copy_in part f = rw e refl in
         ap (λ z. greatest (first_copy ∷ z)) same ∙ sym older
 
-    by : (body : Body) → greatest (first_copy ∷ brought_by up (Some (with_body body)) (λ server. part.brought) n f) ≡ copy_then part m.file body f
+    by : (body : Body) → greatest (first_copy ∷ stored_by serving (Some (with_body body)) (λ server. part.brought) n f) ≡ copy_then part m.file body f
     by Ask = refl
     by (Copy copy) = refl
     by (Store copy) = stored copy (is_file m.file f) refl
@@ -169,7 +169,7 @@ serves_keep s n part m aim ask here = act_keeps s n part act (λ refused. absurd
 
     copies : (f : File) → copy_in (accepted s n part act) f ≡ (with_fact (kept_of part) (fact (to_server m.body))).copy f
     copies f =
-        brings_copy (aim_of act) part m n f here alive
+        brings_copy (serves (aim_of act) (λ server file. false)) part m n f here alive
         ∙ replaced_copy part m.file m.body f
         ∙ ap (λ b. (with_fact (kept_of part) (fact b)).copy f) (sym ask)
 
@@ -194,7 +194,7 @@ hears_keep s n part m aim reply = act_keeps s n part act
 
     copies : (f : File) → copy_in (accepted s n part act) f ≡ (with_fact (kept_of part) (fact (to_server m.body))).copy f
     copies f =
-        ap (λ z. greatest (first_copy ∷ z)) (brings_nothing (aim_of act) m (λ server. part.brought) n f (inr reply))
+        ap (λ z. greatest (first_copy ∷ z)) (brings_nothing (serves (aim_of act) (λ server file. false)) m (λ server. part.brought) n f (inr reply))
         ∙ sym (numbers_copies part k (fact false) (reserves_numbers k (part.reserved k) (step_of s part act).told floor) f)
         ∙ ap (λ b. (with_fact (kept_of part) (fact b)).copy f) (sym reply)
 

@@ -1,6 +1,6 @@
 -- An act of a node is a line of the model's run, behind server lines that bring up those of the act's aim.
 use Rattle.std.proofs.Common.{◌≡◌, ◌≢◌, ◌⊎◌, ℕ, ◌+◌, ◌*◌, ◌<◌, Bool, true, false, List, [], ◌∷◌, ◌++◌, length, refl, sym, ap, ◌∙◌, subst, inl, inr, Option, Some, None, arith, min, append-nil}
-use Rattle.std.specs.Prelude.{nat_le, slice_get, fold}
+use Rattle.std.specs.Prelude.{nat_le, slice_get, fold, not, ◌&&◌}
 use Rattle.std.proofs.lemmas.Bool.{cases_eq, cases_lt, ne_eqb, lt-leb, true≢false}
 use Rattle.std.proofs.lemmas.List.Sums.{fold-append}
 use Rattle.gq_grid.specs.Grid.{Grid, Servers, below}
@@ -15,7 +15,7 @@ use Rattle.gq_model.specs.declared.events.Line.{Line}
 use Rattle.gq_model.specs.declared.events.Line.TheVariants.{Write, Read, List as ListFiles, Deliver, Retry, Abandon}
 use Rattle.gq_model.specs.Told.{Told}
 use Rattle.gq_model.specs.Said.{said_in}
-use Rattle.gq_model.specs.Trace.{Turn, Own, Entry, State, Past, Elsewhere, questions, up, volumes, volumes_by, sent, is_lost, lost_by, brought, brought_by, session, session_by, deed}
+use Rattle.gq_model.specs.Trace.{Turn, Own, Entry, State, Past, Elsewhere, questions, up, volumes, volumes_by, sent, is_lost, lost_by, lacks, serves, brought, stored_by, session, session_by, deed}
 use Rattle.gq_model.specs.Lone.{Step, after, step_at, line_step, asked_step, deliver_step, is_refusal, message_of_turn, trace_after}
 use Rattle.gq_laws.proofs.Found.{position_of}
 use Rattle.gq_cluster.specs.Cluster.{Setting, Cluster, Act, Asks, Comes, session_named, IsOfSession, CanAct, everyone, aim_of, node_of, step_in, act_entry, after_act, arrival_of, exchange_of}
@@ -25,6 +25,13 @@ use Rattle.gq_cluster.proofs.Numbers.{numbered, numbered_step, refusal_is, said_
 use Rattle.gq_cluster.proofs.Alike.{asked_alike, heard_alike, served_alike}
 use Rattle.gq_cluster.proofs.Parts.{state_at, part_then, parts_then, parts_here, parts_away, refused_part, accepted_part, refused_quiet}
 use Rattle.gq_cluster.proofs.Standing.{Stands, stands_on, exchanges_behind}
+
+-- whether the server serves the file, at this past; and as the act's node has it
+abbrev serving : Past → ℕ → File → Bool
+serving q = serves (up q.trace) (lacks q.trace)
+
+abbrev serving_at : Setting → Cluster → Act → ℕ → File → Bool
+serving_at s c act = serves (state_at s c act).up (state_at s c act).lacks
 
 -- ---- a line that plays an act
 
@@ -41,7 +48,7 @@ pub record Plays (s : Setting) (q : Past) (c : Cluster) (act : Act) : Type 0 whe
   came : arrival_by line letter ≡ arrival_of act
   opens : (vs : List VolumeRow) → volumes_by (Own line) vs ≡ vs
   loses : (before : ℕ → Bool) (n : ℕ) → lost_by (Own line) before n ≡ before n
-  copies : (n : ℕ) (file : File) → brought_by (up q.trace) letter (brought q.trace) n file ≡ (parts_then s c act n).brought file
+  copies : (n : ℕ) (file : File) → stored_by (serving q) letter (brought q.trace) n file ≡ (parts_then s c act n).brought file
   sessions : (k : ℕ) → session_by (volumes q.trace) k (deed k (played q line letter (step_in s c act))) (session q.trace k) ≡ (parts_then s c act (s.home k)).session k
 
 -- the line does what the act does, and the past after it stands for the cluster after the act
@@ -90,6 +97,7 @@ plays s q c act stands steps p = record { line = p.line; did = did; stands = on 
           written = stands.written ∙ sym (append-nil c.written) ∙ ap (λ z. c.written ++ z) (sym none);
           kept = stands.kept;
           beyond = stands.beyond;
+          whole = stands.whole;
           copies = λ m file. stands.copies m file ∙ ap (λ z. z.brought file) (sym (refused_part s c act e m));
           sessions = λ k. stands.sessions k ∙ ap (λ z. z.session k) (sym (refused_part s c act e (s.home k)));
         })
@@ -101,6 +109,7 @@ plays s q c act stands steps p = record { line = p.line; did = did; stands = on 
           written = ap (λ z. z ++ mine.new) stands.written;
           kept = λ m. p.loses (is_lost q.trace) m ∙ stands.kept m;
           beyond = stands.beyond;
+          whole = stands.whole;
           copies = λ m file. p.copies m file ∙ ap (λ z. z.brought file) (sym (accepted_part s c act e m));
           sessions = λ k. p.sessions k ∙ ap (λ z. z.session k) (sym (accepted_part s c act e (s.home k)));
         })
@@ -121,12 +130,12 @@ sessions_go s q c act stands e deeds elsewhere k = by (cases_eq (s.home k) (node
 
 -- a server's copies go on alike at its node, and elsewhere stay
 copies_go : (s : Setting) (q : Past) (c : Cluster) (act : Act) (letter : Option OwnMessage) → Stands s q c →
-    ((n : ℕ) (file : File) → n ≡ node_of s.home act → brought q.trace n file ≡ (c.part (node_of s.home act)).brought file → brought_by (up q.trace) letter (brought q.trace) n file ≡ (part_then s c act n).brought file) →
-    ((n : ℕ) (file : File) → n ≢ node_of s.home act → brought_by (up q.trace) letter (brought q.trace) n file ≡ brought q.trace n file) →
-    (n : ℕ) (file : File) → brought_by (up q.trace) letter (brought q.trace) n file ≡ (parts_then s c act n).brought file
+    ((n : ℕ) (file : File) → n ≡ node_of s.home act → brought q.trace n file ≡ (c.part (node_of s.home act)).brought file → stored_by (serving q) letter (brought q.trace) n file ≡ (part_then s c act n).brought file) →
+    ((n : ℕ) (file : File) → n ≢ node_of s.home act → stored_by (serving q) letter (brought q.trace) n file ≡ brought q.trace n file) →
+    (n : ℕ) (file : File) → stored_by (serving q) letter (brought q.trace) n file ≡ (parts_then s c act n).brought file
 copies_go s q c act letter stands here away n file = by (cases_eq n (node_of s.home act))
   where
-    by : (n ≡ node_of s.home act) ⊎ (n ≢ node_of s.home act) → brought_by (up q.trace) letter (brought q.trace) n file ≡ (parts_then s c act n).brought file
+    by : (n ≡ node_of s.home act) ⊎ (n ≢ node_of s.home act) → stored_by (serving q) letter (brought q.trace) n file ≡ (parts_then s c act n).brought file
     by (inl same) =
         let its : brought q.trace n file ≡ (c.part (node_of s.home act)).brought file = stands.copies n file ∙ ap (λ z. (c.part z).brought file) same in
         here n file same its ∙ ap (λ z. z.brought file) (sym (parts_here s c act n same))
@@ -213,27 +222,27 @@ asks s q c line aim stands aimed its = record {
 -- ---- a letter
 
 -- a letter that brings no copy to the server changes none there
-pub brings_nothing : (up : Servers) (m : OwnMessage) (before : ℕ → File → List StoredCopy) (n : ℕ) (file : File) → (m.server ≢ n) ⊎ (to_server m.body ≡ false) → brought_by up (Some m) before n file ≡ before n file
-brings_nothing up m before n file why = by m.body why
+pub brings_nothing : (serving : ℕ → File → Bool) (m : OwnMessage) (before : ℕ → File → List StoredCopy) (n : ℕ) (file : File) → (m.server ≢ n) ⊎ (to_server m.body ≡ false) → stored_by serving (Some m) before n file ≡ before n file
+brings_nothing serving m before n file why = by m.body why
   where
     with_body : Body → OwnMessage
     with_body body = record { session = m.session; op = m.op; round = m.round; server = m.server; file = m.file; body = body }
 
-    by : (body : Body) → (m.server ≢ n) ⊎ (to_server body ≡ false) → brought_by up (Some (with_body body)) before n file ≡ before n file
+    by : (body : Body) → (m.server ≢ n) ⊎ (to_server body ≡ false) → stored_by serving (Some (with_body body)) before n file ≡ before n file
     by Ask why = refl
     by (Copy copy) why = refl
     by (Store copy) (inl ne) = rw (ne_eqb m.server n ne) refl
     by (Store copy) (inr no_store) = absurd (true≢false no_store)
     by Stored why = refl
 
--- a letter that comes to a server which is up changes the same copies alike
-brings_alike : (here there : Servers) (m : OwnMessage) (before after : ℕ → File → List StoredCopy) (n : ℕ) (file : File) → here n ≡ there n → before n file ≡ after n file → brought_by here (Some m) before n file ≡ brought_by there (Some m) after n file
+-- a letter that comes to a server which serves its file changes the same copies alike
+brings_alike : (here there : ℕ → File → Bool) (m : OwnMessage) (before after : ℕ → File → List StoredCopy) (n : ℕ) (file : File) → here n file ≡ there n file → before n file ≡ after n file → stored_by here (Some m) before n file ≡ stored_by there (Some m) after n file
 brings_alike here there m before after n file ups copies = by m.body
   where
     with_body : Body → OwnMessage
     with_body body = record { session = m.session; op = m.op; round = m.round; server = m.server; file = m.file; body = body }
 
-    by : (body : Body) → brought_by here (Some (with_body body)) before n file ≡ brought_by there (Some (with_body body)) after n file
+    by : (body : Body) → stored_by here (Some (with_body body)) before n file ≡ stored_by there (Some (with_body body)) after n file
     by Ask = copies
     by (Copy copy) = copies
     by (Store copy) = rw (ups, copies) refl
@@ -247,14 +256,14 @@ comes_to_server : (s : Setting) (q : Past) (c : Cluster) (m : OwnMessage) (aim :
 comes_to_server s q c m aim n stands ask alive at = record {
   line = Deliver n;
   letter = Some m;
-  step = ap (λ z. deliver_step s.grid (questions q.trace) z) (found s q c m n stands at) ∙ served_alike s.grid (questions q.trace) (state_at s c act) m ask alive mine_up (stands.copies m.server m.file ∙ ap (λ z. (c.part z).brought m.file) (sym place));
+  step = ap (λ z. deliver_step s.grid (questions q.trace) z) (found s q c m n stands at) ∙ served_alike s.grid (questions q.trace) (state_at s c act) m ask served mine_up (stands.copies m.server m.file ∙ ap (λ z. (c.part z).brought m.file) (sym place));
   brings = found s q c m n stands at;
   came = refl;
   opens = λ vs. refl;
   loses = λ before k. refl;
   copies = copies_go s q c act (Some m) stands
-      (λ x file same is. brings_alike (up q.trace) (aim_of act) m (brought q.trace) (state_at s c act).brought x file (ups x (same ∙ place)) is)
-      (λ x file ne. brings_nothing (up q.trace) m (brought q.trace) x file (inl (λ its. ne (sym its ∙ sym place))));
+      (λ x file same is. brings_alike (serving q) (serving_at s c act) m (brought q.trace) (state_at s c act).brought x file (ups x file (same ∙ place)) is)
+      (λ x file ne. brings_nothing (serving q) m (brought q.trace) x file (inl (λ its. ne (sym its ∙ sym place))));
   sessions = sessions_go s q c act stands e (λ k. delivered_deed_is k (length (sent q.trace)) m mine.told) (λ k ne. rw ask refl);
 }
   where
@@ -273,8 +282,14 @@ comes_to_server s q c m aim n stands ask alive at = record {
     mine_up : aim_of act m.server ≡ true
     mine_up = rw ask refl
 
-    ups : (x : ℕ) → x ≡ m.server → up q.trace x ≡ aim_of act x
-    ups x same = ap (up q.trace) same ∙ alive ∙ sym mine_up ∙ ap (aim_of act) (sym same)
+    here : (x : ℕ) (file : File) → serving q x file ≡ up q.trace x
+    here x file = ap (λ lacking. not lacking && up q.trace x) (stands.whole x file)
+
+    served : serving q m.server m.file ≡ true
+    served = here m.server m.file ∙ alive
+
+    ups : (x : ℕ) (file : File) → x ≡ m.server → serving q x file ≡ serving_at s c act x file
+    ups x file same = here x file ∙ ap (up q.trace) same ∙ alive ∙ sym mine_up ∙ ap (aim_of act) (sym same)
 
 comes_to_session : (s : Setting) (q : Past) (c : Cluster) (m : OwnMessage) (aim : Servers) (n : ℕ) → Stands s q c → to_server m.body ≡ false → Aimed s q aim → slice_get c.written n ≡ Some m → Plays s q c (Comes m aim)
 comes_to_session s q c m aim n stands reply aimed at = record {
@@ -286,8 +301,8 @@ comes_to_session s q c m aim n stands reply aimed at = record {
   opens = λ vs. refl;
   loses = λ before k. refl;
   copies = copies_go s q c act (Some m) stands
-      (λ x file same is. brings_nothing (up q.trace) m (brought q.trace) x file (inr reply) ∙ is ∙ sym (brings_nothing (aim_of act) m (state_at s c act).brought x file (inr reply)))
-      (λ x file ne. brings_nothing (up q.trace) m (brought q.trace) x file (inr reply));
+      (λ x file same is. brings_nothing (serving q) m (brought q.trace) x file (inr reply) ∙ is ∙ sym (brings_nothing (serving_at s c act) m (state_at s c act).brought x file (inr reply)))
+      (λ x file ne. brings_nothing (serving q) m (brought q.trace) x file (inr reply));
   sessions = sessions_go s q c act stands e (λ k. delivered_deed_is k (length (sent q.trace)) m mine.told) (λ k ne. rw (reply, ne_eqb m.session k (λ same. ne (ap s.home (sym same) ∙ sym place))) refl);
 }
   where

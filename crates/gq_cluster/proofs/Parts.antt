@@ -11,7 +11,7 @@ use Rattle.gq_model.specs.declared.events.Line.TheVariants.{Write, Read, List as
 use Rattle.gq_model.specs.declared.events.Refusal.{Refusal}
 use Rattle.gq_model.specs.declared.events.Refusal.TheVariants.{NoQuorum}
 use Rattle.gq_model.specs.Told.{Resent, Refused}
-use Rattle.gq_model.specs.Trace.{State, operation, changed}
+use Rattle.gq_model.specs.Trace.{State, serves, operation, changed}
 use Rattle.gq_model.specs.Lone.{Step, asked_step, deliver_step, first_cause, session_causes, session_step, retry_step, hear_step, heard_step, serve_step, is_refusal, unless, quiet}
 use Rattle.gq_cluster.specs.Facts.{Reserved, with_reserved}
 use Rattle.gq_cluster.specs.Cluster.{Setting, Cluster, Part, Act, Asks, Comes, aim_of, node_of, part_of, state_of, act_step, act_entry, step_in, fact_of, part_after, parts_after}
@@ -96,14 +96,14 @@ refused_quiet grid row state (Asks line aim) refused = by line refused
     by other refused = unless_quiet (first_cause (session_causes grid row state other)) (session_step grid state other) (λ refused. refl) refused
 refused_quiet grid row state (Comes m aim) refused = by (to_server m.body) refl
   where
-    served : (b : Bool) → state.up m.server ≡ b → (serve_step state m).new ≡ [] ⊎ (is_refusal (serve_step state m).told ≡ false)
+    served : (b : Bool) → serves state.up state.lacks m.server m.file ≡ b → (serve_step state m).new ≡ [] ⊎ (is_refusal (serve_step state m).told ≡ false)
     served true is = inr (rw is refl)
     served false is = inl (rw is refl)
 
     by : (b : Bool) → to_server m.body ≡ b → (deliver_step grid state (Some m)).new ≡ []
     by true ask =
         let same : deliver_step grid state (Some m) ≡ serve_step state m = rw ask refl in
-        ap (λ z. z.new) same ∙ elim (served (state.up m.server) refl) [
+        ap (λ z. z.new) same ∙ elim (served (serves state.up state.lacks m.server m.file) refl) [
           | inl none ↦ none
           | inr fine ↦ (absurd (true≢false (sym refused ∙ ap (λ z. is_refusal z.told) same ∙ fine)))
         ]

@@ -1,18 +1,22 @@
 -- The operations that are read off what a run does to sessions and servers are those that are read off all its turns.
 use Rattle.std.proofs.Common.{◌≡◌, ℕ, zero, suc, ◌+◌, ◌≤◌, Bool, true, false, List, [], ◌∷◌, ◌++◌, refl, sym, ap, ap₂, ◌∙◌, subst, Option, Some, None, eqb, arith, min, add-one}
-use Rattle.std.specs.Prelude.{slice_get, slice_index, nat_le, is_some, ⊤, if◌then◌else◌}
+use Rattle.std.specs.Prelude.{slice_get, slice_index, nat_le, is_some, not, ◌&&◌, ⊤, if◌then◌else◌}
+use Rattle.std.specs.List.{list_any}
 use Rattle.gq_grid.specs.Grid.{Grid, Servers}
+use Rattle.gq_tag.specs.declared.StoredCopy.{StoredCopy}
 use Rattle.gq_tag.specs.Tag.{File, OwnMessage, is_file}
 use Rattle.gq_desk.specs.declared.plans.TenantRow.{TenantRow}
+use Rattle.gq_phase.specs.Quorums.{are_mates}
 use Rattle.gq_model.specs.declared.events.Line.{Line}
 use Rattle.gq_model.specs.declared.events.ServerLine.{ServerLine}
 use Rattle.gq_model.specs.declared.events.ServerRefusal.{ServerRefusal}
+use Rattle.gq_model.specs.declared.events.ServerRefusal.TheVariants.{Same}
 use Rattle.gq_model.specs.declared.events.Line.TheVariants.{Write, Read, List as ListFiles, Deliver, Retry, Abandon}
 use Rattle.gq_model.specs.declared.events.Refusal.TheVariants.{Spent, Busy, NoMessage}
-use Rattle.gq_model.specs.Told.{Told, Began, Round, Done, Abandoned, Refused, ServerOk}
+use Rattle.gq_model.specs.Told.{Told, Began, Round, Done, Abandoned, Refused, ServerOk, ServerRefused}
 use Rattle.gq_model.specs.Said.{said_in}
-use Rattle.gq_model.specs.Trace.{Turn, Own, Serving, Leaping, State, Past, questions, sent, up}
-use Rattle.gq_model.specs.Lone.{after, said, step_at, message_of_turn, server_told, server_refusal, leap_told, quiet, deliver_step}
+use Rattle.gq_model.specs.Trace.{Turn, Own, Serving, Leaping, Losing, Returning, State, Past, questions, sent, up}
+use Rattle.gq_model.specs.Lone.{after, said, step_at, message_of_turn, server_told, server_refusal, leap_told, loss_told, is_counted, return_told, equal_copies, quiet, deliver_step}
 use Rattle.gq_laws.specs.Operations.{SessionAnswer, ending, write_tag, begun_at, begun_in}
 use Rattle.gq_laws.specs.Laws.{IsRising}
 use Rattle.gq_laws.proofs.Words.{message_at}
@@ -165,6 +169,8 @@ own_places n (Own line ∷ turns) zero = n
 own_places n (Own line ∷ turns) (suc i) = own_places (n + 1) turns i
 own_places n (Serving line ∷ turns) i = own_places (n + 1) turns i
 own_places n (Leaping k op number ∷ turns) i = own_places (n + 1) turns i
+own_places n (Losing s volumes ∷ turns) i = own_places (n + 1) turns i
+own_places n (Returning s f mate copy ∷ turns) i = own_places (n + 1) turns i
 
 places_low : (n : ℕ) (turns : List Turn) (i : ℕ) → n ≤ own_places n turns i
 places_low n [] i = omega arith
@@ -172,6 +178,8 @@ places_low n (Own line ∷ turns) zero = omega arith
 places_low n (Own line ∷ turns) (suc i) = let low = places_low (n + 1) turns i in omega arith
 places_low n (Serving line ∷ turns) i = let low = places_low (n + 1) turns i in omega arith
 places_low n (Leaping k op number ∷ turns) i = let low = places_low (n + 1) turns i in omega arith
+places_low n (Losing s volumes ∷ turns) i = let low = places_low (n + 1) turns i in omega arith
+places_low n (Returning s f mate copy ∷ turns) i = let low = places_low (n + 1) turns i in omega arith
 
 pub places_rise : (n : ℕ) (turns : List Turn) → IsRising (own_places n turns)
 places_rise n [] i j low = omega arith
@@ -180,6 +188,8 @@ places_rise n (Own line ∷ turns) zero (suc j) low = let late = places_low (n +
 places_rise n (Own line ∷ turns) (suc i) (suc j) low = places_rise (n + 1) turns i j (omega arith)
 places_rise n (Serving line ∷ turns) i j low = places_rise (n + 1) turns i j low
 places_rise n (Leaping k op number ∷ turns) i j low = places_rise (n + 1) turns i j low
+places_rise n (Losing s volumes ∷ turns) i j low = places_rise (n + 1) turns i j low
+places_rise n (Returning s f mate copy ∷ turns) i j low = places_rise (n + 1) turns i j low
 
 -- ---- one turn
 
@@ -196,6 +206,21 @@ leap_silent state k = by (is_some (state.session k).current)
     by : (b : Bool) → IsSilent (if b then Refused Busy else ServerOk)
     by true = tt
     by false = tt
+
+loss_silent : (state : State) (turn : Turn) → IsSilent (loss_told state turn)
+loss_silent state turn = by (list_any (is_counted state turn) state.sent)
+  where
+    by : (b : Bool) → IsSilent (if b then Refused Busy else ServerOk)
+    by true = tt
+    by false = tt
+
+return_silent : (grid : Grid) (state : State) (server : ℕ) (file : File) (mate : ℕ) (copy : StoredCopy) → IsSilent (return_told grid state server file mate copy)
+return_silent grid state server file mate copy = by (not (state.lacks server file)) (are_mates grid server mate && list_any (equal_copies copy) (state.shown server file mate))
+  where
+    by : (a b : Bool) → IsSilent (if a then ServerRefused Same else if b then ServerOk else Refused NoMessage)
+    by true b = tt
+    by false true = tt
+    by false false = tt
 
 -- a delivery of a message that isn't there is refused
 missing_silent : (grid : Grid) (row : TenantRow) (p : Past) (number : ℕ) → message_at p.trace number ≡ None → IsSilent (said grid row p (Own (Deliver number)))
@@ -268,6 +293,18 @@ reads grid row (Leaping k op number ∷ turns) p n =
     let P : List SessionAnswer → Type 0 = λ z. SameReading z (answers_at (own_places (n + 1) turns) (exchanges_from grid row (after grid row p turn) turns)) in
     subst P (sym (tells-cons grid row p n turn turns))
     (silent_left (first_told grid row p n turn) (tells grid row (after grid row p turn) (n + 1) turns) (answers_at (own_places (n + 1) turns) (exchanges_from grid row (after grid row p turn) turns)) (leap_silent (questions p.trace) k)
+    (reads grid row turns (after grid row p turn) (n + 1)))
+reads grid row (Losing s volumes ∷ turns) p n =
+    let turn : Turn = Losing s volumes in
+    let P : List SessionAnswer → Type 0 = λ z. SameReading z (answers_at (own_places (n + 1) turns) (exchanges_from grid row (after grid row p turn) turns)) in
+    subst P (sym (tells-cons grid row p n turn turns))
+    (silent_left (first_told grid row p n turn) (tells grid row (after grid row p turn) (n + 1) turns) (answers_at (own_places (n + 1) turns) (exchanges_from grid row (after grid row p turn) turns)) (loss_silent (questions p.trace) turn)
+    (reads grid row turns (after grid row p turn) (n + 1)))
+reads grid row (Returning s f mate copy ∷ turns) p n =
+    let turn : Turn = Returning s f mate copy in
+    let P : List SessionAnswer → Type 0 = λ z. SameReading z (answers_at (own_places (n + 1) turns) (exchanges_from grid row (after grid row p turn) turns)) in
+    subst P (sym (tells-cons grid row p n turn turns))
+    (silent_left (first_told grid row p n turn) (tells grid row (after grid row p turn) (n + 1) turns) (answers_at (own_places (n + 1) turns) (exchanges_from grid row (after grid row p turn) turns)) (return_silent grid (questions p.trace) s f mate copy)
     (reads grid row turns (after grid row p turn) (n + 1)))
 reads grid row (Own line ∷ turns) p n =
     let P : List SessionAnswer → Type 0 = λ z. SameReading z (answers_at (own_places n (Own line ∷ turns)) (exchanges_from grid row p (Own line ∷ turns))) in

@@ -9,7 +9,7 @@ use Rattle.gq_model.specs.declared.events.ServerLine.{ServerLine}
 use Rattle.gq_model.specs.declared.events.ServerLine.TheVariants.{Down, Up}
 use Rattle.gq_model.specs.declared.events.ServerRefusal.TheVariants.{Same}
 use Rattle.gq_model.specs.Told.{Told, ServerOk, ServerRefused}
-use Rattle.gq_model.specs.Trace.{Turn, Serving, Entry, State, Past, questions, up, volumes, sent, is_lost, brought, session}
+use Rattle.gq_model.specs.Trace.{Turn, Serving, Entry, State, Past, questions, up, volumes, sent, is_lost, lacks, brought, session}
 use Rattle.gq_model.specs.Lone.{after, server_told, trace_after, quiet}
 use Rattle.gq_cluster.specs.Cluster.{everyone}
 
@@ -26,9 +26,9 @@ lines_for aim servers = map (λ n. Serving (change (aim n) n)) servers
 abbrev pub as_aimed : Grid → Servers → List Turn
 as_aimed grid aim = lines_for aim (below (grid.rows * grid.cols))
 
--- all but who is up
+-- all but who is up, and what servers have shown
 abbrev pub others : State → State
-others state = record { up = everyone; volumes = state.volumes; sent = state.sent; is_lost = state.is_lost; brought = state.brought; session = state.session }
+others state = record { up = everyone; volumes = state.volumes; sent = state.sent; is_lost = state.is_lost; lacks = state.lacks; brought = state.brought; shown = λ server file mate. []; session = state.session }
 
 -- ---- one line
 
@@ -52,8 +52,8 @@ abbrev with_change : Past → ServerLine → Past
 with_change p line = record { lines = p.lines; trace = changed_by line ∷ p.trace }
 
 rest_stays : (p : Past) (wanted : Bool) (n : ℕ) → others (questions (with_change p (change wanted n)).trace) ≡ others (questions p.trace)
-rest_stays p true n = λ i. record { up = everyone; volumes = volumes p.trace; sent = append-nil (sent p.trace) i; is_lost = is_lost p.trace; brought = brought p.trace; session = session p.trace }
-rest_stays p false n = λ i. record { up = everyone; volumes = volumes p.trace; sent = append-nil (sent p.trace) i; is_lost = is_lost p.trace; brought = brought p.trace; session = session p.trace }
+rest_stays p true n = λ i. record { up = everyone; volumes = volumes p.trace; sent = append-nil (sent p.trace) i; is_lost = is_lost p.trace; lacks = lacks p.trace; brought = brought p.trace; shown = λ server file mate. []; session = session p.trace }
+rest_stays p false n = λ i. record { up = everyone; volumes = volumes p.trace; sent = append-nil (sent p.trace) i; is_lost = is_lost p.trace; lacks = lacks p.trace; brought = brought p.trace; shown = λ server file mate. []; session = session p.trace }
 
 this_is : (p : Past) (wanted : Bool) (n : ℕ) → up (with_change p (change wanted n)).trace n ≡ wanted
 this_is p true n = rw (eq-eqb n n refl) refl

@@ -4,18 +4,19 @@ use Rattle.std.specs.Prelude.{fold}
 use Rattle.gq_grid.specs.Grid.{Grid, Servers}
 use Rattle.gq_tag.specs.Tag.{File}
 use Rattle.gq_desk.specs.declared.plans.TenantRow.{TenantRow}
-use Rattle.gq_model.specs.Trace.{Turn, Past, up, volumes, sent, is_lost, brought, session}
+use Rattle.gq_model.specs.Trace.{Turn, Past, up, volumes, sent, is_lost, lacks, brought, session}
 use Rattle.gq_model.specs.Lone.{after}
 use Rattle.gq_cluster.specs.Cluster.{Setting, Cluster}
 use Rattle.gq_cluster.specs.Laws.{exchanges_from}
 use Rattle.gq_cluster.proofs.ServerLines.{SetsAll, lines_for}
 
--- the past has what the cluster has; no message is lost, and no server is down that the grid does not have
+-- the past has what the cluster has; no message is lost, no server is down that the grid does not have, and none lacks a file
 pub record Stands (s : Setting) (p : Past) (c : Cluster) : Type 0 where
   pub opened : volumes p.trace ≡ s.volumes
   pub written : sent p.trace ≡ c.written
   pub kept : (n : ℕ) → is_lost p.trace n ≡ false
   pub beyond : (n : ℕ) → s.grid.rows * s.grid.cols ≤ n → up p.trace n ≡ true
+  pub whole : (n : ℕ) (file : File) → lacks p.trace n file ≡ false
   pub copies : (n : ℕ) (file : File) → brought p.trace n file ≡ (c.part n).brought file
   pub sessions : (k : ℕ) → session p.trace k ≡ (c.part (s.home k)).session k
 
@@ -26,6 +27,7 @@ stands_on s p q c aim all stands = record {
   written = ap (λ z. z.sent) all.rest ∙ stands.written;
   kept = λ n. ap (λ z. z.is_lost n) all.rest ∙ stands.kept n;
   beyond = λ n out. all.apart n (inr (omega arith)) ∙ stands.beyond n out;
+  whole = λ n file. ap (λ z. z.lacks n file) all.rest ∙ stands.whole n file;
   copies = λ n file. ap (λ z. z.brought n file) all.rest ∙ stands.copies n file;
   sessions = λ k. ap (λ z. z.session k) all.rest ∙ stands.sessions k;
 }

@@ -37,11 +37,11 @@ new_part = record { brought = λ file. []; session = λ k. new_session; reserved
 abbrev pub copy_in : Part → File → StoredCopy
 copy_in part file = greatest (first_copy ∷ part.brought file)
 
--- the part as the model's state: those of the aim are up, no message was sent, and each server has the node's copies, of which an
--- act looks at its own server's alone
+-- the part as the model's state: those of the aim are up, no message was sent, and each server has its files, with the node's copies, of
+-- which an act looks at its own server's alone
 abbrev pub state_of : List VolumeRow → Servers → Part → State
 state_of volumes aim part =
-    record { up = aim; volumes = volumes; sent = []; is_lost = λ n. false; brought = λ server. part.brought; session = part.session }
+    record { up = aim; volumes = volumes; sent = []; is_lost = λ n. false; lacks = λ server file. false; brought = λ server. part.brought; shown = λ server file mate. []; session = part.session }
 
 -- node n's part of a state, with what is reserved for its sessions
 abbrev pub part_of : ℕ → (ℕ → Reserved) → State → Part

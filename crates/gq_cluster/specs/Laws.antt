@@ -7,7 +7,7 @@ use Rattle.gq_desk.specs.declared.volumes.VolumeRow.{VolumeRow}
 use Rattle.gq_model.specs.declared.events.Line.{Line}
 use Rattle.gq_model.specs.declared.events.Line.TheVariants.{NewVolume}
 use Rattle.gq_model.specs.Said.{said_in}
-use Rattle.gq_model.specs.Trace.{Turn, Own, Serving, Leaping, Trace, State, Past, questions, sent, session, volumes, held}
+use Rattle.gq_model.specs.Trace.{Turn, Own, Serving, Leaping, Losing, Returning, Trace, State, Past, questions, sent, session, volumes, held}
 use Rattle.gq_model.specs.Lone.{Step, step_at, after, past_of, message_of_turn}
 use Rattle.gq_cluster.specs.Cluster.{Setting, Cluster, NodeStep, Arrival, LineCame, LetterCame, Exchange, new_cluster, copy_in, cluster_after, CanFollow, exchanges}
 
@@ -17,11 +17,13 @@ abbrev pub arrival_by : Line → Option OwnMessage → Arrival
 arrival_by line None = LineCame line
 arrival_by line (Some letter) = LetterCame letter
 
--- the exchange of a turn; neither a server line nor a leap is one
+-- the exchange of a turn; a server line is none, nor a leap, a loss or a return
 abbrev pub turn_exchanges : State → Turn → Step → List Exchange
 turn_exchanges state (Own line) step = record { came = arrival_by line (message_of_turn state (Own line)); said = said_in step.told; new = step.new } ∷ []
 turn_exchanges state (Serving line) step = []
 turn_exchanges state (Leaping k op number) step = []
+turn_exchanges state (Losing s volumes) step = []
+turn_exchanges state (Returning s f mate copy) step = []
 
 -- the exchanges of turns, from a past on, in order
 abbrev pub exchanges_from : Grid → TenantRow → Past → List Turn → List Exchange
