@@ -14,7 +14,7 @@ use Rattle.gq_model.specs.declared.events.Line.{Line}
 use Rattle.gq_model.specs.declared.events.Line.TheVariants.{Write, Read, List as ListFiles, Retry, Abandon}
 use Rattle.gq_model.specs.declared.events.Refusal.TheVariants.{NoSession, Idle}
 use Rattle.gq_model.specs.Told.{Refused, Replied}
-use Rattle.gq_model.specs.Trace.{State, Session, Deed, Elsewhere, Begins, Hears, Moves, Ends, Leaps, changed, deed, operation_with, session_by, brought_by}
+use Rattle.gq_model.specs.Trace.{State, Session, Deed, Elsewhere, Begins, Hears, Moves, Ends, Leaps, changed, deed, operation_with, session_by, stored_by, held}
 use Rattle.gq_model.specs.Lone.{Step, is_refusal, asked_step, hear_step, reply_to, quiet}
 use Rattle.gq_cluster.specs.Facts.{OwnFact, Begun, Numbered, Kept, Reserved, none_reserved, reserving, with_reserved, replaced_in}
 use Rattle.gq_cluster.specs.Cluster.{Setting, Part, Act, Asks, Comes, part_of, node_of, step_of, state_after, fact_in, fact_of, part_after, act_entry, aim_of, session_named, IsOfSession, copy_in, state_of}
@@ -100,10 +100,10 @@ step_alike s n p q (Comes m aim) its here alike = elim (cases_Bool (to_server m.
 
 -- ---- what is left
 
-brought_alike : (up : Servers) (message : Option OwnMessage) (p q : Part) (n : ℕ) (file : File) → copy_in p file ≡ copy_in q file →
-    greatest (first_copy ∷ brought_by up message (λ server. p.brought) n file) ≡ greatest (first_copy ∷ brought_by up message (λ server. q.brought) n file)
-brought_alike up None p q n file same = same
-brought_alike up (Some m) p q n file same = by m.session m.op m.round m.server m.file m.body
+brought_alike : (serving : ℕ → File → Bool) (message : Option OwnMessage) (p q : Part) (n : ℕ) (file : File) → copy_in p file ≡ copy_in q file →
+    greatest (first_copy ∷ stored_by serving message (λ server. p.brought) n file) ≡ greatest (first_copy ∷ stored_by serving message (λ server. q.brought) n file)
+brought_alike serving None p q n file same = same
+brought_alike serving (Some m) p q n file same = by m.session m.op m.round m.server m.file m.body
   where
     stored : (b : Bool) (copy : StoredCopy) → greatest (first_copy ∷ (if b then p.brought file ++ copy ∷ [] else p.brought file)) ≡ greatest (first_copy ∷ (if b then q.brought file ++ copy ∷ [] else q.brought file))
     stored true copy = greatest-push first_copy copy (p.brought file) ∙ ap (λ c. newer_of c copy) same ∙ sym (greatest-push first_copy copy (q.brought file))
@@ -111,11 +111,16 @@ brought_alike up (Some m) p q n file same = by m.session m.op m.round m.server m
 
     by : (session op round server : ℕ) (f : File) (body : Body) →
         let m : OwnMessage = record { session = session; op = op; round = round; server = server; file = f; body = body } in
-        greatest (first_copy ∷ brought_by up (Some m) (λ server. p.brought) n file) ≡ greatest (first_copy ∷ brought_by up (Some m) (λ server. q.brought) n file)
+        greatest (first_copy ∷ stored_by serving (Some m) (λ server. p.brought) n file) ≡ greatest (first_copy ∷ stored_by serving (Some m) (λ server. q.brought) n file)
     by session op round server f Ask = same
     by session op round server f (Copy copy) = same
-    by session op round server f (Store copy) = stored ((server == n) && is_file f file && up n) copy
+    by session op round server f (Store copy) = stored ((server == n) && is_file f file && serving n file) copy
     by session op round server f Stored = same
+
+held_alike : (s : Setting) (n : ℕ) (p q : Part) (act : Act) (step : Step) (file : File) → copy_in p file ≡ copy_in q file →
+    held (changed (act_entry act step) (state_of s.volumes (aim_of act) p)) n file ≡ held (changed (act_entry act step) (state_of s.volumes (aim_of act) q)) n file
+held_alike s n p q (Asks line aim) step file same = same
+held_alike s n p q (Comes m aim) step file same = brought_alike (λ server f. aim_of (Comes m aim) server) (Some m) p q n file same
 
 -- what is reserved for session j behind the fact
 reserved_alike : (fact : Option OwnFact) (a b : ℕ → Reserved) (j : ℕ) → a j ≡ b j → with_reserved fact a j ≡ with_reserved fact b j
@@ -165,7 +170,7 @@ part_alike s n p q act its here alike = subst (λ (x : Part). PartAlike s.home n
 
     accepted : PartAlike s.home n (part_of n (with_reserved fact p.reserved) (changed (act_entry act step) (state_of s.volumes (aim_of act) p))) (part_of n (with_reserved fact q.reserved) (changed (act_entry act step) (state_of s.volumes (aim_of act) q)))
     accepted = record {
-      copies = λ file. brought_alike (aim_of act) (act_entry act step).message p q n file (alike.copies file);
+      copies = λ file. held_alike s n p q act step file (alike.copies file);
       reserved = λ k at. reserved_alike fact p.reserved q.reserved k (alike.reserved k at);
       sessions = λ k at. deed_alike s.volumes k (deed k (act_entry act step)) (p.session k) (q.session k) (q.session k).current refl (alike.sessions k at);
     }

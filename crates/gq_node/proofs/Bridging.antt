@@ -14,7 +14,7 @@ use Rattle.gq_model.specs.declared.events.Line.TheVariants.{Write, Read, List as
 use Rattle.gq_model.specs.declared.events.Refusal.{Refusal}
 use Rattle.gq_model.specs.declared.events.Refusal.TheVariants.{Idle, NoQuorum}
 use Rattle.gq_model.specs.Told.{Told, Resent, Refused}
-use Rattle.gq_model.specs.Trace.{Own, Entry, State, Session, Deed, Elsewhere, changed, deed, session_by, operation, operation_with, limit_at, brought_by}
+use Rattle.gq_model.specs.Trace.{Own, Entry, State, Session, Deed, Elsewhere, changed, deed, session_by, operation, operation_with, limit_at, stored_by}
 use Rattle.gq_model.specs.Lone.{Step, is_refusal, entry_of, asked_step, hear_step, serve_step, heard_step, retry_step, session_causes, first_cause, unless, quiet as quiet_step}
 use Rattle.gq_cluster.specs.Facts.{OwnFact, Reserved, reserving, reserved_by, with_reserved, replaced_in}
 use Rattle.gq_cluster.specs.Cluster.{Setting, Part, Act, Asks, Comes, everyone, copy_in, part_of, step_of, fact_in, fact_of, part_after, act_entry, aim_of, session_named, state_of as state_of_part}
@@ -278,12 +278,12 @@ hear_fine : (grid : Grid) (state : State) (m : OwnMessage) (o : Option Operation
 hear_fine grid state m None = refl
 hear_fine grid state m (Some o) = heard_fine _ (hear grid state.up o m)
 
-reply_brings : (up : Servers) (session op round server : ℕ) (file : File) (body : Body) (before : ℕ → File → List StoredCopy) (n : ℕ) (f : File) → to_server body ≡ false →
-    brought_by up (Some (record { session = session; op = op; round = round; server = server; file = file; body = body })) before n f ≡ before n f
-reply_brings up session op round server file Ask before n f goes = absurd (cc)
-reply_brings up session op round server file (Copy copy) before n f goes = refl
-reply_brings up session op round server file (Store copy) before n f goes = absurd (cc)
-reply_brings up session op round server file Stored before n f goes = refl
+reply_brings : (serving : ℕ → File → Bool) (session op round server : ℕ) (file : File) (body : Body) (before : ℕ → File → List StoredCopy) (n : ℕ) (f : File) → to_server body ≡ false →
+    stored_by serving (Some (record { session = session; op = op; round = round; server = server; file = file; body = body })) before n f ≡ before n f
+reply_brings serving session op round server file Ask before n f goes = absurd (cc)
+reply_brings serving session op round server file (Copy copy) before n f goes = refl
+reply_brings serving session op round server file (Store copy) before n f goes = absurd (cc)
+reply_brings serving session op round server file Stored before n f goes = refl
 
 heard_act : (site : Site) (local : Local) (m : OwnMessage) → to_server m.body ≡ false → is_in 1 site.row.sessions m.session ≡ true → site.home m.session ≡ site.here → AtHome site local →
     let k : ℕ = m.session in
@@ -293,7 +293,7 @@ heard_act : (site : Site) (local : Local) (m : OwnMessage) → to_server m.body 
 heard_act site local m goes inside here home = record {
   does = record {
     here = (rw goes refl) ∙ here;
-    part = goes_part local k last site.here known aim (brings m step) (fact_of s (part_in local) act) its_fact (λ j other. rw (goes, other) refl) (λ file. reply_brings aim m.session m.op m.round m.server m.file m.body state.brought site.here file goes)
+    part = goes_part local k last site.here known aim (brings m step) (fact_of s (part_in local) act) its_fact (λ j other. rw (goes, other) refl) (λ file. reply_brings (λ n f. aim n) m.session m.op m.round m.server m.file m.body state.brought site.here file goes)
         ∙ sym (ap (λ (z : Step). part_of site.here (with_reserved (fact_of s (part_in local) act) (part_in local).reserved) (changed (act_entry act z) state)) law_step) ∙ sym law_part;
     letters = ap (λ (z : Step). z.new) (sym law_step);
     told = ap (λ (z : Step). answer_of k last last z.told) (sym law_step);

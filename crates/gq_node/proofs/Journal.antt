@@ -13,7 +13,7 @@ use Rattle.gq_model.specs.declared.events.Line.{Line}
 use Rattle.gq_model.specs.declared.events.Line.TheVariants.{Write, Read, List as ListFiles, Abandon}
 use Rattle.gq_model.specs.declared.events.Refusal.{Refusal}
 use Rattle.gq_model.specs.Told.{Told, Began, Round}
-use Rattle.gq_model.specs.Trace.{Own, State, operation, limit_at, brought_by}
+use Rattle.gq_model.specs.Trace.{Own, State, operation, limit_at, stored_by}
 use Rattle.gq_model.specs.Lone.{Step, is_refusal, entry_of, asked_step, hear_step, unless}
 use Rattle.gq_cluster.specs.Cluster.{Part, everyone, copy_in, session_named}
 use Rattle.gq_cluster.specs.Keeping.{kept_of, with_fact}
@@ -168,7 +168,7 @@ stored_keeps site local session op round server file (Store copy) here fits = by
     m = record { session = session; op = op; round = round; server = server; file = file; body = Store copy }
 
     after : File → List StoredCopy
-    after f = brought_by everyone (Some m) (λ n. local.brought) site.here f
+    after f = stored_by (λ n f. true) (Some m) (λ n. local.brought) site.here f
 
     more : (f : File) → is_file file f ≡ true → greatest (first_copy ∷ after f) ≡ newer_of (copy_in (part_in local) f) copy
     more f same = let one : after f ≡ local.brought f ++ copy ∷ [] = rw (eq-eqb server site.here here, same) refl in ap (λ xs. greatest (first_copy ∷ xs)) one ∙ greatest-push first_copy copy (local.brought f)

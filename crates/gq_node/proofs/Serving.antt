@@ -1,5 +1,5 @@
 -- A letter comes to the server, and a copy of a start.
-use Rattle.std.proofs.Common.{◌≡◌, ◌≢◌, ◌∙◌, ℕ, true, false, List, [], ◌∷◌, ◌++◌, length, refl, sym, ap, subst, Option, Some, None, arith, inl, inr}
+use Rattle.std.proofs.Common.{◌≡◌, ◌≢◌, ◌∙◌, ℕ, Bool, true, false, List, [], ◌∷◌, ◌++◌, length, refl, sym, ap, subst, Option, Some, None, arith, inl, inr}
 use Rattle.std.specs.Prelude.{IsSome, slice_get, option_map, nat_lt, nat_le, ◌==◌}
 use Rattle.std.specs.Option.{option_and_then}
 use Rattle.std.proofs.lemmas.Bool.{cases_Bool, eq-eqb, and_parts, and_from}
@@ -13,7 +13,7 @@ use Rattle.gq_tag.specs.Tag.{File, is_file, own_message, message_of, file_of, fi
 use Rattle.gq_desk.specs.Volumes.{Account, account_at, limit_in, limit_of}
 use Rattle.gq_store.specs.Copies.{StoreCopies, copy_at}
 use Rattle.gq_store.specs.Serving.{server_reply, held_after, fault_in}
-use Rattle.gq_model.specs.Trace.{brought_by, limit_at}
+use Rattle.gq_model.specs.Trace.{stored_by, limit_at}
 use Rattle.gq_laws.proofs.Holding.{greatest-push}
 use Rattle.gq_laws.proofs.OperationMoments.{same_file}
 use Rattle.gq_node.specs.declared.output.Output.{Output}
@@ -36,19 +36,23 @@ other_file t a b differs same =
 pub is_same_file : (f : File) → is_file f f ≡ true
 is_same_file f = and_from (f.volume == f.volume) (f.place == f.place) (eq-eqb f.volume f.volume refl) (eq-eqb f.place f.place refl)
 
+-- each server serves each file
+abbrev all_served : ℕ → File → Bool
+all_served server file = true
+
 -- what the server then has of a file, where the letter's is this one or is not
 brought_here : (server session op round : ℕ) (file : File) (body : Body) (before : ℕ → File → List StoredCopy) →
-    greatest (first_copy ∷ brought_by everyone (Some (record { session = session; op = op; round = round; server = server; file = file; body = body })) before server file) ≡ held_after (greatest (first_copy ∷ before server file)) body
+    greatest (first_copy ∷ stored_by all_served (Some (record { session = session; op = op; round = round; server = server; file = file; body = body })) before server file) ≡ held_after (greatest (first_copy ∷ before server file)) body
 brought_here server session op round file Ask before = refl
 brought_here server session op round file (Copy copy) before = refl
 brought_here server session op round file Stored before = refl
 brought_here server session op round file (Store copy) before =
-    let one : brought_by everyone (Some (record { session = session; op = op; round = round; server = server; file = file; body = Store copy })) before server file ≡ before server file ++ copy ∷ [] =
+    let one : stored_by all_served (Some (record { session = session; op = op; round = round; server = server; file = file; body = Store copy })) before server file ≡ before server file ++ copy ∷ [] =
     rw (eq-eqb server server refl, eq-eqb file.volume file.volume refl, eq-eqb file.place file.place refl) refl in
     ap (λ copies. greatest (first_copy ∷ copies)) one ∙ greatest-push first_copy copy (before server file)
 
 brought_there : (server session op round : ℕ) (file : File) (body : Body) (before : ℕ → File → List StoredCopy) (f : File) → is_file file f ≡ false →
-    brought_by everyone (Some (record { session = session; op = op; round = round; server = server; file = file; body = body })) before server f ≡ before server f
+    stored_by all_served (Some (record { session = session; op = op; round = round; server = server; file = file; body = body })) before server f ≡ before server f
 brought_there server session op round file Ask before f other = refl
 brought_there server session op round file (Copy copy) before f other = refl
 brought_there server session op round file Stored before f other = refl
@@ -84,7 +88,7 @@ served_own : (w : Tables) (t : ℕ) (m reply : Message) (store : StoreCopies) (o
 served_own w t m reply store out local h agrees =
     let f : File = file_place m.file in
     let before : ℕ → File → List StoredCopy = λ server file. local.brought file in
-    let B : ℕ → File → List StoredCopy = λ server file. brought_by everyone (Some (record { session = m.session; op = m.op; round = m.round; server = m.server; file = f; body = m.body })) before server file in
+    let B : ℕ → File → List StoredCopy = λ server file. stored_by all_served (Some (record { session = m.session; op = m.op; round = m.round; server = m.server; file = f; body = m.body })) before server file in
     record {
       account = agrees.account;
       copies = λ file.
