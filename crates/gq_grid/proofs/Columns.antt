@@ -3,7 +3,7 @@
 use Rattle.std.proofs.Common.{◌≡◌, ℕ, ◌+◌, ◌*◌, ◌%◌, ◌<◌, ◌&&◌, true, sym, ◌∙◌, ap, arith, eqb}
 use Rattle.std.proofs.lemmas.Bool.{and_parts, and_from, eqb-true}
 use native.Mathlib.Nat.{add-mul-mod_self_right, mod-eq_of_lt}
-use Rattle.gq_grid.specs.Grid.{Grid, Servers, server_at, is_full_column, has_column, column_servers, share_column}
+use Rattle.gq_grid.specs.Grid.{Grid, server_at, is_full_column, column_servers, share_column}
 use Rattle.gq_grid.specs.Laws.{ColumnsHaveMates, MatesOfMates}
 use Rattle.gq_grid.proofs.Meeting.{all_at, found, any_from, column_servers-column}
 use Rattle.gq_grid.proofs.Inside.{one_of}
@@ -43,8 +43,7 @@ mates_of_mates grid server mate other first second =
 pub columns_have_mates : ColumnsHaveMates
 columns_have_mates grid set h =
     let c = found (is_full_column grid set) 0 grid.cols h in
-    let within : c.0 < grid.cols = omega (arith, c.2) in
-    (
+    let within : c.0 < grid.cols = omega (arith, c.2) in (
       column_servers grid c.0,
       column_servers-column grid c.0 within,
       (λ server inside.

@@ -1,5 +1,5 @@
 -- The servers of a row that lies wholly in a set are in it, and those of a column.
-use Rattle.std.proofs.Common.{◌≡◌, ℕ, zero, suc, ◌+◌, ◌<◌, ◌≤◌, Bool, true, false, refl, sym, inl, inr, Some, arith, eqb}
+use Rattle.std.proofs.Common.{◌≡◌, ℕ, zero, suc, ◌+◌, ◌<◌, ◌≤◌, Bool, true, inl, inr, Some, arith, eqb}
 use Rattle.std.specs.List.{list_any, range_with_len}
 use Rattle.std.proofs.lemmas.Bool.{cases_Bool, eqb-true}
 use Rattle.gq_grid.specs.Grid.{Grid, Servers, server_at, is_full_row, is_full_column, least_row, least_column, row_servers, column_servers}

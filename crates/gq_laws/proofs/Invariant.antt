@@ -9,7 +9,7 @@ use Rattle.gq_tag.specs.declared.StoredCopy.{StoredCopy}
 use Rattle.gq_tag.specs.Tag.{File, OwnMessage, greatest, to_server}
 use Rattle.gq_tag.specs.declared.Body.{Body}
 use Rattle.gq_tag.specs.declared.Body.TheVariants.{Ask, Copy, Store, Stored}
-use Rattle.gq_tag.proofs.Order.{IsAtMost, less_at_most}
+use Rattle.gq_tag.proofs.Order.{less_at_most}
 use Rattle.gq_desk.specs.declared.plans.TenantRow.{TenantRow}
 use Rattle.gq_phase.specs.Phase.{Task, Reply, Writing, Reading, Listing, Operation, HeardNext, is_collect, round_file, stored_copy, heard_servers, heard_copies, hear_reply, reply_of, with_reply, with_decided, decided_copy, hear_current, givers, skips_store}
 use Rattle.gq_phase.specs.Quorums.{ends_collect, ends_store}

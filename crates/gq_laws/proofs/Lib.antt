@@ -28,6 +28,7 @@ pub mod OtherPlaces
 pub mod AllTenants
 pub mod Checking
 pub mod WorkedCases
+pub mod LossCase
 pub mod Remaining
 pub mod Going
 pub mod OwnLines

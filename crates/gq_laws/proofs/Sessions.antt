@@ -12,11 +12,10 @@ use Rattle.gq_tag.specs.Tag.{File, greatest, is_less}
 use Rattle.gq_tag.specs.declared.Body.TheVariants.{Copy}
 use Rattle.gq_tag.proofs.Order.{IsAtMost, at_most_trans, less_from, at_most-parts}
 use Rattle.gq_phase.specs.Phase.{Task, Reply, Writing, Reading, Listing, is_collect, round_file, stored_copy, heard_servers, heard_copies, hear_reply, givers}
-use Rattle.gq_phase.specs.Quorums.{ends_collect, ends_store, are_mates}
+use Rattle.gq_phase.specs.Quorums.{ends_collect, ends_store}
 use Rattle.gq_phase.proofs.Meeting.{rounds_meet, stores_have_mates}
 use Rattle.gq_desk.specs.declared.plans.TenantRow.{TenantRow}
 use Rattle.gq_model.specs.Trace.{Entry, Trace, is_loss}
-use Rattle.gq_laws.proofs.Words.{held}
 use Rattle.gq_laws.proofs.Holding.{keeps_step, keeps_had, run_before, extends_join, held_between_more}
 use Rattle.gq_laws.proofs.Runs.{Follows, IsRun, IsKnown, Keeps, Settled, made, Extends, Starts, HeldBetween}
 use Rattle.gq_phase.proofs.Saying.{odd_is, even_is}

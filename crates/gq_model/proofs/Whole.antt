@@ -1,17 +1,17 @@
 -- By lines of tenants and servers no server comes to lack a file.
-use Rattle.std.proofs.Common.{◌≡◌, ℕ, Bool, true, false, List, [], ◌∷◌, refl, sym, ◌∙◌, subst, Option, Some, None, eqb}
+use Rattle.std.proofs.Common.{◌≡◌, ℕ, Bool, true, false, List, [], ◌∷◌, refl, eqb}
 use Rattle.std.specs.Prelude.{fold, if◌then◌else◌}
 use Rattle.gq_grid.specs.Grid.{Grid}
 use Rattle.gq_tag.specs.Tag.{File}
-use Rattle.gq_desk.specs.CheckedPlan.{CheckedPlan, nobody, row_at}
+use Rattle.gq_desk.specs.CheckedPlan.{CheckedPlan, row_at}
 use Rattle.gq_desk.specs.declared.plans.TenantRow.{TenantRow}
 use Rattle.gq_model.specs.declared.events.Event.{Event}
 use Rattle.gq_model.specs.declared.events.Event.TheVariants.{Tenant, Server, Stray}
 use Rattle.gq_model.specs.declared.events.Line.{Line}
 use Rattle.gq_model.specs.declared.events.ServerLine.{ServerLine}
-use Rattle.gq_model.specs.Trace.{Turn, Own, Serving, Past, start, lacks, questions}
+use Rattle.gq_model.specs.Trace.{Own, Serving, Past, start, lacks, questions}
 use Rattle.gq_model.specs.Lone.{after, step_at, entry_of, is_refusal}
-use Rattle.gq_model.specs.Events.{own, server_lines, past_at, server_past}
+use Rattle.gq_model.specs.Events.{own, past_at}
 
 -- no server lacks a file
 abbrev pub IsWhole : Past → Type 0
