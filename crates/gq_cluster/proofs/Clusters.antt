@@ -1,8 +1,9 @@
 -- All steps of nodes, one after another, are a run of the service.
 use Rattle.std.proofs.Common.{◌≡◌, ℕ, ◌+◌, ◌*◌, ◌≤◌, Bool, true, false, List, [], ◌∷◌, ◌++◌, length, map, refl, sym, ap, ◌∙◌, subst, arith, min, append_assoc, append-nil}
-use Rattle.std.specs.Prelude.{nat_le, fold, is_some, ◌==◌, ◌&&◌, ⊤}
+use Rattle.std.specs.Prelude.{nat_le, fold, is_some, ◌==◌, ◌&&◌, ⊤, All}
 use Rattle.std.specs.List.{range_with_len}
 use Rattle.std.proofs.Math.Nat.{suc-mul}
+use Rattle.std.proofs.lemmas.List.Elements.{All-nil, All-append}
 use Rattle.std.proofs.lemmas.List.{length-map}
 use Rattle.std.proofs.lemmas.List.FromFn.{length-range_with_len}
 use Rattle.std.proofs.lemmas.List.Sums.{fold-append, length-filter, count_by-le-length}
@@ -14,7 +15,7 @@ use Rattle.gq_model.specs.declared.events.Line.TheVariants.{NewVolume}
 use Rattle.gq_model.specs.Trace.{Turn, Own, Trace, Past, new_session, start, questions, up, sent, is_lost, lacks, brought, session}
 use Rattle.gq_model.specs.Lone.{Step, after, step_at, is_refusal, past_of}
 use Rattle.gq_cluster.specs.Cluster.{Setting, Cluster, Act, NodeStep, Acts, Restarts, Exchange, CanAct, CanHappen, CanFollow, new_cluster, going_at, gives_up, acts_of, after_act, after_acts, after_step, cluster_after, exchanges_of, exchanges}
-use Rattle.gq_cluster.specs.Laws.{turn_exchanges, exchanges_from, openings, opened, setting_of, StepsEnough, AllClustersServe}
+use Rattle.gq_cluster.specs.Laws.{turn_exchanges, exchanges_from, openings, opened, setting_of, IsLossless, StepsEnough, AllClustersServe}
 use Rattle.gq_cluster.proofs.Standing.{Stands}
 use Rattle.gq_cluster.proofs.OneAct.{IsActed, one_act}
 use Rattle.gq_cluster.proofs.Abandoning.{given_up, all_given}
@@ -31,6 +32,7 @@ exchanges-append grid row (x ∷ xs) ys p =
 -- turns by which this is done, and after which the past stands for the cluster; so many of them are lines at most
 pub record Runs (s : Setting) (p : Past) (then_is : Cluster) (done : List Exchange) (most : ℕ) : Type 0 where
   pub turns : List Turn
+  pub lossless : All IsLossless turns
   pub did : exchanges_from s.grid s.row p turns ≡ done
   pub stands : Stands s (fold (after s.grid s.row) p turns) then_is
   pub lines : (fold (after s.grid s.row) p turns).lines ≤ p.lines + most
@@ -39,6 +41,7 @@ pub record Runs (s : Setting) (p : Past) (then_is : Cluster) (done : List Exchan
 runs_on : (s : Setting) (p : Past) (mid last : Cluster) (first second : List Exchange) (few more most : ℕ) → few + more ≤ most → (one : Runs s p mid first few) → Runs s (fold (after s.grid s.row) p one.turns) last second more → Runs s p last (first ++ second) most
 runs_on s p mid last first second few more most enough one two = record {
   turns = one.turns ++ two.turns;
+  lossless = All-append IsLossless one.turns two.turns one.lossless two.lossless;
   did = exchanges-append s.grid s.row one.turns two.turns p ∙ (λ i. one.did i ++ two.did i);
   stands = subst P (sym grown) two.stands;
   lines = (let same = ap (λ z. z.lines) grown in let low = one.lines in let high = two.lines in omega arith);
@@ -58,7 +61,7 @@ AllCan s c [] = ⊤
 AllCan s c (act ∷ acts) = CanAct c act × AllCan s (after_act s c act) acts
 
 acts_run : (s : Setting) (acts : List Act) (p : Past) (c : Cluster) → Stands s p c → p.lines + length acts ≤ s.row.steps → AllCan s c acts → Runs s p (after_acts s c acts) (exchanges_of s c acts) (length acts)
-acts_run s [] p c stands steps can = record { turns = []; did = refl; stands = stands; lines = omega arith }
+acts_run s [] p c stands steps can = record { turns = []; lossless = All-nil IsLossless; did = refl; stands = stands; lines = omega arith }
 acts_run s (act ∷ acts) p c stands steps can = runs_on s p (after_act s c act) (after_acts s c (act ∷ acts)) _ _ 1 (length acts) (length (act ∷ acts)) (omega arith) one (acts_run s acts q (after_act s c act) acted.stands (let lines = acted.lines in omega arith) can.1)
   where
     acted : IsActed s p c act
@@ -68,7 +71,7 @@ acts_run s (act ∷ acts) p c stands steps can = runs_on s p (after_act s c act)
     q = fold (after s.grid s.row) p acted.turns
 
     one : Runs s p (after_act s c act) (exchanges_of s c (act ∷ [])) 1
-    one = record { turns = acted.turns; did = acted.did; stands = acted.stands; lines = (let lines = acted.lines in omega arith) }
+    one = record { turns = acted.turns; lossless = acted.lossless; did = acted.did; stands = acted.stands; lines = (let lines = acted.lines in omega arith) }
 
 -- ---- node steps
 
@@ -92,8 +95,8 @@ acts_few s c (Restarts node) =
 
 -- behind the acts of a node step: nothing, or the sessions of a node go on behind their reserved numbers
 behind_run : (s : Setting) (step : NodeStep) (p : Past) (c : Cluster) → Stands s p (after_acts s c (acts_of s c step)) → Runs s p (after_step s c step) [] 0
-behind_run s (Acts act) p c stands = record { turns = []; did = refl; stands = stands; lines = omega arith }
-behind_run s (Restarts node) p c stands = record { turns = leaps s mid node; did = leapt.did; stands = leapt.stands; lines = (let lines = leapt.lines in omega arith) }
+behind_run s (Acts act) p c stands = record { turns = []; lossless = All-nil IsLossless; did = refl; stands = stands; lines = omega arith }
+behind_run s (Restarts node) p c stands = record { turns = leaps s mid node; lossless = leapt.lossless; did = leapt.did; stands = leapt.stands; lines = (let lines = leapt.lines in omega arith) }
   where
     mid : Cluster
     mid = given_up s c node
@@ -102,7 +105,7 @@ behind_run s (Restarts node) p c stands = record { turns = leaps s mid node; did
     leapt = node_leaps s p mid node stands (λ k home inside. ap (λ z. z.current) ((all_given s c node).own k home inside))
 
 steps_run : (s : Setting) (steps : List NodeStep) (p : Past) (c : Cluster) → Stands s p c → p.lines + length steps * (s.row.sessions + 1) ≤ s.row.steps → CanFollow s c steps → Runs s p (fold (after_step s) c steps) (exchanges s c steps) (length steps * (s.row.sessions + 1))
-steps_run s [] p c stands enough can = record { turns = []; did = refl; stands = stands; lines = omega arith }
+steps_run s [] p c stands enough can = record { turns = []; lossless = All-nil IsLossless; did = refl; stands = stands; lines = omega arith }
 steps_run s (step ∷ steps) p c stands enough can = runs_on s p (after_step s c step) (fold (after_step s) c (step ∷ steps)) (exchanges_of s c (acts_of s c step)) (exchanges s (after_step s c step) steps) (length (acts_of s c step)) (length steps * (s.row.sessions + 1)) (length (step ∷ steps) * (s.row.sessions + 1)) (omega (arith, few, each)) one
     (steps_run s steps (fold (after s.grid s.row) p one.turns) (after_step s c step) one.stands (let lines = one.lines in omega (arith, few, each, lines)) can.1)
   where
@@ -190,6 +193,7 @@ run_stands grid row home opens steps most run = subst P (sym (fold-append (after
 pub all_clusters_serve : AllClustersServe
 all_clusters_serve grid row home opens steps enough can = record {
   turns = run.turns;
+  lossless = run.lossless;
   alike = run.did;
   has = record {
     copies = λ server file. ap (λ copies. greatest (first_copy ∷ copies)) (stands.copies server file);

@@ -1,6 +1,7 @@
 -- By a turn for each of them the idle sessions of a node go on behind the numbers that are reserved for them; nothing else changes.
 use Rattle.std.proofs.Common.{◌≡◌, ◌≢◌, ◌⊎◌, ℕ, zero, suc, ◌+◌, ◌<◌, ◌≤◌, Bool, true, false, ◌&&◌, List, [], ◌∷◌, map, refl, sym, ap, ◌∙◌, subst, inl, inr, None, arith, append-nil, eqb, leb}
-use Rattle.std.specs.Prelude.{fold, filter, if◌then◌else◌}
+use Rattle.std.specs.Prelude.{fold, filter, All, if◌then◌else◌}
+use Rattle.std.proofs.lemmas.List.Elements.{All-nil, All-cons}
 use Rattle.std.specs.List.{range_with_len}
 use Rattle.std.proofs.lemmas.Bool.{cases_eq, cases_lt, eq-eqb, ne_eqb, le-leb, leb-true, and_parts, true≢false}
 use Rattle.gq_tag.specs.Tag.{File}
@@ -12,7 +13,7 @@ use Rattle.gq_model.specs.Trace.{Turn, Leaping, Leaps, Entry, State, Session, Pa
 use Rattle.gq_model.specs.Lone.{after, leap_told, trace_after, quiet}
 use Rattle.gq_cluster.specs.Facts.{Reserved}
 use Rattle.gq_cluster.specs.Cluster.{Setting, Cluster, leapt_part, leapt}
-use Rattle.gq_cluster.specs.Laws.{exchanges_from}
+use Rattle.gq_cluster.specs.Laws.{exchanges_from, IsLossless}
 use Rattle.gq_cluster.proofs.Abandoning.{at_home}
 use Rattle.gq_cluster.proofs.Standing.{Stands}
 
@@ -146,6 +147,11 @@ pub leaps_tell : (s : Setting) (c : Cluster) (grid : Grid) (row : TenantRow) (ks
 leaps_tell s c grid row [] p = refl
 leaps_tell s c grid row (k ∷ ks) p = leaps_tell s c grid row ks (after grid row p (leap s c k))
 
+-- by them no disk is lost
+leaps_lossless : (s : Setting) (c : Cluster) (ks : List ℕ) → All IsLossless (map (leap s c) ks)
+leaps_lossless s c [] = All-nil IsLossless
+leaps_lossless s c (k ∷ ks) = All-cons IsLossless (leap s c k) (map (leap s c) ks) tt (leaps_lossless s c ks)
+
 -- ---- all sessions of a node
 
 -- the turns by which all sessions of the node go on
@@ -158,12 +164,14 @@ NodeIdle s c node = (k : ℕ) → s.home k ≡ node → is_in 1 s.row.sessions k
 
 -- by these turns the past that stood for the cluster stands for it behind the leap
 pub record IsLeapt (s : Setting) (p : Past) (c : Cluster) (node : ℕ) : Type 0 where
+  pub lossless : All IsLossless (leaps s c node)
   pub did : exchanges_from s.grid s.row p (leaps s c node) ≡ []
   pub stands : Stands s (fold (after s.grid s.row) p (leaps s c node)) (leapt s node c)
   pub lines : (fold (after s.grid s.row) p (leaps s c node)).lines ≡ p.lines
 
 pub node_leaps : (s : Setting) (p : Past) (c : Cluster) (node : ℕ) → Stands s p c → NodeIdle s c node → IsLeapt s p c node
 node_leaps s p c node stands idle = record {
+  lossless = leaps_lossless s c (filter (λ k. eqb (s.home k) node) (range_with_len 1 s.row.sessions));
   did = leaps_tell s c s.grid s.row (filter (λ k. eqb (s.home k) node) (range_with_len 1 s.row.sessions)) p;
   stands = record {
     opened = ap (λ z. z.volumes) all.rest ∙ stands.opened;

@@ -1,7 +1,8 @@
 -- An act of a node is a line of the model's run, behind server lines that bring up those of the act's aim.
 use Rattle.std.proofs.Common.{◌≡◌, ◌≢◌, ◌⊎◌, ℕ, ◌+◌, ◌*◌, ◌<◌, Bool, true, false, List, [], ◌∷◌, ◌++◌, length, refl, sym, ap, ◌∙◌, subst, inl, inr, Option, Some, None, arith, min, append-nil}
-use Rattle.std.specs.Prelude.{nat_le, slice_get, fold, not, ◌&&◌}
+use Rattle.std.specs.Prelude.{nat_le, slice_get, fold, All, not, ◌&&◌}
 use Rattle.std.proofs.lemmas.Bool.{cases_eq, cases_lt, ne_eqb, lt-leb, true≢false}
+use Rattle.std.proofs.lemmas.List.Elements.{All-nil, All-cons, All-append}
 use Rattle.std.proofs.lemmas.List.Sums.{fold-append}
 use Rattle.gq_grid.specs.Grid.{Grid, Servers, below}
 use Rattle.gq_tag.specs.declared.StoredCopy.{StoredCopy}
@@ -19,12 +20,12 @@ use Rattle.gq_model.specs.Trace.{Turn, Own, Entry, State, Past, Elsewhere, quest
 use Rattle.gq_model.specs.Lone.{Step, after, step_at, line_step, asked_step, deliver_step, is_refusal, message_of_turn, trace_after}
 use Rattle.gq_laws.proofs.Found.{position_of}
 use Rattle.gq_cluster.specs.Cluster.{Setting, Cluster, Act, Asks, Comes, session_named, IsOfSession, CanAct, everyone, aim_of, node_of, step_in, act_entry, after_act, arrival_of, exchange_of}
-use Rattle.gq_cluster.specs.Laws.{arrival_by, turn_exchanges, exchanges_from}
+use Rattle.gq_cluster.specs.Laws.{arrival_by, turn_exchanges, exchanges_from, IsLossless}
 use Rattle.gq_cluster.proofs.ServerLines.{as_aimed, SetsAll, all_set}
 use Rattle.gq_cluster.proofs.Numbers.{numbered, numbered_step, refusal_is, said_is, delivered_deed_is}
 use Rattle.gq_cluster.proofs.Alike.{asked_alike, heard_alike, served_alike}
 use Rattle.gq_cluster.proofs.Parts.{state_at, part_then, parts_then, parts_here, parts_away, refused_part, accepted_part, refused_quiet}
-use Rattle.gq_cluster.proofs.Standing.{Stands, stands_on, exchanges_behind}
+use Rattle.gq_cluster.proofs.Standing.{Stands, stands_on, lines_lossless, exchanges_behind}
 
 -- whether the server serves the file, at this past; and as the act's node has it
 abbrev serving : Past → ℕ → File → Bool
@@ -329,6 +330,7 @@ comes_to_session s q c m aim n stands reply aimed at = record {
 -- an act is done by these turns
 pub record IsActed (s : Setting) (p : Past) (c : Cluster) (act : Act) : Type 0 where
   pub turns : List Turn
+  pub lossless : All IsLossless turns
   pub did : exchanges_from s.grid s.row p turns ≡ exchange_of act (step_in s c act) ∷ []
   pub stands : Stands s (fold (after s.grid s.row) p turns) (after_act s c act)
   pub lines : (fold (after s.grid s.row) p turns).lines ≡ p.lines + 1
@@ -336,6 +338,7 @@ pub record IsActed (s : Setting) (p : Past) (c : Cluster) (act : Act) : Type 0 w
 behind : (s : Setting) (p : Past) (c : Cluster) (act : Act) → IsPlayed s (fold (after s.grid s.row) p (as_aimed s.grid (aim_of act))) c act → IsActed s p c act
 behind s p c act played = record {
   turns = set ++ Own played.line ∷ [];
+  lossless = All-append IsLossless set (Own played.line ∷ []) (lines_lossless (aim_of act) (below (s.grid.rows * s.grid.cols))) (All-cons IsLossless (Own played.line) [] tt (All-nil IsLossless));
   did = exchanges_behind s.grid s.row (aim_of act) (below (s.grid.rows * s.grid.cols)) (Own played.line ∷ []) p ∙ ap (λ z. z ++ []) played.did;
   stands = subst P (sym grown) played.stands;
   lines = ap (λ z. z.lines) grown ∙ ap (λ n. n + 1) (all_set s.grid s.row (aim_of act) p).lines;

@@ -1,5 +1,5 @@
 -- The law of clusters: whatever happens at the nodes is a run of the service, in the model.
-use Rattle.std.specs.Prelude.{◌≡◌, ℕ, ◌+◌, ◌*◌, ◌≤◌, List, [], ◌∷◌, ◌++◌, Option, Some, None, length, map}
+use Rattle.std.specs.Prelude.{◌≡◌, ℕ, ◌+◌, ◌*◌, ◌≤◌, List, [], ◌∷◌, ◌++◌, Option, Some, None, All, ⊤, length, map}
 use Rattle.gq_grid.specs.Grid.{Grid}
 use Rattle.gq_tag.specs.Tag.{File, OwnMessage}
 use Rattle.gq_desk.specs.declared.plans.TenantRow.{TenantRow}
@@ -49,10 +49,17 @@ pub record Has (home : ℕ → ℕ) (trace : Trace) (c : Cluster) : Type 0 where
   pub sessions : (k : ℕ) → session trace k ≡ (c.part (home k)).session k
   pub sent : sent trace ≡ c.written
 
+-- by the turn no server's copies are lost, and none is given any back
+abbrev pub IsLossless : Turn → Type 0
+IsLossless (Losing server volumes) = ⊥
+IsLossless (Returning server file mate copy) = ⊥
+IsLossless _ = ⊤
+
 -- a run of the service that does what was done at the nodes
 pub record IsServed (grid : Grid) (row : TenantRow) (home : ℕ → ℕ) (opens : List VolumeRow) (steps : List NodeStep) : Type 0 where
   -- behind the openings, the lines of sessions, deliveries, server lines, and leaps
   pub turns : List Turn
+  pub lossless : All IsLossless turns
   -- by which the same comes to sessions and servers, in the same order, and the same is told and sent
   pub alike : exchanges_from grid row (opened grid row opens) turns ≡ exchanges (setting_of grid row home opens) new_cluster steps
   -- and at the end the model has what the nodes have
