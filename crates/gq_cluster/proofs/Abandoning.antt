@@ -31,6 +31,7 @@ record GivesOne (s : Setting) (k : ℕ) (old new : Cluster) : Type 0 where
   own : at_home s new k ≡ without_operation (at_home s old k)
   others : (j : ℕ) → k ≢ j → at_home s new j ≡ at_home s old j
   reserved : (n j : ℕ) → (new.part n).reserved j ≡ (old.part n).reserved j
+  lacks : (n : ℕ) (file : File) → (new.part n).lacks file ≡ (old.part n).lacks file
   copies : (n : ℕ) (file : File) → (new.part n).brought file ≡ (old.part n).brought file
   written : new.written ≡ old.written
 
@@ -55,6 +56,12 @@ one_given s c k inside = by (at_home s c k).current refl
       | inr away ↦ (ap (λ z. z.brought file) (parts_away s c act n away))
     ]
 
+    lacks : (n : ℕ) (file : File) → (parts_then s c act n).lacks file ≡ (c.part n).lacks file
+    lacks n file = elim (cases_eq n (s.home k)) [
+      | inl same ↦ (ap (λ z. z.lacks file) (parts_here s c act n same) ∙ ap (λ z. (c.part z).lacks file) (sym same))
+      | inr away ↦ (ap (λ z. z.lacks file) (parts_away s c act n away))
+    ]
+
     -- no number is reserved where the operation is abandoned
     reserved : step_in s c act ≡ quiet Abandoned → (n j : ℕ) → (parts_then s c act n).reserved j ≡ (c.part n).reserved j
     reserved step n j = elim (cases_eq n (s.home k)) [
@@ -76,6 +83,7 @@ one_given s c k inside = by (at_home s c k).current refl
           own = ap (λ z. z.session k) (stays (s.home k)) ∙ idle_is (at_home s c k) idle;
           others = λ j ne. ap (λ z. z.session j) (stays (s.home j));
           reserved = λ n j. ap (λ z. z.reserved j) (stays n);
+          lacks = λ n file. ap (λ z. z.lacks file) (stays n);
           copies = λ n file. ap (λ z. z.brought file) (stays n);
           written = ap (λ z. c.written ++ z.new) step ∙ append-nil c.written;
         }
@@ -86,6 +94,7 @@ one_given s c k inside = by (at_home s c k).current refl
           own = ap (λ z. z.session k) (goes (s.home k)) ∙ own;
           others = λ j ne. ap (λ z. z.session j) (goes (s.home j)) ∙ others j ne;
           reserved = λ n j. ap (λ z. z.reserved j) (goes n) ∙ reserved step n j;
+          lacks = λ n file. ap (λ z. z.lacks file) (goes n) ∙ lacks n file;
           copies = λ n file. ap (λ z. z.brought file) (goes n) ∙ copies n file;
           written = ap (λ z. c.written ++ z.new) step ∙ append-nil c.written;
         }
@@ -103,6 +112,7 @@ record GivesThese (s : Setting) (ks : List ℕ) (old new : Cluster) : Type 0 whe
   these : (j : ℕ) → has ks j ≡ true → at_home s new j ≡ without_operation (at_home s old j)
   others : (j : ℕ) → has ks j ≡ false → at_home s new j ≡ at_home s old j
   reserved : (n j : ℕ) → (new.part n).reserved j ≡ (old.part n).reserved j
+  lacks : (n : ℕ) (file : File) → (new.part n).lacks file ≡ (old.part n).lacks file
   copies : (n : ℕ) (file : File) → (new.part n).brought file ≡ (old.part n).brought file
   written : new.written ≡ old.written
 
@@ -112,6 +122,7 @@ gives_more s k ks old mid new one more = record {
   these = these;
   others = others;
   reserved = λ n j. more.reserved n j ∙ one.reserved n j;
+  lacks = λ n file. more.lacks n file ∙ one.lacks n file;
   copies = λ n file. more.copies n file ∙ one.copies n file;
   written = more.written ∙ one.written;
 }
@@ -136,7 +147,7 @@ gives_more s k ks old mid new one more = record {
     ]
 
 these_given : (s : Setting) (ks : List ℕ) (c : Cluster) → AllInside s.row.sessions ks → GivesThese s ks c (after_acts s c (map gives_up ks))
-these_given s [] c inside = record { these = λ j h. absurd (true≢false (sym h)); others = λ j h. refl; reserved = λ n j. refl; copies = λ n file. refl; written = refl }
+these_given s [] c inside = record { these = λ j h. absurd (true≢false (sym h)); others = λ j h. refl; reserved = λ n j. refl; lacks = λ n file. refl; copies = λ n file. refl; written = refl }
 these_given s (k ∷ ks) c inside =
     gives_more s k ks c (after_act s c (gives_up k)) (after_acts s (after_act s c (gives_up k)) (map gives_up ks)) (one_given s c k inside.0) (these_given s ks (after_act s c (gives_up k)) inside.1)
 
@@ -188,11 +199,12 @@ pub record Abandons (s : Setting) (node : ℕ) (old new : Cluster) : Type 0 wher
   pub outside : (k : ℕ) → is_in 1 s.row.sessions k ≡ false → at_home s new k ≡ at_home s old k
   pub others : (k : ℕ) → s.home k ≢ node → at_home s new k ≡ at_home s old k
   pub reserved : (n k : ℕ) → (new.part n).reserved k ≡ (old.part n).reserved k
+  pub lacks : (n : ℕ) (file : File) → (new.part n).lacks file ≡ (old.part n).lacks file
   pub copies : (n : ℕ) (file : File) → (new.part n).brought file ≡ (old.part n).brought file
   pub written : new.written ≡ old.written
 
 pub all_given : (s : Setting) (c : Cluster) (node : ℕ) → Abandons s node c (given_up s c node)
-all_given s c node = record { own = own; outside = outside; others = others; reserved = given.reserved; copies = given.copies; written = given.written }
+all_given s c node = record { own = own; outside = outside; others = others; reserved = given.reserved; lacks = given.lacks; copies = given.copies; written = given.written }
   where
     test : ℕ → Bool
     test k = eqb (s.home k) node && is_some ((c.part node).session k).current

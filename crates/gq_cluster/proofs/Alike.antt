@@ -1,6 +1,6 @@
 -- What a session's line or a letter to it is told depends on this session alone, on the volumes, and on whom the quorums are
 -- taken of; a letter to a server on the copies of its file there. Numbers of messages aside.
-use Rattle.std.proofs.Common.{◌≡◌, ℕ, ◌+◌, true, false, List, [], ◌∷◌, length, refl, ap, ◌∙◌, Option, Some, None}
+use Rattle.std.proofs.Common.{◌≡◌, ℕ, ◌+◌, Bool, true, false, List, [], ◌∷◌, length, refl, ap, ◌∙◌, Option, Some, None}
 use Rattle.std.specs.Prelude.{option_map, is_none}
 use Rattle.gq_grid.specs.Grid.{Grid, Servers}
 use Rattle.gq_tag.specs.Tag.{OwnMessage, to_server, greatest, first_copy}
@@ -28,7 +28,7 @@ pub record Alike (grid : Grid) (k : ℕ) (a b : State) : Type 0 where
 
 -- the first state with these volumes, and with this for each session
 abbrev with_these : State → List VolumeRow → Session → State
-with_these a volumes session = record { up = a.up; volumes = volumes; sent = a.sent; is_lost = a.is_lost; lacks = a.lacks; brought = a.brought; shown = a.shown; session = λ k. session }
+with_these a volumes session = record { up = a.up; volumes = volumes; sent = a.sent; is_lost = a.is_lost; lacks = a.lacks; brought = a.brought; offered = a.offered; session = λ k. session }
 
 -- ---- whom the quorums are taken of
 
@@ -95,9 +95,14 @@ heard_alike grid a b m reply alike = rw reply (ap (hear_step grid a m) same ∙ 
     same : operation a m.session ≡ operation b m.session
     same = λ i. option_map (operation_with m.session (alike.session i)) (alike.session i).current
 
--- ---- and to a server, which has the file
+-- ---- and to a server
 
-pub served_alike : (grid : Grid) (a b : State) (m : OwnMessage) → to_server m.body ≡ true → serves a.up a.lacks m.server m.file ≡ true → serves b.up b.lacks m.server m.file ≡ true → a.brought m.server m.file ≡ b.brought m.server m.file →
+pub served_alike : (grid : Grid) (a b : State) (m : OwnMessage) → to_server m.body ≡ true → serves a.up a.lacks m.server m.file ≡ serves b.up b.lacks m.server m.file → a.brought m.server m.file ≡ b.brought m.server m.file →
     deliver_step grid a (Some m) ≡ numbered_step (length a.sent) (deliver_step grid b (Some m))
-served_alike grid a b m ask here there copies =
-    rw (ask, here, there) (λ i. record { told = Replied (length a.sent); new = reply_to (greatest (first_copy ∷ copies i)) m ∷ [] })
+served_alike grid a b m ask same copies = by (serves b.up b.lacks m.server m.file) refl
+  where
+    by : (serving : Bool) → serves b.up b.lacks m.server m.file ≡ serving → deliver_step grid a (Some m) ≡ numbered_step (length a.sent) (deliver_step grid b (Some m))
+    by true there =
+        let here : serves a.up a.lacks m.server m.file ≡ true = same ∙ there in
+        rw (ask, here, there) (λ i. record { told = Replied (length a.sent); new = reply_to (greatest (first_copy ∷ copies i)) m ∷ [] })
+    by false there = let here : serves a.up a.lacks m.server m.file ≡ false = same ∙ there in rw (ask, here, there) refl

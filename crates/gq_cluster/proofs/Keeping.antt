@@ -1,6 +1,7 @@
 -- An act changes what a node must not forget by its one fact.
 use Rattle.std.proofs.Common.{◌≡◌, ◌≢◌, ◌⊎◌, ℕ, Bool, true, false, List, [], ◌∷◌, ◌++◌, refl, sym, ap, ◌∙◌, inl, inr, Option, Some, None, eqb}
-use Rattle.std.specs.Prelude.{fold, if◌then◌else◌}
+use Rattle.std.specs.Prelude.{All, fold, if◌then◌else◌}
+use Rattle.std.proofs.lemmas.List.Elements.{All-head, All-tail}
 use Rattle.std.proofs.lemmas.List.Sums.{fold-append}
 use Rattle.std.proofs.lemmas.Bool.{cases_eq, eq-eqb, ne_eqb, true≢false}
 use Rattle.gq_grid.specs.Grid.{Servers}
@@ -9,14 +10,14 @@ use Rattle.gq_tag.specs.declared.Body.{Body}
 use Rattle.gq_tag.specs.declared.Body.TheVariants.{Ask, Copy, Store, Stored}
 use Rattle.gq_tag.specs.Tag.{File, OwnMessage, is_file, is_less, first_copy, greatest, newer_of, to_server}
 use Rattle.gq_model.specs.declared.events.Line.{Line}
-use Rattle.gq_model.specs.Told.{Told, Began, Replied, Round}
+use Rattle.gq_model.specs.Told.{Told, Began, Replied, IsDown, Round}
 use Rattle.gq_model.specs.Trace.{serves, stored_by}
-use Rattle.gq_model.specs.Lone.{is_refusal, reply_to}
+use Rattle.gq_model.specs.Lone.{is_refusal, reply_to, quiet}
 use Rattle.gq_laws.proofs.Holding.{greatest-push}
 use Rattle.gq_laws.proofs.OperationMoments.{same_file}
 use Rattle.gq_cluster.specs.Facts.{OwnFact, Begun, Numbered, Kept, Reserved, reserving, with_reserved, replaced_in}
-use Rattle.gq_cluster.specs.Cluster.{Setting, Part, Act, Asks, Comes, aim_of, node_of, session_named, copy_in, step_of, state_after, fact_in, fact_of, part_after, Cluster, NodeStep, Acts, Restarts, leapt_part, new_cluster, after_act, after_acts, after_step, acts_of, behind_acts}
-use Rattle.gq_cluster.specs.Keeping.{kept_of, with_fact, AllActsKeep, fact_at, facts_of, facts_at, AllFactsSuffice}
+use Rattle.gq_cluster.specs.Cluster.{Setting, Part, Act, Asks, Comes, aim_of, node_of, session_named, copy_in, step_of, state_after, fact_in, fact_of, part_after, Cluster, NodeStep, Acts, Restarts, Loses, Returns, leapt_part, new_cluster, after_act, after_acts, after_step, acts_of, behind_acts}
+use Rattle.gq_cluster.specs.Keeping.{kept_of, with_fact, AllActsKeep, IsKept, fact_at, facts_of, facts_at, AllFactsSuffice}
 use Rattle.gq_cluster.proofs.OneAct.{brings_nothing}
 use Rattle.gq_cluster.proofs.Reserving.{IsOfNumbers, reserves_numbers, accepted}
 
@@ -127,7 +128,7 @@ replaced_copy old file (Store copy) f = by (is_less (copy_in old file).tag copy.
     by false less = older (is_file file f) refl less ∙ ap (λ b. (with_fact (kept_of old) (fact b)).copy f) (sym less)
 
 -- what the letter brings to its server
-brings_copy : (serving : ℕ → File → Bool) (part : Part) (m : OwnMessage) (n : ℕ) (f : File) → m.server ≡ n → serving n f ≡ true →
+brings_copy : (serving : ℕ → File → Bool) (part : Part) (m : OwnMessage) (n : ℕ) (f : File) → m.server ≡ n → (is_file m.file f ≡ true → serving n f ≡ true) →
     greatest (first_copy ∷ stored_by serving (Some m) (λ server. part.brought) n f) ≡ copy_then part m.file m.body f
 brings_copy serving part m n f here alive = by m.body
   where
@@ -136,7 +137,7 @@ brings_copy serving part m n f here alive = by m.body
 
     stored : (copy : StoredCopy) (b : Bool) → is_file m.file f ≡ b → greatest (first_copy ∷ stored_by serving (Some (with_body (Store copy))) (λ server. part.brought) n f) ≡ copy_then part m.file (Store copy) f
     stored copy true e =
-        let more : stored_by serving (Some (with_body (Store copy))) (λ server. part.brought) n f ≡ part.brought f ++ copy ∷ [] = rw (eq-eqb m.server n here, e, alive) refl in
+        let more : stored_by serving (Some (with_body (Store copy))) (λ server. part.brought) n f ≡ part.brought f ++ copy ∷ [] = rw (eq-eqb m.server n here, e, alive e) refl in
         let newer : copy_then part m.file (Store copy) f ≡ newer_of (copy_in part f) copy = rw e refl in
         ap (λ z. greatest (first_copy ∷ z)) more ∙ greatest-push first_copy copy (part.brought f) ∙ sym newer
     stored copy false e =
@@ -150,28 +151,54 @@ brings_copy serving part m n f here alive = by m.body
     by (Store copy) = stored copy (is_file m.file f) refl
     by Stored = refl
 
+-- and to one that lacks its file: nothing
+brings_none : (serving : ℕ → File → Bool) (part : Part) (m : OwnMessage) (n : ℕ) (f : File) → (is_file m.file f ≡ true → serving n f ≡ false) → stored_by serving (Some m) (λ server. part.brought) n f ≡ part.brought f
+brings_none serving part m n f without = by m.body
+  where
+    with_body : Body → OwnMessage
+    with_body body = record { session = m.session; op = m.op; round = m.round; server = m.server; file = m.file; body = body }
+
+    stored : (copy : StoredCopy) (a : Bool) → eqb m.server n ≡ a → (b : Bool) → is_file m.file f ≡ b → stored_by serving (Some (with_body (Store copy))) (λ server. part.brought) n f ≡ part.brought f
+    stored copy false elsewhere b e = rw elsewhere refl
+    stored copy true here true e = rw (here, e, without e) refl
+    stored copy true here false e = rw (here, e) refl
+
+    by : (body : Body) → stored_by serving (Some (with_body body)) (λ server. part.brought) n f ≡ part.brought f
+    by Ask = refl
+    by (Copy copy) = refl
+    by (Store copy) = stored copy (eqb m.server n) refl (is_file m.file f) refl
+    by Stored = refl
+
 serves_keep : (s : Setting) (n : ℕ) (part : Part) (m : OwnMessage) (aim : Servers) → to_server m.body ≡ true → m.server ≡ n → kept_of (part_after s n part (Comes m aim)) ≡ with_fact (kept_of part) (fact_of s part (Comes m aim))
 serves_keep s n part m aim ask here = act_keeps s n part act (λ refused. absurd (true≢false (sym refused ∙ replied))) (λ fine. fact_keeps part (accepted s n part act) (fact_of s part act) (λ j. refl) copies)
   where
     act : Act
     act = Comes m aim
 
-    fact : Bool → Option OwnFact
-    fact b = if b then replaced_in (copy_in part m.file) m.file m.body else fact_in s part act m.session
+    fact : Bool → Bool → Option OwnFact
+    fact b lacking = if b then (if lacking then None else replaced_in (copy_in part m.file) m.file m.body) else fact_in s part act m.session
 
     alive : aim_of act n ≡ true
     alive = rw ask refl
 
+    -- nothing that comes to a server is refused
     replied : is_refusal (step_of s part act).told ≡ false
-    replied =
-        let told : step_of s part act ≡ record { told = Replied 0; new = reply_to (copy_in part m.file) m ∷ [] } = rw ask refl in
-        ap (λ z. is_refusal z.told) told
+    replied = by (part.lacks m.file) refl
+      where
+        by : (b : Bool) → part.lacks m.file ≡ b → is_refusal (step_of s part act).told ≡ false
+        by false is = let told : step_of s part act ≡ record { told = Replied 0; new = reply_to (copy_in part m.file) m ∷ [] } = rw (ask, is) refl in ap (λ z. is_refusal z.told) told
+        by true is = let told : step_of s part act ≡ quiet IsDown = rw (ask, is) refl in ap (λ z. is_refusal z.told) told
 
-    copies : (f : File) → copy_in (accepted s n part act) f ≡ (with_fact (kept_of part) (fact (to_server m.body))).copy f
-    copies f =
-        brings_copy (serves (aim_of act) (λ server file. false)) part m n f here alive
-        ∙ replaced_copy part m.file m.body f
-        ∙ ap (λ b. (with_fact (kept_of part) (fact b)).copy f) (sym ask)
+    serving : ℕ → File → Bool
+    serving = serves (aim_of act) (λ server. part.lacks)
+
+    -- a server that has the file takes what comes, and one that lacks it does not
+    takes : (lacking : Bool) → part.lacks m.file ≡ lacking → (f : File) → copy_in (accepted s n part act) f ≡ (with_fact (kept_of part) (fact true lacking)).copy f
+    takes false has f = brings_copy serving part m n f here (λ same. rw (ap part.lacks (sym (same_file m.file f same)) ∙ has, alive) refl) ∙ replaced_copy part m.file m.body f
+    takes true lacks f = ap (λ copies. greatest (first_copy ∷ copies)) (brings_none serving part m n f (λ same. rw (ap part.lacks (sym (same_file m.file f same)) ∙ lacks) refl))
+
+    copies : (f : File) → copy_in (accepted s n part act) f ≡ (with_fact (kept_of part) (fact (to_server m.body) (part.lacks m.file))).copy f
+    copies f = takes (part.lacks m.file) refl f ∙ ap (λ b. (with_fact (kept_of part) (fact b (part.lacks m.file))).copy f) (sym ask)
 
 -- ---- a letter to a session
 
@@ -190,11 +217,11 @@ hears_keep s n part m aim reply = act_keeps s n part act
     floor = ((state_after s part act).session k).floor
 
     fact : Bool → Option OwnFact
-    fact b = if b then replaced_in (copy_in part m.file) m.file m.body else fact_in s part act m.session
+    fact b = if b then (if part.lacks m.file then None else replaced_in (copy_in part m.file) m.file m.body) else fact_in s part act m.session
 
     copies : (f : File) → copy_in (accepted s n part act) f ≡ (with_fact (kept_of part) (fact (to_server m.body))).copy f
     copies f =
-        ap (λ z. greatest (first_copy ∷ z)) (brings_nothing (serves (aim_of act) (λ server file. false)) m (λ server. part.brought) n f (inr reply))
+        ap (λ z. greatest (first_copy ∷ z)) (brings_nothing (serves (aim_of act) (λ server. part.lacks)) m (λ server. part.brought) n f (inr reply))
         ∙ sym (numbers_copies part k (fact false) (reserves_numbers k (part.reserved k) (step_of s part act).told floor) f)
         ∙ ap (λ b. (with_fact (kept_of part) (fact b)).copy f) (sym reply)
 
@@ -234,20 +261,22 @@ acts_keep s n [] c = refl
 acts_keep s n (act ∷ acts) c = acts_keep s n acts (after_act s c act) ∙ ap (λ z. fold with_fact z (facts_of s (after_act s c act) n acts)) (cluster_keeps s c n act)
 
 -- sessions that go on behind their reserved numbers leave what is kept
-step_keeps : (s : Setting) (n : ℕ) (step : NodeStep) (c : Cluster) → kept_of ((behind_acts s step c).part n) ≡ kept_of (c.part n)
-step_keeps s n (Acts act) c = refl
-step_keeps s n (Restarts node) c = by (eqb n node)
+step_keeps : (s : Setting) (n : ℕ) (step : NodeStep) (c : Cluster) → IsKept step → kept_of ((behind_acts s step c).part n) ≡ kept_of (c.part n)
+step_keeps s n (Acts act) c kept = refl
+step_keeps s n (Loses server volumes) c kept = absurd kept
+step_keeps s n (Returns server file mate copy) c kept = absurd kept
+step_keeps s n (Restarts node) c kept = by (eqb n node)
   where
     by : (b : Bool) → kept_of (if b then leapt_part s node (c.part n) else c.part n) ≡ kept_of (c.part n)
     by true = refl
     by false = refl
 
-steps_keep : (s : Setting) (n : ℕ) (steps : List NodeStep) (c : Cluster) → kept_of ((fold (after_step s) c steps).part n) ≡ fold with_fact (kept_of (c.part n)) (facts_at s c n steps)
-steps_keep s n [] c = refl
-steps_keep s n (step ∷ steps) c =
-    steps_keep s n steps (after_step s c step)
-    ∙ ap (λ z. fold with_fact z (facts_at s (after_step s c step) n steps)) (step_keeps s n step (after_acts s c (acts_of s c step)) ∙ acts_keep s n (acts_of s c step) c)
+steps_keep : (s : Setting) (n : ℕ) (steps : List NodeStep) (c : Cluster) → All IsKept steps → kept_of ((fold (after_step s) c steps).part n) ≡ fold with_fact (kept_of (c.part n)) (facts_at s c n steps)
+steps_keep s n [] c kept = refl
+steps_keep s n (step ∷ steps) c kept =
+    steps_keep s n steps (after_step s c step) (All-tail IsKept step steps kept)
+    ∙ ap (λ z. fold with_fact z (facts_at s (after_step s c step) n steps)) (step_keeps s n step (after_acts s c (acts_of s c step)) (All-head IsKept step steps kept) ∙ acts_keep s n (acts_of s c step) c)
     ∙ sym (fold-append with_fact (kept_of (c.part n)) (facts_of s c n (acts_of s c step)) (facts_at s (after_step s c step) n steps))
 
 pub all_facts_suffice : AllFactsSuffice
-all_facts_suffice s n steps = steps_keep s n steps new_cluster
+all_facts_suffice s n steps kept = steps_keep s n steps new_cluster kept

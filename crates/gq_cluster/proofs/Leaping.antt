@@ -1,7 +1,7 @@
 -- By a turn for each of them the idle sessions of a node go on behind the numbers that are reserved for them; nothing else changes.
 use Rattle.std.proofs.Common.{◌≡◌, ◌≢◌, ◌⊎◌, ℕ, zero, suc, ◌+◌, ◌<◌, ◌≤◌, Bool, true, false, ◌&&◌, List, [], ◌∷◌, map, refl, sym, ap, ◌∙◌, subst, inl, inr, None, arith, append-nil, eqb, leb}
-use Rattle.std.specs.Prelude.{fold, filter, All, if◌then◌else◌}
-use Rattle.std.proofs.lemmas.List.Elements.{All-nil, All-cons}
+use Rattle.std.specs.Prelude.{fold, filter, filter_map, if◌then◌else◌}
+use Rattle.std.proofs.lemmas.List.Elements.{Contains-append_left}
 use Rattle.std.specs.List.{range_with_len}
 use Rattle.std.proofs.lemmas.Bool.{cases_eq, cases_lt, eq-eqb, ne_eqb, le-leb, leb-true, and_parts, true≢false}
 use Rattle.gq_tag.specs.Tag.{File}
@@ -9,12 +9,13 @@ use Rattle.gq_grid.specs.Grid.{Grid}
 use Rattle.gq_desk.specs.declared.plans.TenantRow.{TenantRow}
 use Rattle.gq_desk.specs.Plans.{is_in}
 use Rattle.gq_model.specs.Told.{ServerOk}
-use Rattle.gq_model.specs.Trace.{Turn, Leaping, Leaps, Entry, State, Session, Past, new_session, questions, up, volumes, sent, is_lost, lacks, brought, session, session_by}
+use Rattle.gq_model.specs.Trace.{Turn, Leaping, Leaps, Entry, State, Session, Past, new_session, questions, up, volumes, sent, is_lost, lacks, brought, session, session_by, offered}
 use Rattle.gq_model.specs.Lone.{after, leap_told, trace_after, quiet}
 use Rattle.gq_cluster.specs.Facts.{Reserved}
 use Rattle.gq_cluster.specs.Cluster.{Setting, Cluster, leapt_part, leapt}
-use Rattle.gq_cluster.specs.Laws.{exchanges_from, IsLossless}
+use Rattle.gq_cluster.specs.Laws.{exchanges_from, disk_turn}
 use Rattle.gq_cluster.proofs.Abandoning.{at_home}
+use Rattle.gq_cluster.proofs.ServerLines.{OffersMore}
 use Rattle.gq_cluster.proofs.Standing.{Stands}
 
 -- what is reserved for session k at its home
@@ -29,9 +30,9 @@ leap s c k = Leaping k (reserved_at_home s c k).op (reserved_at_home s c k).floo
 abbrev pub leaps_for : Setting → Cluster → ℕ → List ℕ → List Turn
 leaps_for s c node ks = map (leap s c) (filter (λ k. eqb (s.home k) node) ks)
 
--- all but the sessions, and what servers have shown
+-- all but the sessions, and what servers could give
 abbrev pub without_sessions : State → State
-without_sessions state = record { up = state.up; volumes = state.volumes; sent = state.sent; is_lost = state.is_lost; lacks = state.lacks; brought = state.brought; shown = λ server file mate. []; session = λ k. new_session }
+without_sessions state = record { up = state.up; volumes = state.volumes; sent = state.sent; is_lost = state.is_lost; lacks = state.lacks; brought = state.brought; offered = λ server file mate. []; session = λ k. new_session }
 
 -- ---- one turn
 
@@ -41,6 +42,7 @@ record GoesOn (s : Setting) (k op number : ℕ) (p q : Past) : Type 0 where
   rest : without_sessions (questions q.trace) ≡ without_sessions (questions p.trace)
   own : session q.trace k ≡ session_by s.volumes k (Leaps op number) (session p.trace k)
   apart : (j : ℕ) → k ≢ j → session q.trace j ≡ session p.trace j
+  offers : OffersMore p q
 
 -- the entry of the turn
 abbrev entry_for : (k op number : ℕ) → Entry
@@ -50,7 +52,7 @@ abbrev with_leap : Past → (k op number : ℕ) → Past
 with_leap p k op number = record { lines = p.lines; trace = entry_for k op number ∷ p.trace }
 
 rest_stays : (p : Past) (k op number : ℕ) → without_sessions (questions (with_leap p k op number).trace) ≡ without_sessions (questions p.trace)
-rest_stays p k op number = λ i. record { up = up p.trace; volumes = volumes p.trace; sent = append-nil (sent p.trace) i; is_lost = is_lost p.trace; lacks = lacks p.trace; brought = brought p.trace; shown = λ server file mate. []; session = λ j. new_session }
+rest_stays p k op number = λ i. record { up = up p.trace; volumes = volumes p.trace; sent = append-nil (sent p.trace) i; is_lost = is_lost p.trace; lacks = lacks p.trace; brought = brought p.trace; offered = λ server file mate. []; session = λ j. new_session }
 
 leap_goes : (s : Setting) (p : Past) (k op number : ℕ) → (session p.trace k).current ≡ None → GoesOn s k op number p (after s.grid s.row p (Leaping k op number))
 leap_goes s p k op number idle = subst P (sym then_is) (record {
@@ -58,6 +60,7 @@ leap_goes s p k op number idle = subst P (sym then_is) (record {
   rest = rest_stays p k op number;
   own = own;
   apart = λ j ne. rw (ne_eqb k j ne) refl;
+  offers = λ server file mate copy within. Contains-append_left (offered p.trace server file mate) _ copy within;
 })
   where
     P : Past → Type 0
@@ -80,10 +83,11 @@ record AllGoOn (s : Setting) (c : Cluster) (node a n : ℕ) (p q : Past) : Type 
   rest : without_sessions (questions q.trace) ≡ without_sessions (questions p.trace)
   these : (k : ℕ) → a ≤ k → k < a + n → s.home k ≡ node → session q.trace k ≡ session_by s.volumes k (Leaps (reserved_at_home s c k).op (reserved_at_home s c k).floor) (session p.trace k)
   apart : (k : ℕ) → (s.home k ≢ node) ⊎ ((k < a) ⊎ (a + n ≤ k)) → session q.trace k ≡ session p.trace k
+  offers : OffersMore p q
 
 -- the first is of the node and goes on, or is not of the node
 first_too : (s : Setting) (c : Cluster) (node a n : ℕ) (p mid q : Past) → s.home a ≡ node → GoesOn s a (reserved_at_home s c a).op (reserved_at_home s c a).floor p mid → AllGoOn s c node (a + 1) n mid q → AllGoOn s c node a (suc n) p q
-first_too s c node a n p mid q home one more = record { lines = more.lines ∙ one.lines; rest = more.rest ∙ one.rest; these = these; apart = apart }
+first_too s c node a n p mid q home one more = record { lines = more.lines ∙ one.lines; rest = more.rest ∙ one.rest; these = these; apart = apart; offers = λ server file mate copy within. more.offers server file mate copy (one.offers server file mate copy within) }
   where
     Then : ℕ → Type 0
     Then k = session q.trace k ≡ session_by s.volumes k (Leaps (reserved_at_home s c k).op (reserved_at_home s c k).floor) (session p.trace k)
@@ -101,7 +105,7 @@ first_too s c node a n p mid q home one more = record { lines = more.lines ∙ o
     apart k (inr (inr high)) = more.apart k (inr (inr (omega arith))) ∙ one.apart k (λ same. omega arith)
 
 first_not : (s : Setting) (c : Cluster) (node a n : ℕ) (p q : Past) → s.home a ≢ node → AllGoOn s c node (a + 1) n p q → AllGoOn s c node a (suc n) p q
-first_not s c node a n p q away more = record { lines = more.lines; rest = more.rest; these = these; apart = apart }
+first_not s c node a n p q away more = record { lines = more.lines; rest = more.rest; these = these; apart = apart; offers = more.offers }
   where
     these : (k : ℕ) → a ≤ k → k < a + suc n → s.home k ≡ node → session q.trace k ≡ session_by s.volumes k (Leaps (reserved_at_home s c k).op (reserved_at_home s c k).floor) (session p.trace k)
     these k low high here =
@@ -118,7 +122,7 @@ abbrev AreIdle : Setting → (node a n : ℕ) → Past → Type 0
 AreIdle s node a n p = (k : ℕ) → a ≤ k → k < a + n → s.home k ≡ node → (session p.trace k).current ≡ None
 
 all_go_on : (s : Setting) (c : Cluster) (node a n : ℕ) (p : Past) → AreIdle s node a n p → AllGoOn s c node a n p (fold (after s.grid s.row) p (leaps_for s c node (range_with_len a n)))
-all_go_on s c node a zero p idle = record { lines = refl; rest = refl; these = λ k low high home. absurd (omega arith); apart = λ k out. refl }
+all_go_on s c node a zero p idle = record { lines = refl; rest = refl; these = λ k low high home. absurd (omega arith); apart = λ k out. refl; offers = λ server file mate copy within. within }
 all_go_on s c node a (suc n) p idle = by (cases_eq (s.home a) node) (λ (mid : Past) (later : AreIdle s node (a + 1) n mid). all_go_on s c node (a + 1) n mid later)
   where
     Goal : Bool → Type 0
@@ -148,9 +152,9 @@ leaps_tell s c grid row [] p = refl
 leaps_tell s c grid row (k ∷ ks) p = leaps_tell s c grid row ks (after grid row p (leap s c k))
 
 -- by them no disk is lost
-leaps_lossless : (s : Setting) (c : Cluster) (ks : List ℕ) → All IsLossless (map (leap s c) ks)
-leaps_lossless s c [] = All-nil IsLossless
-leaps_lossless s c (k ∷ ks) = All-cons IsLossless (leap s c k) (map (leap s c) ks) tt (leaps_lossless s c ks)
+leaps_of_disks : (s : Setting) (c : Cluster) (ks : List ℕ) → filter_map disk_turn (map (leap s c) ks) ≡ []
+leaps_of_disks s c [] = refl
+leaps_of_disks s c (k ∷ ks) = leaps_of_disks s c ks
 
 -- ---- all sessions of a node
 
@@ -164,23 +168,24 @@ NodeIdle s c node = (k : ℕ) → s.home k ≡ node → is_in 1 s.row.sessions k
 
 -- by these turns the past that stood for the cluster stands for it behind the leap
 pub record IsLeapt (s : Setting) (p : Past) (c : Cluster) (node : ℕ) : Type 0 where
-  pub lossless : All IsLossless (leaps s c node)
+  pub disks : filter_map disk_turn (leaps s c node) ≡ []
   pub did : exchanges_from s.grid s.row p (leaps s c node) ≡ []
   pub stands : Stands s (fold (after s.grid s.row) p (leaps s c node)) (leapt s node c)
   pub lines : (fold (after s.grid s.row) p (leaps s c node)).lines ≡ p.lines
 
 pub node_leaps : (s : Setting) (p : Past) (c : Cluster) (node : ℕ) → Stands s p c → NodeIdle s c node → IsLeapt s p c node
 node_leaps s p c node stands idle = record {
-  lossless = leaps_lossless s c (filter (λ k. eqb (s.home k) node) (range_with_len 1 s.row.sessions));
+  disks = leaps_of_disks s c (filter (λ k. eqb (s.home k) node) (range_with_len 1 s.row.sessions));
   did = leaps_tell s c s.grid s.row (filter (λ k. eqb (s.home k) node) (range_with_len 1 s.row.sessions)) p;
   stands = record {
     opened = ap (λ z. z.volumes) all.rest ∙ stands.opened;
     written = ap (λ z. z.sent) all.rest ∙ stands.written;
     kept = λ n. ap (λ z. z.is_lost n) all.rest ∙ stands.kept n;
     beyond = λ n out. ap (λ z. z.up n) all.rest ∙ stands.beyond n out;
-    whole = λ n file. ap (λ z. z.lacks n file) all.rest ∙ stands.whole n file;
+    lacking = λ n file. ap (λ z. z.lacks n file) all.rest ∙ stands.lacking n file ∙ same_lacks n file (eqb n node);
     copies = λ n file. ap (λ z. z.brought n file) all.rest ∙ stands.copies n file ∙ same_copies n file (eqb n node);
     sessions = sessions;
+    offers = λ server file mate copy within. all.offers server file mate copy (stands.offers server file mate copy within);
   };
   lines = all.lines;
 }
@@ -202,6 +207,10 @@ node_leaps s p c node stands idle = record {
         | inr below ↦ (absurd (true≢false (sym (inside k high (omega arith)) ∙ e)))
       ])
     ]
+
+    same_lacks : (n : ℕ) (file : File) (b : Bool) → (c.part n).lacks file ≡ (if b then leapt_part s node (c.part n) else c.part n).lacks file
+    same_lacks n file true = refl
+    same_lacks n file false = refl
 
     same_copies : (n : ℕ) (file : File) (b : Bool) → (c.part n).brought file ≡ (if b then leapt_part s node (c.part n) else c.part n).brought file
     same_copies n file true = refl

@@ -6,6 +6,7 @@ pub mod Parts
 pub mod OneAct
 pub mod Abandoning
 pub mod Leaping
+pub mod Disks
 pub mod Clusters
 pub mod Reading
 pub mod Registers

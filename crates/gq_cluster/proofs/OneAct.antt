@@ -1,8 +1,8 @@
 -- An act of a node is a line of the model's run, behind server lines that bring up those of the act's aim.
 use Rattle.std.proofs.Common.{◌≡◌, ◌≢◌, ◌⊎◌, ℕ, ◌+◌, ◌*◌, ◌<◌, Bool, true, false, List, [], ◌∷◌, ◌++◌, length, refl, sym, ap, ◌∙◌, subst, inl, inr, Option, Some, None, arith, min, append-nil}
-use Rattle.std.specs.Prelude.{nat_le, slice_get, fold, All, not, ◌&&◌}
+use Rattle.std.specs.Prelude.{Contains, nat_le, slice_get, filter_map, fold, not, ◌&&◌, if◌then◌else◌}
 use Rattle.std.proofs.lemmas.Bool.{cases_eq, cases_lt, ne_eqb, lt-leb, true≢false}
-use Rattle.std.proofs.lemmas.List.Elements.{All-nil, All-cons, All-append}
+use Rattle.std.proofs.lemmas.List.Elements.{filter_map-append}
 use Rattle.std.proofs.lemmas.List.Sums.{fold-append}
 use Rattle.gq_grid.specs.Grid.{Grid, Servers, below}
 use Rattle.gq_tag.specs.declared.StoredCopy.{StoredCopy}
@@ -16,16 +16,16 @@ use Rattle.gq_model.specs.declared.events.Line.{Line}
 use Rattle.gq_model.specs.declared.events.Line.TheVariants.{Write, Read, List as ListFiles, Deliver, Retry, Abandon}
 use Rattle.gq_model.specs.Told.{Told}
 use Rattle.gq_model.specs.Said.{said_in}
-use Rattle.gq_model.specs.Trace.{Turn, Own, Entry, State, Past, Elsewhere, questions, up, volumes, volumes_by, sent, is_lost, lost_by, lacks, serves, brought, stored_by, session, session_by, deed}
+use Rattle.gq_model.specs.Trace.{Turn, Own, Entry, State, Past, Elsewhere, questions, up, volumes, volumes_by, sent, is_lost, lost_by, lacks, serves, brought, offered, stored_by, session, session_by, deed}
 use Rattle.gq_model.specs.Lone.{Step, after, step_at, line_step, asked_step, deliver_step, is_refusal, message_of_turn, trace_after}
 use Rattle.gq_laws.proofs.Found.{position_of}
-use Rattle.gq_cluster.specs.Cluster.{Setting, Cluster, Act, Asks, Comes, session_named, IsOfSession, CanAct, everyone, aim_of, node_of, step_in, act_entry, after_act, arrival_of, exchange_of}
-use Rattle.gq_cluster.specs.Laws.{arrival_by, turn_exchanges, exchanges_from, IsLossless}
+use Rattle.gq_cluster.specs.Cluster.{Setting, Cluster, Act, Asks, Comes, session_named, IsOfSession, CanAct, everyone, aim_of, node_of, step_in, act_entry, parts_after, with_held, after_act, arrival_of, exchange_of}
+use Rattle.gq_cluster.specs.Laws.{arrival_by, turn_exchanges, exchanges_from, disk_turn}
 use Rattle.gq_cluster.proofs.ServerLines.{as_aimed, SetsAll, all_set}
 use Rattle.gq_cluster.proofs.Numbers.{numbered, numbered_step, refusal_is, said_is, delivered_deed_is}
 use Rattle.gq_cluster.proofs.Alike.{asked_alike, heard_alike, served_alike}
-use Rattle.gq_cluster.proofs.Parts.{state_at, part_then, parts_then, parts_here, parts_away, refused_part, accepted_part, refused_quiet}
-use Rattle.gq_cluster.proofs.Standing.{Stands, stands_on, lines_lossless, exchanges_behind}
+use Rattle.gq_cluster.proofs.Parts.{state_at, part_then, parts_then, parts_lack, parts_here, parts_away, refused_part, accepted_part, refused_quiet}
+use Rattle.gq_cluster.proofs.Standing.{Stands, stands_on, lines_of_disks, holds_as, offers_on, exchanges_behind}
 
 -- whether the server serves the file, at this past; and as the act's node has it
 abbrev serving : Past → ℕ → File → Bool
@@ -88,6 +88,16 @@ plays s q c act stands steps p = record { line = p.line; did = did; stands = on 
     more : Past
     more = record { lines = q.lines + 1; trace = played q p.line p.letter mine ∷ q.trace }
 
+    -- what a server could be given behind the act, by whether that is refused
+    Offers : ℕ → File → ℕ → StoredCopy → Bool → Type 0
+    Offers server file mate copy b = Contains ((if b then c.offered else with_held (parts_after s c act) c.offered) server file mate) copy
+
+    lacking : is_refusal mine.told ≡ false → (m : ℕ) (file : File) → lacks more.trace m file ≡ (parts_after s c act m).lacks file
+    lacking e m file = stands.lacking m file ∙ sym (parts_lack s c act m file) ∙ ap (λ z. z.lacks file) (sym (accepted_part s c act e m))
+
+    copies : is_refusal mine.told ≡ false → (m : ℕ) (file : File) → brought more.trace m file ≡ (parts_after s c act m).brought file
+    copies e m file = p.copies m file ∙ ap (λ z. z.brought file) (sym (accepted_part s c act e m))
+
     on : (b : Bool) → is_refusal mine.told ≡ b → Stands s (after s.grid s.row q (Own p.line)) (after_act s c act)
     on true e =
         let told : is_refusal (numbered n mine.told) ≡ true = refused_is ∙ e in
@@ -98,9 +108,10 @@ plays s q c act stands steps p = record { line = p.line; did = did; stands = on 
           written = stands.written ∙ sym (append-nil c.written) ∙ ap (λ z. c.written ++ z) (sym none);
           kept = stands.kept;
           beyond = stands.beyond;
-          whole = stands.whole;
+          lacking = λ m file. stands.lacking m file ∙ ap (λ z. z.lacks file) (sym (refused_part s c act e m));
           copies = λ m file. stands.copies m file ∙ ap (λ z. z.brought file) (sym (refused_part s c act e m));
           sessions = λ k. stands.sessions k ∙ ap (λ z. z.session k) (sym (refused_part s c act e (s.home k)));
+          offers = λ server file mate copy within. stands.offers server file mate copy (subst (Offers server file mate copy) e within);
         })
     on false e =
         let told : is_refusal (numbered n mine.told) ≡ false = refused_is ∙ e in
@@ -110,9 +121,10 @@ plays s q c act stands steps p = record { line = p.line; did = did; stands = on 
           written = ap (λ z. z ++ mine.new) stands.written;
           kept = λ m. p.loses (is_lost q.trace) m ∙ stands.kept m;
           beyond = stands.beyond;
-          whole = stands.whole;
-          copies = λ m file. p.copies m file ∙ ap (λ z. z.brought file) (sym (accepted_part s c act e m));
+          lacking = lacking e;
+          copies = copies e;
           sessions = λ k. p.sessions k ∙ ap (λ z. z.session k) (sym (accepted_part s c act e (s.home k)));
+          offers = λ server file mate copy within. offers_on (c.offered server file mate) (offered q.trace server file mate) _ _ copy (stands.offers server file mate copy) (holds_as more.trace (parts_after s c act) (lacking e) (copies e) file mate) (subst (Offers server file mate copy) e within);
         })
 
 -- ---- what goes on alike
@@ -257,7 +269,7 @@ comes_to_server : (s : Setting) (q : Past) (c : Cluster) (m : OwnMessage) (aim :
 comes_to_server s q c m aim n stands ask alive at = record {
   line = Deliver n;
   letter = Some m;
-  step = ap (λ z. deliver_step s.grid (questions q.trace) z) (found s q c m n stands at) ∙ served_alike s.grid (questions q.trace) (state_at s c act) m ask served mine_up (stands.copies m.server m.file ∙ ap (λ z. (c.part z).brought m.file) (sym place));
+  step = ap (λ z. deliver_step s.grid (questions q.trace) z) (found s q c m n stands at) ∙ served_alike s.grid (questions q.trace) (state_at s c act) m ask (ups m.server m.file refl) (stands.copies m.server m.file ∙ ap (λ z. (c.part z).brought m.file) (sym place));
   brings = found s q c m n stands at;
   came = refl;
   opens = λ vs. refl;
@@ -283,14 +295,14 @@ comes_to_server s q c m aim n stands ask alive at = record {
     mine_up : aim_of act m.server ≡ true
     mine_up = rw ask refl
 
-    here : (x : ℕ) (file : File) → serving q x file ≡ up q.trace x
-    here x file = ap (λ lacking. not lacking && up q.trace x) (stands.whole x file)
-
-    served : serving q m.server m.file ≡ true
-    served = here m.server m.file ∙ alive
-
     ups : (x : ℕ) (file : File) → x ≡ m.server → serving q x file ≡ serving_at s c act x file
-    ups x file same = here x file ∙ ap (up q.trace) same ∙ alive ∙ sym mine_up ∙ ap (aim_of act) (sym same)
+    ups x file same = λ i. not (lack i) && alive_there i
+      where
+        lack : lacks q.trace x file ≡ (c.part (node_of s.home act)).lacks file
+        lack = stands.lacking x file ∙ ap (λ z. (c.part z).lacks file) (same ∙ sym place)
+
+        alive_there : up q.trace x ≡ aim_of act x
+        alive_there = ap (up q.trace) same ∙ alive ∙ sym mine_up ∙ ap (aim_of act) (sym same)
 
 comes_to_session : (s : Setting) (q : Past) (c : Cluster) (m : OwnMessage) (aim : Servers) (n : ℕ) → Stands s q c → to_server m.body ≡ false → Aimed s q aim → slice_get c.written n ≡ Some m → Plays s q c (Comes m aim)
 comes_to_session s q c m aim n stands reply aimed at = record {
@@ -330,7 +342,7 @@ comes_to_session s q c m aim n stands reply aimed at = record {
 -- an act is done by these turns
 pub record IsActed (s : Setting) (p : Past) (c : Cluster) (act : Act) : Type 0 where
   pub turns : List Turn
-  pub lossless : All IsLossless turns
+  pub disks : filter_map disk_turn turns ≡ []
   pub did : exchanges_from s.grid s.row p turns ≡ exchange_of act (step_in s c act) ∷ []
   pub stands : Stands s (fold (after s.grid s.row) p turns) (after_act s c act)
   pub lines : (fold (after s.grid s.row) p turns).lines ≡ p.lines + 1
@@ -338,7 +350,7 @@ pub record IsActed (s : Setting) (p : Past) (c : Cluster) (act : Act) : Type 0 w
 behind : (s : Setting) (p : Past) (c : Cluster) (act : Act) → IsPlayed s (fold (after s.grid s.row) p (as_aimed s.grid (aim_of act))) c act → IsActed s p c act
 behind s p c act played = record {
   turns = set ++ Own played.line ∷ [];
-  lossless = All-append IsLossless set (Own played.line ∷ []) (lines_lossless (aim_of act) (below (s.grid.rows * s.grid.cols))) (All-cons IsLossless (Own played.line) [] tt (All-nil IsLossless));
+  disks = filter_map-append disk_turn set (Own played.line ∷ []) ∙ ap (λ z. z ++ []) (lines_of_disks (aim_of act) (below (s.grid.rows * s.grid.cols)));
   did = exchanges_behind s.grid s.row (aim_of act) (below (s.grid.rows * s.grid.cols)) (Own played.line ∷ []) p ∙ ap (λ z. z ++ []) played.did;
   stands = subst P (sym grown) played.stands;
   lines = ap (λ z. z.lines) grown ∙ ap (λ n. n + 1) (all_set s.grid s.row (aim_of act) p).lines;

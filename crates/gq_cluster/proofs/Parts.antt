@@ -3,7 +3,7 @@ use Rattle.std.proofs.Common.{◌≡◌, ◌≢◌, ◌⊎◌, ℕ, Bool, true, 
 use Rattle.std.specs.Prelude.{◌==◌, if◌then◌else◌}
 use Rattle.std.proofs.lemmas.Bool.{cases_eq, eq-eqb, ne_eqb, true≢false}
 use Rattle.gq_grid.specs.Grid.{Grid, Servers}
-use Rattle.gq_tag.specs.Tag.{OwnMessage, to_server}
+use Rattle.gq_tag.specs.Tag.{File, OwnMessage, to_server}
 use Rattle.gq_desk.specs.declared.plans.TenantRow.{TenantRow}
 use Rattle.gq_phase.specs.Phase.{Operation, Heard, HeardStale, HeardNoted, HeardNext, HeardDone, hear, resent, round_quorum}
 use Rattle.gq_model.specs.declared.events.Line.{Line}
@@ -39,6 +39,17 @@ parts_here s c act n same = rw (eq-eqb n (node_of s.home act) same) refl
 
 pub parts_away : (s : Setting) (c : Cluster) (act : Act) (n : ℕ) → n ≢ node_of s.home act → parts_then s c act n ≡ c.part n
 parts_away s c act n ne = rw (ne_eqb n (node_of s.home act) ne) refl
+
+-- an act takes no file from a server, and gives it none back
+pub parts_lack : (s : Setting) (c : Cluster) (act : Act) (n : ℕ) (file : File) → (parts_then s c act n).lacks file ≡ (c.part n).lacks file
+parts_lack s c act n file = elim (cases_eq n (node_of s.home act)) [
+  | inl same ↦ (ap (λ z. z.lacks file) (parts_here s c act n same) ∙ of_node act n ∙ ap (λ z. (c.part z).lacks file) (sym same))
+  | inr away ↦ (ap (λ z. z.lacks file) (parts_away s c act n away))
+]
+  where
+    of_node : (act : Act) (n : ℕ) → (part_then s c act n).lacks file ≡ (c.part (node_of s.home act)).lacks file
+    of_node (Asks line aim) n = refl
+    of_node (Comes letter aim) n = refl
 
 pub refused_part : (s : Setting) (c : Cluster) (act : Act) → is_refusal (step_in s c act).told ≡ true → (n : ℕ) → parts_after s c act n ≡ c.part n
 refused_part s c act refused n = by (cases_eq n (node_of s.home act))

@@ -215,7 +215,7 @@ loss_silent state turn = by (list_any (is_counted state turn) state.sent)
     by false = tt
 
 return_silent : (grid : Grid) (state : State) (server : ℕ) (file : File) (mate : ℕ) (copy : StoredCopy) → IsSilent (return_told grid state server file mate copy)
-return_silent grid state server file mate copy = by (not (state.lacks server file)) (are_mates grid server mate && list_any (equal_copies copy) (state.shown server file mate))
+return_silent grid state server file mate copy = by (not (state.lacks server file)) (are_mates grid server mate && list_any (equal_copies copy) (state.offered server file mate))
   where
     by : (a b : Bool) → IsSilent (if a then ServerRefused Same else if b then ServerOk else Refused NoMessage)
     by true b = tt

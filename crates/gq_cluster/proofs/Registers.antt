@@ -1,6 +1,6 @@
 -- The operations on a file, read off what was done at the nodes, are those of one register.
 use Rattle.std.proofs.Common.{◌≡◌, ℕ, ◌+◌, ◌*◌, Bool, true, false, List, [], ◌∷◌, ◌++◌, length, map, refl, ap, ◌∙◌, subst, arith, append-nil}
-use Rattle.std.specs.Prelude.{fold, nat_lt, if◌then◌else◌}
+use Rattle.std.specs.Prelude.{filter_map, fold, nat_lt, if◌then◌else◌}
 use Rattle.gq_grid.specs.Grid.{Grid}
 use Rattle.gq_tag.specs.Tag.{File}
 use Rattle.gq_desk.specs.declared.plans.TenantRow.{TenantRow}
@@ -20,7 +20,7 @@ use Rattle.gq_laws.proofs.OtherPlaces.{moved_session_answer, moved_op, begun_in-
 use Rattle.gq_laws.proofs.Reaching.{Reach, Here, Later}
 use Rattle.gq_laws.proofs.Telling.{tells, tells-cons}
 use Rattle.gq_cluster.specs.Cluster.{NodeStep, Exchange, new_cluster, cluster_after, exchanges}
-use Rattle.gq_cluster.specs.Laws.{exchanges_from, openings, opened, setting_of}
+use Rattle.gq_cluster.specs.Laws.{exchanges_from, openings, opened, setting_of, disk_step}
 use Rattle.gq_cluster.specs.Operations.{turn_in, session_in, told_in, answers_at, answers_of, node_operations, operations_at, AllClustersLegal}
 use Rattle.gq_cluster.proofs.Reading.{own_places, places_rise, reads}
 use Rattle.gq_cluster.proofs.Clusters.{Runs, run_of, run_stands}
@@ -90,7 +90,7 @@ operations_are grid row opens turns vs done file opened did = ap of volumes_are 
     by true e = rw e refl
     by false e = rw e refl
 
-tagged_at : (grid : Grid) (row : TenantRow) (home : ℕ → ℕ) (opens : List VolumeRow) (steps : List NodeStep) (most : ℕ) → Runs (setting_of grid row home opens) (opened grid row opens) (cluster_after (setting_of grid row home opens) steps) (exchanges (setting_of grid row home opens) new_cluster steps) most →
+tagged_at : (grid : Grid) (row : TenantRow) (home : ℕ → ℕ) (opens : List VolumeRow) (steps : List NodeStep) (most : ℕ) → Runs (setting_of grid row home opens) (opened grid row opens) (cluster_after (setting_of grid row home opens) steps) (exchanges (setting_of grid row home opens) new_cluster steps) (filter_map disk_step steps) most →
     (file : File) → Tagged (operations_at (setting_of grid row home opens) steps file)
 tagged_at grid row home opens steps most run file =
     tagged-unmoved (own_places (0 + length opens) run.turns) (places_rise (0 + length opens) run.turns) (operations_at (setting_of grid row home opens) steps file)

@@ -17,7 +17,7 @@ use Rattle.gq_model.specs.Trace.{State, Session, Deed, Elsewhere, Begins, Hears,
 use Rattle.gq_model.specs.Lone.{Step, first_cause, session_causes, session_step, is_refusal, unless}
 use Rattle.gq_laws.proofs.Acts.{no_cause}
 use Rattle.gq_cluster.specs.Facts.{OwnFact, Begun, Numbered, Kept, Reserved, greatest_op, greatest_number, last_of_run, reserving, reserved_by, with_reserved, replaced_in}
-use Rattle.gq_cluster.specs.Cluster.{Setting, Part, Act, Asks, Comes, Cluster, NodeStep, Acts, Restarts, state_of, part_of, copy_in, step_of, act_entry, fact_in, fact_of, state_after, part_after, node_of, new_cluster, leapt_part, after_act, after_acts, after_step, acts_of, behind_acts}
+use Rattle.gq_cluster.specs.Cluster.{Setting, Part, Act, Asks, Comes, Cluster, NodeStep, Acts, Restarts, Loses, Returns, lost_part, given_part, state_of, part_of, copy_in, step_of, act_entry, fact_in, fact_of, state_after, part_after, node_of, new_cluster, leapt_part, after_act, after_acts, after_step, acts_of, behind_acts}
 use Rattle.gq_cluster.specs.Keeping.{IsReserved, AllUsedReserved}
 
 -- ---- what a fact reserves
@@ -244,10 +244,14 @@ serves_within : (s : Setting) (n : ℕ) (part : Part) (m : OwnMessage) (aim : Se
 serves_within s n part m aim ask j = stays part (accepted s n part (Comes m aim)) j (rw ask refl) now
   where
     fact : Bool → Option OwnFact
-    fact b = if b then replaced_in (copy_in part m.file) m.file m.body else fact_in s part (Comes m aim) m.session
+    fact b = if b then (if part.lacks m.file then None else replaced_in (copy_in part m.file) m.file m.body) else fact_in s part (Comes m aim) m.session
+
+    none : (lacking : Bool) → with_reserved (if lacking then None else replaced_in (copy_in part m.file) m.file m.body) part.reserved j ≡ part.reserved j
+    none true = refl
+    none false = replaced_none (copy_in part m.file) m.file m.body part.reserved j
 
     now : with_reserved (fact (to_server m.body)) part.reserved j ≡ part.reserved j
-    now = ap (λ b. with_reserved (fact b) part.reserved j) ask ∙ replaced_none (copy_in part m.file) m.file m.body part.reserved j
+    now = ap (λ b. with_reserved (fact b) part.reserved j) ask ∙ none (part.lacks m.file)
 
 -- a letter to a session
 heard_is : (op : ℕ) (m : OwnMessage) (told : Told) → IsTold op (heard_deed m told) told
@@ -266,7 +270,7 @@ hears_within s n part m aim reply = told_within s.volumes part (accepted s n par
     deeds told new j = rw reply refl
 
     fact : Bool → Option OwnFact
-    fact b = if b then replaced_in (copy_in part m.file) m.file m.body else fact_in s part (Comes m aim) m.session
+    fact b = if b then (if part.lacks m.file then None else replaced_in (copy_in part m.file) m.file m.body) else fact_in s part (Comes m aim) m.session
 
     now : (j : ℕ) → with_reserved (fact (to_server m.body)) part.reserved j ≡ with_reserved (fact false) part.reserved j
     now j = ap (λ b. with_reserved (fact b) part.reserved j) reply
@@ -316,6 +320,16 @@ leap_within s node part k low = let both = by (eqb (s.home k) node && is_in 1 s.
 
 step_within : (s : Setting) (step : NodeStep) (c : Cluster) → AllReserved c → AllReserved (behind_acts s step c)
 step_within s (Acts act) c low = low
+step_within s (Loses server volumes) c low = λ n k. by n k (eqb server n)
+  where
+    by : (n k : ℕ) (b : Bool) → IsReserved (if b then lost_part volumes (c.part n) else c.part n) k
+    by n k true = record { op = (low n k).op; floor = (low n k).floor }
+    by n k false = low n k
+step_within s (Returns server file mate copy) c low = λ n k. by n k (eqb server n)
+  where
+    by : (n k : ℕ) (b : Bool) → IsReserved (if b then given_part file copy (c.part n) else c.part n) k
+    by n k true = record { op = (low n k).op; floor = (low n k).floor }
+    by n k false = low n k
 step_within s (Restarts node) c low = λ n k. by n k (eqb n node)
   where
     by : (n k : ℕ) (b : Bool) → IsReserved (if b then leapt_part s node (c.part n) else c.part n) k

@@ -36,6 +36,7 @@ node_gives s c node used = record {
   outside = outside;
   others = others;
   reserved = λ n k. reserved_stay n k (eqb n node) ∙ given.reserved n k;
+  lacks = λ n file. lacks_stay n file (eqb n node) ∙ given.lacks n file;
   copies = λ n file. copies_stay n file (eqb n node) ∙ given.copies n file;
   written = given.written;
 }
@@ -52,6 +53,10 @@ node_gives s c node used = record {
     reserved_stay : (n k : ℕ) (b : Bool) → (part n b).reserved k ≡ (mid.part n).reserved k
     reserved_stay n k true = refl
     reserved_stay n k false = refl
+
+    lacks_stay : (n : ℕ) (file : File) (b : Bool) → (part n b).lacks file ≡ (mid.part n).lacks file
+    lacks_stay n file true = refl
+    lacks_stay n file false = refl
 
     copies_stay : (n : ℕ) (file : File) (b : Bool) → (part n b).brought file ≡ (mid.part n).brought file
     copies_stay n file true = refl

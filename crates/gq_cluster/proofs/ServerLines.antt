@@ -1,15 +1,18 @@
 -- Server lines bring the servers of any aim up, and the others of the grid down, and change nothing else.
 use Rattle.std.proofs.Common.{◌≡◌, ◌≢◌, ◌⊎◌, ℕ, zero, suc, ◌+◌, ◌*◌, ◌<◌, ◌≤◌, Bool, true, false, List, [], ◌∷◌, map, refl, sym, ap, ◌∙◌, subst, inl, inr, None, arith, append-nil}
-use Rattle.std.specs.Prelude.{fold, nat_lt}
+use Rattle.std.specs.Prelude.{Contains, fold, nat_lt}
 use Rattle.std.specs.List.{range_with_len}
 use Rattle.std.proofs.lemmas.Bool.{cases_eq, eq-eqb, ne_eqb, lt-ltb}
+use Rattle.std.proofs.lemmas.List.Elements.{Contains-append_left}
 use Rattle.gq_grid.specs.Grid.{Grid, Servers, below}
+use Rattle.gq_tag.specs.declared.StoredCopy.{StoredCopy}
+use Rattle.gq_tag.specs.Tag.{File}
 use Rattle.gq_desk.specs.declared.plans.TenantRow.{TenantRow}
 use Rattle.gq_model.specs.declared.events.ServerLine.{ServerLine}
 use Rattle.gq_model.specs.declared.events.ServerLine.TheVariants.{Down, Up}
 use Rattle.gq_model.specs.declared.events.ServerRefusal.TheVariants.{Same}
 use Rattle.gq_model.specs.Told.{Told, ServerOk, ServerRefused}
-use Rattle.gq_model.specs.Trace.{Turn, Serving, Entry, State, Past, questions, up, volumes, sent, is_lost, lacks, brought, session}
+use Rattle.gq_model.specs.Trace.{Turn, Serving, Entry, State, Past, questions, up, volumes, sent, is_lost, lacks, brought, session, offered}
 use Rattle.gq_model.specs.Lone.{after, server_told, trace_after, quiet}
 use Rattle.gq_cluster.specs.Cluster.{everyone}
 
@@ -26,9 +29,13 @@ lines_for aim servers = map (λ n. Serving (change (aim n) n)) servers
 abbrev pub as_aimed : Grid → Servers → List Turn
 as_aimed grid aim = lines_for aim (below (grid.rows * grid.cols))
 
--- all but who is up, and what servers have shown
+-- all but who is up, and what servers could give
 abbrev pub others : State → State
-others state = record { up = everyone; volumes = state.volumes; sent = state.sent; is_lost = state.is_lost; lacks = state.lacks; brought = state.brought; shown = λ server file mate. []; session = state.session }
+others state = record { up = everyone; volumes = state.volumes; sent = state.sent; is_lost = state.is_lost; lacks = state.lacks; brought = state.brought; offered = λ server file mate. []; session = state.session }
+
+-- what a server could be given behind the first past, it could be given behind the second
+abbrev pub OffersMore : Past → Past → Type 0
+OffersMore p q = (server : ℕ) (file : File) (mate : ℕ) (copy : StoredCopy) → Contains (offered p.trace server file mate) copy → Contains (offered q.trace server file mate) copy
 
 -- ---- one line
 
@@ -38,11 +45,12 @@ pub record Sets (p q : Past) (wanted : Bool) (n : ℕ) : Type 0 where
   pub rest : others (questions q.trace) ≡ others (questions p.trace)
   pub this : up q.trace n ≡ wanted
   pub apart : (x : ℕ) → n ≢ x → up q.trace x ≡ up p.trace x
+  pub offers : OffersMore p q
 
 stays : (p q : Past) (wanted : Bool) (n : ℕ) → q ≡ p → up p.trace n ≡ wanted → Sets p q wanted n
 stays p q wanted n same is =
     let P : Past → Type 0 = λ z. Sets p z wanted n in
-    subst P (sym same) (record { lines = refl; rest = refl; this = is; apart = λ x ne. refl })
+    subst P (sym same) (record { lines = refl; rest = refl; this = is; apart = λ x ne. refl; offers = λ server file mate copy within. within })
 
 -- the entry of a server line
 abbrev changed_by : ServerLine → Entry
@@ -52,8 +60,8 @@ abbrev with_change : Past → ServerLine → Past
 with_change p line = record { lines = p.lines; trace = changed_by line ∷ p.trace }
 
 rest_stays : (p : Past) (wanted : Bool) (n : ℕ) → others (questions (with_change p (change wanted n)).trace) ≡ others (questions p.trace)
-rest_stays p true n = λ i. record { up = everyone; volumes = volumes p.trace; sent = append-nil (sent p.trace) i; is_lost = is_lost p.trace; lacks = lacks p.trace; brought = brought p.trace; shown = λ server file mate. []; session = session p.trace }
-rest_stays p false n = λ i. record { up = everyone; volumes = volumes p.trace; sent = append-nil (sent p.trace) i; is_lost = is_lost p.trace; lacks = lacks p.trace; brought = brought p.trace; shown = λ server file mate. []; session = session p.trace }
+rest_stays p true n = λ i. record { up = everyone; volumes = volumes p.trace; sent = append-nil (sent p.trace) i; is_lost = is_lost p.trace; lacks = lacks p.trace; brought = brought p.trace; offered = λ server file mate. []; session = session p.trace }
+rest_stays p false n = λ i. record { up = everyone; volumes = volumes p.trace; sent = append-nil (sent p.trace) i; is_lost = is_lost p.trace; lacks = lacks p.trace; brought = brought p.trace; offered = λ server file mate. []; session = session p.trace }
 
 this_is : (p : Past) (wanted : Bool) (n : ℕ) → up (with_change p (change wanted n)).trace n ≡ wanted
 this_is p true n = rw (eq-eqb n n refl) refl
@@ -66,7 +74,7 @@ apart_is p false n x ne = rw (ne_eqb n x ne) refl
 changes : (p q : Past) (wanted : Bool) (n : ℕ) → q ≡ with_change p (change wanted n) → Sets p q wanted n
 changes p q wanted n same =
     let P : Past → Type 0 = λ z. Sets p z wanted n in
-    subst P (sym same) (record { lines = refl; rest = rest_stays p wanted n; this = this_is p wanted n; apart = apart_is p wanted n })
+    subst P (sym same) (record { lines = refl; rest = rest_stays p wanted n; this = this_is p wanted n; apart = apart_is p wanted n; offers = λ server file mate copy within. Contains-append_left (offered p.trace server file mate) _ copy within })
 
 -- what is told to the line decides
 after_serving : (grid : Grid) (row : TenantRow) (p : Past) (line : ServerLine) (w : Told) → server_told grid (up p.trace) line ≡ w → after grid row p (Serving line) ≡ record { lines = p.lines; trace = trace_after p.trace (Serving line) (quiet w) }
@@ -92,9 +100,10 @@ pub record SetsAll (p q : Past) (aim : Servers) (a n : ℕ) : Type 0 where
   pub rest : others (questions q.trace) ≡ others (questions p.trace)
   pub these : (x : ℕ) → a ≤ x → x < a + n → up q.trace x ≡ aim x
   pub apart : (x : ℕ) → (x < a) ⊎ (a + n ≤ x) → up q.trace x ≡ up p.trace x
+  pub offers : OffersMore p q
 
 sets_more : (p q z : Past) (aim : Servers) (a n : ℕ) → Sets p q (aim a) a → SetsAll q z aim (a + 1) n → SetsAll p z aim a (suc n)
-sets_more p q z aim a n one more = record { lines = more.lines ∙ one.lines; rest = more.rest ∙ one.rest; these = these; apart = apart }
+sets_more p q z aim a n one more = record { lines = more.lines ∙ one.lines; rest = more.rest ∙ one.rest; these = these; apart = apart; offers = λ server file mate copy within. more.offers server file mate copy (one.offers server file mate copy within) }
   where
     these : (x : ℕ) → a ≤ x → x < a + suc n → up z.trace x ≡ aim x
     these x low high = by (cases_eq a x)
@@ -108,7 +117,7 @@ sets_more p q z aim a n one more = record { lines = more.lines ∙ one.lines; re
     apart x (inr high) = more.apart x (inr (omega arith)) ∙ one.apart x (λ same. omega arith)
 
 sets_from : (grid : Grid) (row : TenantRow) (aim : Servers) (a n : ℕ) (p : Past) → a + n ≤ grid.rows * grid.cols → SetsAll p (fold (after grid row) p (lines_for aim (range_with_len a n))) aim a n
-sets_from grid row aim a zero p low = record { lines = refl; rest = refl; these = λ x from below. absurd (omega arith); apart = λ x out. refl }
+sets_from grid row aim a zero p low = record { lines = refl; rest = refl; these = λ x from below. absurd (omega arith); apart = λ x out. refl; offers = λ server file mate copy within. within }
 sets_from grid row aim a (suc n) p low =
     sets_more p (after grid row p (Serving (change (aim a) a))) (fold (after grid row) (after grid row p (Serving (change (aim a) a))) (lines_for aim (range_with_len (a + 1) n))) aim a n
     (sets grid row p (aim a) a (omega arith))

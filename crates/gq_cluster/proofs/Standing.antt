@@ -1,25 +1,40 @@
 -- When a past of the model stands for a cluster: it has the same copies, sessions and messages. Server lines change nothing of it.
-use Rattle.std.proofs.Common.{◌≡◌, ℕ, ◌*◌, ◌≤◌, true, false, List, [], ◌∷◌, ◌++◌, refl, ap, ◌∙◌, inr, arith}
-use Rattle.std.specs.Prelude.{fold, All}
-use Rattle.std.proofs.lemmas.List.Elements.{All-nil, All-cons}
+use Rattle.std.proofs.Common.{◌≡◌, ◌⊎◌, ℕ, ◌*◌, ◌≤◌, true, false, List, [], ◌∷◌, ◌++◌, refl, sym, ap, ◌∙◌, subst, inl, inr, arith}
+use Rattle.std.specs.Prelude.{Contains, filter_map, fold, if◌then◌else◌}
+use Rattle.std.proofs.lemmas.List.Elements.{Contains-append_left, Contains-append_right, Contains-append_cases}
 use Rattle.gq_grid.specs.Grid.{Grid, Servers}
-use Rattle.gq_tag.specs.Tag.{File}
+use Rattle.gq_tag.specs.declared.StoredCopy.{StoredCopy}
+use Rattle.gq_tag.specs.Tag.{File, first_copy, greatest}
 use Rattle.gq_desk.specs.declared.plans.TenantRow.{TenantRow}
-use Rattle.gq_model.specs.Trace.{Turn, Serving, Past, up, volumes, sent, is_lost, lacks, brought, session}
+use Rattle.gq_model.specs.Trace.{Turn, Past, Trace, up, volumes, sent, is_lost, lacks, brought, copy_of, offered, session}
 use Rattle.gq_model.specs.Lone.{after}
-use Rattle.gq_cluster.specs.Cluster.{Setting, Cluster}
-use Rattle.gq_cluster.specs.Laws.{IsLossless, exchanges_from}
-use Rattle.gq_cluster.proofs.ServerLines.{SetsAll, change, lines_for}
+use Rattle.gq_cluster.specs.Cluster.{Setting, Cluster, Part, copy_in}
+use Rattle.gq_cluster.specs.Laws.{disk_turn, exchanges_from}
+use Rattle.gq_cluster.proofs.ServerLines.{SetsAll, lines_for}
 
--- the past has what the cluster has; no message is lost, no server is down that the grid does not have, and none lacks a file
+-- the past has what the cluster has; no message is lost, and no server is down that the grid does not have
 pub record Stands (s : Setting) (p : Past) (c : Cluster) : Type 0 where
   pub opened : volumes p.trace ≡ s.volumes
   pub written : sent p.trace ≡ c.written
   pub kept : (n : ℕ) → is_lost p.trace n ≡ false
   pub beyond : (n : ℕ) → s.grid.rows * s.grid.cols ≤ n → up p.trace n ≡ true
-  pub whole : (n : ℕ) (file : File) → lacks p.trace n file ≡ false
+  pub lacking : (n : ℕ) (file : File) → lacks p.trace n file ≡ (c.part n).lacks file
   pub copies : (n : ℕ) (file : File) → brought p.trace n file ≡ (c.part n).brought file
   pub sessions : (k : ℕ) → session p.trace k ≡ (c.part (s.home k)).session k
+  pub offers : (server : ℕ) (file : File) (mate : ℕ) (copy : StoredCopy) → Contains (c.offered server file mate) copy → Contains (offered p.trace server file mate) copy
+
+-- what the mate holds, where it has the file, is what its part has
+pub holds_as : (t : Trace) (parts : ℕ → Part) → ((n : ℕ) (file : File) → lacks t n file ≡ (parts n).lacks file) → ((n : ℕ) (file : File) → brought t n file ≡ (parts n).brought file) → (file : File) (mate : ℕ) →
+    ◌≡◌ {A = List StoredCopy} (if lacks t mate file then [] else copy_of (brought t mate file) ∷ []) (if (parts mate).lacks file then [] else copy_in (parts mate) file ∷ [])
+holds_as t parts lacking copies file mate = λ i. if lacking mate file i then [] else greatest (first_copy ∷ copies mate file i) ∷ []
+
+-- so what a server could be given before, and what mates hold then, it could be given in the model too
+pub offers_on : (before now : List StoredCopy) (held had : List StoredCopy) (copy : StoredCopy) → (Contains before copy → Contains now copy) → held ≡ had → Contains (before ++ had) copy → Contains (now ++ held) copy
+offers_on before now held had copy more same within = by (Contains-append_cases before had copy within)
+  where
+    by : Contains before copy ⊎ Contains had copy → Contains (now ++ held) copy
+    by (inl old) = Contains-append_left now held copy (more old)
+    by (inr new) = let P : List StoredCopy → Type 0 = λ z. Contains z copy in Contains-append_right now held copy (subst P (sym same) new)
 
 -- behind server lines too
 pub stands_on : (s : Setting) (p q : Past) (c : Cluster) (aim : Servers) → SetsAll p q aim 0 (s.grid.rows * s.grid.cols) → Stands s p c → Stands s q c
@@ -28,15 +43,16 @@ stands_on s p q c aim all stands = record {
   written = ap (λ z. z.sent) all.rest ∙ stands.written;
   kept = λ n. ap (λ z. z.is_lost n) all.rest ∙ stands.kept n;
   beyond = λ n out. all.apart n (inr (omega arith)) ∙ stands.beyond n out;
-  whole = λ n file. ap (λ z. z.lacks n file) all.rest ∙ stands.whole n file;
+  lacking = λ n file. ap (λ z. z.lacks n file) all.rest ∙ stands.lacking n file;
   copies = λ n file. ap (λ z. z.brought n file) all.rest ∙ stands.copies n file;
   sessions = λ k. ap (λ z. z.session k) all.rest ∙ stands.sessions k;
+  offers = λ server file mate copy within. all.offers server file mate copy (stands.offers server file mate copy within);
 }
 
 -- by them no disk is lost
-pub lines_lossless : (aim : Servers) (servers : List ℕ) → All IsLossless (lines_for aim servers)
-lines_lossless aim [] = All-nil IsLossless
-lines_lossless aim (n ∷ servers) = All-cons IsLossless (Serving (change (aim n) n)) (lines_for aim servers) tt (lines_lossless aim servers)
+pub lines_of_disks : (aim : Servers) (servers : List ℕ) → filter_map disk_turn (lines_for aim servers) ≡ []
+lines_of_disks aim [] = refl
+lines_of_disks aim (n ∷ servers) = lines_of_disks aim servers
 
 -- they do nothing to a session or to a server
 pub exchanges_behind : (grid : Grid) (row : TenantRow) (aim : Servers) (servers : List ℕ) (turns : List Turn) (p : Past) →

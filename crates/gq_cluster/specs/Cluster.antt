@@ -3,49 +3,52 @@
 --
 -- The words: a *letter* is a message that a node wrote, on its way to another node or to itself. An *act* is one thing that a
 -- node does, by a line of a session or by a letter that comes; its *aim* is whom the node then takes to be up, whoever is. A
--- *cluster* is the parts of all nodes with the letters that they wrote. A *node step* is an act, or a restart of a node. An
--- *exchange* is what came to a session or to a server, with what was told and sent.
-use Rattle.std.specs.Prelude.{ℕ, List, [], ◌∷◌, ◌++◌, true, false, ◌==◌, ◌&&◌, Option, Some, None, is_some, Contains, ⊤, map, filter, fold, if◌then◌else◌}
+-- *cluster* is the parts of all nodes with the letters that they wrote. A *node step* is an act, or a restart of a node, or what becomes of
+-- a server's disk: it is lost, with the copies of some files, which the server then *lacks*; and for a file it is given a copy again by
+-- another server of its column, a *mate*. An *exchange* is what came to a session or to a server, with what was told and sent.
+use Rattle.std.specs.Prelude.{◌≡◌, ℕ, List, [], ◌∷◌, ◌++◌, Bool, true, false, ◌==◌, ◌&&◌, ◌||◌, not, nat_lt, Option, Some, None, is_some, Contains, ⊤, map, filter, fold, if◌then◌else◌}
 use Rattle.std.specs.List.{range_with_len}
 use Rattle.gq_grid.specs.Grid.{Grid, Servers}
 use Rattle.gq_tag.specs.declared.StoredCopy.{StoredCopy}
-use Rattle.gq_tag.specs.Tag.{File, OwnMessage, first_copy, greatest, to_server}
+use Rattle.gq_tag.specs.Tag.{File, is_file, OwnMessage, first_copy, greatest, to_server}
 use Rattle.gq_desk.specs.declared.plans.TenantRow.{TenantRow}
 use Rattle.gq_desk.specs.declared.volumes.VolumeRow.{VolumeRow}
+use Rattle.gq_phase.specs.Quorums.{are_mates}
 use Rattle.gq_model.specs.declared.events.Line.{Line}
 use Rattle.gq_model.specs.declared.events.Line.TheVariants.{Write, Read, List as ListFiles, Deliver, Retry, Abandon}
 use Rattle.gq_model.specs.declared.said.Said.{Said}
 use Rattle.gq_model.specs.Said.{said_in}
 use Rattle.gq_model.specs.Trace.{Own, Entry, State, Session, Leaps, new_session, session_by, changed}
-use Rattle.gq_model.specs.Lone.{Step, asked_step, deliver_step, is_refusal}
+use Rattle.gq_model.specs.Lone.{Step, asked_step, deliver_step, is_refusal, is_awaited}
 use Rattle.gq_desk.specs.Plans.{is_in}
 use Rattle.gq_cluster.specs.Facts.{OwnFact, Reserved, none_reserved, reserving, with_reserved, replaced_in}
 
 -- ---- one node
 
--- what a node has of the tenant: of each file the copies that stores brought to its server, in order; the sessions whose home it is; and
--- the numbers that are reserved for each of these
+-- what a node has of the tenant: of each file the copies that came to its server, in order, and whether the server lacks it; the sessions
+-- whose home the node is; and the numbers that are reserved for each of these
 pub record Part : Type 0 where
   pub brought : File → List StoredCopy
+  pub lacks : File → Bool
   pub session : ℕ → Session
   pub reserved : ℕ → Reserved
 
 abbrev pub new_part : Part
-new_part = record { brought = λ file. []; session = λ k. new_session; reserved = λ k. none_reserved }
+new_part = record { brought = λ file. []; lacks = λ file. false; session = λ k. new_session; reserved = λ k. none_reserved }
 
 -- the copy of the file that the node's server holds
 abbrev pub copy_in : Part → File → StoredCopy
 copy_in part file = greatest (first_copy ∷ part.brought file)
 
--- the part as the model's state: those of the aim are up, no message was sent, and each server has its files, with the node's copies, of
--- which an act looks at its own server's alone
+-- the part as the model's state: those of the aim are up, no message was sent, and each server has the node's copies, and lacks the files
+-- that the node's lacks; of these an act looks at its own server's alone
 abbrev pub state_of : List VolumeRow → Servers → Part → State
 state_of volumes aim part =
-    record { up = aim; volumes = volumes; sent = []; is_lost = λ n. false; lacks = λ server file. false; brought = λ server. part.brought; shown = λ server file mate. []; session = part.session }
+    record { up = aim; volumes = volumes; sent = []; is_lost = λ n. false; lacks = λ server. part.lacks; brought = λ server. part.brought; offered = λ server file mate. []; session = part.session }
 
 -- node n's part of a state, with what is reserved for its sessions
 abbrev pub part_of : ℕ → (ℕ → Reserved) → State → Part
-part_of n reserved state = record { brought = state.brought n; session = state.session; reserved = reserved }
+part_of n reserved state = record { brought = state.brought n; lacks = state.lacks n; session = state.session; reserved = reserved }
 
 -- one thing that a node does
 pub data Act : Type 0 where
@@ -101,11 +104,11 @@ state_after s part act = changed (act_entry act (step_of s part act)) (state_of 
 abbrev pub fact_in : Setting → Part → Act → ℕ → Option OwnFact
 fact_in s part act k = reserving k (part.reserved k) (step_of s part act).told ((state_after s part act).session k).floor
 
--- the fact of an act, if it has one: a number is used that was not reserved, or a copy is replaced
+-- the fact of an act, if it has one: a number is used that was not reserved, or a copy is replaced, at a server that has the file
 abbrev pub fact_of : Setting → Part → Act → Option OwnFact
 fact_of s part (Asks line aim) = fact_in s part (Asks line aim) (session_named line)
 fact_of s part (Comes letter aim) =
-    if to_server letter.body then replaced_in (copy_in part letter.file) letter.file letter.body
+    if to_server letter.body then (if part.lacks letter.file then None else replaced_in (copy_in part letter.file) letter.file letter.body)
     else fact_in s part (Comes letter aim) letter.session
 
 -- node n's part after the act; a refusal changes nothing
@@ -116,14 +119,20 @@ part_after s n part act =
 
 -- ---- all nodes
 
--- the parts of all nodes, and the letters that they wrote, in order
+-- the parts of all nodes, and the letters that they wrote, in order; and what servers could give to others: of a file the copies that
+-- the mate has held since the server lost its own, while the mate had the file
 pub record Cluster : Type 0 where
   pub part : ℕ → Part
   pub written : List OwnMessage
+  pub offered : (server : ℕ) → File → (mate : ℕ) → List StoredCopy
 
 -- all nodes as they start first
 abbrev pub new_cluster : Cluster
-new_cluster = record { part = λ n. new_part; written = [] }
+new_cluster = record { part = λ n. new_part; written = []; offered = λ server file mate. [] }
+
+-- what could be given before, and what these parts hold now
+abbrev pub with_held : (ℕ → Part) → (ℕ → File → ℕ → List StoredCopy) → ℕ → File → ℕ → List StoredCopy
+with_held parts before server file mate = before server file mate ++ (if (parts mate).lacks file then [] else copy_in (parts mate) file ∷ [])
 
 -- the node at which the act is done
 abbrev pub node_of : (ℕ → ℕ) → Act → ℕ
@@ -138,9 +147,9 @@ step_in s c act = step_of s (c.part (node_of s.home act)) act
 abbrev pub parts_after : Setting → Cluster → Act → ℕ → Part
 parts_after s c act n = if n == node_of s.home act then part_after s n (c.part n) act else c.part n
 
--- the cluster after an act
+-- the cluster after an act; by a refusal nobody has anything more to give
 abbrev pub after_act : Setting → Cluster → Act → Cluster
-after_act s c act = record { part = parts_after s c act; written = c.written ++ (step_in s c act).new }
+after_act s c act = record { part = parts_after s c act; written = c.written ++ (step_in s c act).new; offered = if is_refusal (step_in s c act).told then c.offered else with_held (parts_after s c act) c.offered }
 
 abbrev pub after_acts : Setting → Cluster → List Act → Cluster
 after_acts s c acts = fold (after_act s) c acts
@@ -151,6 +160,10 @@ pub data NodeStep : Type 0 where
   Acts : (act : Act) → NodeStep
   -- the node starts again: what its sessions did not do is given up, and they go on behind the numbers that are reserved for them
   Restarts : (node : ℕ) → NodeStep
+  -- the server's disk is lost: it lacks the files of the first volumes, so many, from then on
+  Loses : (server volumes : ℕ) → NodeStep
+  -- the server is given this copy of the file by the mate, and has the file again
+  Returns : (server : ℕ) (file : File) (mate : ℕ) (copy : StoredCopy) → NodeStep
 
 -- the node's sessions that have an operation
 abbrev pub going_at : Setting → Cluster → ℕ → List ℕ
@@ -163,6 +176,8 @@ gives_up k = Asks (Abandon k) everyone
 abbrev pub acts_of : Setting → Cluster → NodeStep → List Act
 acts_of s c (Acts act) = act ∷ []
 acts_of s c (Restarts node) = map gives_up (going_at s c node)
+acts_of s c (Loses server volumes) = []
+acts_of s c (Returns server file mate copy) = []
 
 -- session k at the node, as the model has it, passes over all numbers that are reserved for it
 abbrev pub leapt_session : Setting → (node : ℕ) → Part → ℕ → Session
@@ -177,10 +192,43 @@ leapt_part s node part = record part { session = leapt_session s node part }
 abbrev pub leapt : Setting → (node : ℕ) → Cluster → Cluster
 leapt s node c = record c { part = λ n. if n == node then leapt_part s node (c.part n) else c.part n }
 
+-- the file is one of the first volumes
+abbrev pub is_within : (volumes : ℕ) → File → Bool
+is_within volumes file = nat_lt file.volume volumes
+
+-- the part whose server's copies of these files are lost; and the part whose server is given the copy of the file
+abbrev pub lost_part : (volumes : ℕ) → Part → Part
+lost_part volumes part =
+    record part { brought = λ f. if is_within volumes f then [] else part.brought f; lacks = λ f. is_within volumes f || part.lacks f }
+
+abbrev pub given_part : File → StoredCopy → Part → Part
+given_part file copy part =
+    record part { brought = λ f. if is_file file f then copy ∷ [] else part.brought f; lacks = λ f. part.lacks f && not (is_file file f) }
+
+-- the parts in which that of the server is changed so
+abbrev pub parts_with : (server : ℕ) → (Part → Part) → (ℕ → Part) → ℕ → Part
+parts_with server change parts n = if server == n then change (parts n) else parts n
+
+-- what could be given to others, but no more to the server of these files
+abbrev pub forgetting : (server volumes : ℕ) → (ℕ → File → ℕ → List StoredCopy) → ℕ → File → ℕ → List StoredCopy
+forgetting server volumes before to file mate = if server == to && is_within volumes file then [] else before to file mate
+
+abbrev pub with_loss : (server volumes : ℕ) → Cluster → Cluster
+with_loss server volumes c =
+    let parts : ℕ → Part = parts_with server (lost_part volumes) c.part in
+    record { part = parts; written = c.written; offered = with_held parts (forgetting server volumes c.offered) }
+
+abbrev pub with_return : (server : ℕ) → File → StoredCopy → Cluster → Cluster
+with_return server file copy c =
+    let parts : ℕ → Part = parts_with server (given_part file copy) c.part in
+    record { part = parts; written = c.written; offered = with_held parts c.offered }
+
 -- what a node step does behind its acts
 abbrev pub behind_acts : Setting → NodeStep → Cluster → Cluster
 behind_acts s (Acts act) c = c
 behind_acts s (Restarts node) c = leapt s node c
+behind_acts s (Loses server volumes) c = with_loss server volumes c
+behind_acts s (Returns server file mate copy) c = with_return server file copy c
 
 abbrev pub after_step : Setting → Cluster → NodeStep → Cluster
 after_step s c step = behind_acts s step (after_acts s c (acts_of s c step))
@@ -204,14 +252,23 @@ abbrev pub CanAct : Cluster → Act → Type 0
 CanAct c (Asks line aim) = IsOfSession line
 CanAct c (Comes letter aim) = Contains c.written letter
 
-abbrev pub CanHappen : Cluster → NodeStep → Type 0
-CanHappen c (Acts act) = CanAct c act
-CanHappen c (Restarts node) = ⊤
+-- no operation that goes on counts on a letter of the server about one of these files: such a letter of its round was not written
+abbrev pub NoneCounts : Setting → Cluster → (server volumes : ℕ) → Type 0
+NoneCounts s c server volumes =
+    (letter : OwnMessage) → Contains c.written letter → to_server letter.body ≡ false → letter.server ≡ server → is_within volumes letter.file ≡ true →
+    is_awaited ((c.part (s.home letter.session)).session letter.session) letter ≡ false
+
+-- what a mate gives to a server that lacks the file is a copy that it held since the loss, while it had the file
+abbrev pub CanHappen : Setting → Cluster → NodeStep → Type 0
+CanHappen s c (Acts act) = CanAct c act
+CanHappen s c (Restarts node) = ⊤
+CanHappen s c (Loses server volumes) = NoneCounts s c server volumes
+CanHappen s c (Returns server file mate copy) = ((c.part server).lacks file ≡ true) × (are_mates s.grid server mate ≡ true) × Contains (c.offered server file mate) copy
 
 -- each of the steps may happen when it does, the first of them in this cluster
 abbrev pub CanFollow : Setting → Cluster → List NodeStep → Type 0
 CanFollow s c [] = ⊤
-CanFollow s c (step ∷ steps) = CanHappen c step × CanFollow s (after_step s c step) steps
+CanFollow s c (step ∷ steps) = CanHappen s c step × CanFollow s (after_step s c step) steps
 
 -- ---- what was done
 

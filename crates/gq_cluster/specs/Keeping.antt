@@ -1,8 +1,8 @@
 -- What a node must not forget of its part, and that an act changes it by one fact at most.
-use Rattle.std.specs.Prelude.{◌≡◌, ℕ, ◌≤◌, List, [], ◌∷◌, ◌++◌, ◌==◌, Option, Some, None, fold, if◌then◌else◌}
+use Rattle.std.specs.Prelude.{◌≡◌, ℕ, ◌≤◌, List, [], ◌∷◌, ◌++◌, ◌==◌, Option, Some, None, All, ⊤, fold, if◌then◌else◌}
 use Rattle.gq_tag.specs.declared.StoredCopy.{StoredCopy}
 use Rattle.gq_tag.specs.Tag.{File, is_file}
-use Rattle.gq_cluster.specs.Cluster.{Setting, Part, Act, Cluster, NodeStep, new_part, copy_in, node_of, fact_of, part_after, new_cluster, after_act, after_step, acts_of, cluster_after}
+use Rattle.gq_cluster.specs.Cluster.{Setting, Part, Act, Cluster, NodeStep, Loses, Returns, new_part, copy_in, node_of, fact_of, part_after, new_cluster, after_act, after_step, acts_of, cluster_after}
 use Rattle.gq_cluster.specs.Facts.{OwnFact, Begun, Numbered, Kept}
 
 -- what is kept of a part: of each file the copy; of each session the last numbers that are reserved, of its operations and of its tags
@@ -40,9 +40,15 @@ abbrev pub facts_at : Setting → Cluster → ℕ → List NodeStep → List (Op
 facts_at s c n [] = []
 facts_at s c n (step ∷ steps) = facts_of s c n (acts_of s c step) ++ facts_at s (after_step s c step) n steps
 
--- from its facts alone, in order, each node knows again what must not be forgotten, whatever happened
+-- no disk is lost by the step
+abbrev pub IsKept : NodeStep → Type 0
+IsKept (Loses server volumes) = ⊥
+IsKept (Returns server file mate copy) = ⊥
+IsKept _ = ⊤
+
+-- from its facts alone, in order, each node knows again what must not be forgotten, whatever happened, while no disk is lost
 abbrev pub AllFactsSuffice : Type 0
-AllFactsSuffice = (s : Setting) (n : ℕ) (steps : List NodeStep) → kept_of ((cluster_after s steps).part n) ≡ fold with_fact (kept_of new_part) (facts_at s new_cluster n steps)
+AllFactsSuffice = (s : Setting) (n : ℕ) (steps : List NodeStep) → All IsKept steps → kept_of ((cluster_after s steps).part n) ≡ fold with_fact (kept_of new_part) (facts_at s new_cluster n steps)
 
 -- ---- what is reserved
 

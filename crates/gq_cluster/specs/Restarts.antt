@@ -21,6 +21,7 @@ pub record GivesUp (s : Setting) (node : ℕ) (old new : Cluster) : Type 0 where
   pub outside : (k : ℕ) → s.home k ≡ node → is_in 1 s.row.sessions k ≡ false → (new.part node).session k ≡ (old.part node).session k
   pub others : (k : ℕ) → s.home k ≢ node → (new.part (s.home k)).session k ≡ (old.part (s.home k)).session k
   pub reserved : (n k : ℕ) → (new.part n).reserved k ≡ (old.part n).reserved k
+  pub lacks : (n : ℕ) (file : File) → (new.part n).lacks file ≡ (old.part n).lacks file
   pub copies : (n : ℕ) (file : File) → (new.part n).brought file ≡ (old.part n).brought file
   pub written : new.written ≡ old.written
 

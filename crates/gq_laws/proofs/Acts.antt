@@ -361,7 +361,7 @@ loss_passive state turn = by (list_any (is_counted state turn) state.sent)
     by false = tt
 
 return_passive : (grid : Grid) (state : State) (server : ℕ) (file : File) (mate : ℕ) (copy : StoredCopy) → IsPassive (return_told grid state server file mate copy)
-return_passive grid state server file mate copy = by (not (state.lacks server file)) (are_mates grid server mate && list_any (equal_copies copy) (state.shown server file mate))
+return_passive grid state server file mate copy = by (not (state.lacks server file)) (are_mates grid server mate && list_any (equal_copies copy) (state.offered server file mate))
   where
     by : (b c : Bool) → IsPassive (if b then ServerRefused Same else if c then ServerOk else Refused NoMessage)
     by true c = tt

@@ -22,7 +22,7 @@ use Rattle.gq_phase.proofs.Meeting.{mates_of_mates}
 use Rattle.gq_model.specs.Told.{Told, Refused, ServerRefused}
 use Rattle.gq_model.specs.declared.events.Refusal.TheVariants.{NoMessage}
 use Rattle.gq_model.specs.declared.events.ServerRefusal.TheVariants.{Same}
-use Rattle.gq_model.specs.Trace.{Turn, Own, Serving, Leaping, Losing, Returning, Entry, Trace, up, is_loss, lacks, lacks_by, serves, stored_by, left_by, brought, copy_of, shown, questions}
+use Rattle.gq_model.specs.Trace.{Turn, Own, Serving, Leaping, Losing, Returning, Entry, Trace, up, is_loss, lacks, lacks_by, serves, stored_by, left_by, brought, copy_of, offered, questions}
 use Rattle.gq_model.specs.Lone.{equal_copies, return_told, is_refusal}
 use Rattle.gq_laws.proofs.Words.{held, step_on}
 use Rattle.gq_laws.proofs.Runs.{Extends, Follows, IsRun, Keeps, HeldBetween}
@@ -123,14 +123,14 @@ is_among copy (c ∷ copies) h = by (equal_copies copy c) refl (λ rest. is_amon
     by true same among = (0, omega arith, sym (same_copy copy c same))
     by false other among = let later = among (rw other at h) in (suc later.0, omega (arith, later.1), later.2)
 
--- the server lacked the file, and a mate of it showed the copy
-pub record IsShown (grid : Grid) (t : Trace) (server : ℕ) (file : File) (mate : ℕ) (copy : StoredCopy) : Type 0 where
+-- the server lacked the file, and a mate could give it the copy
+pub record IsOffered (grid : Grid) (t : Trace) (server : ℕ) (file : File) (mate : ℕ) (copy : StoredCopy) : Type 0 where
   pub lacked : lacks t server file ≡ true
   pub mates : are_mates grid server mate ≡ true
-  pub among : Contains (shown t server file mate) copy
+  pub among : Contains (offered t server file mate) copy
 
-pub given_shown : (grid : Grid) (row : TenantRow) (t : Trace) (e : Entry) (server : ℕ) (file : File) → Follows grid row t e → (g : Gift e.turn server file) → IsShown grid t server file g.mate g.copy
-given_shown grid row t e server file follows g = by (lacks t server file) refl (are_mates grid server g.mate && list_any (equal_copies g.copy) (shown t server file g.mate)) refl
+pub given_offered : (grid : Grid) (row : TenantRow) (t : Trace) (e : Entry) (server : ℕ) (file : File) → Follows grid row t e → (g : Gift e.turn server file) → IsOffered grid t server file g.mate g.copy
+given_offered grid row t e server file follows g = by (lacks t server file) refl (are_mates grid server g.mate && list_any (equal_copies g.copy) (offered t server file g.mate)) refl
   where
     told : return_told grid (questions t) server file g.mate g.copy ≡ e.told
     told = sym (ap (λ z. (step_on grid row follows.lines t z).told) g.turn_is) ∙ follows.told
@@ -138,12 +138,12 @@ given_shown grid row t e server file follows g = by (lacks t server file) refl (
     refused : (word : Told) → is_refusal word ≡ true → return_told grid (questions t) server file g.mate g.copy ≡ word → ⊥
     refused word bad is = true≢false (sym bad ∙ ap is_refusal (sym is ∙ told) ∙ follows.accepted)
 
-    by : (b : Bool) → lacks t server file ≡ b → (c : Bool) → (are_mates grid server g.mate && list_any (equal_copies g.copy) (shown t server file g.mate)) ≡ c → IsShown grid t server file g.mate g.copy
+    by : (b : Bool) → lacks t server file ≡ b → (c : Bool) → (are_mates grid server g.mate && list_any (equal_copies g.copy) (offered t server file g.mate)) ≡ c → IsOffered grid t server file g.mate g.copy
     by false has c h = absurd (refused (ServerRefused Same) refl (rw has))
     by true lack false h = absurd (refused (Refused NoMessage) refl (rw (lack, h)))
     by true lack true h =
-        let both = and_parts (are_mates grid server g.mate) (list_any (equal_copies g.copy) (shown t server file g.mate)) h in
-        record { lacked = lack; mates = both.0; among = is_among g.copy (shown t server file g.mate) both.1 }
+        let both = and_parts (are_mates grid server g.mate) (list_any (equal_copies g.copy) (offered t server file g.mate)) h in
+        record { lacked = lack; mates = both.0; among = is_among g.copy (offered t server file g.mate) both.1 }
 
 -- ---- what a server holds
 
@@ -202,10 +202,10 @@ pub one_is : (x y : StoredCopy) → Contains (x ∷ []) y → x ≡ y
 one_is x y (zero, low, is) = is
 one_is x y (suc i, low, is) = absurd (omega arith)
 
--- what a server keeps that lacks the file, its mates keep, and the copies that they showed since the loss have
+-- what a server keeps that lacks the file, its mates keep, and the copies have it that they could give since the loss
 abbrev pub MatesKeep : Grid → Trace → Type 0
 MatesKeep grid t = (server : ℕ) (file : File) (tag : Tag) → lacks t server file ≡ true → Keeps grid t server file tag → (mate : ℕ) → are_mates grid server mate ≡ true →
-    Keeps grid t mate file tag × ((copy : StoredCopy) → Contains (shown t server file mate) copy → IsAtMost tag copy.tag)
+    Keeps grid t mate file tag × ((copy : StoredCopy) → Contains (offered t server file mate) copy → IsAtMost tag copy.tag)
 
 -- with one more entry, but a loss of it
 keeps_more : (grid : Grid) (row : TenantRow) (t : Trace) (e : Entry) → MatesKeep grid t → Follows grid row t e → (server : ℕ) (file : File) (tag : Tag) → is_loss e.turn server file ≡ false → Keeps grid t server file tag → Keeps grid (e ∷ t) server file tag
@@ -215,7 +215,7 @@ keeps_more grid row t e mates follows server file tag none k = go (lacks (e ∷ 
     go true lack c = rw (none, lack) k
     go false had (Loses is) = absurd (true≢false (sym is ∙ none))
     go false had (Gains g) =
-        let s = given_shown grid row t e server file follows g in
+        let s = given_offered grid row t e server file follows g in
         let low : IsAtMost tag g.copy.tag = (mates server file tag s.lacked k g.mate s.mates).1 g.copy s.among in
         let P : StoredCopy → Type 0 = λ z. IsAtMost tag z.tag in
         rw (none, had) (subst P (sym (held_given e.turn e.message e.told e.new t server file g)) (at_most_trans tag g.copy.tag (newer_of first_copy g.copy).tag low (newer_of-right first_copy g.copy)))
@@ -244,14 +244,14 @@ mates_more grid row t e mates follows server file tag lack k mate are = (now mat
         by true lost = rw lost (λ other also. before other (mates_of_mates grid server m other is also))
         by false none = keeps_more grid row t e mates follows m file tag none (before m is)
 
-    shows : (copy : StoredCopy) → Contains (if is_loss e.turn server file then [] else shown t server file mate) copy ⊎ Contains (if lacks (e ∷ t) mate file then [] else held (e ∷ t) mate file ∷ []) copy → IsAtMost tag copy.tag
+    shows : (copy : StoredCopy) → Contains (if is_loss e.turn server file then [] else offered t server file mate) copy ⊎ Contains (if lacks (e ∷ t) mate file then [] else held (e ∷ t) mate file ∷ []) copy → IsAtMost tag copy.tag
     shows copy (inl old) = by (is_loss e.turn server file) refl
       where
         by : (b : Bool) → is_loss e.turn server file ≡ b → IsAtMost tag copy.tag
         by true lost = absurd (let none : Contains [] copy = rw lost at old in omega (arith, none.1))
         by false none =
             let kept : Kept server = rw (none, lack) at k in
-            let within : Contains (shown t server file mate) copy = rw none at old in
+            let within : Contains (offered t server file mate) copy = rw none at old in
             (mates server file tag (lacked e.turn (lacks t) server file none lack) kept mate are).1 copy within
     shows copy (inr new) = by (lacks (e ∷ t) mate file) refl
       where

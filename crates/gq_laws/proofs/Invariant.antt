@@ -15,7 +15,7 @@ use Rattle.gq_phase.specs.Phase.{Task, Reply, Writing, Reading, Listing, Operati
 use Rattle.gq_phase.specs.Quorums.{ends_collect, ends_store}
 use Rattle.gq_phase.proofs.Saying.{even_is}
 use Rattle.gq_model.specs.declared.events.Line.{Line}
-use Rattle.gq_model.specs.Trace.{Turn, Entry, Trace, Deed, Elsewhere, Begins, Hears, Moves, Ends, Leaps, deed, is_loss, sent, shown, up, volumes, task_of}
+use Rattle.gq_model.specs.Trace.{Turn, Entry, Trace, Deed, Elsewhere, Begins, Hears, Moves, Ends, Leaps, deed, is_loss, sent, offered, up, volumes, task_of}
 use Rattle.gq_model.specs.Told.{Told}
 use Rattle.gq_laws.proofs.Words.{held, current, round, heard, collected, op}
 use Rattle.gq_laws.proofs.Runs.{Follows, IsRun, IsKnown, Keeps, Settled, made, made_of, Made, Extends, Starts, HeldBetween, op_start, round_start, starts}
@@ -61,7 +61,7 @@ pub record Invariant (grid : Grid) (t : Trace) : Type 0 where
   pub heard_sent : (k : ℕ) (task : Task) (x : Reply) → current t k ≡ Some task → Contains (heard t k) x → WasSent t k task x
   pub messages : (m : OwnMessage) → Contains (sent t) m → Sound grid t m
   pub held_known : (server : ℕ) (file : File) → IsKnown t file (held t server file)
-  pub shown_known : (server mate : ℕ) (file : File) (c : StoredCopy) → Contains (shown t server file mate) c → IsKnown t file c
+  pub offered_known : (server mate : ℕ) (file : File) (c : StoredCopy) → Contains (offered t server file mate) c → IsKnown t file c
 
 -- ---- when operations began
 

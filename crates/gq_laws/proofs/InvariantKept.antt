@@ -13,11 +13,11 @@ use Rattle.gq_tag.specs.declared.Body.TheVariants.{Ask, Copy, Store, Stored}
 use Rattle.gq_tag.proofs.Order.{IsAtMost, at_most_refl, newer_of-right}
 use Rattle.gq_desk.specs.declared.plans.TenantRow.{TenantRow}
 use Rattle.gq_phase.specs.Phase.{Task, Reply, is_collect, round_file, round_body, stored_copy, with_reply, with_decided, in_round, decided_copy}
-use Rattle.gq_model.specs.Trace.{Turn, Own, Serving, Leaping, Losing, Returning, Entry, Trace, Moves, deed, is_loss, lacks, lacks_by, serves, stored_by, brought, copy_of, shown, sent, up}
+use Rattle.gq_model.specs.Trace.{Turn, Own, Serving, Leaping, Losing, Returning, Entry, Trace, Moves, deed, is_loss, lacks, lacks_by, serves, stored_by, brought, copy_of, offered, sent, up}
 use Rattle.gq_model.specs.declared.events.Line.TheVariants.{Deliver}
 use Rattle.gq_model.specs.Told.{Told}
 use Rattle.gq_laws.proofs.Words.{held, current, round, heard, collected, op, delivered}
-use Rattle.gq_laws.proofs.Holding.{Copying, Loses, Gains, Leaves, copying, given_shown, held_given, greatest-push, one_is, keeps_step, had_keeps, held_between_more}
+use Rattle.gq_laws.proofs.Holding.{Copying, Loses, Gains, Leaves, copying, given_offered, held_given, greatest-push, one_is, keeps_step, had_keeps, held_between_more}
 use Rattle.gq_laws.proofs.Runs.{Follows, IsRun, IsKnown, Keeps, Extends, Starts, HeldBetween, round_start, starts}
 use Rattle.gq_laws.proofs.Shapes.{Shape, shape_of, shape_round, only}
 use Rattle.gq_laws.proofs.Acts.{Act, Doing, Requests, Serves, Notes, Turns, Finishes, Resends, Abandons, Jumps, Silent, Comes, act, awaited_kept, delivers_by, going, first_round, back, back_to_ask, back_to_store, message_sent}
@@ -265,21 +265,21 @@ held_step grid row t e follows inv s file = by (copying e.turn s file)
     by : Copying e.turn s file → P (held (e ∷ t) s file)
     by (Loses lost) = subst P (sym (held_lost e.turn e.message e.told e.new t s file lost)) (inl refl)
     by (Gains g) =
-        let seen = given_shown grid row t e s file follows g in
-        let known : P g.copy = known_grows e t file g.copy (inv.shown_known s g.mate file g.copy seen.among) in
+        let seen = given_offered grid row t e s file follows g in
+        let known : P g.copy = known_grows e t file g.copy (inv.offered_known s g.mate file g.copy seen.among) in
         subst P (sym (held_given e.turn e.message e.told e.new t s file g)) (pick first_copy g.copy (inl refl) known (is_less first_copy.tag g.copy.tag) refl)
     by (Leaves none lack left) = subst P (sym (ap copy_of (left (stored_by (serves (up t) (lacks t)) e.message (brought t))))) (go (stored_from t e.message s file))
 
--- what mates have shown since a loss
-shown_step : (grid : Grid) (row : TenantRow) (t : Trace) (e : Entry) → Follows grid row t e → Invariant grid t → (s mate : ℕ) (file : File) (c : StoredCopy) → Contains (shown (e ∷ t) s file mate) c → IsKnown (e ∷ t) file c
-shown_step grid row t e follows inv s mate file c within = go (Contains-append_cases _ _ c within)
+-- what mates have offered since a loss
+offered_step : (grid : Grid) (row : TenantRow) (t : Trace) (e : Entry) → Follows grid row t e → Invariant grid t → (s mate : ℕ) (file : File) (c : StoredCopy) → Contains (offered (e ∷ t) s file mate) c → IsKnown (e ∷ t) file c
+offered_step grid row t e follows inv s mate file c within = go (Contains-append_cases _ _ c within)
   where
-    go : Contains (if is_loss e.turn s file then [] else shown t s file mate) c ⊎ Contains (if lacks (e ∷ t) mate file then [] else held (e ∷ t) mate file ∷ []) c → IsKnown (e ∷ t) file c
+    go : Contains (if is_loss e.turn s file then [] else offered t s file mate) c ⊎ Contains (if lacks (e ∷ t) mate file then [] else held (e ∷ t) mate file ∷ []) c → IsKnown (e ∷ t) file c
     go (inl old) = by (is_loss e.turn s file) refl
       where
         by : (b : Bool) → is_loss e.turn s file ≡ b → IsKnown (e ∷ t) file c
         by true lost = absurd (let empty : Contains [] c = rw lost at old in omega (arith, empty.1))
-        by false none = let inside : Contains (shown t s file mate) c = rw none at old in known_grows e t file c (inv.shown_known s mate file c inside)
+        by false none = let inside : Contains (offered t s file mate) c = rw none at old in known_grows e t file c (inv.offered_known s mate file c inside)
     go (inr new) = by (lacks (e ∷ t) mate file) refl
       where
         by : (b : Bool) → lacks (e ∷ t) mate file ≡ b → IsKnown (e ∷ t) file c
@@ -422,7 +422,7 @@ invariant_step grid row t e run follows inv = record {
   heard_sent = heard_step grid row t e follows inv;
   messages = λ m within. message m (Contains-append_cases (sent t) e.new m within);
   held_known = held_step grid row t e follows inv;
-  shown_known = shown_step grid row t e follows inv;
+  offered_known = offered_step grid row t e follows inv;
 }
   where
     message : (m : OwnMessage) → Contains (sent t) m ⊎ Contains e.new m → Sound grid (e ∷ t) m
@@ -435,6 +435,6 @@ invariant_along grid row [] run = record {
   heard_sent = λ k task x busy within. absurd (let bad : None ≡ Some task = busy in cc);
   messages = λ m within. absurd (omega (arith, within.1));
   held_known = λ s file. inl refl;
-  shown_known = λ s mate file c within. absurd (omega (arith, within.1));
+  offered_known = λ s mate file c within. absurd (omega (arith, within.1));
 }
 invariant_along grid row (e ∷ t) run = invariant_step grid row t e run.0 run.1 (invariant_along grid row t run.0)

@@ -240,7 +240,7 @@ equal_copies a b = equal_tags a.tag b.tag && bytes_eq a.bytes b.bytes
 abbrev pub return_told : Grid → State → ℕ → File → ℕ → StoredCopy → Told
 return_told grid state server file mate copy =
     if not (state.lacks server file) then ServerRefused Same
-    else if are_mates grid server mate && list_any (equal_copies copy) (state.shown server file mate) then ServerOk
+    else if are_mates grid server mate && list_any (equal_copies copy) (state.offered server file mate) then ServerOk
     else Refused NoMessage
 
 -- what is told and sent to a turn

@@ -142,13 +142,13 @@ abbrev pub copy_of : List StoredCopy → StoredCopy
 copy_of copies = greatest (first_copy ∷ copies)
 
 -- the copies of the file that the mate has held since the server lost its own, while the mate had the file
-abbrev pub shown_by : Turn → (ℕ → File → Bool) → (ℕ → File → List StoredCopy) → (ℕ → File → ℕ → List StoredCopy) → ℕ → File → ℕ → List StoredCopy
-shown_by turn lacking copies before server file mate =
+abbrev pub offered_by : Turn → (ℕ → File → Bool) → (ℕ → File → List StoredCopy) → (ℕ → File → ℕ → List StoredCopy) → ℕ → File → ℕ → List StoredCopy
+offered_by turn lacking copies before server file mate =
     (if is_loss turn server file then [] else before server file mate) ++ (if lacking mate file then [] else copy_of (copies mate file) ∷ [])
 
-abbrev pub shown : Trace → ℕ → File → ℕ → List StoredCopy
-shown [] = λ server file mate. []
-shown (e ∷ t) = shown_by e.turn (lacks (e ∷ t)) (brought (e ∷ t)) (shown t)
+abbrev pub offered : Trace → ℕ → File → ℕ → List StoredCopy
+offered [] = λ server file mate. []
+offered (e ∷ t) = offered_by e.turn (lacks (e ∷ t)) (brought (e ∷ t)) (offered t)
 
 -- ---- questions about one session
 
@@ -263,11 +263,11 @@ pub record State : Type 0 where
   pub is_lost : ℕ → Bool
   pub lacks : ℕ → File → Bool
   pub brought : ℕ → File → List StoredCopy
-  pub shown : ℕ → File → ℕ → List StoredCopy
+  pub offered : ℕ → File → ℕ → List StoredCopy
   pub session : ℕ → Session
 
 abbrev pub questions : Trace → State
-questions t = record { up = up t; volumes = volumes t; sent = sent t; is_lost = is_lost t; lacks = lacks t; brought = brought t; shown = shown t; session = session t }
+questions t = record { up = up t; volumes = volumes t; sent = sent t; is_lost = is_lost t; lacks = lacks t; brought = brought t; offered = offered t; session = session t }
 
 -- the answers after one more entry
 abbrev pub changed : Entry → State → State
@@ -278,7 +278,7 @@ changed e state = record {
   is_lost = lost_by e.turn state.is_lost;
   lacks = lacks_by e.turn state.lacks;
   brought = brought_by (serves state.up state.lacks) e.turn e.message state.brought;
-  shown = shown_by e.turn (lacks_by e.turn state.lacks) (brought_by (serves state.up state.lacks) e.turn e.message state.brought) state.shown;
+  offered = offered_by e.turn (lacks_by e.turn state.lacks) (brought_by (serves state.up state.lacks) e.turn e.message state.brought) state.offered;
   session = λ k. session_by state.volumes k (deed k e) (state.session k);
 }
 
