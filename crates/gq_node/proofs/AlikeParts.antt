@@ -1,6 +1,6 @@
 -- Parts that are alike do the same.
 use Rattle.std.proofs.Common.{◌≡◌, ◌∙◌, ℕ, Bool, true, false, List, [], ◌∷◌, ◌++◌, refl, sym, ap, subst, Option, Some, None, inl, inr}
-use Rattle.std.specs.Prelude.{option_map, is_some, ◌&&◌, ◌==◌, max, if◌then◌else◌}
+use Rattle.std.specs.Prelude.{option_map, is_some, not, ◌&&◌, ◌==◌, max, if◌then◌else◌}
 use Rattle.std.proofs.lemmas.Bool.{cases_Bool}
 use Rattle.gq_grid.specs.Grid.{Servers}
 use Rattle.gq_tag.specs.declared.StoredCopy.{StoredCopy}
@@ -14,7 +14,7 @@ use Rattle.gq_model.specs.declared.events.Line.{Line}
 use Rattle.gq_model.specs.declared.events.Line.TheVariants.{Write, Read, List as ListFiles, Retry, Abandon}
 use Rattle.gq_model.specs.declared.events.Refusal.TheVariants.{NoSession, Idle}
 use Rattle.gq_model.specs.Told.{Refused, Replied}
-use Rattle.gq_model.specs.Trace.{State, Session, Deed, Elsewhere, Begins, Hears, Moves, Ends, Leaps, changed, deed, operation_with, session_by, stored_by, held}
+use Rattle.gq_model.specs.Trace.{State, Session, Deed, Elsewhere, Begins, Hears, Moves, Ends, Leaps, changed, deed, operation_with, session_by, serves, stored_by, held}
 use Rattle.gq_model.specs.Lone.{Step, is_refusal, asked_step, hear_step, reply_to, quiet}
 use Rattle.gq_cluster.specs.Facts.{OwnFact, Begun, Numbered, Kept, Reserved, none_reserved, reserving, with_reserved, replaced_in}
 use Rattle.gq_cluster.specs.Cluster.{Setting, Part, Act, Asks, Comes, part_of, node_of, step_of, state_after, fact_in, fact_of, part_after, act_entry, aim_of, session_named, IsOfSession, copy_in, state_of}
@@ -47,10 +47,10 @@ deed_alike volumes k (Leaps op number) a b None is alike = idle_alike _ _ (ap (�
 
 -- a part of which only this is known
 abbrev just : Setting → Servers → (op : ℕ) → Option Task → (floor : ℕ) → State
-just s aim op current floor = state_of s.volumes aim (record { brought = λ file. []; session = λ j. record { op = op; current = current; round = 1; heard = []; collected = []; floor = floor }; reserved = λ j. none_reserved })
+just s aim op current floor = state_of s.volumes aim (record { brought = λ file. []; lacks = λ file. false; session = λ j. record { op = op; current = current; round = 1; heard = []; collected = []; floor = floor }; reserved = λ j. none_reserved })
 
 abbrev only : Setting → Servers → Session → State
-only s aim session = state_of s.volumes aim (record { brought = λ file. []; session = λ j. session; reserved = λ j. none_reserved })
+only s aim session = state_of s.volumes aim (record { brought = λ file. []; lacks = λ file. false; session = λ j. session; reserved = λ j. none_reserved })
 
 retry_idle : (s : Setting) (aim : Servers) (p : Part) (k : ℕ) → (p.session k).current ≡ None → step_of s p (Asks (Retry k) aim) ≡ (if is_in 1 s.row.sessions k then quiet (Refused Idle) else quiet (Refused NoSession))
 retry_idle s aim p k idle = elim (cases_Bool (is_in 1 s.row.sessions k)) [
@@ -80,11 +80,15 @@ heard_alike s p q m aim goes alike =
     let law : (x : Part) → step_of s x (Comes m aim) ≡ hear_step s.grid (just s aim 0 None 0) m (option_map (operation_with m.session (x.session m.session)) (x.session m.session).current) = λ x. rw goes refl in
     law p ∙ ap (hear_step s.grid (just s aim 0 None 0) m) (operation_alike m.session (p.session m.session) (q.session m.session) (q.session m.session).current refl alike) ∙ sym (law q)
 
-served_alike : (s : Setting) (p q : Part) (m : OwnMessage) (aim : Servers) → to_server m.body ≡ true → copy_in p m.file ≡ copy_in q m.file → step_of s p (Comes m aim) ≡ step_of s q (Comes m aim)
-served_alike s p q m aim goes same =
-    let S : StoredCopy → Step = λ copy. record { told = Replied 0; new = reply_to copy m ∷ [] } in
-    let law : (x : Part) → step_of s x (Comes m aim) ≡ S (copy_in x m.file) = λ x. rw goes refl in
-    law p ∙ ap S same ∙ sym (law q)
+served_alike : (s : Setting) (p q : Part) (m : OwnMessage) (aim : Servers) → to_server m.body ≡ true → p.lacks m.file ≡ q.lacks m.file → copy_in p m.file ≡ copy_in q m.file → step_of s p (Comes m aim) ≡ step_of s q (Comes m aim)
+served_alike s p q m aim goes lacks same = by (q.lacks m.file) refl
+  where
+    by : (b : Bool) → q.lacks m.file ≡ b → step_of s p (Comes m aim) ≡ step_of s q (Comes m aim)
+    by true is = let also : p.lacks m.file ≡ true = lacks ∙ is in rw (goes, is, also) refl
+    by false is =
+        let S : StoredCopy → Step = λ copy. record { told = Replied 0; new = reply_to copy m ∷ [] } in
+        let law : (x : Part) → x.lacks m.file ≡ false → step_of s x (Comes m aim) ≡ S (copy_in x m.file) = λ x has. rw (goes, has) refl in
+        law p (lacks ∙ is) ∙ ap S same ∙ sym (law q is)
 
 -- the act can be one: a line is one of a session
 abbrev pub IsAct : Act → Type 0
@@ -94,16 +98,16 @@ IsAct (Comes m aim) = Unit {0}
 pub step_alike : (s : Setting) (n : ℕ) (p q : Part) (act : Act) → IsAct act → node_of s.home act ≡ n → PartAlike s.home n p q → step_of s p act ≡ step_of s q act
 step_alike s n p q (Asks line aim) its here alike = asked_alike s aim p q line its (alike.sessions (session_named line) here)
 step_alike s n p q (Comes m aim) its here alike = elim (cases_Bool (to_server m.body)) [
-  | inl goes ↦ (served_alike s p q m aim goes (alike.copies m.file))
+  | inl goes ↦ (served_alike s p q m aim goes (alike.lacks m.file) (alike.copies m.file))
   | inr goes ↦ (heard_alike s p q m aim goes (alike.sessions m.session (rw goes at here)))
 ]
 
 -- ---- what is left
 
-brought_alike : (serving : ℕ → File → Bool) (message : Option OwnMessage) (p q : Part) (n : ℕ) (file : File) → copy_in p file ≡ copy_in q file →
-    greatest (first_copy ∷ stored_by serving message (λ server. p.brought) n file) ≡ greatest (first_copy ∷ stored_by serving message (λ server. q.brought) n file)
-brought_alike serving None p q n file same = same
-brought_alike serving (Some m) p q n file same = by m.session m.op m.round m.server m.file m.body
+brought_alike : (here there : ℕ → File → Bool) (message : Option OwnMessage) (p q : Part) (n : ℕ) (file : File) → here n file ≡ there n file → copy_in p file ≡ copy_in q file →
+    greatest (first_copy ∷ stored_by here message (λ server. p.brought) n file) ≡ greatest (first_copy ∷ stored_by there message (λ server. q.brought) n file)
+brought_alike here there None p q n file serving same = same
+brought_alike here there (Some m) p q n file serving same = by m.session m.op m.round m.server m.file m.body
   where
     stored : (b : Bool) (copy : StoredCopy) → greatest (first_copy ∷ (if b then p.brought file ++ copy ∷ [] else p.brought file)) ≡ greatest (first_copy ∷ (if b then q.brought file ++ copy ∷ [] else q.brought file))
     stored true copy = greatest-push first_copy copy (p.brought file) ∙ ap (λ c. newer_of c copy) same ∙ sym (greatest-push first_copy copy (q.brought file))
@@ -111,16 +115,23 @@ brought_alike serving (Some m) p q n file same = by m.session m.op m.round m.ser
 
     by : (session op round server : ℕ) (f : File) (body : Body) →
         let m : OwnMessage = record { session = session; op = op; round = round; server = server; file = f; body = body } in
-        greatest (first_copy ∷ stored_by serving (Some m) (λ server. p.brought) n file) ≡ greatest (first_copy ∷ stored_by serving (Some m) (λ server. q.brought) n file)
+        greatest (first_copy ∷ stored_by here (Some m) (λ server. p.brought) n file) ≡ greatest (first_copy ∷ stored_by there (Some m) (λ server. q.brought) n file)
     by session op round server f Ask = same
     by session op round server f (Copy copy) = same
-    by session op round server f (Store copy) = stored ((server == n) && is_file f file && serving n file) copy
+    by session op round server f (Store copy) =
+        ap (λ z. greatest (first_copy ∷ (if (server == n) && is_file f file && z then p.brought file ++ copy ∷ [] else p.brought file))) serving ∙ stored ((server == n) && is_file f file && there n file) copy
     by session op round server f Stored = same
 
-held_alike : (s : Setting) (n : ℕ) (p q : Part) (act : Act) (step : Step) (file : File) → copy_in p file ≡ copy_in q file →
+held_alike : (s : Setting) (n : ℕ) (p q : Part) (act : Act) (step : Step) (file : File) → p.lacks file ≡ q.lacks file → copy_in p file ≡ copy_in q file →
     held (changed (act_entry act step) (state_of s.volumes (aim_of act) p)) n file ≡ held (changed (act_entry act step) (state_of s.volumes (aim_of act) q)) n file
-held_alike s n p q (Asks line aim) step file same = same
-held_alike s n p q (Comes m aim) step file same = brought_alike (λ server f. aim_of (Comes m aim) server) (Some m) p q n file same
+held_alike s n p q (Asks line aim) step file lacks same = same
+held_alike s n p q (Comes m aim) step file lacks same =
+    brought_alike (serves (aim_of (Comes m aim)) (λ server. p.lacks)) (serves (aim_of (Comes m aim)) (λ server. q.lacks)) (Some m) p q n file (λ i. not (lacks i) && aim_of (Comes m aim) n) same
+
+-- an act takes no file from its server, and gives it none back
+lacks_still : (s : Setting) (n : ℕ) (p : Part) (act : Act) (step : Step) (file : File) → (changed (act_entry act step) (state_of s.volumes (aim_of act) p)).lacks n file ≡ p.lacks file
+lacks_still s n p (Asks line aim) step file = refl
+lacks_still s n p (Comes m aim) step file = refl
 
 -- what is reserved for session j behind the fact
 reserved_alike : (fact : Option OwnFact) (a b : ℕ → Reserved) (j : ℕ) → a j ≡ b j → with_reserved fact a j ≡ with_reserved fact b j
@@ -143,10 +154,10 @@ fact_alike s n p q (Asks line aim) here same alike = told_fact_alike s n p q (As
 fact_alike s n p q (Comes m aim) here same alike = by (to_server m.body) refl
   where
     fact : Part → Bool → Option OwnFact
-    fact x b = if b then replaced_in (copy_in x m.file) m.file m.body else fact_in s x (Comes m aim) m.session
+    fact x b = if b then (if x.lacks m.file then None else replaced_in (copy_in x m.file) m.file m.body) else fact_in s x (Comes m aim) m.session
 
     by : (b : Bool) → to_server m.body ≡ b → fact p (to_server m.body) ≡ fact q (to_server m.body)
-    by true goes = ap (fact p) goes ∙ ap (λ copy. replaced_in copy m.file m.body) (alike.copies m.file) ∙ sym (ap (fact q) goes)
+    by true goes = ap (fact p) goes ∙ (λ i. if alike.lacks m.file i then None else replaced_in (alike.copies m.file i) m.file m.body) ∙ sym (ap (fact q) goes)
     by false goes = ap (fact p) goes ∙ told_fact_alike s n p q (Comes m aim) m.session (rw goes at here) same alike ∙ sym (ap (fact q) goes)
 
 -- the part after the act, where this is told and sent by it, and this is its fact
@@ -170,7 +181,8 @@ part_alike s n p q act its here alike = subst (λ (x : Part). PartAlike s.home n
 
     accepted : PartAlike s.home n (part_of n (with_reserved fact p.reserved) (changed (act_entry act step) (state_of s.volumes (aim_of act) p))) (part_of n (with_reserved fact q.reserved) (changed (act_entry act step) (state_of s.volumes (aim_of act) q)))
     accepted = record {
-      copies = λ file. held_alike s n p q act step file (alike.copies file);
+      copies = λ file. held_alike s n p q act step file (alike.lacks file) (alike.copies file);
+      lacks = λ file. lacks_still s n p act step file ∙ alike.lacks file ∙ sym (lacks_still s n q act step file);
       reserved = λ k at. reserved_alike fact p.reserved q.reserved k (alike.reserved k at);
       sessions = λ k at. deed_alike s.volumes k (deed k (act_entry act step)) (p.session k) (q.session k) (q.session k).current refl (alike.sessions k at);
     }

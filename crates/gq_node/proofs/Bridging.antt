@@ -50,9 +50,9 @@ home_with site local k r inside here home j some = elim (cases_Bool (k == j)) [
 -- a session goes on, and all else stays
 goes_part : (local : Local) (k op n : ℕ) (known : Bool) (up : Servers) (e : Entry) (fact : Option OwnFact) → fact ≡ session_fact local k (state_of up local) e →
     ((j : ℕ) → (k == j) ≡ false → (changed e (state_of up local)).session j ≡ (local.residents j).session) →
-    ((file : File) → (changed e (state_of up local)).brought n file ≡ local.brought file) →
+    ((file : File) → (changed e (state_of up local)).brought n file ≡ local.brought file) → ((file : File) → (changed e (state_of up local)).lacks n file ≡ false) →
     part_in (goes_on local k op known (state_of up local) e).local ≡ part_of n (with_reserved fact (part_in local).reserved) (changed e (state_of up local))
-goes_part local k op n known up e fact its others copies = λ i. record { brought = λ file. sym (copies file) i; session = λ j. by j (k == j) refl i; reserved = λ j. reserved j i }
+goes_part local k op n known up e fact its others copies whole = λ i. record { brought = λ file. sym (copies file) i; lacks = λ file. sym (whole file) i; session = λ j. by j (k == j) refl i; reserved = λ j. reserved j i }
   where
     by : (j : ℕ) (b : Bool) → (k == j) ≡ b → (part_in (goes_on local k op known (state_of up local) e).local).session j ≡ (changed e (state_of up local)).session j
     by j true is = rw is (ap (λ x. (changed e (state_of up local)).session x) (eqb-true k j is))
@@ -117,7 +117,7 @@ asked_act op line site local l home inside here = elim (cases_Bool (is_refusal s
       here = here;
       part = ap (λ (d : Doing). part_in d.local) (said_so is)
           ∙ goes_part local k op site.here false aim (act_entry act step) (fact_of s (part_in local) act) refl
-          (λ j other. ap (λ d. session_by' j d) (l.others aim step j other)) (l.quiet aim local aim step site.here)
+          (λ j other. ap (λ d. session_by' j d) (l.others aim step j other)) (l.quiet aim local aim step site.here) (λ file. refl)
           ∙ sym (accepted s site.here (part_in local) act is);
       letters = ap (λ (d : Doing). d.letters) (said_so is);
       told = ap (λ (d : Doing). d.answer) (said_so is);
@@ -224,7 +224,7 @@ served_act : (site : Site) (local : Local) (m : OwnMessage) (tell : Told → Opt
 served_act site local m tell goes here home = record {
   does = record {
     here = (rw goes refl) ∙ here;
-    part = (λ i. record { brought = (changed (brings m step) state).brought site.here; session = λ k. sym (sessions k) i; reserved = λ k. sym (reserved k) i })
+    part = (λ i. record { brought = (changed (brings m step) state).brought site.here; lacks = λ file. false; session = λ k. sym (sessions k) i; reserved = λ k. sym (reserved k) i })
         ∙ sym (ap (λ (z : Step). part_of site.here (with_reserved (fact_of s (part_in local) act) (part_in local).reserved) (changed (act_entry act z) state)) law_step) ∙ sym law_part;
     letters = ap (λ (z : Step). z.new) (sym law_step);
     told = ap (λ (z : Step). answer_of m.session (local.residents m.session).session.op (local.residents m.session).session.op z.told) (sym law_step);
@@ -293,7 +293,7 @@ heard_act : (site : Site) (local : Local) (m : OwnMessage) → to_server m.body 
 heard_act site local m goes inside here home = record {
   does = record {
     here = (rw goes refl) ∙ here;
-    part = goes_part local k last site.here known aim (brings m step) (fact_of s (part_in local) act) its_fact (λ j other. rw (goes, other) refl) (λ file. reply_brings (λ n f. aim n) m.session m.op m.round m.server m.file m.body state.brought site.here file goes)
+    part = goes_part local k last site.here known aim (brings m step) (fact_of s (part_in local) act) its_fact (λ j other. rw (goes, other) refl) (λ file. reply_brings (λ n f. aim n) m.session m.op m.round m.server m.file m.body state.brought site.here file goes) (λ file. refl)
         ∙ sym (ap (λ (z : Step). part_of site.here (with_reserved (fact_of s (part_in local) act) (part_in local).reserved) (changed (act_entry act z) state)) law_step) ∙ sym law_part;
     letters = ap (λ (z : Step). z.new) (sym law_step);
     told = ap (λ (z : Step). answer_of k last last z.told) (sym law_step);
@@ -390,7 +390,7 @@ all_questions_tell site local home = record { does = record { part = refl; lette
 
 -- the resident that a tick leaves has the same session, and the same numbers are reserved
 pub same_sessions : (local : Local) (k : ℕ) (r : Resident) → r.session ≡ (local.residents k).session → r.reserved ≡ (local.residents k).reserved → part_in (with_resident local k r) ≡ part_in local
-same_sessions local k r same numbers = λ i. record { brought = local.brought; session = λ j. by j (k == j) refl i; reserved = λ j. reserved j (k == j) refl i }
+same_sessions local k r same numbers = λ i. record { brought = local.brought; lacks = λ file. false; session = λ j. by j (k == j) refl i; reserved = λ j. reserved j (k == j) refl i }
   where
     by : (j : ℕ) (b : Bool) → (k == j) ≡ b → (part_in (with_resident local k r)).session j ≡ (local.residents j).session
     by j true is = rw is (same ∙ ap (λ x. (local.residents x).session) (eqb-true k j is))
@@ -455,7 +455,7 @@ unless_none k reserved floor (Some word) step none = refl
 retry_stays : (s : Setting) (n : ℕ) (part : Part) (k : ℕ) (aim : Servers) → part_after s n part (Asks (Retry k) aim) ≡ part
 retry_stays s n part k aim = elim (cases_Bool (is_refusal (step_of s part (Asks (Retry k) aim)).told)) [
   | inl is ↦ (refused s n part (Asks (Retry k) aim) is)
-  | inr is ↦ (accepted s n part (Asks (Retry k) aim) is ∙ ap (λ (fact : Option OwnFact). record { brought = part.brought; session = part.session; reserved = with_reserved fact part.reserved }) none)
+  | inr is ↦ (accepted s n part (Asks (Retry k) aim) is ∙ ap (λ (fact : Option OwnFact). record { brought = part.brought; lacks = part.lacks; session = part.session; reserved = with_reserved fact part.reserved }) none)
 ]
   where
     state : State

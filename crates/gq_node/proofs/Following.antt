@@ -315,6 +315,7 @@ start_follows s nodes c n sound alike = record {
     here : PartAlike s.home n (part_in start) (new.part n)
     here = record {
       copies = λ file. ap (λ (z : KeptPart). z.copy file) (sound.journal n) ∙ (alike.parts n).copies file ∙ copies n file;
+      lacks = λ file. (alike.parts n).lacks file ∙ sym (gives.lacks n file);
       reserved = λ k at. reserved k at ∙ sym (gives.reserved n k);
       sessions = λ k at. session k at (is_in 1 s.row.sessions k) refl;
     }
@@ -322,6 +323,7 @@ start_follows s nodes c n sound alike = record {
     there : (m : ℕ) → m ≢ n → PartAlike s.home m (part_in (nodes.local m)) (new.part m)
     there m away = record {
       copies = λ file. (alike.parts m).copies file ∙ copies m file;
+      lacks = λ file. (alike.parts m).lacks file ∙ sym (gives.lacks m file);
       reserved = λ k at. (alike.parts m).reserved k at ∙ sym (gives.reserved m k);
       sessions = λ k at.
           let P : ℕ → Type 0 = λ x. (new.part x).session k ≡ (c.part x).session k in
@@ -386,7 +388,7 @@ new_sound s = record {
 
 new_alike : (s : Setting) → IsAlike s (new_nodes s) new_cluster
 new_alike s = record {
-  parts = λ n. record { copies = λ file. refl; reserved = λ k at. refl; sessions = λ k at. session_refl _ };
+  parts = λ n. record { copies = λ file. refl; lacks = λ file. refl; reserved = λ k at. refl; sessions = λ k at. session_refl _ };
   written = refl;
 }
 

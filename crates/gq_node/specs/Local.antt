@@ -52,9 +52,9 @@ new_resident grid server = record { session = new_session; reserved = none_reser
 abbrev pub new_local : Grid → ℕ → List VolumeRow → Local
 new_local grid server volumes = record { volumes = volumes; brought = λ file. []; residents = λ k. new_resident grid server }
 
--- what the law of clusters calls the node's part
+-- what the law of clusters calls the node's part; it lacks no file
 abbrev pub part_in : Local → Part
-part_in local = record { brought = local.brought; session = λ k. (local.residents k).session; reserved = λ k. (local.residents k).reserved }
+part_in local = record { brought = local.brought; lacks = λ file. false; session = λ k. (local.residents k).session; reserved = λ k. (local.residents k).reserved }
 
 -- the answers to the model's questions, where these servers are up
 abbrev pub state_of : Servers → Local → State

@@ -128,9 +128,10 @@ pub record SessionAlike (a b : Session) : Type 0 where
   pub current : a.current ≡ b.current
   pub going : is_some b.current ≡ true → a ≡ b
 
--- the two parts of node n have the same copies, and are alike in the sessions whose home it is, for which the same numbers are reserved
+-- the two parts of node n have the same copies, and lack the same files, and are alike in the sessions whose home it is, for which the same numbers are reserved
 pub record PartAlike (home : ℕ → ℕ) (n : ℕ) (p q : Part) : Type 0 where
   pub copies : (file : File) → copy_in p file ≡ copy_in q file
+  pub lacks : (file : File) → p.lacks file ≡ q.lacks file
   pub reserved : (k : ℕ) → home k ≡ n → p.reserved k ≡ q.reserved k
   pub sessions : (k : ℕ) → home k ≡ n → SessionAlike (p.session k) (q.session k)
 
