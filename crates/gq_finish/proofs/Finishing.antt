@@ -25,7 +25,7 @@ use Rattle.gq_model.specs.declared.events.Line.TheVariants.{Deliver, Retry}
 use Rattle.gq_model.specs.declared.events.Refusal.{Refusal}
 use Rattle.gq_model.specs.declared.events.Refusal.TheVariants.{Spent, NoSession, Idle, NoQuorum, NoMessage}
 use Rattle.gq_model.specs.Told.{Told, Replied, IsDown, Stale, Noted, Round, Done, Resent, Refused}
-use Rattle.gq_model.specs.Trace.{Own, Trace, Past, State, Session, Deed, Elsewhere, Hears, Moves, heard_deed, delivered_deed, session, session_by, volumes, questions, operation, operation_with, own_message_at}
+use Rattle.gq_model.specs.Trace.{Own, Trace, Past, State, Session, Deed, Elsewhere, Hears, Moves, heard_deed, delivered_deed, session, session_by, volumes, up, lacks, serves, questions, operation, operation_with, own_message_at}
 use Rattle.gq_model.specs.Lone.{quiet, after, said, told_from, is_refusal, first_cause, session_causes, retry_step, asked_step, heard_step, deliver_step, line_step, unless}
 use Rattle.gq_model.specs.Events.{past_at, answer_to}
 use Rattle.gq_laws.specs.Tenants.{answers_from}
@@ -177,9 +177,9 @@ owned t k o outcome has its =
 
 delivered_done : (grid : Grid) (t : Trace) (message : Option OwnMessage) (outcome : Outcome) → (deliver_step grid (questions t) message).told ≡ Done outcome → Owns t outcome
 delivered_done grid t None outcome done = let bad : Refused _ ≡ Done outcome = done in absurd (cc)
-delivered_done grid t (Some m) outcome done = by (to_server m.body) refl ((questions t).up m.server) refl (operation (questions t) m.session) refl
+delivered_done grid t (Some m) outcome done = by (to_server m.body) refl (serves (up t) (lacks t) m.server m.file) refl (operation (questions t) m.session) refl
   where
-    by : (b : Bool) → to_server m.body ≡ b → (alive : Bool) → (questions t).up m.server ≡ alive → (o : Option Operation) → operation (questions t) m.session ≡ o → Owns t outcome
+    by : (b : Bool) → to_server m.body ≡ b → (alive : Bool) → serves (up t) (lacks t) m.server m.file ≡ alive → (o : Option Operation) → operation (questions t) m.session ≡ o → Owns t outcome
     by true goes true alive o is = absurd (let bad : Replied _ ≡ Done outcome = rw (goes, alive) at done in cc)
     by true goes false alive o is = absurd (let bad : IsDown ≡ Done outcome = rw (goes, alive) at done in cc)
     by false goes alive is_up None is = absurd (let bad : Stale ≡ Done outcome = rw (goes, is) at done in cc)
@@ -399,9 +399,9 @@ heard_not_idle first (HeardDone outcome) is = let bad : Done outcome ≡ Refused
 
 deliver_not_idle : (grid : Grid) (state : State) (message : Option OwnMessage) → (deliver_step grid state message).told ≡ Refused Idle → ⊥
 deliver_not_idle grid state None is = let bad : Refused NoMessage ≡ Refused Idle = is in cc
-deliver_not_idle grid state (Some m) is = by (to_server m.body) refl (state.up m.server) refl (operation state m.session) refl
+deliver_not_idle grid state (Some m) is = by (to_server m.body) refl (serves state.up state.lacks m.server m.file) refl (operation state m.session) refl
   where
-    by : (b : Bool) → to_server m.body ≡ b → (alive : Bool) → state.up m.server ≡ alive → (o : Option Operation) → operation state m.session ≡ o → ⊥
+    by : (b : Bool) → to_server m.body ≡ b → (alive : Bool) → serves state.up state.lacks m.server m.file ≡ alive → (o : Option Operation) → operation state m.session ≡ o → ⊥
     by true goes true alive o has = let bad : Replied _ ≡ Refused Idle = rw (goes, alive) at is in cc
     by true goes false alive o has = let bad : IsDown ≡ Refused Idle = rw (goes, alive) at is in cc
     by false goes alive is_up None has = let bad : Stale ≡ Refused Idle = rw (goes, has) at is in cc

@@ -17,8 +17,8 @@ use Rattle.gq_model.specs.declared.events.Line.TheVariants.{Bad, Quorum, NewVolu
 use Rattle.gq_model.specs.declared.events.Refusal.{Refusal}
 use Rattle.gq_model.specs.declared.events.Refusal.TheVariants.{Spent, NoSession, Bad as BadLine}
 use Rattle.gq_model.specs.Told.{Told, IsDown, Stale, Noted, Done, Abandoned, Refused, StrayBad}
-use Rattle.gq_model.specs.Trace.{Turn, Own, Serving, Leaping, Trace, State, Past, start, sent, questions, operation, own_message_at, account_of, task_of}
-use Rattle.gq_model.specs.Lone.{Step, quiet, Cause, idle, no_quorum, first_cause, session_causes, session_step, asked_step, first_operation, begin_step, serve_step, heard_step, hear_step, deliver_step, retry_step, unless, choice_told, open_told, lose_told, line_step, server_told, leap_told, said, after, trace_after, told_from, is_refusal}
+use Rattle.gq_model.specs.Trace.{Turn, Own, Serving, Leaping, Losing, Returning, Trace, State, Past, start, sent, serves, questions, operation, own_message_at, account_of, task_of}
+use Rattle.gq_model.specs.Lone.{Step, quiet, Cause, idle, no_quorum, first_cause, session_causes, session_step, asked_step, first_operation, begin_step, serve_step, heard_step, hear_step, deliver_step, retry_step, unless, choice_told, open_told, lose_told, line_step, server_told, leap_told, loss_told, return_told, said, after, trace_after, told_from, is_refusal}
 use Rattle.gq_laws.proofs.Acts.{message_sent}
 use Rattle.gq_world.proofs.Hearing.{few_messages, length-rising, hear_cases}
 
@@ -79,9 +79,9 @@ hear_light grid state m None small = quiet_light Stale refl
 hear_light grid state m (Some o) small = heard_light grid (length state.sent) (hear grid state.up o m) small (hear_few grid state.up o m)
 
 serve_light : (state : State) (m : OwnMessage) → Light (serve_step state m)
-serve_light state m = by (state.up m.server) refl
+serve_light state m = by (serves state.up state.lacks m.server m.file) refl
   where
-    by : (b : Bool) → state.up m.server ≡ b → Light (serve_step state m)
+    by : (b : Bool) → serves state.up state.lacks m.server m.file ≡ b → Light (serve_step state m)
     by true is = rw is (record { few = omega arith; own = refl })
     by false is = rw is (quiet_light IsDown refl)
 
@@ -156,6 +156,12 @@ few_after grid row p (Serving line) small few =
     omega (arith, grown, few)
 few_after grid row p (Leaping k op number) small few =
     let grown = sent_after p.trace (Leaping k op number) (quiet (leap_told (questions p.trace) k)) in
+    omega (arith, grown, few)
+few_after grid row p (Losing s volumes) small few =
+    let grown = sent_after p.trace (Losing s volumes) (quiet (loss_told (questions p.trace) (Losing s volumes))) in
+    omega (arith, grown, few)
+few_after grid row p (Returning s f mate copy) small few =
+    let grown = sent_after p.trace (Returning s f mate copy) (quiet (return_told grid (questions p.trace) s f mate copy)) in
     omega (arith, grown, few)
 few_after grid row p (Own line) small few = by (nat_le row.steps (min row.steps p.lines)) refl
   where

@@ -7,7 +7,7 @@ use Rattle.gq_desk.specs.CheckedPlan.{CheckedPlan}
 use Rattle.gq_desk.specs.declared.plans.TenantRow.{TenantRow}
 use Rattle.gq_model.specs.declared.events.Event.{Event}
 use Rattle.gq_model.specs.Told.{Told}
-use Rattle.gq_model.specs.Trace.{Turn, Own, Serving, Leaping}
+use Rattle.gq_model.specs.Trace.{Turn, Own, Serving, Leaping, Losing, Returning}
 use Rattle.gq_model.specs.Lone.{lone}
 use Rattle.gq_laws.specs.Tenants.{answers_from}
 use Rattle.gq_script.specs.declared.script.TheConstants.{MOST_INPUT}
@@ -59,6 +59,8 @@ abbrev pub own_text : Grid → Word → List Turn → List Told → List (List �
 own_text grid name (Own line ∷ turns) (told ∷ more) = told_text grid name told ∷ own_text grid name turns more
 own_text grid name (Serving line ∷ turns) (told ∷ more) = own_text grid name turns more
 own_text grid name (Leaping k op number ∷ turns) (told ∷ more) = own_text grid name turns more
+own_text grid name (Losing s volumes ∷ turns) (told ∷ more) = own_text grid name turns more
+own_text grid name (Returning s f mate copy ∷ turns) (told ∷ more) = own_text grid name turns more
 own_text grid name _ _ = []
 
 -- what the tenant is told in its run by itself over the lines

@@ -33,6 +33,7 @@ taken_own w t known within agrees = record {
   messages = agrees.messages;
   accounts = agrees.accounts;
   copies = agrees.copies;
+  whole = agrees.whole;
   seats = agrees.seats;
 }
 
@@ -46,6 +47,7 @@ taken_other w t u known other agrees = record {
   messages = agrees.messages;
   accounts = agrees.accounts;
   copies = agrees.copies;
+  whole = agrees.whole;
   seats = agrees.seats;
 }
 

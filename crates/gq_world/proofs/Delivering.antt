@@ -1,5 +1,5 @@
 -- A message comes to its session.
-use Rattle.std.proofs.Common.{◌≡◌, ◌≢◌, ◌∙◌, ℕ, ◌+◌, ◌-◌, ◌<◌, ◌≤◌, false, List, [], ◌∷◌, length, map, refl, sym, ap, subst, Option, Some, None, arith, inl, inr}
+use Rattle.std.proofs.Common.{◌≡◌, ◌≢◌, ◌∙◌, ℕ, ◌+◌, ◌-◌, ◌<◌, ◌≤◌, Bool, false, List, [], ◌∷◌, length, map, refl, sym, ap, subst, Option, Some, None, arith, inl, inr}
 use Rattle.std.specs.Prelude.{slice_set, option_map}
 use Rattle.std.proofs.lemmas.Bool.{cases_eq, ne_eqb, eq-eqb}
 use Rattle.std.proofs.lemmas.List.{get_or-set_same, get_or-set_other, length-map}
@@ -20,7 +20,7 @@ use Rattle.gq_phase.specs.Phase.{Task, Reply, Operation, Heard as Saying, HeardS
 use Rattle.gq_phase.specs.Standing.{heard_as, messages_of}
 use Rattle.gq_model.specs.declared.events.Line.TheVariants.{Deliver}
 use Rattle.gq_model.specs.Told.{Told}
-use Rattle.gq_model.specs.Trace.{Own, Entry, State, Session, Known, changed, own_message_at, held, operation, operation_with, session_by, heard_deed, brought_by, floor_by}
+use Rattle.gq_model.specs.Trace.{Own, Entry, State, Session, Known, changed, own_message_at, held, operation, operation_with, session_by, heard_deed, serves, stored_by, floor_by}
 use Rattle.gq_model.specs.Lone.{Step, heard_step, hear_step, line_step}
 use Rattle.gq_phase.specs.Laws.{SameQuorums}
 use Rattle.gq_world.specs.declared.sessions.Seat.{Seat}
@@ -112,16 +112,16 @@ other_session state n first k message s goes other = rw (goes, ne_eqb message.se
 
 -- ---- the servers' copies
 
-pub same_brought : (up : Servers) (session op round server : ℕ) (file : File) (body : Body) (before : ℕ → File → List StoredCopy) (s : ℕ) (f : File) → to_server body ≡ false →
-    brought_by up (Some (record { session = session; op = op; round = round; server = server; file = file; body = body })) before s f ≡ before s f
-same_brought up session op round server file Ask before s f goes = absurd (cc)
-same_brought up session op round server file (Store copy) before s f goes = absurd (cc)
-same_brought up session op round server file (Copy copy) before s f goes = refl
-same_brought up session op round server file Stored before s f goes = refl
+pub same_brought : (takes : ℕ → File → Bool) (session op round server : ℕ) (file : File) (body : Body) (before : ℕ → File → List StoredCopy) (s : ℕ) (f : File) → to_server body ≡ false →
+    stored_by takes (Some (record { session = session; op = op; round = round; server = server; file = file; body = body })) before s f ≡ before s f
+same_brought takes session op round server file Ask before s f goes = absurd (cc)
+same_brought takes session op round server file (Store copy) before s f goes = absurd (cc)
+same_brought takes session op round server file (Copy copy) before s f goes = refl
+same_brought takes session op round server file Stored before s f goes = refl
 
 same_held : (state : State) (n first : ℕ) (message : OwnMessage) (s : Saying) (server : ℕ) (file : File) → to_server message.body ≡ false → held (changed (delivery n message first s) state) server file ≡ held state server file
 same_held state n first message s server file goes =
-    ap (λ copies. greatest (first_copy ∷ copies)) (same_brought state.up message.session message.op message.round message.server message.file message.body state.brought server file goes)
+    ap (λ copies. greatest (first_copy ∷ copies)) (same_brought (serves state.up state.lacks) message.session message.op message.round message.server message.file message.body state.brought server file goes)
 
 -- ---- the session's part of the tables
 
@@ -216,6 +216,7 @@ heard_own w t n m seats heard known message s h agrees is said heard_is =
       messages = λ k. ap (λ lanes. message_at (lane_at lanes t) k) lanes_is ∙ sent_messages w.lanes t state new h.lanes agrees.sent agrees.messages agrees.lost k;
       accounts = agrees.accounts;
       copies = λ server within file. agrees.copies server within file ∙ sym (same_held state n (length state.sent) message s server file goes);
+      whole = agrees.whole;
       seats = λ place within.
           let first = h.first in
           let last = h.last in
@@ -256,6 +257,7 @@ heard_other w t u seats heard known other agrees =
       messages = λ k. ap (λ l. message_at l k) lane ∙ agrees.messages k;
       accounts = agrees.accounts;
       copies = agrees.copies;
+      whole = agrees.whole;
       seats = λ place within. subst (λ all. SeatAgrees w.plan.grid u (place + 1) (seat_in all place) known.state) (sym there) (agrees.seats place within);
     }
 

@@ -11,7 +11,7 @@ use Rattle.gq_tag.specs.Tag.{File, OwnMessage, to_server}
 use Rattle.gq_desk.specs.declared.plans.TenantRow.{TenantRow}
 use Rattle.gq_desk.specs.declared.volumes.VolumeRow.{VolumeRow}
 use Rattle.gq_phase.specs.Phase.{Task, Reply, Operation, Heard as Saying, HeardStale, HeardNoted, HeardNext, HeardDone, hear, stored_copy, heard_copies, begun, round_file, round_messages}
-use Rattle.gq_model.specs.Trace.{State, Session, changed, own_message_at, operation, operation_with, session_by, heard_deed, files_of}
+use Rattle.gq_model.specs.Trace.{State, Session, changed, serves, own_message_at, operation, operation_with, session_by, heard_deed, files_of}
 use Rattle.gq_model.specs.Lone.{heard_step}
 use Rattle.gq_world.specs.Bounds.{CopyFits, BodyFits, room, volume_of, TaskFits, OperationFits, SessionFits, MessageFits, IsOfSession, IsBounded}
 use Rattle.gq_world.specs.Seats.{said_by}
@@ -189,7 +189,7 @@ heard_bounded grid row n state number message h there goes =
     acts_in grid row n k state (changed (delivery number message first s) state) (session_by state.volumes k (heard_deed message (heard_step first s).told) session) (heard_step first s).new h (record {
       volumes = refl;
       sent = refl;
-      brought = λ server file. same_brought state.up message.session message.op message.round message.server message.file message.body state.brought server file goes;
+      brought = λ server file. same_brought (serves state.up state.lacks) message.session message.op message.round message.server message.file message.body state.brought server file goes;
       own = own_session state number first message s goes;
       others = λ j other. other_session state number first j message s goes other;
       fits = after_fits grid n state.volumes k first message session.op session.current session.round session.heard session.collected session.floor s (h.sessions k) none says;

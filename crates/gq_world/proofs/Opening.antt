@@ -69,6 +69,7 @@ opened_own w t files blocks stores known h agrees =
       copies = λ s within file.
           let inside : s < length w.stores = let count = h.count in omega arith in
           (h.added s inside).copies (file_of t file) ∙ agrees.copies s within file;
+      whole = agrees.whole;
       seats = λ place within. let before = agrees.seats place within in record { op = before.op; sits = before.sits };
     }
 
@@ -91,6 +92,7 @@ opened_other w t u files blocks stores known other h agrees =
       copies = λ s within file.
           let inside : s < length w.stores = let count = h.count in omega arith in
           (h.added s inside).copies (file_of u file) ∙ agrees.copies s within file;
+      whole = agrees.whole;
       seats = agrees.seats;
     }
 

@@ -1,41 +1,74 @@
--- Lines that leave all answers to questions as they were.
-use Rattle.std.proofs.Common.{◌≡◌, ℕ, ◌++◌, [], Bool, true, false, refl, sym, ap, subst, append-nil}
+-- Lines that leave all answers to questions as they were but one: what the servers hold is shown once more.
+use Rattle.std.proofs.Common.{◌≡◌, ℕ, List, [], ◌∷◌, ◌++◌, Bool, true, false, refl, sym, ap, subst, append-nil}
 use Rattle.std.specs.Prelude.{if◌then◌else◌}
 use Rattle.gq_grid.specs.Grid.{Grid}
+use Rattle.gq_tag.specs.declared.StoredCopy.{StoredCopy}
+use Rattle.gq_tag.specs.Tag.{File}
 use Rattle.gq_desk.specs.CheckedPlan.{row_at}
 use Rattle.gq_desk.specs.declared.plans.TenantRow.{TenantRow}
 use Rattle.gq_model.specs.declared.events.Line.{Line}
 use Rattle.gq_model.specs.declared.events.Line.TheVariants.{Bad, Quorum, Volumes}
 use Rattle.gq_model.specs.declared.events.Refusal.{Refusal}
 use Rattle.gq_model.specs.Told.{Told, Refused}
-use Rattle.gq_model.specs.Trace.{Turn, Own, State, Known, changed}
+use Rattle.gq_model.specs.Trace.{Turn, Own, State, Known, changed, copy_of}
 use Rattle.gq_model.specs.Lone.{Step, quiet, entry_of, line_step, is_refusal}
 use Rattle.gq_world.specs.Tables.{Tables, Agrees}
 use Rattle.gq_world.specs.Machine.{state_after_turn, Acts, TellsLine}
 
--- nothing more was sent
-pub sends_nothing : (state : State) → record state { sent = state.sent ++ [] } ≡ state
-sends_nothing state = ap (λ messages. record state { sent = messages }) (append-nil state.sent)
+-- the copies that servers have shown after a turn that brings them none
+abbrev pub shown_on : State → ℕ → File → ℕ → List StoredCopy
+shown_on state = λ server file mate. state.shown server file mate ++ (if state.lacks mate file then [] else copy_of (state.brought mate file) ∷ [])
 
--- a turn that sends nothing and answers no question otherwise, whatever is told
-pub quiet_after : (state : State) (turn : Turn) (told : Told) → changed (entry_of state turn (quiet told)) state ≡ state → state_after_turn state turn (quiet told) ≡ state
+-- whatever was shown, the tables know nothing of it
+abbrev pub with_shown : State → (ℕ → File → ℕ → List StoredCopy) → State
+with_shown state shown = record state { shown = shown }
+
+pub agrees_shown : (w : Tables) (t : ℕ) (known : Known) (shown : ℕ → File → ℕ → List StoredCopy) → Agrees w t known → Agrees w t (record known { state = with_shown known.state shown })
+agrees_shown w t known shown agrees = record {
+  lines = agrees.lines;
+  up = agrees.up;
+  account = agrees.account;
+  sent = agrees.sent;
+  lost = agrees.lost;
+  messages = agrees.messages;
+  accounts = agrees.accounts;
+  copies = agrees.copies;
+  whole = agrees.whole;
+  seats = λ place within. let seat = agrees.seats place within in record { op = seat.op; sits = seat.sits };
+}
+
+-- nothing more was sent
+sends_nothing : (state : State) → record state { sent = state.sent ++ []; shown = shown_on state } ≡ with_shown state (shown_on state)
+sends_nothing state = ap (λ messages. record state { sent = messages; shown = shown_on state }) (append-nil state.sent)
+
+-- what was shown after a turn that sends nothing and answers no question otherwise, whatever is told
+abbrev shown_after : State → Told → ℕ → File → ℕ → List StoredCopy
+shown_after state told = if is_refusal told then state.shown else shown_on state
+
+quiet_after : (state : State) (turn : Turn) (told : Told) → changed (entry_of state turn (quiet told)) state ≡ with_shown state (shown_on state) → state_after_turn state turn (quiet told) ≡ with_shown state (shown_after state told)
 quiet_after state turn told same = by (is_refusal told)
   where
-    by : (b : Bool) → (if b then state else changed (entry_of state turn (quiet told)) state) ≡ state
+    by : (b : Bool) → (if b then state else changed (entry_of state turn (quiet told)) state) ≡ with_shown state (if b then state.shown else shown_on state)
     by true = refl
     by false = same
 
-pub quorum_after : (grid : Grid) (row : TenantRow) (state : State) → state_after_turn state (Own Quorum) (line_step grid row state Quorum) ≡ state
+-- such a line
+abbrev IsQuiet : Line → Type 0
+IsQuiet line = (grid : Grid) (row : TenantRow) (state : State) → state_after_turn state (Own line) (line_step grid row state line) ≡ with_shown state (shown_after state (line_step grid row state line).told)
+
+quorum_after : IsQuiet Quorum
 quorum_after grid row state = quiet_after state (Own Quorum) (line_step grid row state Quorum).told (sends_nothing state)
 
-pub volumes_after : (grid : Grid) (row : TenantRow) (state : State) → state_after_turn state (Own Volumes) (line_step grid row state Volumes) ≡ state
+volumes_after : IsQuiet Volumes
 volumes_after grid row state = quiet_after state (Own Volumes) (line_step grid row state Volumes).told (sends_nothing state)
 
 -- the tables stay
-pub quiet_acts : (w : Tables) (t : ℕ) (line : Line) → ((grid : Grid) (row : TenantRow) (state : State) → state_after_turn state (Own line) (line_step grid row state line) ≡ state) → Acts w t line w
+quiet_acts : (w : Tables) (t : ℕ) (line : Line) → IsQuiet line → Acts w t line w
 quiet_acts w t line same = record {
   plan = refl;
-  own = λ known agrees. subst (Agrees w t) (ap (λ state. record known { state = state }) (sym (same w.plan.grid (row_at w.plan t) known.state))) agrees;
+  own = λ known agrees.
+      let told : Told = (line_step w.plan.grid (row_at w.plan t) known.state line).told in
+      subst (Agrees w t) (ap (λ state. record known { state = state }) (sym (same w.plan.grid (row_at w.plan t) known.state))) (agrees_shown w t known (shown_after known.state told) agrees);
   others = λ u other known agrees. agrees;
   servers = refl;
 }

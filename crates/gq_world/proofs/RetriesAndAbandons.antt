@@ -28,6 +28,7 @@ use Rattle.gq_world.specs.Saying.{with_sent}
 use Rattle.gq_world.specs.Seats.{IsAtWork, SeatResends, SeatRefuses}
 use Rattle.gq_world.specs.Machine.{Acts, TellsLine, acted, state_after_turn}
 use Rattle.gq_world.proofs.Hearing.{length-rising}
+use Rattle.gq_world.proofs.Quiet.{shown_on}
 use Rattle.gq_world.proofs.Lanes.{sent_count, sent_messages, new_not_lost, lane_there, quorums_in}
 use Rattle.gq_world.proofs.Requests.{in_range, not_false, first_none, seat_of}
 
@@ -125,7 +126,7 @@ abandon_tells w t k is known agrees = sym (ap (λ (step : Step). step.told) (aba
 
 -- what is known afterwards: the session has no operation
 abbrev given_up : ℕ → State → State
-given_up k state = record state { session = λ j. session_by state.volumes j (deed j (record { turn = Own (Abandon k); message = None; told = Abandoned; new = [] })) (state.session j) }
+given_up k state = record state { shown = shown_on state; session = λ j. session_by state.volumes j (deed j (record { turn = Own (Abandon k); message = None; told = Abandoned; new = [] })) (state.session j) }
 
 abandon_known : (w : Tables) (t k : ℕ) (known : Known) → first_cause (idle_causes w t k) ≡ None → Agrees w t known → acted w.plan.grid (row_at w.plan t) known (Abandon k) ≡ record known { state = given_up k known.state }
 abandon_known w t k known is agrees =
@@ -161,6 +162,7 @@ abandon_own w t k known tenants places asked agrees =
       messages = agrees.messages;
       accounts = agrees.accounts;
       copies = agrees.copies;
+      whole = agrees.whole;
       seats = λ place within.
           let Q : List Seat → Type 0 = λ all. SeatAgrees w.plan.grid t (place + 1) (seat_in all place) new in
           subst Q (sym here) (elim (cases_eq place (k - 1)) [
@@ -196,6 +198,7 @@ abandon_other w t u place known other agrees =
       messages = agrees.messages;
       accounts = agrees.accounts;
       copies = agrees.copies;
+      whole = agrees.whole;
       seats = λ p within. subst (λ all. SeatAgrees w.plan.grid u (p + 1) (seat_in all p) known.state) (sym there) (agrees.seats p within);
     }
 
@@ -320,6 +323,7 @@ again_own w t k messages known h agrees =
       messages = λ m. ap (λ lanes. message_at (lane_at lanes t) m) lanes_is ∙ sent_messages w.lanes t state a.new h.lanes agrees.sent agrees.messages agrees.lost m;
       accounts = agrees.accounts;
       copies = agrees.copies;
+      whole = agrees.whole;
       seats = λ place within. let seat = agrees.seats place within in record { op = seat.op; sits = seat.sits };
     })
 
@@ -335,6 +339,7 @@ again_other w t u messages known other agrees =
       messages = λ m. ap (λ l. message_at l m) lane ∙ agrees.messages m;
       accounts = agrees.accounts;
       copies = agrees.copies;
+      whole = agrees.whole;
       seats = agrees.seats;
     }
 

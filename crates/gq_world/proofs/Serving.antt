@@ -24,7 +24,7 @@ use Rattle.gq_store.specs.Copies.{StoreCopies, store_accounts, copy_at, file_lim
 use Rattle.gq_store.specs.Serving.{server_reply, held_after, serve_fault, fault_in}
 use Rattle.gq_model.specs.declared.events.Line.TheVariants.{Deliver}
 use Rattle.gq_model.specs.Told.{Replied, IsDown}
-use Rattle.gq_model.specs.Trace.{Own, Entry, State, Session, Known, changed, own_message_at, held, operation_with, brought_by, account_of}
+use Rattle.gq_model.specs.Trace.{Own, Entry, State, Session, Known, changed, own_message_at, held, operation_with, serves, stored_by, account_of}
 use Rattle.gq_model.specs.Lone.{Step, quiet, reply_to, line_step}
 use Rattle.gq_laws.proofs.OperationMoments.{same_file}
 use Rattle.gq_world.specs.declared.sessions.Seat.{Seat}
@@ -43,26 +43,31 @@ up_here grid set s within = by (nat_lt s (grid.rows * grid.cols)) (grind (arith,
     by : (b : Bool) → b ≡ true → (if b then servers set s else true) ≡ servers set s
     by b is = rw is refl
 
+-- no server lacks a file, so it serves it where it is up
+serves_up : (w : Tables) (t server : ℕ) (is : Bool) (known : Known) (message : OwnMessage) → Agrees w t known → server ≡ message.server → server < w.plan.grid.rows * w.plan.grid.cols → servers w.up server ≡ is → serves known.state.up known.state.lacks message.server message.file ≡ is
+serves_up w t server is known message agrees same within up =
+    rw (agrees.whole message.server message.file) (ap known.state.up (sym same) ∙ ap (λ (up : Servers). up server) (sym agrees.up) ∙ up_here w.plan.grid w.up server within ∙ up)
+
 -- ---- what the model says
 
 abbrev pub serving : ℕ → OwnMessage → ℕ → StoredCopy → Entry
 serving n message first copy = record { turn = Own (Deliver n); message = Some message; told = Replied first; new = reply_to copy message ∷ [] }
 
-serve_is : (grid : Grid) (row : TenantRow) (state : State) (n : ℕ) (message : OwnMessage) → own_message_at state n ≡ Some message → to_server message.body ≡ true → state.up message.server ≡ true →
+serve_is : (grid : Grid) (row : TenantRow) (state : State) (n : ℕ) (message : OwnMessage) → own_message_at state n ≡ Some message → to_server message.body ≡ true → serves state.up state.lacks message.server message.file ≡ true →
     line_step grid row state (Deliver n) ≡ record { told = Replied (length state.sent); new = reply_to (held state message.server message.file) message ∷ [] }
 serve_is grid row state n message there goes up = rw (there, goes, up) refl
 
-down_is : (grid : Grid) (row : TenantRow) (state : State) (n : ℕ) (message : OwnMessage) → own_message_at state n ≡ Some message → to_server message.body ≡ true → state.up message.server ≡ false →
+down_is : (grid : Grid) (row : TenantRow) (state : State) (n : ℕ) (message : OwnMessage) → own_message_at state n ≡ Some message → to_server message.body ≡ true → serves state.up state.lacks message.server message.file ≡ false →
     line_step grid row state (Deliver n) ≡ quiet IsDown
 down_is grid row state n message there goes down = rw (there, goes, down) refl
 
-pub served_known : (grid : Grid) (row : TenantRow) (known : Known) (n : ℕ) (message : OwnMessage) → own_message_at known.state n ≡ Some message → to_server message.body ≡ true → known.state.up message.server ≡ true →
+pub served_known : (grid : Grid) (row : TenantRow) (known : Known) (n : ℕ) (message : OwnMessage) → own_message_at known.state n ≡ Some message → to_server message.body ≡ true → serves known.state.up known.state.lacks message.server message.file ≡ true →
     acted grid row known (Deliver n) ≡ record known { state = changed (serving n message (length known.state.sent) (held known.state message.server message.file)) known.state }
 served_known grid row known n message there goes up =
     ap (λ step. record known { state = state_after_turn known.state (Own (Deliver n)) step }) (serve_is grid row known.state n message there goes up)
     ∙ ap (λ l. record known { state = changed (record { turn = Own (Deliver n); message = l; told = Replied (length known.state.sent); new = reply_to (held known.state message.server message.file) message ∷ [] }) known.state }) there
 
-pub down_known : (grid : Grid) (row : TenantRow) (known : Known) (n : ℕ) (message : OwnMessage) → own_message_at known.state n ≡ Some message → to_server message.body ≡ true → known.state.up message.server ≡ false →
+pub down_known : (grid : Grid) (row : TenantRow) (known : Known) (n : ℕ) (message : OwnMessage) → own_message_at known.state n ≡ Some message → to_server message.body ≡ true → serves known.state.up known.state.lacks message.server message.file ≡ false →
     acted grid row known (Deliver n) ≡ record known { state = changed (record { turn = Own (Deliver n); message = Some message; told = IsDown; new = [] }) known.state }
 down_known grid row known n message there goes down =
     ap (λ step. record known { state = state_after_turn known.state (Own (Deliver n)) step }) (down_is grid row known.state n message there goes down)
@@ -78,25 +83,25 @@ greatest_more copies c =
     ap (λ o. unwrap_or o first_copy) (latest-append (first_copy ∷ copies) c b before)
     ∙ ap (λ copy. newer_of copy c) (sym (ap (λ o. unwrap_or o first_copy) before))
 
-brought_here : (up : Servers) (session op round server : ℕ) (file : File) (copy : StoredCopy) (before : ℕ → File → List StoredCopy) → up server ≡ true →
-    brought_by up (Some (record { session = session; op = op; round = round; server = server; file = file; body = Store copy })) before server file ≡ before server file ++ copy ∷ []
-brought_here up session op round server file copy before is = rw (is, eq-eqb server server refl, eq-eqb file.volume file.volume refl, eq-eqb file.place file.place refl) refl
+brought_here : (takes : ℕ → File → Bool) (session op round server : ℕ) (file : File) (copy : StoredCopy) (before : ℕ → File → List StoredCopy) → takes server file ≡ true →
+    stored_by takes (Some (record { session = session; op = op; round = round; server = server; file = file; body = Store copy })) before server file ≡ before server file ++ copy ∷ []
+brought_here takes session op round server file copy before is = rw (is, eq-eqb server server refl, eq-eqb file.volume file.volume refl, eq-eqb file.place file.place refl) refl
 
 -- what is held of the message's file at its server; of another file, or at another server
-held_here : (up : Servers) (session op round server : ℕ) (file : File) (body : Body) (before : ℕ → File → List StoredCopy) → up server ≡ true →
-    greatest (first_copy ∷ brought_by up (Some (record { session = session; op = op; round = round; server = server; file = file; body = body })) before server file) ≡ held_after (greatest (first_copy ∷ before server file)) body
-held_here up session op round server file Ask before is = refl
-held_here up session op round server file (Copy copy) before is = refl
-held_here up session op round server file Stored before is = refl
-held_here up session op round server file (Store copy) before is =
-    ap (λ copies. greatest (first_copy ∷ copies)) (brought_here up session op round server file copy before is) ∙ greatest_more (before server file) copy
+held_here : (takes : ℕ → File → Bool) (session op round server : ℕ) (file : File) (body : Body) (before : ℕ → File → List StoredCopy) → takes server file ≡ true →
+    greatest (first_copy ∷ stored_by takes (Some (record { session = session; op = op; round = round; server = server; file = file; body = body })) before server file) ≡ held_after (greatest (first_copy ∷ before server file)) body
+held_here takes session op round server file Ask before is = refl
+held_here takes session op round server file (Copy copy) before is = refl
+held_here takes session op round server file Stored before is = refl
+held_here takes session op round server file (Store copy) before is =
+    ap (λ copies. greatest (first_copy ∷ copies)) (brought_here takes session op round server file copy before is) ∙ greatest_more (before server file) copy
 
-held_there : (up : Servers) (session op round server : ℕ) (file : File) (body : Body) (before : ℕ → File → List StoredCopy) (s : ℕ) (f : File) → ((server == s) && is_file file f) ≡ false →
-    brought_by up (Some (record { session = session; op = op; round = round; server = server; file = file; body = body })) before s f ≡ before s f
-held_there up session op round server file Ask before s f other = refl
-held_there up session op round server file (Copy copy) before s f other = refl
-held_there up session op round server file Stored before s f other = refl
-held_there up session op round server file (Store copy) before s f other = rw other refl
+held_there : (takes : ℕ → File → Bool) (session op round server : ℕ) (file : File) (body : Body) (before : ℕ → File → List StoredCopy) (s : ℕ) (f : File) → ((server == s) && is_file file f) ≡ false →
+    stored_by takes (Some (record { session = session; op = op; round = round; server = server; file = file; body = body })) before s f ≡ before s f
+held_there takes session op round server file Ask before s f other = refl
+held_there takes session op round server file (Copy copy) before s f other = refl
+held_there takes session op round server file Stored before s f other = refl
+held_there takes session op round server file (Store copy) before s f other = rw other refl
 
 -- ---- what the store did
 
@@ -137,7 +142,7 @@ other_file t a b differs same =
     let e = sym is ∙ differs in
     cc
 
-copies_here : (w : Tables) (t n : ℕ) (m reply : Message) (store : StoreCopies) (known : Known) (message : OwnMessage) → Serves w t n m reply store → Agrees w t known → m ≡ message_of t message → known.state.up message.server ≡ true →
+copies_here : (w : Tables) (t n : ℕ) (m reply : Message) (store : StoreCopies) (known : Known) (message : OwnMessage) → Serves w t n m reply store → Agrees w t known → m ≡ message_of t message → serves known.state.up known.state.lacks message.server message.file ≡ true →
     (s : ℕ) → s < w.plan.grid.rows * w.plan.grid.cols → (file : File) →
     copy_at (store_at (slice_set w.stores m.server store) s) (file_of t file) ≡ held (changed (serving n message (length known.state.sent) (held known.state message.server message.file)) known.state) s file
 copies_here w t n m reply store known message h agrees is up s within file =
@@ -150,7 +155,7 @@ copies_here w t n m reply store known message h agrees is up s within file =
           let no : ((message.server == s) && is_file message.file file) ≡ false = rw (ne_eqb message.server s apart) refl in
           ap (λ (x : StoreCopies). copy_at x (file_of t file)) (get_or-set_other w.stores m.server s store no_store other)
           ∙ agrees.copies s within file
-          ∙ sym (ap (λ copies. greatest (first_copy ∷ copies)) (held_there known.state.up message.session message.op message.round message.server message.file message.body known.state.brought s file no)))
+          ∙ sym (ap (λ copies. greatest (first_copy ∷ copies)) (held_there (serves known.state.up known.state.lacks) message.session message.op message.round message.server message.file message.body known.state.brought s file no)))
       | inl at ↦ (
           let here : store_at (slice_set w.stores m.server store) s ≡ store = ap (store_at (slice_set w.stores m.server store)) at ∙ get_or-set_same w.stores m.server store no_store h.stores in
           ap (λ (x : StoreCopies). copy_at x (file_of t file)) here
@@ -162,7 +167,7 @@ copies_here w t n m reply store known message h agrees is up s within file =
                 let now : copy_at store (file_of t message.file) ≡ held_after (held known.state message.server message.file) message.body =
                 ap (copy_at store) (sym file_is) ∙ h.held ∙ ap (λ copy. held_after copy m.body) before ∙ ap (held_after (held known.state message.server message.file)) body in
                 let after : held (changed (serving n message (length known.state.sent) (held known.state message.server message.file)) known.state) message.server message.file ≡ held_after (held known.state message.server message.file) message.body =
-                held_here known.state.up message.session message.op message.round message.server message.file message.body known.state.brought up in
+                held_here (serves known.state.up known.state.lacks) message.session message.op message.round message.server message.file message.body known.state.brought up in
                 ap (λ x. copy_at store (file_of t x)) (sym f) ∙ now ∙ sym after
                 ∙ ap (λ x. held (changed (serving n message (length known.state.sent) (held known.state message.server message.file)) known.state) x message.file) (sym server ∙ sym at)
                 ∙ ap (held (changed (serving n message (length known.state.sent) (held known.state message.server message.file)) known.state) s) f)
@@ -172,7 +177,7 @@ copies_here w t n m reply store known message h agrees is up s within file =
                 h.others (file_of t file) apart
                 ∙ ap (λ x. copy_at (store_at w.stores x) (file_of t file)) (sym at)
                 ∙ agrees.copies s within file
-                ∙ sym (ap (λ copies. greatest (first_copy ∷ copies)) (held_there known.state.up message.session message.op message.round message.server message.file message.body known.state.brought s file no)))
+                ∙ sym (ap (λ copies. greatest (first_copy ∷ copies)) (held_there (serves known.state.up known.state.lacks) message.session message.op message.round message.server message.file message.body known.state.brought s file no)))
           ])
     ]
   where
@@ -190,7 +195,7 @@ seat_same grid t k seat old new same agrees =
     let now : P (new.session k) = subst P (sym same) (agrees.op, agrees.sits) in
     record { op = now.0; sits = now.1 }
 
-served_own : (w : Tables) (t n : ℕ) (m reply : Message) (store : StoreCopies) (known : Known) (message : OwnMessage) → Serves w t n m reply store → Agrees w t known → m ≡ message_of t message → known.state.up message.server ≡ true →
+served_own : (w : Tables) (t n : ℕ) (m reply : Message) (store : StoreCopies) (known : Known) (message : OwnMessage) → Serves w t n m reply store → Agrees w t known → m ≡ message_of t message → serves known.state.up known.state.lacks message.server message.file ≡ true →
     Agrees (served_tables w t m reply store) t (record known { state = changed (serving n message (length known.state.sent) (held known.state message.server message.file)) known.state })
 served_own w t n m reply store known message h agrees is up =
     let state : State = known.state in
@@ -211,6 +216,7 @@ served_own w t n m reply store known message h agrees is up =
       messages = λ k. ap (λ lanes. message_at (lane_at lanes t) k) lanes_is ∙ sent_messages w.lanes t state new h.lanes agrees.sent agrees.messages agrees.lost k;
       accounts = λ s within. account_stays w t m store s h.stores h.accounts (agrees.accounts s within);
       copies = copies_here w t n m reply store known message h agrees is up;
+      whole = agrees.whole;
       seats = λ place within.
           let before = agrees.seats place within in
           let session : (changed (serving n message (length state.sent) copy) state).session (place + 1) ≡ state.session (place + 1) = no_deed state n (length state.sent) (place + 1) message copy goes in
@@ -235,6 +241,7 @@ served_other w t u n m reply store known other tenant h agrees =
             let apart : file_of u file ≢ m.file = λ e. other (ap (λ (x : FileId). x.tenant) e ∙ tenant) in
             ap (λ (x : StoreCopies). copy_at x (file_of u file)) here ∙ h.others (file_of u file) apart ∙ ap (λ x. copy_at (store_at w.stores x) (file_of u file)) (sym at) ∙ agrees.copies s within file)
       ];
+      whole = agrees.whole;
       seats = agrees.seats;
     }
 
@@ -244,7 +251,7 @@ served_tells w t n m reply store h known agrees =
     let message : OwnMessage = f.0 in
     let goes : to_server message.body ≡ true = ap (λ (x : Message). to_server x.body) (sym f.2) ∙ h.goes in
     let server : m.server ≡ message.server = ap (λ (x : Message). x.server) f.2 in
-    let up : known.state.up message.server ≡ true = ap known.state.up (sym server) ∙ ap (λ (up : Servers). up m.server) (sym agrees.up) ∙ up_here w.plan.grid w.up m.server h.server ∙ h.up in
+    let up : serves known.state.up known.state.lacks message.server message.file ≡ true = serves_up w t m.server true known message agrees server h.server h.up in
     ap Replied agrees.sent ∙ sym (ap (λ (step : Step). step.told) (serve_is w.plan.grid (row_at w.plan t) known.state n message f.1 goes up))
 
 pub served_acts : (w : Tables) (t n : ℕ) (m reply : Message) (store : StoreCopies) → IsReady w t → Serves w t n m reply store → Acts w t (Deliver n) (served_tables w t m reply store)
@@ -255,7 +262,7 @@ served_acts w t n m reply store ready h = record {
       let message : OwnMessage = f.0 in
       let goes : to_server message.body ≡ true = ap (λ (x : Message). to_server x.body) (sym f.2) ∙ h.goes in
       let server : m.server ≡ message.server = ap (λ (x : Message). x.server) f.2 in
-      let up : known.state.up message.server ≡ true = ap known.state.up (sym server) ∙ ap (λ (up : Servers). up m.server) (sym agrees.up) ∙ up_here w.plan.grid w.up m.server h.server ∙ h.up in
+      let up : serves known.state.up known.state.lacks message.server message.file ≡ true = serves_up w t m.server true known message agrees server h.server h.up in
       subst (Agrees (served_tables w t m reply store) t) (sym (served_known w.plan.grid (row_at w.plan t) known n message f.1 goes up))
       (served_own w t n m reply store known message h agrees f.2 up);
   others = λ u other known agrees.
@@ -279,32 +286,25 @@ down_tells w t n m h known agrees =
     let message : OwnMessage = f.0 in
     let goes : to_server message.body ≡ true = ap (λ (x : Message). to_server x.body) (sym f.2) ∙ h.goes in
     let server : m.server ≡ message.server = ap (λ (x : Message). x.server) f.2 in
-    let down : known.state.up message.server ≡ false = ap known.state.up (sym server) ∙ ap (λ (up : Servers). up m.server) (sym agrees.up) ∙ up_here w.plan.grid w.up m.server h.server ∙ h.down in
+    let down : serves known.state.up known.state.lacks message.server message.file ≡ false = serves_up w t m.server false known message agrees server h.server h.down in
     sym (ap (λ (step : Step). step.told) (down_is w.plan.grid (row_at w.plan t) known.state n message f.1 goes down))
 
--- nothing is brought to a server that is down
-nothing_brought : (up : Servers) (session op round server : ℕ) (file : File) (body : Body) (before : ℕ → File → List StoredCopy) (s : ℕ) (f : File) → up server ≡ false →
-    brought_by up (Some (record { session = session; op = op; round = round; server = server; file = file; body = body })) before s f ≡ before s f
-nothing_brought up session op round server file Ask before s f down = refl
-nothing_brought up session op round server file (Copy copy) before s f down = refl
-nothing_brought up session op round server file Stored before s f down = refl
-nothing_brought up session op round server file (Store copy) before s f down = by (server == s) refl
+-- nothing is brought to a server that does not take it
+nothing_brought : (takes : ℕ → File → Bool) (session op round server : ℕ) (file : File) (body : Body) (before : ℕ → File → List StoredCopy) (s : ℕ) (f : File) → takes server file ≡ false →
+    stored_by takes (Some (record { session = session; op = op; round = round; server = server; file = file; body = body })) before s f ≡ before s f
+nothing_brought takes session op round server file Ask before s f down = refl
+nothing_brought takes session op round server file (Copy copy) before s f down = refl
+nothing_brought takes session op round server file Stored before s f down = refl
+nothing_brought takes session op round server file (Store copy) before s f down = by (server == s) (is_file file f) refl refl
   where
-    no : (b : Bool) → (b && up s) ≡ false → (if b && up s then before s f ++ copy ∷ [] else before s f) ≡ before s f
-    no b is = rw is refl
+    by : (a b : Bool) → (server == s) ≡ a → is_file file f ≡ b → (if (server == s) && is_file file f && takes s f then before s f ++ copy ∷ [] else before s f) ≡ before s f
+    by false b at is = rw at refl
+    by true false at is = rw (at, is) refl
+    by true true at is =
+        let off : takes s f ≡ false = ap (λ n. takes n f) (sym (eqb-true server s at)) ∙ ap (takes server) (sym (same_file file f is)) ∙ down in
+        rw (at, is, off) refl
 
-    and_no : (b : Bool) → (b && false) ≡ false
-    and_no true = refl
-    and_no false = refl
-
-    by : (b : Bool) → (server == s) ≡ b → (if (server == s) && is_file file f && up s then before s f ++ copy ∷ [] else before s f) ≡ before s f
-    by false is = rw is refl
-    by true is =
-        let same : server ≡ s = eqb-true server s is in
-        let off : up s ≡ false = ap up (sym same) ∙ down in
-        rw (is, off, and_no (is_file file f)) refl
-
-down_own : (w : Tables) (t n : ℕ) (known : Known) (message : OwnMessage) → Agrees w t known → to_server message.body ≡ true → known.state.up message.server ≡ false →
+down_own : (w : Tables) (t n : ℕ) (known : Known) (message : OwnMessage) → Agrees w t known → to_server message.body ≡ true → serves known.state.up known.state.lacks message.server message.file ≡ false →
     Agrees w t (record known { state = changed (record { turn = Own (Deliver n); message = Some message; told = IsDown; new = [] }) known.state })
 down_own w t n known message agrees goes down =
     let state : State = known.state in
@@ -318,7 +318,8 @@ down_own w t n known message agrees goes down =
       messages = λ k. agrees.messages k ∙ ap (λ l. option_map (message_of t) (own_message_at (record state { sent = l }) k)) (sym nothing);
       accounts = agrees.accounts;
       copies = λ s within file. agrees.copies s within file
-          ∙ sym (ap (λ copies. greatest (first_copy ∷ copies)) (nothing_brought state.up message.session message.op message.round message.server message.file message.body state.brought s file down));
+          ∙ sym (ap (λ copies. greatest (first_copy ∷ copies)) (nothing_brought (serves state.up state.lacks) message.session message.op message.round message.server message.file message.body state.brought s file down));
+      whole = agrees.whole;
       seats = λ place within. seat_same w.plan.grid t (place + 1) (seat_in (seats_at w.seats t) place) state (changed (record { turn = Own (Deliver n); message = Some message; told = IsDown; new = [] }) state)
           (down_deed state n (place + 1) message goes) (agrees.seats place within);
     }
@@ -334,7 +335,7 @@ down_acts w t n m h = record {
       let message : OwnMessage = f.0 in
       let goes : to_server message.body ≡ true = ap (λ (x : Message). to_server x.body) (sym f.2) ∙ h.goes in
       let server : m.server ≡ message.server = ap (λ (x : Message). x.server) f.2 in
-      let down : known.state.up message.server ≡ false = ap known.state.up (sym server) ∙ ap (λ (up : Servers). up m.server) (sym agrees.up) ∙ up_here w.plan.grid w.up m.server h.server ∙ h.down in
+      let down : serves known.state.up known.state.lacks message.server message.file ≡ false = serves_up w t m.server false known message agrees server h.server h.down in
       subst (Agrees w t) (sym (down_known w.plan.grid (row_at w.plan t) known n message f.1 goes down)) (down_own w t n known message agrees goes down);
   others = λ u other known agrees. agrees;
   servers = refl;

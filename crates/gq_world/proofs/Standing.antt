@@ -11,7 +11,7 @@ use Rattle.gq_desk.specs.CheckedPlan.{CheckedPlan, nobody, row_at}
 use Rattle.gq_model.specs.declared.events.Event.{Event}
 use Rattle.gq_model.specs.declared.events.Event.TheVariants.{Tenant, Server, Stray}
 use Rattle.gq_model.specs.Told.{Told}
-use Rattle.gq_model.specs.Trace.{Turn, Own, Serving, Leaping, Trace, Past, State, Known, questions, changed, asked, up, up_by, start}
+use Rattle.gq_model.specs.Trace.{Turn, Own, Serving, Leaping, Losing, Returning, Trace, Past, State, Known, questions, changed, asked, up, up_by, start}
 use Rattle.gq_model.specs.Lone.{Step, entry_of, step, step_at, server_told, is_refusal, lines_after, trace_after, after, past_of}
 use Rattle.gq_model.specs.Events.{turn_of, server_turn, past_at, server_past, IsIn, answer_to}
 use Rattle.gq_world.specs.Tables.{Tables, Agrees, up_in, Stands}
@@ -26,6 +26,8 @@ counted_on : (row : TenantRow) (lines : ℕ) (turn : Turn) → min row.steps (li
 counted_on row lines (Own line) = lines_on row.steps lines
 counted_on row lines (Serving line) = refl
 counted_on row lines (Leaping k op number) = refl
+counted_on row lines (Losing s volumes) = refl
+counted_on row lines (Returning s f mate copy) = refl
 
 state_on : (t : Trace) (turn : Turn) (s : Step) → questions (trace_after t turn s) ≡ state_after_turn (questions t) turn s
 state_on t turn s = by (is_refusal s.told)

@@ -103,6 +103,7 @@ agrees_first w t first within = record {
   messages = λ n. ap (λ lanes. message_at (lane_at lanes t) n) first.lanes ∙ ap (λ lane. message_at lane n) (no_lane (length w.plan.rows) t);
   accounts = λ s inside. ap (λ (store : StoreCopies). account_at (store_accounts store) t) (store_first w.plan w s first inside) ∙ ap (λ accounts. account_at accounts t) (accounts_first w.plan.rows ∙ sym first.desk);
   copies = λ s inside file. ap (λ (store : StoreCopies). copy_at store (file_of t file)) (store_first w.plan w s first inside) ∙ copy_first w.plan t file;
+  whole = λ s file. refl;
   seats = λ place inside.
       let are : seats_at w.seats t ≡ replicate (row_at w.plan t).sessions no_seat = ap (λ all. seats_at all t) first.seats ∙ seats_are w.plan.rows t within in
       let is : seat_in (seats_at w.seats t) place ≡ no_seat = ap (λ (seats : List Seat). seat_in seats place) are ∙ get_or-replicate (row_at w.plan t).sessions place no_seat no_seat inside in

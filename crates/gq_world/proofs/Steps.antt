@@ -6,7 +6,7 @@ use Rattle.std.proofs.lemmas.Bool.{cases_Bool, and_parts, eqb-true}
 use Rattle.std.proofs.lemmas.Bool.Decides.{nat_tests}
 use Rattle.std.proofs.lemmas.List.Elements.{All-nil, All-cons, All-append, All-weaker}
 use Rattle.gq_pool.specs.declared.TheConstants.{BLOCK_BYTES}
-use Rattle.gq_grid.specs.Grid.{Grid, Servers}
+use Rattle.gq_grid.specs.Grid.{Grid}
 use Rattle.gq_tag.specs.declared.StoredCopy.{StoredCopy}
 use Rattle.gq_tag.specs.declared.Body.{Body}
 use Rattle.gq_tag.specs.declared.Body.TheVariants.{Ask, Copy, Store, Stored}
@@ -16,7 +16,7 @@ use Rattle.gq_desk.specs.declared.volumes.VolumeRow.{VolumeRow}
 use Rattle.gq_desk.specs.Volumes.{limit_in}
 use Rattle.gq_model.specs.declared.events.Line.TheVariants.{Deliver}
 use Rattle.gq_model.specs.Told.{IsDown}
-use Rattle.gq_model.specs.Trace.{Own, State, Known, changed, own_message_at, held, brought_by, files_of, questions}
+use Rattle.gq_model.specs.Trace.{Own, State, Known, changed, own_message_at, held, serves, stored_by, files_of, questions}
 use Rattle.gq_model.specs.Lone.{reply_to}
 use Rattle.gq_world.specs.Bounds.{CopyFits, BodyFits, room, SessionFits, MessageFits, IsOfSession, IsBounded}
 use Rattle.gq_world.specs.Machine.{acted}
@@ -50,13 +50,13 @@ body_answer n size copy Stored fits = fits
 held_fits : (n size : ℕ) (copies : List StoredCopy) → All (CopyFits n size) copies → CopyFits n size (greatest (first_copy ∷ copies))
 held_fits n size copies all = greatest_fits n size (first_copy ∷ copies) (All-cons (CopyFits n size) first_copy copies (first_fits n size) all)
 
-brought_fits : (n : ℕ) (volumes : List VolumeRow) (up : Servers) (session op round server : ℕ) (file : File) (body : Body) (before : ℕ → File → List StoredCopy) (s : ℕ) (f : File) →
+brought_fits : (n : ℕ) (volumes : List VolumeRow) (takes : ℕ → File → Bool) (session op round server : ℕ) (file : File) (body : Body) (before : ℕ → File → List StoredCopy) (s : ℕ) (f : File) →
     BodyFits n (room volumes file.volume) body → All (CopyFits n (room volumes f.volume)) (before s f) → (is_file file f ≡ true → file.volume ≡ f.volume) →
-    All (CopyFits n (room volumes f.volume)) (brought_by up (Some (record { session = session; op = op; round = round; server = server; file = file; body = body })) before s f)
-brought_fits n volumes up session op round server file Ask before s f fits all same = all
-brought_fits n volumes up session op round server file (Copy copy) before s f fits all same = all
-brought_fits n volumes up session op round server file Stored before s f fits all same = all
-brought_fits n volumes up session op round server file (Store copy) before s f fits all same = by (server == s) (is_file file f) refl (up s)
+    All (CopyFits n (room volumes f.volume)) (stored_by takes (Some (record { session = session; op = op; round = round; server = server; file = file; body = body })) before s f)
+brought_fits n volumes takes session op round server file Ask before s f fits all same = all
+brought_fits n volumes takes session op round server file (Copy copy) before s f fits all same = all
+brought_fits n volumes takes session op round server file Stored before s f fits all same = all
+brought_fits n volumes takes session op round server file (Store copy) before s f fits all same = by (server == s) (is_file file f) refl (takes s f)
   where
     F : StoredCopy → Type 0
     F = CopyFits n (room volumes f.volume)
@@ -93,7 +93,7 @@ served_bounded grid row n state number message h there goes =
       owners = All-append O state.sent (answer ∷ [])
           (All-weaker (λ l. IsOfSession (state.session l.session) l) O (λ l is. subst (λ s. IsOfSession s l) (sym (no_deed state number (length state.sent) l.session message copy goes)) is) state.sent h.owners)
           (All-cons O answer [] (subst (λ s. IsOfSession s answer) (sym (no_deed state number (length state.sent) message.session message copy goes)) (record { begun = owner.begun; volume = owner.volume })) (All-nil O));
-      brought = λ server file. brought_fits n state.volumes state.up message.session message.op message.round message.server message.file message.body state.brought server file fits.body (h.brought server file) (file_volume message.file file);
+      brought = λ server file. brought_fits n state.volumes (serves state.up state.lacks) message.session message.op message.round message.server message.file message.body state.brought server file fits.body (h.brought server file) (file_volume message.file file);
       sessions = λ k. subst (SessionFits n state.volumes k) (sym (no_deed state number (length state.sent) k message copy goes)) (h.sessions k);
       sized = h.sized;
     }
@@ -107,7 +107,7 @@ down_bounded grid row n state number message h there goes =
     record {
       messages = subst (All (MessageFits grid row n state.volumes)) (sym (append-nil state.sent)) h.messages;
       owners = subst (All (λ l. IsOfSession (new.session l.session) l)) (sym (append-nil state.sent)) (All-weaker (λ l. IsOfSession (state.session l.session) l) (λ l. IsOfSession (new.session l.session) l) (λ l is. subst (λ s. IsOfSession s l) (sym (same l.session)) is) state.sent h.owners);
-      brought = λ server file. brought_fits n state.volumes state.up message.session message.op message.round message.server message.file message.body state.brought server file fits.body (h.brought server file) (file_volume message.file file);
+      brought = λ server file. brought_fits n state.volumes (serves state.up state.lacks) message.session message.op message.round message.server message.file message.body state.brought server file fits.body (h.brought server file) (file_volume message.file file);
       sessions = λ k. subst (SessionFits n state.volumes k) (sym (same k)) (h.sessions k);
       sized = h.sized;
     }
@@ -129,7 +129,7 @@ deliver_bounded grid row n known number h = by (own_message_at known.state numbe
     to : (message : OwnMessage) → own_message_at known.state number ≡ Some message → S (acted grid row known (Deliver number))
     to message there = elim (cases_Bool (to_server message.body)) [
       | inr goes ↦ (subst S (sym (heard_known grid row known number message _ there goes refl)) (heard_bounded grid row n known.state number message h there goes))
-      | inl goes ↦ (elim (cases_Bool (known.state.up message.server)) [
+      | inl goes ↦ (elim (cases_Bool (serves known.state.up known.state.lacks message.server message.file)) [
         | inl up ↦ (subst S (sym (served_known grid row known number message there goes up)) (bounded_more grid row n (changed (serving number message (length known.state.sent) (held known.state message.server message.file)) known.state) (served_bounded grid row n known.state number message h there goes)))
         | inr down ↦ (subst S (sym (down_known grid row known number message there goes down)) (bounded_more grid row n (changed (record { turn = Own (Deliver number); message = Some message; told = IsDown; new = [] }) known.state) (down_bounded grid row n known.state number message h there goes)))
       ])

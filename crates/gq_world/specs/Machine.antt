@@ -7,7 +7,7 @@ use Rattle.gq_model.specs.declared.events.Event.{Event}
 use Rattle.gq_model.specs.declared.events.Event.TheVariants.{Tenant, Server, Stray}
 use Rattle.gq_model.specs.declared.events.Line.{Line}
 use Rattle.gq_model.specs.Told.{Told, StrayBad}
-use Rattle.gq_model.specs.Trace.{Turn, Own, Serving, Leaping, State, Known, changed, up_by}
+use Rattle.gq_model.specs.Trace.{Turn, Own, Serving, Leaping, Losing, Returning, State, Known, changed, up_by}
 use Rattle.gq_model.specs.Lone.{Step, entry_of, step, told, line_step, line_told, is_refusal, server_told}
 use Rattle.gq_model.specs.Events.{turn_of}
 use Rattle.gq_world.specs.Tables.{Tables, Agrees, up_in}
@@ -17,6 +17,8 @@ abbrev pub counted : TenantRow → ℕ → Turn → ℕ
 counted row lines (Own line) = if nat_le row.steps lines then lines else lines + 1
 counted row lines (Serving line) = lines
 counted row lines (Leaping k op number) = lines
+counted row lines (Losing s volumes) = lines
+counted row lines (Returning s f mate copy) = lines
 
 -- the answers to the questions after a turn at which this was told and sent
 abbrev pub state_after_turn : State → Turn → Step → State

@@ -68,7 +68,7 @@ pub record SeatAgrees (grid : Grid) (t k : ℕ) (seat : Seat) (state : State) : 
   pub op : seat.op ≡ (state.session k).op
   pub sits : Sits grid t seat.floor seat.operation (state.session k).floor (operation state k)
 
--- the tables have for the tenant at place t what is known of its run
+-- the tables have for the tenant at place t what is known of its run; the tables know no loss, and no server lacks a file
 pub record Agrees (w : Tables) (t : ℕ) (known : Known) : Type 0 where
   pub lines : taken_at w t ≡ known.lines
   pub up : up_in w.plan.grid w.up ≡ known.state.up
@@ -78,6 +78,7 @@ pub record Agrees (w : Tables) (t : ℕ) (known : Known) : Type 0 where
   pub messages : (n : ℕ) → message_at (lane_at w.lanes t) n ≡ option_map (message_of t) (own_message_at known.state n)
   pub accounts : (s : ℕ) → s < w.plan.grid.rows * w.plan.grid.cols → account_at (store_accounts (store_at w.stores s)) t ≡ account_at w.desk t
   pub copies : (s : ℕ) → s < w.plan.grid.rows * w.plan.grid.cols → (file : File) → copy_at (store_at w.stores s) (file_of t file) ≡ held known.state s file
+  pub whole : (s : ℕ) (file : File) → known.state.lacks s file ≡ false
   pub seats : (place : ℕ) → place < (row_at w.plan t).sessions → SeatAgrees w.plan.grid t (place + 1) (seat_in (seats_at w.seats t) place) known.state
 
 -- the tables have what the events leave: for each tenant those that it sees, and for the servers the server lines
