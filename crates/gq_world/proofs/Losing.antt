@@ -14,7 +14,7 @@ use Rattle.gq_model.specs.Trace.{Own, State, Known, lost_by, own_message_at}
 use Rattle.gq_model.specs.Lone.{lose_told}
 use Rattle.gq_world.specs.Tables.{Tables, Agrees}
 use Rattle.gq_world.specs.Machine.{acted, Acts, TellsLine}
-use Rattle.gq_world.proofs.Quiet.{shown_on}
+use Rattle.gq_world.proofs.Quiet.{offered_on}
 
 -- the lanes with none at place n of the tenant's
 abbrev pub lost : List Lane → ℕ → ℕ → List Lane
@@ -71,8 +71,8 @@ lost_own_message lane state n m t before =
     gone (x ∷ xs) (suc i) = gone xs i
 
 -- what is known after it
-lost_known : (w : Tables) (t n : ℕ) (known : Known) → lose_told (own_message_at known.state n) ≡ Lost → acted w.plan.grid (row_at w.plan t) known (Lose n) ≡ record known { state = record known.state { is_lost = lost_by (Own (Lose n)) known.state.is_lost; shown = shown_on known.state } }
-lost_known w t n known is = rw is (ap (λ messages. record known { state = record known.state { sent = messages; is_lost = lost_by (Own (Lose n)) known.state.is_lost; shown = shown_on known.state } }) (append-nil known.state.sent))
+lost_known : (w : Tables) (t n : ℕ) (known : Known) → lose_told (own_message_at known.state n) ≡ Lost → acted w.plan.grid (row_at w.plan t) known (Lose n) ≡ record known { state = record known.state { is_lost = lost_by (Own (Lose n)) known.state.is_lost; offered = offered_on known.state } }
+lost_known w t n known is = rw is (ap (λ messages. record known { state = record known.state { sent = messages; is_lost = lost_by (Own (Lose n)) known.state.is_lost; offered = offered_on known.state } }) (append-nil known.state.sent))
 
 -- no number at or past those that were sent is lost
 still_none : (state : State) (n m : ℕ) → is_some (own_message_at state n) ≡ true → ((i : ℕ) → length state.sent ≤ i → state.is_lost i ≡ false) → length state.sent ≤ m → lost_by (Own (Lose n)) state.is_lost m ≡ false
@@ -89,7 +89,7 @@ still_none state n m there none past =
         by (Some message) e = slice_get_within sent n message e
 
 lost_own : (w : Tables) (t n : ℕ) (known : Known) → t < length w.lanes → is_some (own_message_at known.state n) ≡ true → Agrees w t known →
-    Agrees (record w { lanes = lost w.lanes t n }) t (record known { state = record known.state { is_lost = lost_by (Own (Lose n)) known.state.is_lost; shown = shown_on known.state } })
+    Agrees (record w { lanes = lost w.lanes t n }) t (record known { state = record known.state { is_lost = lost_by (Own (Lose n)) known.state.is_lost; offered = offered_on known.state } })
 lost_own w t n known within there agrees = record {
   lines = agrees.lines;
   up = agrees.up;

@@ -1,4 +1,4 @@
--- Lines that leave all answers to questions as they were but one: what the servers hold is shown once more.
+-- Lines that leave all answers to questions as they were but one: what each server holds, another could be given once more.
 use Rattle.std.proofs.Common.{◌≡◌, ℕ, List, [], ◌∷◌, ◌++◌, Bool, true, false, refl, sym, ap, subst, append-nil}
 use Rattle.std.specs.Prelude.{if◌then◌else◌}
 use Rattle.gq_grid.specs.Grid.{Grid}
@@ -15,16 +15,16 @@ use Rattle.gq_model.specs.Lone.{Step, quiet, entry_of, line_step, is_refusal}
 use Rattle.gq_world.specs.Tables.{Tables, Agrees}
 use Rattle.gq_world.specs.Machine.{state_after_turn, Acts, TellsLine}
 
--- the copies that servers have shown after a turn that brings them none
-abbrev pub shown_on : State → ℕ → File → ℕ → List StoredCopy
-shown_on state = λ server file mate. state.shown server file mate ++ (if state.lacks mate file then [] else copy_of (state.brought mate file) ∷ [])
+-- what servers could be given after a turn that brings none a copy
+abbrev pub offered_on : State → ℕ → File → ℕ → List StoredCopy
+offered_on state = λ server file mate. state.offered server file mate ++ (if state.lacks mate file then [] else copy_of (state.brought mate file) ∷ [])
 
--- whatever was shown, the tables know nothing of it
-abbrev pub with_shown : State → (ℕ → File → ℕ → List StoredCopy) → State
-with_shown state shown = record state { shown = shown }
+-- whatever could be given, the tables know nothing of it
+abbrev pub with_offered : State → (ℕ → File → ℕ → List StoredCopy) → State
+with_offered state offered = record state { offered = offered }
 
-pub agrees_shown : (w : Tables) (t : ℕ) (known : Known) (shown : ℕ → File → ℕ → List StoredCopy) → Agrees w t known → Agrees w t (record known { state = with_shown known.state shown })
-agrees_shown w t known shown agrees = record {
+pub agrees_offered : (w : Tables) (t : ℕ) (known : Known) (offered : ℕ → File → ℕ → List StoredCopy) → Agrees w t known → Agrees w t (record known { state = with_offered known.state offered })
+agrees_offered w t known offered agrees = record {
   lines = agrees.lines;
   up = agrees.up;
   account = agrees.account;
@@ -38,23 +38,23 @@ agrees_shown w t known shown agrees = record {
 }
 
 -- nothing more was sent
-sends_nothing : (state : State) → record state { sent = state.sent ++ []; shown = shown_on state } ≡ with_shown state (shown_on state)
-sends_nothing state = ap (λ messages. record state { sent = messages; shown = shown_on state }) (append-nil state.sent)
+sends_nothing : (state : State) → record state { sent = state.sent ++ []; offered = offered_on state } ≡ with_offered state (offered_on state)
+sends_nothing state = ap (λ messages. record state { sent = messages; offered = offered_on state }) (append-nil state.sent)
 
--- what was shown after a turn that sends nothing and answers no question otherwise, whatever is told
-abbrev shown_after : State → Told → ℕ → File → ℕ → List StoredCopy
-shown_after state told = if is_refusal told then state.shown else shown_on state
+-- what could be given after a turn that sends nothing and answers no question otherwise, whatever is told
+abbrev offered_after : State → Told → ℕ → File → ℕ → List StoredCopy
+offered_after state told = if is_refusal told then state.offered else offered_on state
 
-quiet_after : (state : State) (turn : Turn) (told : Told) → changed (entry_of state turn (quiet told)) state ≡ with_shown state (shown_on state) → state_after_turn state turn (quiet told) ≡ with_shown state (shown_after state told)
+quiet_after : (state : State) (turn : Turn) (told : Told) → changed (entry_of state turn (quiet told)) state ≡ with_offered state (offered_on state) → state_after_turn state turn (quiet told) ≡ with_offered state (offered_after state told)
 quiet_after state turn told same = by (is_refusal told)
   where
-    by : (b : Bool) → (if b then state else changed (entry_of state turn (quiet told)) state) ≡ with_shown state (if b then state.shown else shown_on state)
+    by : (b : Bool) → (if b then state else changed (entry_of state turn (quiet told)) state) ≡ with_offered state (if b then state.offered else offered_on state)
     by true = refl
     by false = same
 
 -- such a line
 abbrev IsQuiet : Line → Type 0
-IsQuiet line = (grid : Grid) (row : TenantRow) (state : State) → state_after_turn state (Own line) (line_step grid row state line) ≡ with_shown state (shown_after state (line_step grid row state line).told)
+IsQuiet line = (grid : Grid) (row : TenantRow) (state : State) → state_after_turn state (Own line) (line_step grid row state line) ≡ with_offered state (offered_after state (line_step grid row state line).told)
 
 quorum_after : IsQuiet Quorum
 quorum_after grid row state = quiet_after state (Own Quorum) (line_step grid row state Quorum).told (sends_nothing state)
@@ -68,7 +68,7 @@ quiet_acts w t line same = record {
   plan = refl;
   own = λ known agrees.
       let told : Told = (line_step w.plan.grid (row_at w.plan t) known.state line).told in
-      subst (Agrees w t) (ap (λ state. record known { state = state }) (sym (same w.plan.grid (row_at w.plan t) known.state))) (agrees_shown w t known (shown_after known.state told) agrees);
+      subst (Agrees w t) (ap (λ state. record known { state = state }) (sym (same w.plan.grid (row_at w.plan t) known.state))) (agrees_offered w t known (offered_after known.state told) agrees);
   others = λ u other known agrees. agrees;
   servers = refl;
 }

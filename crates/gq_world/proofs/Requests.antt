@@ -33,7 +33,7 @@ use Rattle.gq_world.specs.declared.sessions.Seat.{Seat}
 use Rattle.gq_world.specs.Tables.{Tables, Agrees, SeatAgrees, Sits, IsReady, IsShaped, seats_at, seat_in, no_seat}
 use Rattle.gq_world.specs.Asking.{volume_causes, file_causes, write_causes, busy_seat, begun_tables}
 use Rattle.gq_world.specs.Machine.{Acts, TellsLine, acted, state_after_turn}
-use Rattle.gq_world.proofs.Quiet.{shown_on}
+use Rattle.gq_world.proofs.Quiet.{offered_on}
 use Rattle.gq_world.proofs.Lanes.{sent_count, sent_messages, new_not_lost, lane_there, quorums_in}
 
 -- ---- a session of the tables
@@ -141,7 +141,7 @@ begun_session s task = record { op = s.op + 1; current = Some task; round = 1; h
 
 -- session k has begun the task, and these messages are sent
 abbrev pub begun_state : State → ℕ → Task → List OwnMessage → State
-begun_state state k task new = record state { sent = state.sent ++ new; shown = shown_on state; session = λ j. if k == j then begun_session (state.session j) task else state.session j }
+begun_state state k task new = record state { sent = state.sent ++ new; offered = offered_on state; session = λ j. if k == j then begun_session (state.session j) task else state.session j }
 
 -- the messages of its first round
 abbrev pub first_messages : Grid → State → ℕ → Task → List OwnMessage
@@ -164,7 +164,7 @@ sessions_begin state k line task asks = fun_ext (λ j. by j (k == j))
 
 -- so many sessions, and so many messages
 abbrev with_sessions : State → List OwnMessage → (ℕ → Session) → State
-with_sessions state new session = record state { sent = state.sent ++ new; shown = shown_on state; session = session }
+with_sessions state new session = record state { sent = state.sent ++ new; offered = offered_on state; session = session }
 
 pub writes : (state : State) (k v f : ℕ) (bytes : List ℕ) (s : Step) → changed (entry_of state (Own (Write k v f bytes)) s) state ≡ begun_state state k (write_task v f bytes) s.new
 writes state k v f bytes s = ap (with_sessions state s.new) (sessions_begin state k (Write k v f bytes) (write_task v f bytes) refl)

@@ -28,7 +28,7 @@ use Rattle.gq_world.specs.Saying.{with_sent}
 use Rattle.gq_world.specs.Seats.{IsAtWork, SeatResends, SeatRefuses}
 use Rattle.gq_world.specs.Machine.{Acts, TellsLine, acted, state_after_turn}
 use Rattle.gq_world.proofs.Hearing.{length-rising}
-use Rattle.gq_world.proofs.Quiet.{shown_on}
+use Rattle.gq_world.proofs.Quiet.{offered_on}
 use Rattle.gq_world.proofs.Lanes.{sent_count, sent_messages, new_not_lost, lane_there, quorums_in}
 use Rattle.gq_world.proofs.Requests.{in_range, not_false, first_none, seat_of}
 
@@ -126,7 +126,7 @@ abandon_tells w t k is known agrees = sym (ap (λ (step : Step). step.told) (aba
 
 -- what is known afterwards: the session has no operation
 abbrev given_up : ℕ → State → State
-given_up k state = record state { shown = shown_on state; session = λ j. session_by state.volumes j (deed j (record { turn = Own (Abandon k); message = None; told = Abandoned; new = [] })) (state.session j) }
+given_up k state = record state { offered = offered_on state; session = λ j. session_by state.volumes j (deed j (record { turn = Own (Abandon k); message = None; told = Abandoned; new = [] })) (state.session j) }
 
 abandon_known : (w : Tables) (t k : ℕ) (known : Known) → first_cause (idle_causes w t k) ≡ None → Agrees w t known → acted w.plan.grid (row_at w.plan t) known (Abandon k) ≡ record known { state = given_up k known.state }
 abandon_known w t k known is agrees =

@@ -15,15 +15,15 @@ use Rattle.gq_model.specs.Trace.{Serving, State, Known, changed, up_by}
 use Rattle.gq_model.specs.Lone.{quiet, entry_of, change_refusal, server_told, is_refusal}
 use Rattle.gq_world.specs.Tables.{Tables, Agrees, up_in}
 use Rattle.gq_world.specs.Machine.{state_after_turn, servers_after, Advances}
-use Rattle.gq_world.proofs.Quiet.{shown_on, agrees_shown}
+use Rattle.gq_world.proofs.Quiet.{offered_on, agrees_offered}
 
--- what is known after it: the servers that are up may be others, and what the servers hold is shown once more
-server_state : (state : State) (line : ServerLine) (told : Told) → state_after_turn state (Serving line) (quiet told) ≡ record state { up = if is_refusal told then state.up else up_by (Serving line) state.up; shown = if is_refusal told then state.shown else shown_on state }
+-- what is known after it: the servers that are up may be others, and what they hold could be given once more
+server_state : (state : State) (line : ServerLine) (told : Told) → state_after_turn state (Serving line) (quiet told) ≡ record state { up = if is_refusal told then state.up else up_by (Serving line) state.up; offered = if is_refusal told then state.offered else offered_on state }
 server_state state line told = by (is_refusal told)
   where
-    by : (b : Bool) → (if b then state else changed (entry_of state (Serving line) (quiet told)) state) ≡ record state { up = if b then state.up else up_by (Serving line) state.up; shown = if b then state.shown else shown_on state }
+    by : (b : Bool) → (if b then state else changed (entry_of state (Serving line) (quiet told)) state) ≡ record state { up = if b then state.up else up_by (Serving line) state.up; offered = if b then state.offered else offered_on state }
     by true = refl
-    by false = ap (λ messages. record state { up = up_by (Serving line) state.up; sent = messages; shown = shown_on state }) (append-nil state.sent)
+    by false = ap (λ messages. record state { up = up_by (Serving line) state.up; sent = messages; offered = offered_on state }) (append-nil state.sent)
 
 agrees_up : (w : Tables) (set : ServerSet) (up : Servers) (u : ℕ) (known : Known) → up_in w.plan.grid set ≡ up → Agrees w u known → Agrees (record w { up = set }) u (record known { state = record known.state { up = up } })
 agrees_up w set up u known is agrees = record {
@@ -49,7 +49,7 @@ server_advances w line set servers = record {
       let up : Servers = servers_after w.plan.grid known.state.up (Server line) in
       subst (Agrees (record w { up = set }) u)
       (ap (λ state. record known { state = state }) (sym (server_state known.state line told)))
-      (agrees_shown (record w { up = set }) u (record known { state = record known.state { up = up } }) (if is_refusal told then known.state.shown else shown_on known.state)
+      (agrees_offered (record w { up = set }) u (record known { state = record known.state { up = up } }) (if is_refusal told then known.state.offered else offered_on known.state)
       (agrees_up w set up u known (servers ∙ ap (λ up. servers_after w.plan.grid up (Server line)) agrees.up) agrees));
 }
 
