@@ -14,3 +14,4 @@ pub mod Keeping
 pub mod Reserving
 pub mod Restarting
 pub mod WorkedCase
+pub mod LossCase
