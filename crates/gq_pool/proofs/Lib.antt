@@ -3,3 +3,4 @@ pub mod Words
 pub mod Heap
 pub mod Crosses
 pub mod Contents
+pub mod Copied

@@ -130,6 +130,19 @@ impl Pool {
         Ok(Chain { blocks, len })
     }
 
+    /// A chain of the same content as that one, in blocks that were free, as by [`Pool::fill`] with the content's bytes. It
+    /// takes no memory.
+    pub fn copy(&mut self, chain: &Chain) -> Chain
+        requires { blocks_for (length chain.now) ≤ self.old }
+        ensures copied { result ≡ chain.now }
+        ensures taken { self.new + blocks_for (length chain.now) ≡ self.old }
+    {
+        Chain {
+            blocks: chain.blocks.copy(&mut self.free, self.alloc),
+            len: chain.len,
+        }
+    }
+
     /// Takes the chain's blocks back: `free` rises by them. It takes no memory.
     pub fn drain(&mut self, chain: Chain)
         requires { self.old + blocks_for (length chain) < 2 ^ 64 }

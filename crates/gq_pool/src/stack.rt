@@ -58,6 +58,13 @@ impl Block {
         self.node.bytes[..bytes.len()].copy_from_slice(bytes);
     }
 
+    // Writes the bytes over all of the block.
+    pub(crate) fn set(&mut self, bytes: &[u8; BLOCK_BYTES])
+        ensures { self.new ≡ bytes.now }
+    {
+        self.node.bytes = *bytes;
+    }
+
     // Gives the block back to memory. No other function does.
     pub(crate) fn free(self) {
         let Block { node } = self;
@@ -125,6 +132,30 @@ impl Stack {
             start = end;
             i += 1;
         }
+    }
+
+    // A list of the same bytes, in blocks that are taken off `free`. The blocks come on a list with the last first, and from
+    // there in order.
+    pub(crate) fn copy(&self, free: &mut Stack, alloc: Global) -> Stack
+        requires { length self.now ≤ length free.old }
+        ensures copied { result ≡ self.now }
+        ensures taken { length free.new + length self.now ≡ length free.old }
+    {
+        let mut turned = Stack::new();
+        let mut at = self.head;
+        for i in 0..self.count {
+            let node = self.nodes.read(at, i);
+            let mut block = free.pop(alloc);
+            block.set(&node.bytes);
+            turned.push(block);
+            at = Link { ptr: node.next };
+        }
+        let mut blocks = Stack::new();
+        while turned.count() > 0 {
+            blocks.push(turned.pop(alloc));
+        }
+        turned.close();
+        blocks
     }
 
     // Lets the empty list go.

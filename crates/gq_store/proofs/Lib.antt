@@ -3,3 +3,5 @@ pub mod There
 pub mod Changed
 pub mod Blocks
 pub mod Added
+pub mod Mixed
+pub mod Lost

@@ -98,6 +98,16 @@ new_tenant row = record { share = row.share; most_blocks = row.most_blocks; volu
 abbrev pub empty_store : CheckedPlan → StoreCopies
 empty_store plan = record { blocks = plan.blocks; tenants = map new_tenant plan.rows }
 
+-- the volume, the tenant and the store once their copies are lost: each file that is there has its first copy again
+abbrev pub lost_volume : VolumeCopies → VolumeCopies
+lost_volume volume = record { blocks = volume.blocks; copies = map (λ copy. first_copy) volume.copies }
+
+abbrev pub lost_tenant : TenantCopies → TenantCopies
+lost_tenant tenant = record { share = tenant.share; most_blocks = tenant.most_blocks; volumes = map lost_volume tenant.volumes }
+
+abbrev pub lost_copies : StoreCopies → StoreCopies
+lost_copies store = record { blocks = store.blocks; tenants = map lost_tenant store.tenants }
+
 -- a volume whose files have their first copies
 abbrev pub new_volume : ℕ → ℕ → VolumeCopies
 new_volume files blocks = record { blocks = blocks; copies = replicate files first_copy }

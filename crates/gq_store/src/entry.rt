@@ -91,6 +91,45 @@ impl Entry {
         self.tag = tag;
     }
 
+    // Puts the first copy, with no hint, in this one's place, and gives the blocks back.
+    pub(crate) fn lose(&mut self, pool: &mut Pool)
+        requires { pool.old + taken self.old < 2 ^ 64 }
+        ensures copy { self.new ≡ first_copy }
+        ensures free { pool.new ≡ pool.old + taken self.old }
+    {
+        let old = mem::replace(self, Entry::first());
+        old.spend(pool);
+    }
+
+    // Puts the mate's copy, with no hint, in this one's place: takes blocks for it, and gives those of the old one back.
+    pub(crate) fn take_from(&mut self, pool: &mut Pool, mate: &Entry)
+        requires fits { pool.old + taken self.old < 2 ^ 64 }
+        requires room { taken mate.now ≤ pool.old }
+        ensures copy { self.new ≡ mate.now }
+        ensures free { pool.new + taken mate.now ≡ pool.old + taken self.old }
+    {
+        let new = mate.copied(pool);
+        let old = mem::replace(self, new);
+        old.spend(pool);
+    }
+
+    // An equal copy in blocks of its own, with no hint.
+    fn copied(&self, pool: &mut Pool) -> Entry
+        requires { taken self.now ≤ pool.old }
+        ensures copy { result ≡ self.now }
+        ensures free { pool.new + taken self.now ≡ pool.old }
+    {
+        let chain = match &self.chain {
+            None => None,
+            Some(chain) => Some(pool.copy(chain)),
+        };
+        Entry {
+            tag: self.tag,
+            chain,
+            hint: 0,
+        }
+    }
+
     // Gives the blocks back.
     pub(crate) fn spend(self, pool: &mut Pool)
         requires { pool.old + taken self < 2 ^ 64 }

@@ -4,7 +4,7 @@ ghost use Rattle.std.specs.List.{sum_by};
 ghost use Rattle.gq_tag.specs.declared.FileId.{FileId};
 ghost use Rattle.gq_tag.specs.Tag.{is_less, newer_of, first_copy, to_server};
 ghost use Rattle.gq_desk.specs.Volumes.{with_volume, free_of};
-ghost use Rattle.gq_store.specs.Copies.{TenantCopies, copy_at, store_accounts, tenant_account, file_limit, tenant_taken, blocks_taken, blocks_free, empty_store, new_tenant, tenants_with};
+ghost use Rattle.gq_store.specs.Copies.{TenantCopies, copy_at, copies_account, store_accounts, tenant_account, file_limit, tenant_taken, blocks_taken, blocks_free, empty_store, new_tenant, lost_tenant, lost_copies, tenants_with};
 
 use crate::entry::Entry;
 use crate::volumes::Tenant;
@@ -85,6 +85,30 @@ fn give_back(mut pool: Pool, mut tenants: Vec<Tenant>)
     }
     tenants.destroy_empty();
     pool.close();
+}
+
+// Loses the copies of all tenants, and gives their blocks back.
+fn lose_copies(pool: &mut Pool, tenants: &mut [Tenant])
+    requires { pool.old + sum_by tenant_taken tenants.old < 2 ^ 64 }
+    ensures copies { tenants.new ≡ map lost_tenant tenants.old }
+    ensures free { pool.new ≡ pool.old + sum_by tenant_taken tenants.old }
+{
+    for tenant in tenants.iter_mut() {
+        tenant.lose(pool);
+    }
+}
+
+// Takes the copies of all tenants from the mates', which have the same accounts.
+fn take_copies(pool: &mut Pool, tenants: &mut [Tenant], mates: &[Tenant])
+    requires accounts { map copies_account tenants.old ≡ map copies_account mates.now }
+    requires fits { pool.old + sum_by tenant_taken tenants.old < 2 ^ 64 }
+    requires room { sum_by tenant_taken mates.now ≤ pool.old }
+    ensures copies { tenants.new ≡ mates.now }
+    ensures free { pool.new + sum_by tenant_taken mates.now ≡ pool.old + sum_by tenant_taken tenants.old }
+{
+    for (place, tenant) in tenants.iter_mut().enumerate() {
+        tenant.take_from(pool, &mates[place]);
+    }
 }
 
 // Adds a tenant without volumes for each row.
@@ -344,6 +368,36 @@ impl ServerStore {
             },
         };
         Ok(reply(message, body))
+    }
+
+    /// Loses all copies, as a server whose disk is lost: each file that is there has its first copy again, tag (0,0) and empty,
+    /// and hint 0. The tenants, their shares and their volumes stay, and all blocks are free.
+    pub fn lose(&mut self)
+        ensures lost { self.new ≡ lost_copies self.old }
+        ensures copies { (file : FileId) → copy_at self.new file ≡ first_copy }
+        ensures accounts { store_accounts self.new ≡ store_accounts self.old }
+        ensures blocks { self.new.blocks ≡ self.old.blocks }
+        ensures free { blocks_free self.new ≡ self.new.blocks }
+    {
+        let _blocks = self.blocks;
+        lose_copies(&mut self.pool, self.tenants.as_mut_slice());
+    }
+
+    /// Takes the copies of all files from a mate, another server of the same column, in place of what was there: this store
+    /// is then equal to the mate's, and the mate's is as it was. Both have the same accounts, and as many blocks. Each hint
+    /// is 0 then. It takes no memory, and always finds the blocks.
+    pub fn take_from(&mut self, mate: &ServerStore)
+        requires accounts { store_accounts self.old ≡ store_accounts mate.now }
+        requires blocks { self.old.blocks ≡ mate.now.blocks }
+        ensures { self.new ≡ mate.now }
+    {
+        self.lose();
+        let _blocks = self.blocks;
+        take_copies(
+            &mut self.pool,
+            self.tenants.as_mut_slice(),
+            mate.tenants.as_slice(),
+        );
     }
 
     /// Forgets all tenants with their volumes: their blocks are free then, and what other memory these took is given back.

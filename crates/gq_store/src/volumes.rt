@@ -4,7 +4,7 @@ ghost use Rattle.std.specs.Option.{option_and_then};
 ghost use Rattle.gq_desk.specs.Volumes.{limit_in};
 ghost use Rattle.gq_pool.specs.Blocks.{blocks_for};
 ghost use Rattle.gq_tag.specs.Tag.{first_copy};
-ghost use Rattle.gq_store.specs.Copies.{volume_size, copies_account, volume_copy, volume_in, taken, volume_taken, tenant_taken, new_volume, new_tenant, volume_with, tenant_with};
+ghost use Rattle.gq_store.specs.Copies.{volume_size, copies_account, volume_copy, volume_in, taken, volume_taken, tenant_taken, new_volume, new_tenant, lost_volume, lost_tenant, volume_with, tenant_with};
 
 use crate::entry::Entry;
 use gq_desk::TenantRow;
@@ -98,6 +98,30 @@ impl Volume {
         self.files[file as usize].leave_hint(hint);
     }
 
+    // Loses the copies of all files, and gives their blocks back.
+    fn lose(&mut self, pool: &mut Pool)
+        requires { pool.old + volume_taken self.old < 2 ^ 64 }
+        ensures copies { self.new ≡ lost_volume self.old }
+        ensures free { pool.new ≡ pool.old + volume_taken self.old }
+    {
+        for entry in self.files.iter_mut() {
+            entry.lose(pool);
+        }
+    }
+
+    // Takes the copies of all files from the mate's volume of the same size.
+    fn take_from(&mut self, pool: &mut Pool, mate: &Volume)
+        requires size { volume_size self.old ≡ volume_size mate.now }
+        requires fits { pool.old + volume_taken self.old < 2 ^ 64 }
+        requires room { volume_taken mate.now ≤ pool.old }
+        ensures copies { self.new ≡ mate.now }
+        ensures free { pool.new + volume_taken mate.now ≡ pool.old + volume_taken self.old }
+    {
+        for (file, entry) in self.files.iter_mut().enumerate() {
+            entry.take_from(pool, &mate.files[file]);
+        }
+    }
+
     // Gives the blocks of all files back.
     fn spend(self, pool: &mut Pool)
         requires { pool.old + volume_taken self < 2 ^ 64 }
@@ -174,6 +198,30 @@ impl Tenant {
         ensures { self.new ≡ self.old }
     {
         self.volumes[volume as usize].leave_hint(file, hint);
+    }
+
+    // Loses the copies of all volumes, and gives their blocks back.
+    pub(crate) fn lose(&mut self, pool: &mut Pool)
+        requires { pool.old + tenant_taken self.old < 2 ^ 64 }
+        ensures copies { self.new ≡ lost_tenant self.old }
+        ensures free { pool.new ≡ pool.old + tenant_taken self.old }
+    {
+        for volume in self.volumes.iter_mut() {
+            volume.lose(pool);
+        }
+    }
+
+    // Takes the copies of all volumes from the mate's tenant of the same account.
+    pub(crate) fn take_from(&mut self, pool: &mut Pool, mate: &Tenant)
+        requires account { copies_account self.old ≡ copies_account mate.now }
+        requires fits { pool.old + tenant_taken self.old < 2 ^ 64 }
+        requires room { tenant_taken mate.now ≤ pool.old }
+        ensures copies { self.new ≡ mate.now }
+        ensures free { pool.new + tenant_taken mate.now ≡ pool.old + tenant_taken self.old }
+    {
+        for (number, volume) in self.volumes.iter_mut().enumerate() {
+            volume.take_from(pool, &mate.volumes[number]);
+        }
     }
 
     // Gives the blocks of all volumes back.
