@@ -141,9 +141,10 @@ fn read_some<R: Read>(input: &mut R, block: &mut [u8]) -> Result<usize, Fault>
     Err(Fault::Read)
 }
 
-/// Takes the lines of the input to its end, but for those that are longer, of which no more is held than shows it. At each write to the output, `O.allows` is all that is known of what may be shown; the
-/// premise `may` says that it is allowed where it is durable: what is shown is what steps told, and a start from what is synced
-/// reads the machine that they left. Whenever it is killed, a start reads a machine that steps left.
+/// Takes the lines of the input to its end, but for those that are longer, of which no more is held than shows it. At
+/// each write to the output, `O.allows` is all that is known of what may be shown; the premise `may` says that it is
+/// allowed where it is durable: what is shown is what steps told, and a start from what is synced reads the machine
+/// that they left. Whenever it is killed, a start reads a machine that steps left.
 pub fn serve<M: Lasting, R: Read, D: Disk, O: Output>(
     alloc: Global,
     longest: usize,

@@ -27,7 +27,7 @@ use Rattle.gq_node.specs.declared.output.Admission.TheVariants.{Tells, Passes, G
 use Rattle.gq_node.specs.Again.{told_at_home, told_again, AllToldAgain, session_in, number_in, TellsEnd, begun_at, NoneBegins, is_start, forgotten, end_after, AllEndsToldAgain}
 use Rattle.gq_node.specs.Bridge.{AtHome}
 use Rattle.gq_node.specs.Inputs.{Input, Asked, AskedPlan, Brought, Ticked, does}
-use Rattle.gq_node.specs.Local.{Local, Resident, Doing, new_local, part_in, nothing, state_of, state_for, aim_at, with_resident, tries_next, asker, begins, ended, again, own_admission, admission, admission_in, asks, asks_in, asked_by, goes_on, answer_of, refused_with, outcome_after, receives, serves, hears, brings, ticks, waits_on, letter_fits, goes_between, has_above, of_round, recalls, recalled, fact_fits, file_in}
+use Rattle.gq_node.specs.Local.{Local, Resident, Doing, new_local, part_in, silently, state_of, state_for, aim_at, with_resident, tries_next, asker, begins, ended, again, own_admission, admission, admission_in, asks, asks_in, asked_by, goes_on, answer_of, refused_with, outcome_after, receives, serves, hears, brings, ticks, waits_on, letter_fits, goes_between, has_above, of_round, recalls, recalled, fact_fits, file_in}
 use Rattle.gq_node.specs.Nodes.{Nodes, site_in, recalls_one, started, new_nodes, Event, LineCame, PlanCame, LetterCame, TickCame, Started, node_in, doing_of, after_doing, after_event, nodes_after}
 use Rattle.gq_node.specs.Once.{begun_by}
 use Rattle.gq_node.specs.Sites.{Site}
@@ -546,8 +546,8 @@ request_moves op line k site local turn = by (admission_in site local k op (begi
         let e : asks_in site local op line k ≡ record { local = local; answer = Some answer; letters = []; fact = None } = rw is refl in
         subst (Moves site local) (sym (same ∙ e)) (Stays (told_still site local op k (begins line) answer is))
     by Passes is =
-        let e : asks_in site local op line k ≡ nothing local = rw is refl in
-        subst (Moves site local) (sym (same ∙ e)) (Stays (quiet site local (nothing local) refl refl))
+        let e : asks_in site local op line k ≡ silently local = rw is refl in
+        subst (Moves site local) (sym (same ∙ e)) (Stays (quiet site local (silently local) refl refl))
     by Goes is =
         let e : asks_in site local op line k ≡ asked_by local k op (state_of aim local) line step = rw is refl in
         subst (Moves site local) (sym (same ∙ e)) (said is (is_refusal step.told) refl)
@@ -624,7 +624,7 @@ hears_move site local m goes here = by (has_above (local.residents m.session).se
         subst (λ (x : Session). AfterTold k step.told r x (outcome_after step.told r.outcome)) (sym same) (hear_after local.volumes k site.grid state m r r.session.current refl)
 
     by : (b : Bool) → (has_above r.session.floor && of_round (operation state k) m.file) ≡ b → Moves site local (hears site local m)
-    by false is = let e : hears site local m ≡ nothing local = rw is refl in subst (Moves site local) (sym e) (Stays (quiet site local (nothing local) refl refl))
+    by false is = let e : hears site local m ≡ silently local = rw is refl in subst (Moves site local) (sym e) (Stays (quiet site local (silently local) refl refl))
     by true is =
         let e : hears site local m ≡ doing = rw is refl in
         subst (Moves site local) (sym e) (Goes_on k r.session.op step.told (goes_on_turns site local k r.session.op doing _ step.told _ here refl refl refl after (λ abandoned. absurd (never_abandoned (operation state k) abandoned))))
@@ -641,7 +641,7 @@ hears_move site local m goes here = by (has_above (local.residents m.session).se
 
 letters_move : (from : ℕ) (m : OwnMessage) (site : Site) (local : Local) → Moves site local (receives from m site local)
 letters_move from m site local = elim (cases_Bool (letter_fits site (limit_at (state_of everyone local) m.file.volume m.file.place) from m)) [
-  | inr not ↦ (let e : receives from m site local ≡ nothing local = rw not refl in subst (Moves site local) (sym e) (Stays (quiet site local (nothing local) refl refl)))
+  | inr not ↦ (let e : receives from m site local ≡ silently local = rw not refl in subst (Moves site local) (sym e) (Stays (quiet site local (silently local) refl refl)))
   | inl fits ↦ (elim (cases_Bool (to_server m.body)) [
     | inl goes ↦ (subst (Moves site local) (sym (to_the_server from m site local fits goes)) (Stays (quiet site local (serves site local m) refl refl)))
     | inr goes ↦ (
@@ -677,7 +677,7 @@ tries_still site local doing j r part none numbers a = record {
 
 ticks_move : (k : ℕ) (site : Site) (local : Local) → Moves site local (ticks k site local)
 ticks_move k site local = elim (cases_Bool (is_some (local.residents k).session.current)) [
-  | inr idle ↦ (let e : ticks k site local ≡ nothing local = rw idle refl in subst (Moves site local) (sym e) (Stays (quiet site local (nothing local) refl refl)))
+  | inr idle ↦ (let e : ticks k site local ≡ silently local = rw idle refl in subst (Moves site local) (sym e) (Stays (quiet site local (silently local) refl refl)))
   | inl busy ↦ (subst (Moves site local) (sym (busy_is k site local busy)) (Stays (by (local.residents k).waited)))
 ]
   where

@@ -35,7 +35,7 @@ use Rattle.gq_node.specs.declared.output.Admission.TheVariants.{Tells, Passes, G
 use Rattle.gq_node.specs.declared.output.Fact.TheVariants.{Began as FactBegan}
 use Rattle.gq_node.specs.declared.output.Output.{Output}
 use Rattle.gq_node.specs.Sites.{Site, site_of}
-use Rattle.gq_node.specs.Local.{Local, Doing, state_for, nothing, tells, goes_on, session_fact, asks, asks_in, asked_by, again, own_admission, admission, admission_in, refused_with, aim_at, begins as begins_line, asker}
+use Rattle.gq_node.specs.Local.{Local, Doing, state_for, silently, tells, goes_on, session_fact, asks, asks_in, asked_by, again, own_admission, admission, admission_in, refused_with, aim_at, begins as begins_line, asker}
 use Rattle.gq_node.proofs.Aiming.{all_aims_have_quorums}
 use Rattle.gq_node.specs.Asking.{volume_causes, file_causes, write_causes, admission_at, MayGo, HasBegunWith, Starts}
 use Rattle.gq_cluster.specs.Facts.{Reserved, reserved_by, greatest_op}
@@ -104,7 +104,7 @@ admission_is w t k op b local agrees = elim (cases_Bool (is_in 1 (row_at w.plan 
 admission_tells : (site : Site) (local : Local) (op : ℕ) (line : Line) (k : ℕ) (answer : Answer) → admission_in site local k op (begins_line line) ≡ Tells answer → asks_in site local op line k ≡ tells local answer
 admission_tells site local op line k answer is = rw is refl
 
-admission_passes : (site : Site) (local : Local) (op : ℕ) (line : Line) (k : ℕ) → admission_in site local k op (begins_line line) ≡ Passes → asks_in site local op line k ≡ nothing local
+admission_passes : (site : Site) (local : Local) (op : ℕ) (line : Line) (k : ℕ) → admission_in site local k op (begins_line line) ≡ Passes → asks_in site local op line k ≡ silently local
 admission_passes site local op line k is = rw is refl
 
 admission_goes : (site : Site) (local : Local) (op : ℕ) (line : Line) (k : ℕ) → admission_in site local k op (begins_line line) ≡ Goes →
@@ -198,7 +198,7 @@ told_by_number w t k op line answer out of is told =
 
 pub passed_by_number : (w : Tables) (t k op : ℕ) (line : Line) (out : Output) → IsOf k line → admission_at w t k op (begins_line line) ≡ Passes → GivesNothing out → Acts w t (asks op line) out w
 passed_by_number w t k op line out of is none =
-    let does : (local : Local) → Agrees w t local → asks op line (site_of w.plan w.server t) local ≡ nothing local =
+    let does : (local : Local) → Agrees w t local → asks op line (site_of w.plan w.server t) local ≡ silently local =
     λ local agrees. of.asks op (site_of w.plan w.server t) local ∙ admission_passes (site_of w.plan w.server t) local op line k (sym (admission_is w t k op (begins_line line) local agrees) ∙ is) in
     record {
       leads = same_leads w t (asks op line) (λ local agrees. ap (λ (d : Doing). d.local) (does local agrees));

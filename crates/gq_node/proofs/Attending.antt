@@ -22,7 +22,7 @@ use Rattle.gq_node.specs.declared.seats.Seat.{Seat}
 use Rattle.gq_node.specs.declared.output.Output.{Output}
 use Rattle.gq_node.specs.Sites.{Site, site_of}
 use Rattle.gq_cluster.specs.Facts.{Reserved, reserved_by}
-use Rattle.gq_node.specs.Local.{Local, Resident, Doing, state_of, state_for, nothing, goes_on, brings, hears, has_above, of_round, aim_at, outcome_after, waits_after, answer_of, session_fact}
+use Rattle.gq_node.specs.Local.{Local, Resident, Doing, state_of, state_for, silently, goes_on, brings, hears, has_above, of_round, aim_at, outcome_after, waits_after, answer_of, session_fact}
 use Rattle.gq_node.specs.Heard.{HeardGives, heard_answer, heard_fact, heard_run, heard_outcome, heard_waits}
 use Rattle.gq_node.specs.Seats.{has_heard, is_of_round, seat_aim, SeatHears, SeatAttends, SaysAndGives, GivesNothing, said_by, operation_after, last_of, last_in}
 use Rattle.gq_node.specs.Shape.{IsShaped}
@@ -55,7 +55,7 @@ hears_is site local m fits =
     rw fits (ap (λ step. goes_on local m.session (local.residents m.session).session.op (heard_servers (local.residents m.session).session.heard m.server) (state_for site local m.session) (brings m step))
     (hears_as site.grid (state_for site local m.session) m (operation (state_for site local m.session) m.session)))
 
-hears_nothing : (site : Site) (local : Local) (m : OwnMessage) → heard_in site local m ≡ false → hears site local m ≡ nothing local
+hears_nothing : (site : Site) (local : Local) (m : OwnMessage) → heard_in site local m ≡ false → hears site local m ≡ silently local
 hears_nothing site local m none = rw none refl
 
 -- ---- the session
@@ -95,11 +95,11 @@ own_session state m s goes = rw (goes, eq-eqb m.session m.session refl) refl
 says_stale : (grid : Grid) (up : Servers) (k : ℕ) (session : Session) (m : OwnMessage) (s : Saying) → said_by grid up (option_map (operation_with k session) session.current) m ≡ s → session.current ≡ None → s ≡ HeardStale
 says_stale grid up k session m s says none = sym says ∙ ap (λ current. said_by grid up (option_map (operation_with k session) current) m) none
 
-waits_as : (t : ℕ) (s : Saying) (known old new : Bool) → old ≡ new → heard_waits (heard_as t s) known old ≡ waits_after (heard_step 0 s).told known new
-waits_as t HeardStale known old new same = same
-waits_as t HeardNoted known old new same = ap (λ b. known && b) same
-waits_as t (HeardNext round tag messages) known old new same = refl
-waits_as t (HeardDone outcome) known old new same = refl
+waits_as : (t : ℕ) (s : Saying) (heard_before old new : Bool) → old ≡ new → heard_waits (heard_as t s) heard_before old ≡ waits_after (heard_step 0 s).told heard_before new
+waits_as t HeardStale heard_before old new same = same
+waits_as t HeardNoted heard_before old new same = ap (λ b. heard_before && b) same
+waits_as t (HeardNext round tag messages) heard_before old new same = refl
+waits_as t (HeardDone outcome) heard_before old new same = refl
 
 -- the servers heard are those of the model; without an operation nothing is new
 waits_is : (grid : Grid) (up : Servers) (t k own : ℕ) (code : Option Code) (session : Session) (current : Option Task) (m : OwnMessage) (old new : Bool) →
@@ -261,7 +261,7 @@ attended w t M seat out local goes low high fits attends agrees =
       gives = subst (λ (d : Doing). Gives t d out) (sym is) (heard_gives grid t local (aim_at grid r) M old seat h.heard out goes before hears' h.reserved h.gives);
     }
 
-gives_nothing : (t : ℕ) (local : Local) (out : Output) → GivesNothing out → Gives t (nothing local) out
+gives_nothing : (t : ℕ) (local : Local) (out : Output) → GivesNothing out → Gives t (silently local) out
 gives_nothing t local out none = record { answer = none.answer; letters = none.letters; fact = none.fact }
 
 -- a seat put in its place again
@@ -285,7 +285,7 @@ attend_acts w t M seat out shaped within goes low high attends =
       })
       | inr none ↦ (
           let h = attends_not t k w.plan.grid old seat M out none attends in
-          let model : (local : Local) → Agrees w t local → hears (site_of w.plan w.server t) local (own_message M) ≡ nothing local =
+          let model : (local : Local) → Agrees w t local → hears (site_of w.plan w.server t) local (own_message M) ≡ silently local =
           λ local agrees. hears_nothing (site_of w.plan w.server t) local (own_message M)
           (sym (hears_it (site_of w.plan w.server t) t local old M (seat_of w t k local agrees low high)) ∙ none) in
           record {

@@ -24,7 +24,7 @@ use Rattle.gq_node.specs.declared.output.Answer.{Answer}
 use Rattle.gq_node.specs.declared.output.Answer.TheVariants.{Bad as IsBad}
 use Rattle.gq_node.specs.declared.output.Admission.{Admission}
 use Rattle.gq_node.specs.declared.output.Admission.TheVariants.{Tells, Passes, Goes}
-use Rattle.gq_node.specs.Local.{Local, Resident, Doing, part_in, state_of, state_for, aim_at, tries_next, answer_of, asker, begins, admission_in, asks, asked_by, goes_on, with_resident, tells, nothing, session_fact, receives, serves, hears, brings, ticks, waits_on, outcome_after, waits_after, letter_fits, goes_between, has_above, of_round}
+use Rattle.gq_node.specs.Local.{Local, Resident, Doing, part_in, state_of, state_for, aim_at, tries_next, answer_of, asker, begins, admission_in, asks, asked_by, goes_on, with_resident, tells, silently, session_fact, receives, serves, hears, brings, ticks, waits_on, outcome_after, waits_after, letter_fits, goes_between, has_above, of_round}
 use Rattle.gq_node.specs.Sites.{Site}
 use Rattle.gq_node.specs.Bridge.{setting_in, AtHome, request_act, request_answer, letter_act, waited_act, tick_act, Bridges, AllRequestsAct, AllQuestionsTell, AllLettersAct, AllTicksAct}
 use Rattle.gq_node.proofs.Asking.{goes_home}
@@ -48,25 +48,25 @@ home_with site local k r inside here home j some = elim (cases_Bool (k == j)) [
 ]
 
 -- a session goes on, and all else stays
-goes_part : (local : Local) (k op n : ℕ) (known : Bool) (up : Servers) (e : Entry) (fact : Option OwnFact) → fact ≡ session_fact local k (state_of up local) e →
+goes_part : (local : Local) (k op n : ℕ) (heard_before : Bool) (up : Servers) (e : Entry) (fact : Option OwnFact) → fact ≡ session_fact local k (state_of up local) e →
     ((j : ℕ) → (k == j) ≡ false → (changed e (state_of up local)).session j ≡ (local.residents j).session) →
     ((file : File) → (changed e (state_of up local)).brought n file ≡ local.brought file) → ((file : File) → (changed e (state_of up local)).lacks n file ≡ false) →
-    part_in (goes_on local k op known (state_of up local) e).local ≡ part_of n (with_reserved fact (part_in local).reserved) (changed e (state_of up local))
-goes_part local k op n known up e fact its others copies whole = λ i. record { brought = λ file. sym (copies file) i; lacks = λ file. sym (whole file) i; session = λ j. by j (k == j) refl i; reserved = λ j. reserved j i }
+    part_in (goes_on local k op heard_before (state_of up local) e).local ≡ part_of n (with_reserved fact (part_in local).reserved) (changed e (state_of up local))
+goes_part local k op n heard_before up e fact its others copies whole = λ i. record { brought = λ file. sym (copies file) i; lacks = λ file. sym (whole file) i; session = λ j. by j (k == j) refl i; reserved = λ j. reserved j i }
   where
-    by : (j : ℕ) (b : Bool) → (k == j) ≡ b → (part_in (goes_on local k op known (state_of up local) e).local).session j ≡ (changed e (state_of up local)).session j
+    by : (j : ℕ) (b : Bool) → (k == j) ≡ b → (part_in (goes_on local k op heard_before (state_of up local) e).local).session j ≡ (changed e (state_of up local)).session j
     by j true is = rw is (ap (λ x. (changed e (state_of up local)).session x) (eqb-true k j is))
     by j false is = rw is (sym (others j is))
 
     numbers : IsOfNumbers k (session_fact local k (state_of up local) e)
     numbers = reserves_numbers k (local.residents k).reserved e.told ((changed e (state_of up local)).session k).floor
 
-    resident : (j : ℕ) (b : Bool) → (k == j) ≡ b → (part_in (goes_on local k op known (state_of up local) e).local).reserved j
+    resident : (j : ℕ) (b : Bool) → (k == j) ≡ b → (part_in (goes_on local k op heard_before (state_of up local) e).local).reserved j
         ≡ (if k == j then reserved_by (session_fact local k (state_of up local) e) (local.residents k).reserved else (local.residents j).reserved)
     resident j true is = rw is refl
     resident j false is = rw is refl
 
-    reserved : (j : ℕ) → (part_in (goes_on local k op known (state_of up local) e).local).reserved j ≡ with_reserved fact (part_in local).reserved j
+    reserved : (j : ℕ) → (part_in (goes_on local k op heard_before (state_of up local) e).local).reserved j ≡ with_reserved fact (part_in local).reserved j
     reserved j =
         resident j (k == j) refl
         ∙ sym (reserved_is (session_fact local k (state_of up local) e) k j (part_in local).reserved numbers)
@@ -74,11 +74,11 @@ goes_part local k op n known up e fact its others copies whole = λ i. record { 
 
 -- the resident that goes on
 abbrev went : Local → ℕ → Bool → State → Entry → Resident
-went local k known state e = record (local.residents k) {
+went local k heard_before state e = record (local.residents k) {
   session = (changed e state).session k;
   reserved = reserved_by (session_fact local k state e) (local.residents k).reserved;
   outcome = outcome_after e.told (local.residents k).outcome;
-  waited = waits_after e.told known (local.residents k).waited;
+  waited = waits_after e.told heard_before (local.residents k).waited;
 }
 
 accepted : (s : Setting) (n : ℕ) (part : Part) (act : Act) → is_refusal (step_of s part act).told ≡ false →
@@ -177,8 +177,8 @@ request_in op line site local l home = by (admission_in site local k op (begins 
     by Passes is =
         let act : request_act op line site local ≡ None = rw (its, is) refl in
         let told : request_answer op line site local ≡ None = rw (its, is) refl in
-        let doing : asks op line site local ≡ nothing local = rw (its, is) refl in
-        bridged_as site local (request_act op line site local) None (request_answer op line site local) None tell (asks op line site local) (nothing local) act told doing
+        let doing : asks op line site local ≡ silently local = rw (its, is) refl in
+        bridged_as site local (request_act op line site local) None (request_answer op line site local) None tell (asks op line site local) (silently local) act told doing
         (record { does = record { part = refl; letters = refl; told = refl }; volumes = refl; home = home })
     by Goes is =
         let state : State = state_for site local k in
@@ -214,9 +214,9 @@ all_requests_act op line site local home = no_request op line site local _ refl 
 
 -- ---- a letter
 
-passes : (site : Site) (local : Local) (act : Option Act) (tell : Told → Option Answer) (doing : Doing) → act ≡ None → doing ≡ nothing local → AtHome site local → Bridges site local act None tell doing
+passes : (site : Site) (local : Local) (act : Option Act) (tell : Told → Option Answer) (doing : Doing) → act ≡ None → doing ≡ silently local → AtHome site local → Bridges site local act None tell doing
 passes site local act tell doing none is home =
-    bridged_as site local act None None None tell doing (nothing local) none refl is (record { does = record { part = refl; letters = refl; told = refl }; volumes = refl; home = home })
+    bridged_as site local act None None None tell doing (silently local) none refl is (record { does = record { part = refl; letters = refl; told = refl }; volumes = refl; home = home })
 
 -- to the server
 served_act : (site : Site) (local : Local) (m : OwnMessage) (tell : Told → Option Answer) → to_server m.body ≡ true → m.server ≡ site.here → AtHome site local →
@@ -293,13 +293,13 @@ heard_act : (site : Site) (local : Local) (m : OwnMessage) → to_server m.body 
 heard_act site local m goes inside here home = record {
   does = record {
     here = (rw goes refl) ∙ here;
-    part = goes_part local k last site.here known aim (brings m step) (fact_of s (part_in local) act) its_fact (λ j other. rw (goes, other) refl) (λ file. reply_brings (λ n f. aim n) m.session m.op m.round m.server m.file m.body state.brought site.here file goes) (λ file. refl)
+    part = goes_part local k last site.here heard_before aim (brings m step) (fact_of s (part_in local) act) its_fact (λ j other. rw (goes, other) refl) (λ file. reply_brings (λ n f. aim n) m.session m.op m.round m.server m.file m.body state.brought site.here file goes) (λ file. refl)
         ∙ sym (ap (λ (z : Step). part_of site.here (with_reserved (fact_of s (part_in local) act) (part_in local).reserved) (changed (act_entry act z) state)) law_step) ∙ sym law_part;
     letters = ap (λ (z : Step). z.new) (sym law_step);
     told = ap (λ (z : Step). answer_of k last last z.told) (sym law_step);
   };
   volumes = refl;
-  home = home_with site local k (went local k known state (brings m step)) inside here home;
+  home = home_with site local k (went local k heard_before state (brings m step)) inside here home;
 }
   where
     k : ℕ
@@ -308,8 +308,8 @@ heard_act site local m goes inside here home = record {
     last : ℕ
     last = (local.residents k).session.op
 
-    known : Bool
-    known = heard_servers (local.residents k).session.heard m.server
+    heard_before : Bool
+    heard_before = heard_servers (local.residents k).session.heard m.server
 
     aim : Servers
     aim = aim_at site.grid (local.residents k)

@@ -27,7 +27,7 @@ use Rattle.gq_cluster.specs.Laws.{setting_of}
 use Rattle.gq_cluster.proofs.Clusters.{all_clusters_serve}
 use Rattle.gq_node.specs.Bridge.{setting_in, AtHome, Bridges, request_act, letter_act, waited_act, tick_act}
 use Rattle.gq_cluster.specs.Facts.{OwnFact, Begun, Numbered, Kept, Reserved, none_reserved}
-use Rattle.gq_node.specs.Local.{Local, Doing, new_local, part_in, nothing, state_of, state_for, admission_in, asks, tells_holding, receives, ticks, recalls, recalled, fact_fits, file_fits, file_in, letter_fits, has_above, of_round}
+use Rattle.gq_node.specs.Local.{Local, Doing, new_local, part_in, silently, state_of, state_for, admission_in, asks, tells_holding, receives, ticks, recalls, recalled, fact_fits, file_fits, file_in, letter_fits, has_above, of_round}
 use Rattle.gq_node.specs.Nodes.{Nodes, site_in, recalls_one, started, new_nodes, Event, LineCame, PlanCame, LetterCame, TickCame, Started, fact_list, after_doing, after_event, nodes_after, CanCome, AllCanCome, act_steps, act_of, steps_of, all_steps, SessionAlike, PartAlike, IsAlike, answer_in, own_answer, doing_of, SaidBy, Follows, AllNodesFollow, AllNodesServe}
 use Rattle.gq_node.specs.Sites.{Site}
 use Rattle.gq_node.proofs.AlikeParts.{IsAct, session_refl, idle_alike, step_alike, part_alike}
@@ -125,7 +125,7 @@ at_nodes P nodes n doing here there m = elim (cases_eq m n) [
 
 pub at_start : (P : ℕ → Local → List OwnFact → Type 0) (s : Setting) (nodes : Nodes) (n : ℕ) → P n (started s n (nodes.facts n)) (nodes.facts n) → ((m : ℕ) → m ≢ n → P m (nodes.local m) (nodes.facts m)) →
     (m : ℕ) → P m ((after_event s nodes (Started n)).local m) ((after_event s nodes (Started n)).facts m)
-at_start P s nodes n here there = at_nodes P nodes n (nothing (started s n (nodes.facts n))) (subst (P n (started s n (nodes.facts n))) (sym (append-nil (nodes.facts n))) here) there
+at_start P s nodes n here there = at_nodes P nodes n (silently (started s n (nodes.facts n))) (subst (P n (started s n (nodes.facts n))) (sym (append-nil (nodes.facts n))) here) there
 
 doing_sound : (s : Setting) (nodes : Nodes) (n : ℕ) (doing : Doing) → Sound s nodes → AtHome (site_in s n) doing.local → AllUsed doing.local → doing.local.volumes ≡ (nodes.local n).volumes → Keeps (site_in s n) (nodes.local n) doing → Sound s (after_doing nodes n doing)
 doing_sound s nodes n doing sound home used volumes keeps = record {
@@ -235,7 +235,7 @@ tick_can c k site local = elim (cases_Bool (is_some (local.residents k).session.
     by true = (tt, tt)
 
 -- a start
-start_follows : (s : Setting) (nodes : Nodes) (c : Cluster) (n : ℕ) → Sound s nodes → IsAlike s nodes c → OneStep s nodes (after_event s nodes (Started n)) c (Restarts n ∷ []) (SaidBy s c None None (λ told. None) (nothing (started s n (nodes.facts n))))
+start_follows : (s : Setting) (nodes : Nodes) (c : Cluster) (n : ℕ) → Sound s nodes → IsAlike s nodes c → OneStep s nodes (after_event s nodes (Started n)) c (Restarts n ∷ []) (SaidBy s c None None (λ told. None) (silently (started s n (nodes.facts n))))
 start_follows s nodes c n sound alike = record {
   can = (tt, tt);
   said = record { told = refl; letters = refl };

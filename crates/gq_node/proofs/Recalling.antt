@@ -16,7 +16,7 @@ use Rattle.gq_laws.proofs.OperationMoments.{same_file}
 use Rattle.gq_node.specs.Sites.{Site, site_of}
 use Rattle.gq_cluster.specs.Cluster.{everyone}
 use Rattle.gq_cluster.specs.Facts.{OwnFact, Begun, Numbered, Kept, Reserved, reserved_by}
-use Rattle.gq_node.specs.Local.{Local, Doing, with_resident, rested, recalls, recalled, nothing, fact_fits, file_fits, file_in, state_of}
+use Rattle.gq_node.specs.Local.{Local, Doing, with_resident, rested, recalls, recalled, silently, fact_fits, file_fits, file_in, state_of}
 use Rattle.gq_node.specs.Resting.{GoesBehind, recall_one, recall_all}
 use Rattle.gq_node.specs.Seats.{recalled_seat}
 use Rattle.gq_node.specs.Shape.{IsShaped}
@@ -26,10 +26,10 @@ use Rattle.gq_node.proofs.Serving.{with_store, other_file, limit_is}
 
 -- ---- a session
 
-pub recalls_fits : (fact : OwnFact) (site : Site) (local : Local) → fact_fits site (limit_at (state_of everyone local) (file_in fact).volume (file_in fact).place) fact ≡ true → recalls fact site local ≡ nothing (recalled fact local)
+pub recalls_fits : (fact : OwnFact) (site : Site) (local : Local) → fact_fits site (limit_at (state_of everyone local) (file_in fact).volume (file_in fact).place) fact ≡ true → recalls fact site local ≡ silently (recalled fact local)
 recalls_fits fact site local is = rw is refl
 
-pub recalls_not : (fact : OwnFact) (site : Site) (local : Local) → fact_fits site (limit_at (state_of everyone local) (file_in fact).volume (file_in fact).place) fact ≡ false → recalls fact site local ≡ nothing local
+pub recalls_not : (fact : OwnFact) (site : Site) (local : Local) → fact_fits site (limit_at (state_of everyone local) (file_in fact).volume (file_in fact).place) fact ≡ false → recalls fact site local ≡ silently local
 recalls_not fact site local is = rw is refl
 
 passed_leads : (w : Tables) (t : ℕ) (fact : OwnFact) → ((local : Local) → Agrees w t local → fact_fits (site_of w.plan w.server t) (limit_at (state_of everyone local) (file_in fact).volume (file_in fact).place) fact ≡ false) → Leads w t (recalls fact) w
@@ -97,7 +97,7 @@ copy_leads w file copy store fits held others =
       plan = refl;
       server = refl;
       own = λ local agrees.
-          let model : recalls (Kept f copy) (site_of w.plan w.server t) local ≡ nothing (recalled (Kept f copy) local) =
+          let model : recalls (Kept f copy) (site_of w.plan w.server t) local ≡ silently (recalled (Kept f copy) local) =
           recalls_fits (Kept f copy) (site_of w.plan w.server t) local (ap (λ limit. file_fits limit (Store copy)) (sym (limit_is w t file local refl agrees)) ∙ fits) in
           subst (λ (d : Doing). Agrees (with_store w store) t d.local) (sym model) (record {
             account = agrees.account;

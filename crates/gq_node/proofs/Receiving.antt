@@ -13,7 +13,7 @@ use Rattle.gq_model.specs.Trace.{limit_at}
 use Rattle.gq_node.specs.declared.output.Output.{Output}
 use Rattle.gq_node.specs.Sites.{Site, site_of}
 use Rattle.gq_cluster.specs.Cluster.{everyone}
-use Rattle.gq_node.specs.Local.{Local, Doing, state_of, nothing, receives, serves, hears, letter_fits, goes_between, file_fits, has_above}
+use Rattle.gq_node.specs.Local.{Local, Doing, state_of, silently, receives, serves, hears, letter_fits, goes_between, file_fits, has_above}
 use Rattle.gq_node.specs.Seats.{GivesNothing}
 use Rattle.gq_node.specs.Tables.{Tables, Agrees, Acts, Gives}
 use Rattle.gq_node.proofs.Seating.{same_leads}
@@ -39,7 +39,7 @@ fits_as : (w : Tables) (from : ℕ) (m : Message) (b : Bool) (local : Local) →
     letter_fits (site_of w.plan w.server m.tenant) (limit_at (state_of everyone local) m.file.volume m.file.file) from (own_message m) ≡ b
 fits_as w from m b local own is agrees = ap (λ limit. letter_fits (site_of w.plan w.server m.tenant) limit from (own_message m)) (sym (limit_is w m.tenant m.file local own agrees)) ∙ is
 
-passed : (from : ℕ) (m : OwnMessage) (site : Site) (local : Local) → letter_fits site (limit_at (state_of everyone local) m.file.volume m.file.place) from m ≡ false → receives from m site local ≡ nothing local
+passed : (from : ℕ) (m : OwnMessage) (site : Site) (local : Local) → letter_fits site (limit_at (state_of everyone local) m.file.volume m.file.place) from m ≡ false → receives from m site local ≡ silently local
 passed from m site local is = rw is refl
 
 pub to_the_server : (from : ℕ) (m : OwnMessage) (site : Site) (local : Local) → letter_fits site (limit_at (state_of everyone local) m.file.volume m.file.place) from m ≡ true → to_server m.body ≡ true → receives from m site local ≡ serves site local m
@@ -50,7 +50,7 @@ to_a_session from m site local is goes = rw (is, goes) refl
 
 pub passed_acts : (w : Tables) (from : ℕ) (m : Message) (out : Output) → m.file.tenant ≡ m.tenant → fits_in w from m ≡ false → GivesNothing out → Acts w m.tenant (receives from (own_message m)) out w
 passed_acts w from m out own is none =
-    let same : (local : Local) → Agrees w m.tenant local → receives from (own_message m) (site_of w.plan w.server m.tenant) local ≡ nothing local =
+    let same : (local : Local) → Agrees w m.tenant local → receives from (own_message m) (site_of w.plan w.server m.tenant) local ≡ silently local =
     λ local agrees. passed from (own_message m) (site_of w.plan w.server m.tenant) local (fits_as w from m false local own is agrees) in
     record {
       leads = same_leads w m.tenant (receives from (own_message m)) (λ local agrees. ap (λ (d : Doing). d.local) (same local agrees));

@@ -66,11 +66,11 @@ empty_stays floor up m grid t last (Some o) sits = absurd sits
 
 -- ---- the seat
 
-not_stale : (heard : Heard) (known waited : Bool) → (heard ≡ Stale → ⊥) → (heard ≡ Noted → ⊥) → heard_waits heard known waited ≡ false
-not_stale Stale known waited not noted = absurd (not refl)
-not_stale Noted known waited not noted = absurd (noted refl)
-not_stale (Next round tag messages) known waited not noted = refl
-not_stale (Done outcome) known waited not noted = refl
+not_stale : (heard : Heard) (heard_before waited : Bool) → (heard ≡ Stale → ⊥) → (heard ≡ Noted → ⊥) → heard_waits heard heard_before waited ≡ false
+not_stale Stale heard_before waited not noted = absurd (not refl)
+not_stale Noted heard_before waited not noted = absurd (noted refl)
+not_stale (Next round tag messages) heard_before waited not noted = refl
+not_stale (Done outcome) heard_before waited not noted = refl
 
 not_done : (heard : Heard) (outcome : Option Outcome) → ((x : Outcome) → heard ≡ Done x → ⊥) → outcome ≡ heard_outcome heard outcome
 not_done Stale outcome not = refl

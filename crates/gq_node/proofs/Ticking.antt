@@ -13,7 +13,7 @@ use Rattle.gq_model.specs.Lone.{retry_step}
 use Rattle.gq_node.specs.declared.seats.Seat.{Seat}
 use Rattle.gq_node.specs.declared.output.Output.{Output}
 use Rattle.gq_node.specs.Sites.{Site, site_of, next_of}
-use Rattle.gq_node.specs.Local.{Local, Resident, Doing, state_of, nothing, ticks, waits_on, aim_at, tries_next}
+use Rattle.gq_node.specs.Local.{Local, Resident, Doing, state_of, silently, ticks, waits_on, aim_at, tries_next}
 use Rattle.gq_node.specs.Seats.{ResendsIn, TicksIn, TicksWith, SeatTicks, collects_in, seat_aim, seat_tries}
 use Rattle.gq_node.specs.Shape.{IsShaped}
 use Rattle.gq_node.specs.Tables.{Tables, Agrees, Acts, Leads, Gives, SeatAgrees, Sits, seat_at, with_seat}
@@ -57,7 +57,7 @@ some_there : (grid : Grid) (t k floor : ℕ) (code : Code) (session : Session) (
 some_there grid t k floor code session None sits = absurd sits
 some_there grid t k floor code session (Some task) sits = refl
 
-idle_is : (k : ℕ) (site : Site) (local : Local) → is_some (local.residents k).session.current ≡ false → ticks k site local ≡ nothing local
+idle_is : (k : ℕ) (site : Site) (local : Local) → is_some (local.residents k).session.current ≡ false → ticks k site local ≡ silently local
 idle_is k site local is = rw is refl
 
 pub busy_is : (k : ℕ) (site : Site) (local : Local) → is_some (local.residents k).session.current ≡ true → ticks k site local ≡ waits_on site local k (local.residents k).waited
@@ -143,7 +143,7 @@ tick_acts w t k seat messages out shaped within low high h sent = by (seat_at w 
         let site : Site = site_of w.plan w.server t in
         let old : Seat = seat_at w t k in
         let none = ticks_none w.plan.grid old seat messages is h in
-        let model : (local : Local) → Agrees w t local → ticks k site local ≡ nothing local =
+        let model : (local : Local) → Agrees w t local → ticks k site local ≡ silently local =
         λ local agrees. idle_is k site local (none_there w.plan.grid t k old.floor old.operation (local.residents k).session (local.residents k).session.current is (seat_of w t k local agrees low high).sits) in
         record {
           leads = subst (λ (x : Tables). Leads w t (ticks k) x) (unchanged w t k seat none.0) (same_leads w t (ticks k) (λ local agrees. ap (λ (d : Doing). d.local) (model local agrees)));

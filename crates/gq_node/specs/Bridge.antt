@@ -59,13 +59,13 @@ letter_act from m site local = by (letter_fits site (limit_at (state_of everyone
     heard false = None
     heard true = Some (Comes m (aim_at site.grid (local.residents m.session)))
 
-    goes : Bool → Option Act
-    goes true = Some (Comes m everyone)
-    goes false = heard (has_above (local.residents m.session).session.floor && of_round (operation (state_for site local m.session) m.session) m.file)
+    to_its_end : Bool → Option Act
+    to_its_end true = Some (Comes m everyone)
+    to_its_end false = heard (has_above (local.residents m.session).session.floor && of_round (operation (state_for site local m.session) m.session) m.file)
 
     by : Bool → Option Act
     by false = None
-    by true = goes (to_server m.body)
+    by true = to_its_end (to_server m.body)
 
 -- a tick is a retry, in a session that has an operation and has waited
 abbrev pub waited_act : Site → Local → ℕ → Bool → Option Act

@@ -31,10 +31,10 @@ heard_fact t k run (Next round tag messages) = option_map (Numbered t k) run
 heard_fact t k run _ = None
 
 -- a reply from a server not yet heard, and the end of a round, end the waiting
-abbrev pub heard_waits : Heard → (known waited : Bool) → Bool
-heard_waits Stale known waited = waited
-heard_waits Noted known waited = known && waited
-heard_waits _ known waited = false
+abbrev pub heard_waits : Heard → (heard_before waited : Bool) → Bool
+heard_waits Stale heard_before waited = waited
+heard_waits Noted heard_before waited = heard_before && waited
+heard_waits _ heard_before waited = false
 
 -- the outcome of the last operation
 abbrev pub heard_outcome : Heard → Option Outcome → Option Outcome

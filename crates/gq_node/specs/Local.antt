@@ -23,7 +23,7 @@ use Rattle.gq_node.specs.declared.output.Holding.{Holding}
 use Rattle.gq_node.specs.declared.output.Admission.{Admission}
 use Rattle.gq_node.specs.declared.output.Admission.TheVariants.{Tells, Passes, Goes}
 use Rattle.gq_cluster.specs.Cluster.{Part, everyone, state_of as state_of_part}
-use Rattle.gq_cluster.specs.Facts.{OwnFact, Begun, Numbered, Kept, Reserved, none_reserved, reserving, reserved_by, replaced_in}
+use Rattle.gq_cluster.specs.Facts.{OwnFact, Begun, Numbered, Kept, Reserved, none_reserved, greatest_number, reserving, reserved_by, replaced_in}
 use Rattle.gq_node.specs.Sites.{Site, aim, next_of}
 
 -- ---- a tenant's part
@@ -81,9 +81,9 @@ pub record Doing : Type 0 where
   pub letters : List OwnMessage
   pub fact : Option OwnFact
 
--- nothing is done; the tenant is told this alone
-abbrev pub nothing : Local → Doing
-nothing local = record { local = local; answer = None; letters = []; fact = None }
+-- nothing is told, sent or to be kept; the tenant is told this alone
+abbrev pub silently : Local → Doing
+silently local = record { local = local; answer = None; letters = []; fact = None }
 
 abbrev pub tells : Local → Answer → Doing
 tells local answer = record { local = local; answer = Some answer; letters = []; fact = None }
@@ -105,12 +105,12 @@ answer_of k op last _ = None
 
 -- whether the session has waited after it was told this, to a reply from a server that it had heard or had not: a request that
 -- begins, a reply from a server not yet heard, and the end of a round end the waiting
-abbrev pub waits_after : Told → (known waited : Bool) → Bool
-waits_after (Began op first count) known waited = false
-waits_after Noted known waited = known && waited
-waits_after (Round round tag first count) known waited = false
-waits_after (Done outcome) known waited = false
-waits_after _ known waited = waited
+abbrev pub waits_after : Told → (heard_before waited : Bool) → Bool
+waits_after (Began op first count) heard_before waited = false
+waits_after Noted heard_before waited = heard_before && waited
+waits_after (Round round tag first count) heard_before waited = false
+waits_after (Done outcome) heard_before waited = false
+waits_after _ heard_before waited = waited
 
 -- the outcome of its last operation then
 abbrev pub outcome_after : Told → Option Outcome → Option Outcome
@@ -124,13 +124,13 @@ abbrev pub session_fact : Local → ℕ → State → Entry → Option OwnFact
 session_fact local k state e = reserving k (local.residents k).reserved e.told ((changed e state).session k).floor
 
 -- session k goes on by the entry, as the model says; it came with the number op, from a server that was heard or was not
-abbrev pub goes_on : Local → (k op : ℕ) → (known : Bool) → State → Entry → Doing
-goes_on local k op known state e = record {
+abbrev pub goes_on : Local → (k op : ℕ) → (heard_before : Bool) → State → Entry → Doing
+goes_on local k op heard_before state e = record {
   local = with_resident local k (record (local.residents k) {
     session = (changed e state).session k;
     reserved = reserved_by (session_fact local k state e) (local.residents k).reserved;
     outcome = outcome_after e.told (local.residents k).outcome;
-    waited = waits_after e.told known (local.residents k).waited;
+    waited = waits_after e.told heard_before (local.residents k).waited;
   });
   answer = answer_of k op (local.residents k).session.op e.told;
   letters = e.new;
@@ -194,7 +194,7 @@ asks_in site local op line k = by (admission_in site local k op (begins line))
   where
     by : Admission → Doing
     by (Tells answer) = tells local answer
-    by Passes = nothing local
+    by Passes = silently local
     by Goes = asked_by local k op (state_for site local k) line (asked_step site.grid site.row (state_for site local k) line)
 
 -- a line of the tenant with the number op
@@ -226,7 +226,7 @@ tells_holding site local = tells local (Has (holding site local.volumes))
 
 -- the greatest number that a tag may have lets no other be above
 abbrev pub has_above : ℕ → Bool
-has_above number = nat_lt number 18446744073709551615
+has_above number = nat_lt number greatest_number
 
 -- whether the copy is within the limit of its file in bytes, and a number is above that of its tag
 abbrev pub copy_fits : ℕ → StoredCopy → Bool
@@ -283,7 +283,7 @@ hears site local m = by (has_above (local.residents m.session).session.floor && 
     state = state_for site local m.session
 
     by : Bool → Doing
-    by false = nothing local
+    by false = silently local
     by true = goes_on local m.session (local.residents m.session).session.op (heard_servers (local.residents m.session).session.heard m.server) state
         (brings m (hear_step site.grid state m (operation state m.session)))
 
@@ -291,13 +291,13 @@ hears site local m = by (has_above (local.residents m.session).session.floor && 
 abbrev pub receives : ℕ → OwnMessage → Site → Local → Doing
 receives from m site local = by (letter_fits site (limit_at (state_of everyone local) m.file.volume m.file.place) from m)
   where
-    goes : Bool → Doing
-    goes true = serves site local m
-    goes false = hears site local m
+    to_its_end : Bool → Doing
+    to_its_end true = serves site local m
+    to_its_end false = hears site local m
 
     by : Bool → Doing
-    by false = nothing local
-    by true = goes (to_server m.body)
+    by false = silently local
+    by true = to_its_end (to_server m.body)
 
 -- ---- a tick
 
@@ -317,15 +317,15 @@ waits_on site local k waited = by waited
     state = state_of (aim_at site.grid resident) local
 
     by : Bool → Doing
-    by false = record (nothing local) { local = with_resident local k (record (local.residents k) { waited = true }) }
-    by true = record (nothing local) { local = with_resident local k resident; letters = (retry_step site.grid state (operation state k)).new }
+    by false = record (silently local) { local = with_resident local k (record (local.residents k) { waited = true }) }
+    by true = record (silently local) { local = with_resident local k resident; letters = (retry_step site.grid state (operation state k)).new }
 
 -- a tick does nothing in a session without an operation
 abbrev pub ticks : ℕ → Site → Local → Doing
 ticks k site local = by (is_some (local.residents k).session.current)
   where
     by : Bool → Doing
-    by false = nothing local
+    by false = silently local
     by true = waits_on site local k (local.residents k).waited
 
 -- ---- a start
@@ -356,5 +356,5 @@ abbrev pub recalls : OwnFact → Site → Local → Doing
 recalls fact site local = by (fact_fits site (limit_at (state_of everyone local) (file_in fact).volume (file_in fact).place) fact)
   where
     by : Bool → Doing
-    by false = nothing local
-    by true = nothing (recalled fact local)
+    by false = silently local
+    by true = silently (recalled fact local)

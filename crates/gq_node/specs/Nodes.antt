@@ -15,7 +15,7 @@ use Rattle.gq_node.specs.declared.output.Answer.{Answer}
 use Rattle.gq_node.specs.declared.output.Answer.TheVariants.{Has}
 use Rattle.gq_node.specs.Bridge.{request_act, request_answer, letter_act, tick_act}
 use Rattle.gq_cluster.specs.Facts.{OwnFact}
-use Rattle.gq_node.specs.Local.{Local, Doing, new_local, part_in, nothing, answer_of, asks, holding, tells_holding, receives, ticks, recalls}
+use Rattle.gq_node.specs.Local.{Local, Doing, new_local, part_in, silently, answer_of, asks, holding, tells_holding, receives, ticks, recalls}
 use Rattle.gq_node.specs.Sites.{Site}
 
 -- what each node has of the tenant, the facts that it gave, and the letters that all wrote, in order
@@ -78,7 +78,7 @@ doing_of s nodes (LineCame n op line) = asks op line (site_in s n) (nodes.local 
 doing_of s nodes (PlanCame n) = tells_holding (site_in s n) (nodes.local n)
 doing_of s nodes (LetterCame n from letter) = receives from letter (site_in s n) (nodes.local n)
 doing_of s nodes (TickCame n k) = ticks k (site_in s n) (nodes.local n)
-doing_of s nodes (Started n) = nothing (started s n (nodes.facts n))
+doing_of s nodes (Started n) = silently (started s n (nodes.facts n))
 
 -- the nodes after it
 abbrev pub after_event : Setting → Nodes → Event → Nodes

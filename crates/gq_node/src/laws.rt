@@ -9,9 +9,10 @@ ghost use Rattle.gq_node.specs.Bridge.{AllRequestsAct, AllQuestionsTell, AllLett
 ghost use Rattle.gq_node.specs.Nodes.{AllNodesFollow, AllNodesServe, AllVolumesOpen};
 
 /// What a node does by a line, a letter or a tick is, in the tenant's part of it, an act of the law of clusters
-/// (`gq_cluster::laws::clusters`) or nothing. It is an act of the law where a request begins an operation, gives it up or is
-/// refused by the model, where a letter is served or heard, and where a tick sends a round's message again; what is told and
-/// sent is then what the law says of the act. That a tenant asks what it has is no act: it is told, and nothing changes.
+/// (`gq_cluster::laws::clusters`) or nothing. It is an act of the law where a request begins an operation, gives it up
+/// or is refused by the model, where a letter is served or heard, and where a tick sends a round's message again; what
+/// is told and sent is then what the law says of the act. That a tenant asks what it has is no act: it is told, and
+/// nothing changes.
 pub fn acts()
     ensures requests { AllRequestsAct }
     ensures questions { AllQuestionsTell }
@@ -19,11 +20,12 @@ pub fn acts()
     ensures ticks { AllTicksAct }
 {}
 
-/// Whatever comes to the nodes of a tenant that were never started, of which each letter was written before: lines, questions what
-/// the tenant has, letters, ticks, and starts, at which a node reads the facts that it gave. All this is a list of steps of the law of clusters, which
-/// may follow one another; what they tell and send is what the nodes do; and in the end each server's copies are the same, and
-/// each session is as its home has it. And a node that starts knows its copies again, and the numbers that are reserved for each of
-/// its sessions, of operations and of tags; each session goes on behind these, used or not, and what was going on is gone.
+/// Whatever comes to the nodes of a tenant that were never started, of which each letter was written before: lines,
+/// questions what the tenant has, letters, ticks, and starts, at which a node reads the facts that it gave. All this is
+/// a list of steps of the law of clusters, which may follow one another; what they tell and send is what the nodes do;
+/// and in the end each server's copies are the same, and each session is as its home has it. And a node that starts
+/// knows its copies again, and the numbers that are reserved for each of its sessions, of operations and of tags; each
+/// session goes on behind these, used or not, and what was going on is gone.
 pub fn nodes()
     ensures follow { AllNodesFollow }
     ensures serve { AllNodesServe }
@@ -36,36 +38,39 @@ pub fn aims()
     ensures requests { AllRequestsHaveQuorums }
 {}
 
-/// A node gives for a tenant what the tenant's part of it does by what came for this tenant, one by one, whatever came for others
-/// between. So two nodes of one number that have the same part of a tenant give the same for it, where the same came for it.
+/// A node gives for a tenant what the tenant's part of it does by what came for this tenant, one by one, whatever came
+/// for others between. So two nodes of one number that have the same part of a tenant give the same for it, where the
+/// same came for it.
 pub fn tenants_apart()
     ensures parts { AllCallsByParts }
     ensures apart { AllTenantsApart }
 {}
 
-/// A request takes effect once, however often it comes. One that comes again, its number not being above that of the session's
-/// last operation, leaves all as it is: nothing is sent, and nothing is to be kept. So all else that is done, of a list in which
-/// each request comes any number of times, is what is done without those that come again. And the numbers of the operations that
-/// begin in a session rise by one, so that each begins once.
+/// A request takes effect once, however often it comes. One that comes again, its number not being above that of the
+/// session's last operation, leaves all as it is: nothing is sent, and nothing is to be kept. So all else that is done,
+/// of a list in which each request comes any number of times, is what is done without those that come again. And the
+/// numbers of the operations that begin in a session rise by one, so that each begins once.
 pub fn requests_once()
     ensures again { AllAgainLeave }
     ensures once { AllTakeOnce }
     ensures begin { AllBeginOnce }
 {}
 
-/// What is told of a request that comes again. While its operation goes on nothing is; once it is done its outcome, or that it is gone,
-/// where the node does not know the outcome; and of an operation before the last one that its number is old. And once the tenant was told how an
-/// operation ended, it is told the same, byte for byte, at each line of the session with this number, whatever comes to the nodes
-/// between, until the session begins its next operation; where the node started again since, it is told that the operation is gone, or
-/// that its number is old, where the session goes on behind a greater one.
+/// What is told of a request that comes again. While its operation goes on nothing is; once it is done its outcome, or
+/// that it is gone, where the node does not know the outcome; and of an operation before the last one that its number
+/// is old. And once the tenant was told how an operation ended, it is told the same, byte for byte, at each line of the
+/// session with this number, whatever comes to the nodes between, until the session begins its next operation; where
+/// the node started again since, it is told that the operation is gone, or that its number is old, where the session
+/// goes on behind a greater one.
 pub fn told_again()
     ensures again { AllToldAgain }
     ensures ends { AllEndsToldAgain }
 {}
 
-/// Where nothing else comes to a session that has an operation, ticks lead it on. While its round collects, one of the next ticks, one
-/// more than there are rows, sends what a retry sends where a given row is up with the session's column; while it stores, one of the
-/// next, one more than there are columns, what a retry sends where a given column is up with the session's row.
+/// Where nothing else comes to a session that has an operation, ticks lead it on. While its round collects, one of the
+/// next ticks, one more than there are rows, sends what a retry sends where a given row is up with the session's
+/// column; while it stores, one of the next, one more than there are columns, what a retry sends where a given column
+/// is up with the session's row.
 pub fn ticks()
     ensures rows { AllRowsAreTried }
     ensures columns { AllColumnsAreTried }

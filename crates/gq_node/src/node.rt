@@ -23,8 +23,8 @@ use std::alloc::Global;
 use std::marker::Model;
 use thiserror::Error;
 
-/// A node: the server of one number, and the home of some sessions of each tenant. What it has for a tenant, tells it and sends
-/// for it depends on that tenant's lines and letters and on the ticks alone.
+/// A node: the server of one number, and the home of some sessions of each tenant. What it has for a tenant, tells it
+/// and sends for it depends on that tenant's lines and letters and on the ticks alone.
 #[derive(Drop)]
 pub struct Node {
     tables: Core,
@@ -48,8 +48,8 @@ impl Model for Node {
 pub struct Ended(pub OutOfMemory);
 
 impl Node {
-    /// The node of the plan's server of this number, which was never started: no volume is open. Where memory is wanting the
-    /// plan is given up.
+    /// The node of the plan's server of this number, which was never started: no volume is open. Where memory is
+    /// wanting the plan is given up.
     pub fn new(alloc: Global, plan: Plan, server: u8) -> Result<Node, OutOfMemory>
         requires { server < plan.grid.rows * plan.grid.cols }
         ensures plan { IfOk result (λ w. w.tables.plan ≡ plan) }
@@ -64,8 +64,8 @@ impl Node {
         })
     }
 
-    /// Opens the next volume of the tenant at that place of the plan: so many files of so many blocks each. The causes of a
-    /// refusal are tested in the order of [`OpenRefused`]; the node is then given up.
+    /// Opens the next volume of the tenant at that place of the plan: so many files of so many blocks each. The causes
+    /// of a refusal are tested in the order of [`OpenRefused`]; the node is then given up.
     pub fn open(self, tenant: u8, files: u32, blocks: u32) -> Result<Node, OpenRefused>
         requires tenant { tenant < length self.tables.plan.rows }
         requires goes { self.ended ≡ false }
@@ -81,7 +81,8 @@ impl Node {
         })
     }
 
-    /// Reads a fact of an earlier run: a session goes on behind the numbers that it reserves. Answers whether it fits the plan and its volumes; one that does not changes nothing.
+    /// Reads a fact of an earlier run: a session goes on behind the numbers that it reserves. Answers whether it fits
+    /// the plan and its volumes; one that does not changes nothing.
     pub fn recall(&mut self, fact: &Fact) -> bool
         requires { tenant_of fact.now < length self.old.tables.plan.rows }
         ensures leads { Leads self.old.tables (tenant_of fact.now) (recalls (own_fact fact.now)) self.new.tables }
@@ -105,9 +106,9 @@ impl Node {
         }
     }
 
-    /// The facts that a start needs to know what this node knows, its sessions' operations gone, and the sessions behind the numbers that
-    /// are reserved for them. `Unreadable` comes only where a file has a
-    /// copy that a start would not take again.
+    /// The facts that a start needs to know what this node knows, its sessions' operations gone, and the sessions
+    /// behind the numbers that are reserved for them. `Unreadable` comes only where a file has a copy that a start
+    /// would not take again.
     pub fn needed(&self) -> Result<Vec<Fact>, NeedRefused>
         ensures needed { IfOk result (λ facts. Needed self.now.tables facts.items) }
         ensures refused { IfErr result (IsRefusedIn self.now.tables) }
@@ -115,7 +116,8 @@ impl Node {
         self.tables.needed()
     }
 
-    /// A call that does nothing: its clause says that the node holds no more than the plan has room for, whatever came to it.
+    /// A call that does nothing: its clause says that the node holds no more than the plan has room for, whatever came
+    /// to it.
     pub fn bounded(&self)
         ensures { IsBounded self.now.tables }
     {
@@ -145,8 +147,8 @@ impl Node {
         self.tables.address(message)
     }
 
-    /// Takes a line of a tenant with the number that its operation is to have. `Ended` comes first where memory is wanting in the call, and from then on for each line, with
-    /// nothing changed; so in all calls that may answer it.
+    /// Takes a line of a tenant with the number that its operation is to have. `Ended` comes first where memory is
+    /// wanting in the call, and from then on for each line, with nothing changed; so in all calls that may answer it.
     pub fn request(&mut self, tenant: u8, op: u32, line: &Line) -> Result<Output, Ended>
         requires { tenant < length self.old.tables.plan.rows }
         ensures acts { IfOk result (λ out. Acts self.old.tables tenant (asks op line.now) out self.new.tables) }

@@ -188,28 +188,22 @@ pub(crate) fn letters_of(
 pub(crate) fn begun_fact(tenant: u8, session: u8, run: Option<u32>) -> Option<Fact>
     ensures { result ≡ option_map (Fact.Began tenant session) run }
 {
-    match run {
-        Some(op) => Some(Fact::Began {
-            tenant,
-            session,
-            op,
-        }),
-        None => None,
-    }
+    run.map(|op| Fact::Began {
+        tenant,
+        session,
+        op,
+    })
 }
 
 // And the numbers of its tags.
 fn numbered_fact(tenant: u8, session: u8, run: Option<u64>) -> Option<Fact>
     ensures { result ≡ option_map (Fact.Numbered tenant session) run }
 {
-    match run {
-        Some(number) => Some(Fact::Numbered {
-            tenant,
-            session,
-            number,
-        }),
-        None => None,
-    }
+    run.map(|number| Fact::Numbered {
+        tenant,
+        session,
+        number,
+    })
 }
 
 // What is given where an operation of the session said this, and a run of numbers of tags was reserved for it up to that one, if

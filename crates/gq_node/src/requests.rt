@@ -5,6 +5,7 @@ ghost use Rattle.gq_grid.specs.Sets.{servers};
 ghost use Rattle.gq_desk.specs.CheckedPlan.{row_at};
 ghost use Rattle.gq_model.specs.declared.events.Line.{Line};
 ghost use Rattle.gq_model.specs.Lone.{first_cause};
+ghost use Rattle.gq_cluster.specs.Facts.{greatest_op};
 ghost use Rattle.gq_node.specs.declared.output.Admission.TheVariants.{Goes};
 ghost use Rattle.gq_node.specs.Local.{asks, asker, begins, refused_with};
 ghost use Rattle.gq_node.specs.Tables.{Acts, seat_at};
@@ -166,7 +167,7 @@ impl Core {
         requires tenant { tenant < length self.old.plan.rows }
         requires first { 1 ≤ session }
         requires last { session ≤ (row_at self.old.plan tenant).sessions }
-        requires number { (seat_at self.old tenant session).op < 4294967295 }
+        requires number { (seat_at self.old tenant session).op < greatest_op }
         ensures begins { IfOk result (λ out. HasBegunWith self.old tenant session operation messages out self.new) }
     {
         let letters = messages.to_vec(self.alloc)?;
@@ -188,7 +189,7 @@ impl Core {
         requires tenant { tenant < length self.old.plan.rows }
         requires first { 1 ≤ session }
         requires last { session ≤ (row_at self.old.plan tenant).sessions }
-        requires number { (seat_at self.old tenant session).op < 4294967295 }
+        requires number { (seat_at self.old tenant session).op < greatest_op }
         requires quorum { ¬ IsErrOf began BeginRefused.NoQuorum }
         ensures starts { IfOk result (λ out. Starts self.old tenant session began out self.new) }
     {
@@ -204,7 +205,7 @@ impl Core {
         requires tenant { tenant < length self.now.plan.rows }
         requires first { 1 ≤ session }
         requires last { session ≤ (row_at self.now.plan tenant).sessions }
-        requires number { (seat_at self.now tenant session).op < 4294967295 }
+        requires number { (seat_at self.now tenant session).op < greatest_op }
         ensures who { result.who ≡ record { tenant = tenant; session = session; op = (seat_at self.now tenant session).op + 1 } }
         ensures floor { result.floor ≡ (seat_at self.now tenant session).floor }
         ensures up { servers result.up ≡ seat_aim self.now.plan.grid (seat_at self.now tenant session) }

@@ -86,7 +86,7 @@ impl Seats {
     // if one had.
     pub(crate) fn begin(&mut self, place: usize, operation: Operation) -> Option<u32>
         requires place { place < length self.old }
-        requires number { (seat_in self.old place).op < 4294967295 }
+        requires number { (seat_in self.old place).op < greatest_op }
         ensures run { result ≡ new_run greatest_op ((seat_in self.old place).op + 1) (seat_in self.old place).reserved_op }
         ensures begun { self.new ≡ slice_set self.old place (busy_seat (seat_in self.old place) operation) }
     {
@@ -190,7 +190,7 @@ impl Seat {
 
     // The session has the operation from now on. Answers the last number of the run that had to be reserved for it, if one had.
     fn begin(&mut self, operation: Operation) -> Option<u32>
-        requires { self.old.op < 4294967295 }
+        requires { self.old.op < greatest_op }
         ensures run { result ≡ new_run greatest_op (self.old.op + 1) self.old.reserved_op }
         ensures begun { self.new ≡ busy_seat self.old operation }
     {
@@ -246,7 +246,7 @@ impl Seat {
         let Some(operation) = &mut self.operation else {
             return Ok(Heard::Stale);
         };
-        let known = operation.has_heard(message.server);
+        let heard_before = operation.has_heard(message.server);
         let heard = operation.hear(message, up)?;
         match heard {
             Heard::Stale => Ok(Heard::Stale),
@@ -256,7 +256,7 @@ impl Seat {
                 Ok(Heard::Done(outcome))
             }
             Heard::Noted => {
-                self.note(known);
+                self.note(heard_before);
                 Ok(Heard::Noted)
             }
             heard => {
@@ -312,10 +312,10 @@ impl Seat {
     }
 
     // A reply was noted, from a server that was heard before or was not.
-    fn note(&mut self, known: bool)
-        ensures { self.new ≡ record self.old { waited = known && self.old.waited } }
+    fn note(&mut self, heard_before: bool)
+        ensures { self.new ≡ record self.old { waited = heard_before && self.old.waited } }
     {
-        self.waited = known && self.waited;
+        self.waited = heard_before && self.waited;
     }
 
     // The session's operation is done with that outcome, and this is its own last number.

@@ -302,7 +302,7 @@ fn reserves(fact: Option<&Fact>) -> Reserved {
     match fact {
         Some(Fact::Began { op, .. }) => Reserved::Ops(*op),
         Some(Fact::Numbered { number, .. }) => Reserved::Numbers(*number),
-        _ => Reserved::Nothing,
+        Some(Fact::Kept { .. }) | None => Reserved::Nothing,
     }
 }
 

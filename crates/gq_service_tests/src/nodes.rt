@@ -87,10 +87,10 @@ fn writes<R: Files<File = File> + Alloc + Abort + Drop>(
     text: &str,
 ) -> Result<(), Fail> {
     let mut input = lines;
-    let out = File::create(rt, "out")?;
-    let ended = run(rt, alloc, asked, watch, &mut input, out);
+    let output = File::create(rt, "output")?;
+    let ended = run(rt, alloc, asked, watch, &mut input, output);
     assert!(rt; ended.is_ok(), "{ended:?}");
-    assert_eq!(rt; fs::read_to_string(rt, "out")?.as_str(), text);
+    assert_eq!(rt; fs::read_to_string(rt, "output")?.as_str(), text);
     Ok(())
 }
 
@@ -104,8 +104,8 @@ fn is_refused<R: Files<File = File> + Alloc + Abort + Drop>(
     status: u8,
 ) -> Result<(), Fail> {
     let mut input: &[u8] = &[];
-    let out = File::create(rt, "out")?;
-    let Err(fault) = run(rt, alloc, asked, watch, &mut input, out) else {
+    let output = File::create(rt, "output")?;
+    let Err(fault) = run(rt, alloc, asked, watch, &mut input, output) else {
         assert!(rt; false, "a start");
         return Ok(());
     };
@@ -115,7 +115,7 @@ fn is_refused<R: Files<File = File> + Alloc + Abort + Drop>(
     };
     assert_eq!(rt; format!(in alloc; "{told}")?.as_str(), text);
     assert_eq!(rt; fault.status(), status);
-    assert_eq!(rt; fs::read_to_string(rt, "out")?.len(), 0);
+    assert_eq!(rt; fs::read_to_string(rt, "output")?.len(), 0);
     Ok(())
 }
 

@@ -16,6 +16,6 @@ pub fn run<R: Files<File = File> + Drop, I: Read, W: Write + Drop, C: Console>(
     input: &mut I,
     to: W,
 ) -> Result<(), NodeFault> {
-    let mut out: Stream<W, Durable> = Stream::new(to);
-    run_node(rt, alloc, asked, console, input, &mut out)
+    let mut output: Stream<W, Durable> = Stream::new(to);
+    run_node(rt, alloc, asked, console, input, &mut output)
 }

@@ -9,6 +9,6 @@ pub run_node-requires : goal.run_node-requires
 run_node-requires g c = record {
   durable = λ synced shown durable. (
     c.args.asked.now.number,
-    subst (λ (instants : List Instant). IsDurable c.args.asked.now.number (seen_in instants ++ first_text) synced shown) c.new-out.ensures durable,
+    subst (λ (instants : List Instant). IsDurable c.args.asked.now.number (seen_in instants ++ first_text) synced shown) c.new-output.ensures durable,
   );
 }

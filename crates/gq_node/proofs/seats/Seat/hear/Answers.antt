@@ -24,9 +24,9 @@ pub returns-in-Noted : goal.returns-in-Noted
 returns-in-Noted c =
     let P : Heard → Type 0 = λ heard. HearsAs c.in-Some.operation c.hear.new.self (servers c.args.up) c.args.message.now heard in
     let Q : Seat → Type 0 = λ seat. SeatHears c.args.self.now seat (servers c.args.up) c.args.message.now Noted in
-    let R : Bool → Type 0 = λ known. Q (record c.args.self.now { operation = Some c.hear.new.self; waited = known && c.args.self.now.waited }) in
+    let R : Bool → Type 0 = λ heard_before. Q (record c.args.self.now { operation = Some c.hear.new.self; waited = heard_before && c.args.self.now.waited }) in
     record {
-      hears = subst Q (sym c.note.ensures) (subst R (sym c.has_heard-known.ensures) (seat_hears c.args.self.now c.in-Some.operation c.hear.new.self (servers c.in-Some.operation.heard c.args.message.now.server && c.args.self.now.waited) (servers c.args.up) c.args.message.now Noted
+      hears = subst Q (sym c.note.ensures) (subst R (sym c.has_heard-heard_before.ensures) (seat_hears c.args.self.now c.in-Some.operation c.hear.new.self (servers c.in-Some.operation.heard c.args.message.now.server && c.args.self.now.waited) (servers c.args.up) c.args.message.now Noted
           c.in-Some.is (subst P c.in-Noted.is c.in_ok-heard.ensures.hears) (λ x e. cc) refl));
       reserved = ap (λ (seat : Seat). seat.reserved_floor) c.note.ensures;
     }
