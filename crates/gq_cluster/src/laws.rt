@@ -6,9 +6,10 @@ ghost use Rattle.gq_cluster.specs.Operations.{AllClustersLegal};
 ghost use Rattle.gq_cluster.specs.Restarts.{AllRestartsGiveUp};
 
 /// Take any steps of nodes, in which each letter that comes was written before. Letters may be lost, repeated, late and out of
-/// order, each act may take anybody to be up, and any node may start again at any time. Then there is a run of the service, in
-/// the model, in which the same comes to the tenant's sessions and servers, in the same order, and the same is told and sent,
-/// numbers of messages apart. At its end each server has the copies of its node, and each session is as its home has it.
+/// order, each act may take anybody to be up, and any node may start again at any time. A server may lose its disk, while no
+/// operation counts on a reply of it, and be given its files by others of its column. Then there is a run of the service, in the
+/// model, in which the same comes to the tenant's sessions and servers, in the same order, and the same is told and sent, numbers of
+/// messages apart. At its end each server has the copies of its node, and each session is as its home has it.
 pub fn clusters()
     ensures { AllClustersServe }
 {}
@@ -29,8 +30,9 @@ pub fn restarts()
 
 /// Whatever a node has of the tenant, each act changes what the node must not forget by one fact at most (`acts`). The fact is
 /// read off what the node has and what it tells: an operation has a number that was not reserved, or a write has, or a store replaced a
-/// copy. So from its facts alone, in order, a node knows all of this again (`suffice`). And each number that a session used, of an
-/// operation or of a tag, was reserved by a fact (`reserved`), so that a start, which goes on behind what is reserved, uses none twice.
+/// copy. So from its facts alone, in order, a node whose disk was never lost knows all of this again (`suffice`). And each number that a
+/// session used, of an operation or of a tag, was reserved by a fact (`reserved`), so that a start, which goes on behind what is
+/// reserved, uses none twice.
 pub fn facts()
     ensures acts { AllActsKeep }
     ensures suffice { AllFactsSuffice }

@@ -6,8 +6,9 @@ ghost use Rattle.gq_laws.specs.Progress.{AllMayAbandon, AllOperationsComplete, A
 ghost use Rattle.gq_laws.specs.Orders.{AllRunsLegal, OrdersAreLegal};
 ghost use Rattle.gq_laws.specs.Tenants.{AllTenantsLegal, AllTenantsTagged};
 
-/// Whatever the lines of a tenant and the servers' changes, the operations on each file are tagged, wherever these turns
-/// stand in a longer list. The operations are read off the turns and what is told to them, and off nothing else.
+/// Whatever the lines of a tenant and the servers' changes, disks that are lost among them, the operations on each file are
+/// tagged, wherever these turns stand in a longer list. The operations are read off the turns and what is told to them, and
+/// off nothing else.
 pub fn tagged()
     ensures runs { AllRunsTagged }
     ensures places { AllPlacesTagged }
@@ -39,10 +40,10 @@ pub fn checked()
 {}
 
 /// Each operation can be completed. Whatever the lines of a tenant and the servers' changes, losses and abandoned
-/// operations among them: where a collect quorum and a store quorum are up and steps are left, a going operation is
-/// completed by one retry of its session and deliveries of messages that are sent from then on, none of which is refused.
-/// A request that is accepted needs no retry. In a run of all tenants the same lines are told the same. And whatever is
-/// up, a session may abandon its operation and ask again.
+/// operations among them: where a collect quorum and a store quorum are up, each server that is up has all files, and steps
+/// are left, a going operation is completed by one retry of its session and deliveries of messages that are sent from then
+/// on, none of which is refused. A request that is accepted needs no retry. In a run of all tenants, in which each server
+/// has all files, the same lines are told the same. And whatever is up, a session may abandon its operation and ask again.
 pub fn completes()
     ensures operations { AllOperationsComplete }
     ensures requests { AllRequestsComplete }
