@@ -142,13 +142,13 @@ impl Stack {
         ensures taken { length free.new + length self.now ≡ length free.old }
     {
         let mut turned = Stack::new();
-        let mut link = self.head;
+        let mut place = self.head;
         for i in 0..self.count {
-            let node = self.nodes.read(link, i);
+            let node = self.nodes.read(place, i);
             let mut block = free.pop(alloc);
             block.set(&node.bytes);
             turned.push(block);
-            link = Link { ptr: node.next };
+            place = Link { ptr: node.next };
         }
         let mut blocks = Stack::new();
         while turned.count() > 0 {

@@ -68,6 +68,32 @@ fn a_pool_of_three_blocks(rt: HostRuntime) -> Result<(), Fail> {
     Ok(())
 }
 
+fn copies(rt: &impl Abort, pool: &mut Pool)
+    requires { pool.old ≡ 7 }
+    ensures { pool.new ≡ 7 }
+{
+    let mut bytes = [97; 150];
+    bytes[64] = 98;
+    bytes[149] = 99;
+    let chain = chain_of(rt, pool, &bytes);
+    let copy = pool.copy(&chain);
+    assert!(rt; copy.len() == 150 && copy.blocks() == 3 && pool.free() == 1);
+    pool.drain(chain);
+    let mut out = [0; 150];
+    copy.read(&mut out);
+    assert!(rt; out == bytes);
+    pool.drain(copy);
+}
+
+#[test]
+fn a_chain_is_copied(rt: HostRuntime) -> Result<(), Fail> {
+    let mut pool = Pool::new(rt.alloc(), 7)?;
+    copies(&rt, &mut pool);
+    assert!(rt; pool.free() == 7);
+    pool.close();
+    Ok(())
+}
+
 // The blocks that a content of 1 MiB takes.
 const LONG: usize = 16_384;
 

@@ -1,4 +1,4 @@
-//! A store of four blocks and one tenant; that a store is let go within something larger, and may go to another thread.
+//! A store of four blocks and one tenant; two such stores, of which one takes the other's copies; that a store is let go within something larger, and may go to another thread.
 ghost use Rattle.std.specs.Prelude.{◌≡◌, ℕ, [], ◌∷◌, IsSome, IsTrue};
 ghost use Rattle.gq_tag.specs.Tag.{to_server};
 ghost use Rattle.gq_store.specs.Copies.{file_limit, store_accounts};
@@ -16,7 +16,8 @@ use std::test::Fail;
 
 // The store of a server of the plan of one tenant.
 fn store_of_ann(rt: &impl Abort, alloc: Global, blocks: u32, share: u32) -> ServerStore
-    ensures { store_accounts result ≡ record { share = share; most_blocks = 16; volumes = [] } ∷ [] }
+    ensures accounts { store_accounts result ≡ record { share = share; most_blocks = 16; volumes = [] } ∷ [] }
+    ensures blocks { result.blocks ≡ blocks }
 {
     assert!(rt; 1 <= blocks && blocks <= MOST_BLOCKS);
     let grid = Grid::new(1, 1).expect(rt, "a grid");
@@ -46,7 +47,8 @@ const SECOND: FileId = FileId {
 
 // The store with one volume of two files of two blocks.
 fn store_of_two_files(rt: &impl Abort, alloc: Global) -> ServerStore
-    ensures { store_accounts result ≡ record { share = 4; most_blocks = 16; volumes = record { files = 2; blocks = 2 } ∷ [] } ∷ [] }
+    ensures blocks { result.blocks ≡ 4 }
+    ensures accounts { store_accounts result ≡ record { share = 4; most_blocks = 16; volumes = record { files = 2; blocks = 2 } ∷ [] } ∷ [] }
 {
     let mut store = store_of_ann(rt, alloc, 4, 4);
     store.add_files(0, 2, 2).expect(rt, "memory");
@@ -149,6 +151,50 @@ fn has_a_hint_beside_each_file(rt: HostRuntime) {
     store.leave_hint(SECOND, 7);
     store.put(SECOND, tag(1, 0), b"abc");
     assert!(rt; (store.hint(FIRST), store.hint(SECOND)) == (0, 7));
+}
+
+#[test]
+fn loses_all_copies(rt: HostRuntime) -> Result<(), Fail> {
+    let mut store = store_of_two_files(&rt, rt.alloc());
+    let mut out = Vec::new(rt.alloc());
+    store.put(FIRST, tag(1, 1), &[7; 128]);
+    store.put(SECOND, tag(1, 0), b"abc");
+    store.leave_hint(SECOND, 7);
+    assert!(rt; store.free() == 1);
+    store.lose();
+    assert!(rt; store.free() == 4);
+    reads(&rt, &store, FIRST, &mut out, tag(0, 0), &[]);
+    reads(&rt, &store, SECOND, &mut out, tag(0, 0), &[]);
+    assert!(rt; store.hint(SECOND) == 0);
+    assert!(rt; store.put(SECOND, tag(1, 0), b"abc") == Put::Kept);
+    reads(&rt, &store, SECOND, &mut out, tag(1, 0), b"abc");
+    Ok(())
+}
+
+// A content of two blocks, which differ.
+const TEXT: &[u8] =
+    b"The first block of this text ends within it, and the second block has the rest.";
+
+#[test]
+fn takes_all_copies_from_a_mate(rt: HostRuntime) -> Result<(), Fail> {
+    let mut store = store_of_two_files(&rt, rt.alloc());
+    let mut mate = store_of_two_files(&rt, rt.alloc());
+    let mut out = Vec::new(rt.alloc());
+    store.put(FIRST, tag(9, 1), &[7; 128]);
+    store.put(SECOND, tag(9, 1), &[8; 128]);
+    mate.put(FIRST, tag(1, 0), b"abc");
+    mate.put(SECOND, tag(2, 1), TEXT);
+    store.take_from(&mate);
+    assert!(rt; (store.free(), mate.free()) == (1, 1));
+    reads(&rt, &mate, FIRST, &mut out, tag(1, 0), b"abc");
+    reads(&rt, &mate, SECOND, &mut out, tag(2, 1), TEXT);
+    mate.close();
+    reads(&rt, &store, FIRST, &mut out, tag(1, 0), b"abc");
+    reads(&rt, &store, SECOND, &mut out, tag(2, 1), TEXT);
+    assert!(rt; store.put(FIRST, tag(3, 0), &[9; 128]) == Put::Kept);
+    reads(&rt, &store, FIRST, &mut out, tag(3, 0), &[9; 128]);
+    assert!(rt; store.free() == 0);
+    Ok(())
 }
 
 // The body of the reply.

@@ -6,7 +6,7 @@ use Rattle.gq_pool.proofs.stack.Stack.copy.Given as goal
 -- the blocks before `i`, with the last first, and those from `i` on are all
 abbrev pub invariant-loop-i : goal.invariant-loop-i
 invariant-loop-i l =
-    (l.link.ptr ≡ first_place (drop l.i l.self-inside.nodes.nodes))
+    (l.place.ptr ≡ first_place (drop l.i l.self-inside.nodes.nodes))
     × (length l.turned ≡ l.i)
     × (length l.free + l.i ≡ length l.initial.free)
     × (turned_onto l.turned (bytes_of (drop l.i l.self-inside.nodes.nodes)) ≡ bytes_of l.self-inside.nodes.nodes)
