@@ -1,4 +1,5 @@
-//! A store of four blocks and one tenant; two such stores, of which one takes the other's copies; that a store is let go within something larger, and may go to another thread.
+//! A store of four blocks and one tenant; two such stores, of which one takes the other's copies; that a store is let go within something
+//! larger, and may go to another thread.
 ghost use Rattle.std.specs.Prelude.{◌≡◌, ℕ, [], ◌∷◌, IsSome, IsTrue};
 ghost use Rattle.gq_tag.specs.Tag.{to_server};
 ghost use Rattle.gq_store.specs.Copies.{file_limit, store_accounts};
