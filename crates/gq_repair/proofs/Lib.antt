@@ -1,0 +1,12 @@
+pub mod Chains
+pub mod Acting
+pub mod Reached
+pub mod Again
+pub mod Sending
+pub mod Sound
+pub mod Agreeing
+pub mod Moving
+pub mod Taking
+pub mod Readying
+pub mod Following
+pub mod WorkedCase

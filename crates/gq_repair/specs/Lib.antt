@@ -1,0 +1,3 @@
+pub mod Plans
+pub mod Fleet
+pub mod Laws
