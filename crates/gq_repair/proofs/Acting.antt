@@ -127,7 +127,7 @@ session_after s n p act k = by (is_refusal (step_of s p act).told) refl
 abbrev reserved_then : Step → Option OwnFact → (ℕ → Reserved) → ℕ → Reserved
 reserved_then step fact reserved k = if is_refusal step.told then reserved k else with_reserved fact reserved k
 
-reserved_after : (s : Setting) (n : ℕ) (p : Part) (act : Act) (k : ℕ) → (part_after s n p act).reserved k ≡ reserved_then (step_of s p act) (fact_of s p act) p.reserved k
+pub reserved_after : (s : Setting) (n : ℕ) (p : Part) (act : Act) (k : ℕ) → (part_after s n p act).reserved k ≡ reserved_then (step_of s p act) (fact_of s p act) p.reserved k
 reserved_after s n p act k = by (is_refusal (step_of s p act).told) refl
   where
     by : (b : Bool) → is_refusal (step_of s p act).told ≡ b → (part_after s n p act).reserved k ≡ reserved_then (step_of s p act) (fact_of s p act) p.reserved k

@@ -9,4 +9,5 @@ pub mod Moving
 pub mod Taking
 pub mod Readying
 pub mod Following
+pub mod Keeping
 pub mod WorkedCase

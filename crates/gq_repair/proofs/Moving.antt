@@ -337,7 +337,7 @@ was_written w u c x written within = let P : List OwnMessage → Type 0 = λ z. 
 record IsDone (w : World) (n : ℕ) (u : Fleet) (act : Act) : Type 0 where
   unknown : (file : File) → (plan_of w u n).volumes ≤ file.volume → (part_after w.setting (place_of n) (u.part n) act).brought file ≡ (u.part n).brought file
 
-does_here : (w : World) (n : ℕ) (act : Act) (u : Fleet) → (does w n act u).part n ≡ part_after w.setting (place_of n) (u.part n) act
+pub does_here : (w : World) (n : ℕ) (act : Act) (u : Fleet) → (does w n act u).part n ≡ part_after w.setting (place_of n) (u.part n) act
 does_here w n act u = rw (eq-eqb n n refl) refl
 
 does_on : (w : World) (n : ℕ) (act : Act) (u : Fleet) → Sound w u → u.begun n ≡ true → IsDone w n u act → GoesOnAt w n u (does w n act u)

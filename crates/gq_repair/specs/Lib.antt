@@ -1,3 +1,4 @@
 pub mod Plans
 pub mod Fleet
 pub mod Laws
+pub mod Keeping

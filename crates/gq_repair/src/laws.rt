@@ -1,5 +1,6 @@
 //! The laws, as clauses of functions that do nothing.
 
+ghost use Rattle.gq_repair.specs.Keeping.{AllFleetFactsSuffice};
 ghost use Rattle.gq_repair.specs.Laws.{AllFollow, AllRight};
 
 /// Take any steps of nodes, of which some are lost and replaced by new ones, as a chain of plans says: several at once, new ones again, and
@@ -15,4 +16,10 @@ pub fn follows()
 /// ACM TOPLAS 12(3), 1990).
 pub fn registers()
     ensures { AllRight }
+{}
+
+/// A node that is given a copy must not forget it; all else that it must not forget is as in a cluster. So from the plan that it was begun
+/// with and its facts alone, in order, a node knows again its copies, the numbers that are reserved for its sessions, and which files it lacks.
+pub fn facts()
+    ensures { AllFleetFactsSuffice }
 {}
