@@ -5,7 +5,7 @@ use Rattle.std.specs.List.{count_by}
 use Rattle.std.proofs.lemmas.Bool.{cases_lt, eqb-true}
 use Rattle.std.proofs.lemmas.Nat.{div-mul-add, mod-mul-add, mod_below, div-add-mod'}
 use Rattle.std.proofs.lemmas.List.Sums.{sum_by-append}
-use Rattle.gq_repair.specs.Plans.{Plan, times, place_of, generation, node_at, has_node, GoesOn, IsChain}
+use Rattle.gq_replace.specs.Plans.{Plan, times, place_of, generation, node_at, has_node, GoesOn, IsChain}
 
 -- ---- numbers
 

@@ -11,14 +11,14 @@ use Rattle.gq_desk.specs.Plans.{is_in}
 use Rattle.gq_phase.specs.Phase.{Task}
 use Rattle.gq_model.specs.Lone.{is_awaited}
 use Rattle.gq_cluster.specs.Cluster.{Cluster, Restarts, Loses, NoneCounts, copy_in, is_within, lost_part, forgetting, with_loss, after_step}
-use Rattle.gq_repair.specs.Plans.{Plan, times, place_of, generation, node_at, has_node, is_replaced}
-use Rattle.gq_repair.specs.Fleet.{World, Fleet, Posted, Fetched, plan_of, IsActing, heard_all, with_ready, ends_of_gone}
-use Rattle.gq_repair.proofs.Chains.{place_below, same_node, generation_at, own_node, times_grow}
-use Rattle.gq_repair.proofs.Acting.{Same, held_offered}
-use Rattle.gq_repair.proofs.Reached.{can_append}
-use Rattle.gq_repair.proofs.Again.{Ended, ended, session_of, is_among, listed, unlisted}
-use Rattle.gq_repair.proofs.Sound.{Sound, Knows, IsBegun, IsGoing, IsReply, HasIt, newer_lacks, own}
-use Rattle.gq_repair.proofs.Agreeing.{IsGiven, Agrees, Known, Moved, from_map}
+use Rattle.gq_replace.specs.Plans.{Plan, times, place_of, generation, node_at, has_node, is_replaced}
+use Rattle.gq_replace.specs.Fleet.{World, Fleet, Posted, Fetched, plan_of, IsActing, heard_all, with_ready, ends_of_gone}
+use Rattle.gq_replace.proofs.Chains.{place_below, same_node, generation_at, own_node, times_grow}
+use Rattle.gq_replace.proofs.Acting.{Same, held_offered}
+use Rattle.gq_replace.proofs.Reached.{can_append}
+use Rattle.gq_replace.proofs.Again.{Ended, ended, session_of, is_among, listed, unlisted}
+use Rattle.gq_replace.proofs.Sound.{Sound, Knows, IsBegun, IsGoing, IsReply, HasIt, newer_lacks, own}
+use Rattle.gq_replace.proofs.Agreeing.{IsGiven, Agrees, Known, Moved, from_map}
 
 -- each place of the grid passes
 all_in : (test : ℕ → Bool) (a n i : ℕ) → list_all test (range_with_len a n) ≡ true → a ≤ i → i < a + n → test i ≡ true
@@ -48,7 +48,7 @@ module _ (w : World) (u : Fleet) (c : Cluster) (n : ℕ) (known : Known w u c) (
 
   -- the files that are lost are those of so many volumes
   abbrev volumes : ℕ
-  volumes = (w.plans (u.first n)).volumes
+  volumes = (w.plans (u.first_plan n)).volumes
 
   was : IsBegun w u n
   was = known.sound.begun n acting.0
@@ -119,16 +119,16 @@ module _ (w : World) (u : Fleet) (c : Cluster) (n : ℕ) (known : Known w u c) (
           told : Knows w u m n → generation n ≤ times (plan_of w u m) (place_of n)
           told knows =
               let then_turn : generation n ≡ times (w.plans knows.plan) (place_of n) = eqb-true (generation n) (times (w.plans knows.plan) (place_of n)) knows.has in
-              let more = times_grow (w.plans knows.plan) (plan_of w u m) (place_of n) (known.chain knows.plan (u.plan m) knows.before) in
+              let more = times_grow (w.plans knows.plan) (plan_of w u m) (place_of n) (known.chain knows.plan (u.last_plan m) knows.before) in
               omega (arith, then_turn, more)
-      by (inr ne) (inr stranger) = elim (cases_lt (u.plan m) (u.plan n)) [
+      by (inr ne) (inr stranger) = elim (cases_lt (u.last_plan m) (u.last_plan n)) [
         | inl before ↦ (absurd (
-            let less = times_grow (plan_of w u m) plan (place_of m) (known.chain (u.plan m) (u.plan n) (omega (arith, before))) in
+            let less = times_grow (plan_of w u m) plan (place_of m) (known.chain (u.last_plan m) (u.last_plan n) (omega (arith, before))) in
             let turns = its_turn in
             let at_most = most in
             true≢false (sym (eq-eqb (generation m) (times plan (place_of m)) (let equal : generation m ≡ times plan (place_of m) = omega (arith, less, turns, at_most) in equal)) ∙ stranger)))
         | inr behind ↦ (
-            let more = times_grow plan (plan_of w u m) (place_of n) (known.chain (u.plan n) (u.plan m) behind) in
+            let more = times_grow plan (plan_of w u m) (place_of n) (known.chain (u.last_plan n) (u.last_plan m) behind) in
             let its = turn in
             omega (arith, more, its))
       ]
@@ -136,7 +136,7 @@ module _ (w : World) (u : Fleet) (c : Cluster) (n : ℕ) (known : Known w u c) (
   -- a node that replied about a file is not the new one, which had none, nor a later one
   no_reply : (x : Posted) → IsReply w u x → place_of x.from ≡ place_of n → generation n ≤ generation x.from → x.letter.file.volume < volumes → ⊥
   no_reply x r place least within = elim (cases_lt (generation n) (generation x.from)) [
-    | inl less ↦ (true≢false (sym (newer_lacks w u n x.from (u.first n) x.letter.file known.chain known.sound acting.1 was.first within r.begun (sym place) less) ∙ r.has))
+    | inl less ↦ (true≢false (sym (newer_lacks w u n x.from (u.first_plan n) x.letter.file known.chain known.sound acting.1 was.first within r.begun (sym place) less) ∙ r.has))
     | inr most ↦ (
         let itself : x.from ≡ n = same_node x.from n place (let equal : generation x.from ≡ generation n = omega (arith, least, most) in equal) in
         true≢false (sym (was.having x.letter.file new within (ap (λ z. (u.part z).lacks x.letter.file) (sym itself) ∙ r.has)) ∙ not_yet))
@@ -290,7 +290,7 @@ module _ (w : World) (u : Fleet) (c : Cluster) (n : ℕ) (known : Known w u c) (
       by true same true is = absurd (elim (cases_lt (generation m) (generation n)) [
         | inl less ↦ (true≢false (sym (older_gone m (sym place) less) ∙ (gone_then m still).0))
         | inr most ↦ (elim (cases_lt (generation n) (generation m)) [
-          | inl less ↦ (true≢false (sym (newer_lacks w u n m (u.first n) file known.chain known.sound acting.1 was.first within it.begun place less) ∙ it.has))
+          | inl less ↦ (true≢false (sym (newer_lacks w u n m (u.first_plan n) file known.chain known.sound acting.1 was.first within it.begun place less) ∙ it.has))
           | inr least ↦ (
               let itself : m ≡ n = same_node m n (sym place) (let equal : generation m ≡ generation n = omega (arith, most, least) in equal) in
               true≢false (sym (was.having file new within (ap (λ z. (u.part z).lacks file) (sym itself) ∙ it.has)) ∙ not_yet))
@@ -397,7 +397,7 @@ module _ (w : World) (u : Fleet) (c : Cluster) (n : ℕ) (known : Known w u c) (
           part_is true = refl
           part_is false = refl
 
-      kept : (place : ℕ) (file : File) → ((m : ℕ) → ready_fleet.ready m ≡ true → place_of m ≡ place → (w.plans (u.first m)).volumes ≤ file.volume) → (lost_cluster.part place).lacks file ≡ false
+      kept : (place : ℕ) (file : File) → ((m : ℕ) → ready_fleet.ready m ≡ true → place_of m ≡ place → (w.plans (u.first_plan m)).volumes ≤ file.volume) → (lost_cluster.part place).lacks file ≡ false
       kept place file low = (kept_here place file none).0 ∙ known.agrees.kept place file (λ m ready at. low m (or_right (eqb m n) (u.ready m) ready) at)
         where
           none : is_lost place file ≡ false

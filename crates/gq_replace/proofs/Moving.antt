@@ -15,14 +15,14 @@ use Rattle.gq_model.specs.declared.events.Line.{Line}
 use Rattle.gq_model.specs.Lone.{Step, reply_to}
 use Rattle.gq_cluster.specs.Cluster.{Cluster, Part, Act, Asks, Comes, Acts, Restarts, new_part, copy_in, is_within, node_of, session_named, IsOfSession, CanAct, step_of, step_in, part_after, after_act, after_step}
 use Rattle.gq_cluster.specs.Restarts.{GivesUp, begun_anew}
-use Rattle.gq_repair.specs.Plans.{place_of, generation, node_at, has_node}
-use Rattle.gq_repair.specs.Fleet.{World, Fleet, Posted, plan_of, IsActing, MayDo, first_part, part_again, session_again, begins, starts_again, address, posts, does, MayServe}
-use Rattle.gq_repair.proofs.Chains.{newer_later, same_node}
-use Rattle.gq_repair.proofs.Acting.{Same, SameAct, act_away, act_here, act_offers, act_offering, asked_act, heard_act, after_same, session_then, session_after, went_on_then, lacks_after, asked_brings, heard_brings, served, served_is, served_same, served_other, served_session}
-use Rattle.gq_repair.proofs.Again.{restart_offers, restart_offering, gives}
-use Rattle.gq_repair.proofs.Sending.{AllAsk, each_asks, line_asks, letter_asks}
-use Rattle.gq_repair.proofs.Sound.{Sound, IsBegun, IsGoing, IsAsk, IsReply, HasIt, has_it, none_newer, newer_lacks, GoesOnAt, GoesSame, PostsSound, sound_on}
-use Rattle.gq_repair.proofs.Agreeing.{Holds, Agrees, Known, Moved, FollowsAt, agrees_on, from_map, to_map}
+use Rattle.gq_replace.specs.Plans.{place_of, generation, node_at, has_node}
+use Rattle.gq_replace.specs.Fleet.{World, Fleet, Posted, plan_of, IsActing, MayDo, first_part, part_again, session_again, begins, starts_again, address, posts, does, MayServe}
+use Rattle.gq_replace.proofs.Chains.{newer_later, same_node}
+use Rattle.gq_replace.proofs.Acting.{Same, SameAct, act_away, act_here, act_offers, act_offering, asked_act, heard_act, after_same, session_then, session_after, went_on_then, lacks_after, asked_brings, heard_brings, served, served_is, served_same, served_other, served_session}
+use Rattle.gq_replace.proofs.Again.{restart_offers, restart_offering, gives}
+use Rattle.gq_replace.proofs.Sending.{AllAsk, each_asks, line_asks, letter_asks}
+use Rattle.gq_replace.proofs.Sound.{Sound, IsBegun, IsGoing, IsAsk, IsReply, HasIt, has_it, none_newer, newer_lacks, GoesOnAt, GoesSame, PostsSound, sound_on}
+use Rattle.gq_replace.proofs.Agreeing.{Holds, Agrees, Known, Moved, FollowsAt, agrees_on, from_map, to_map}
 
 -- session k of the node, as both have it
 own_same : (w : World) (u : Fleet) (c : Cluster) (n : ℕ) → Agrees w u c → u.gone n ≡ false → (k : ℕ) → w.setting.home k ≡ n → Same (u.part n) (c.part n) k
@@ -34,7 +34,7 @@ same_parts p q a b k one two same = record { session = ap (λ z. z.session k) on
 -- what the place of a node has of a file that the node is the first to have
 pub newly : (w : World) (u : Fleet) (c : Cluster) (n plan : ℕ) (file : File) → Known w u c → u.gone n ≡ false → has_node (w.plans plan) n ≡ true → file.volume < (w.plans plan).volumes →
     ((m : ℕ) → place_of m ≡ place_of n → generation m ≤ generation n → HasIt w u m file → ⊥) →
-    ((m : ℕ) → u.ready m ≡ true → place_of m ≡ place_of n → generation m ≤ generation n → (w.plans (u.first m)).volumes ≤ file.volume) →
+    ((m : ℕ) → u.ready m ≡ true → place_of m ≡ place_of n → generation m ≤ generation n → (w.plans (u.first_plan m)).volumes ≤ file.volume) →
     ((c.part (place_of n)).brought file ≡ []) × ((c.part (place_of n)).lacks file ≡ false)
 newly w u c n plan file known still has within none low = (known.agrees.untouched (place_of n) file nobody, known.agrees.kept (place_of n) file unlost)
   where
@@ -44,7 +44,7 @@ newly w u c n plan file known still has within none low = (known.agrees.untouche
       | inr most ↦ (none m place most it)
     ]
 
-    unlost : (m : ℕ) → u.ready m ≡ true → place_of m ≡ place_of n → (w.plans (u.first m)).volumes ≤ file.volume
+    unlost : (m : ℕ) → u.ready m ≡ true → place_of m ≡ place_of n → (w.plans (u.first_plan m)).volumes ≤ file.volume
     unlost m ready place = elim (cases_lt (generation n) (generation m)) [
       | inl less ↦ (absurd (true≢false (sym ready ∙ none_newer w u n m known.sound still (sym place) less)))
       | inr most ↦ (low m ready place most)
@@ -59,10 +59,10 @@ module _ (w : World) (u : Fleet) (c : Cluster) (n j : ℕ) (known : Known w u c)
   part_here : begun_fleet.part n ≡ first_part w n j
   part_here = rw (eq-eqb n n refl) refl
 
-  first_here : begun_fleet.first n ≡ j
+  first_here : begun_fleet.first_plan n ≡ j
   first_here = rw (eq-eqb n n refl) refl
 
-  plan_here : begun_fleet.plan n ≡ j
+  plan_here : begun_fleet.last_plan n ≡ j
   plan_here = rw (eq-eqb n n refl) refl
 
   begins_on : GoesOnAt w n u begun_fleet
@@ -89,13 +89,13 @@ module _ (w : World) (u : Fleet) (c : Cluster) (n j : ℕ) (known : Known w u c)
     joined = refl;
   }
     where
-      lacking : (file : File) → (begun_fleet.part n).lacks file ≡ true → (0 < generation n) × (file.volume < (w.plans (begun_fleet.first n)).volumes)
+      lacking : (file : File) → (begun_fleet.part n).lacks file ≡ true → (0 < generation n) × (file.volume < (w.plans (begun_fleet.first_plan n)).volumes)
       lacking file is =
           let parts = and_parts (nat_lt 0 (generation n)) (is_within (w.plans j).volumes file) (ap (λ z. z.lacks file) (sym part_here) ∙ is) in
           let P : ℕ → Type 0 = λ z. file.volume < (w.plans z).volumes in
           (ltb-true 0 (generation n) parts.0, subst P (sym first_here) (ltb-true file.volume (w.plans j).volumes parts.1))
 
-      having : (file : File) → 0 < generation n → file.volume < (w.plans (begun_fleet.first n)).volumes → (begun_fleet.part n).lacks file ≡ false → begun_fleet.ready n ≡ true
+      having : (file : File) → 0 < generation n → file.volume < (w.plans (begun_fleet.first_plan n)).volumes → (begun_fleet.part n).lacks file ≡ false → begun_fleet.ready n ≡ true
       having file new within has_it =
           let P : ℕ → Type 0 = λ z. file.volume < (w.plans z).volumes in
           let lacks : (first_part w n j).lacks file ≡ true = rw (lt-ltb 0 (generation n) new, lt-ltb file.volume (w.plans j).volumes (subst P first_here within)) refl in
@@ -164,7 +164,7 @@ module _ (w : World) (u : Fleet) (c : Cluster) (n j : ℕ) (known : Known w u c)
 
 -- ---- and again
 
-module _ (w : World) (u : Fleet) (c : Cluster) (n j : ℕ) (known : Known w u c) (acting : IsActing u n) (later : u.plan n ≤ j) (has : has_node (w.plans j) n ≡ true) where
+module _ (w : World) (u : Fleet) (c : Cluster) (n j : ℕ) (known : Known w u c) (acting : IsActing u n) (later : u.last_plan n ≤ j) (has : has_node (w.plans j) n ≡ true) where
   abbrev again_fleet : Fleet
   again_fleet = starts_again w n j u
 
@@ -174,7 +174,7 @@ module _ (w : World) (u : Fleet) (c : Cluster) (n j : ℕ) (known : Known w u c)
   again_part : again_fleet.part n ≡ part_again w n (u.part n)
   again_part = rw (eq-eqb n n refl) refl
 
-  again_plan : again_fleet.plan n ≡ j
+  again_plan : again_fleet.last_plan n ≡ j
   again_plan = rw (eq-eqb n n refl) refl
 
   was : IsBegun w u n
@@ -211,7 +211,7 @@ module _ (w : World) (u : Fleet) (c : Cluster) (n j : ℕ) (known : Known w u c)
       unknown file beyond =
           let P : ℕ → Type 0 = λ z. (w.plans z).volumes ≤ file.volume in
           let at_j : (w.plans j).volumes ≤ file.volume = subst P again_plan beyond in
-          let more = (known.chain (u.plan n) j later).volumes in
+          let more = (known.chain (u.last_plan n) j later).volumes in
           ap (λ z. z.brought file) again_part ∙ was.unknown file (omega (arith, at_j, more))
 
   -- a session of the node has no operation then
@@ -277,8 +277,8 @@ module _ (w : World) (u : Fleet) (c : Cluster) (n j : ℕ) (known : Known w u c)
           within_j = let P : ℕ → Type 0 = λ z. file.volume < (w.plans z).volumes in subst P again_plan it.within
 
           -- an older node of the place has no later plan
-          older_plan : (m : ℕ) → place_of m ≡ place_of n → generation m < generation n → u.begun m ≡ true → u.plan m ≤ u.first n
-          older_plan m place less begun = newer_later w.plans known.chain (u.plan m) (u.first n) m n place (known.sound.begun m begun).now was.first less
+          older_plan : (m : ℕ) → place_of m ≡ place_of n → generation m < generation n → u.begun m ≡ true → u.last_plan m ≤ u.first_plan n
+          older_plan m place less begun = newer_later w.plans known.chain (u.last_plan m) (u.first_plan n) m n place (known.sound.begun m begun).now was.first less
 
           -- so it does not know a file that the node does not know
           unknown_to : (m : ℕ) → (plan_of w u n).volumes ≤ file.volume → place_of m ≡ place_of n → generation m ≤ generation n → u.begun m ≡ true → (plan_of w u m).volumes ≤ file.volume
@@ -286,7 +286,7 @@ module _ (w : World) (u : Fleet) (c : Cluster) (n j : ℕ) (known : Known w u c)
             | inl less ↦ (
                 let low = older_plan m place less begun in
                 let first_low = was.later in
-                let more = (known.chain (u.plan m) (u.plan n) (omega (arith, low, first_low))).volumes in
+                let more = (known.chain (u.last_plan m) (u.last_plan n) (omega (arith, low, first_low))).volumes in
                 omega (arith, more, beyond))
             | inr most ↦ (
                 let same : m ≡ n = same_node m n place (let equal : generation m ≡ generation n = omega (arith, most, least) in equal) in
@@ -304,7 +304,7 @@ module _ (w : World) (u : Fleet) (c : Cluster) (n j : ℕ) (known : Known w u c)
               (λ m ready place least.
               let begun = known.sound.ready m ready in
               let low = unknown_to m beyond place least begun in
-              let more = (known.chain (u.first m) (u.plan m) (known.sound.begun m begun).later).volumes in
+              let more = (known.chain (u.first_plan m) (u.last_plan m) (known.sound.begun m begun).later).volumes in
               omega (arith, low, more)) in
               record { has = given.lacks (place_of n) file ∙ new.1; brought = given.copies (place_of n) file ∙ new.0 ∙ sym (was.unknown file beyond) ∙ sym mine }
 
@@ -454,7 +454,7 @@ module _ (w : World) (u : Fleet) (c : Cluster) (n : ℕ) (act : Act) (known : Kn
           omega (arith, base, same, at)
 
       Then : Type 0
-      Then = IsGoing w u x.letter × (did.plan n ≡ u.plan n)
+      Then = IsGoing w u x.letter × (did.last_plan n ≡ u.last_plan n)
 
       by : (((session_then w.setting act k (step_of w.setting (u.part n) act) ((u.part n).session k)).op ≡ ((u.part n).session k).op) × (is_some ((u.part n).session k).current ≡ true))
           ⊎ ((session_then w.setting act k (step_of w.setting (u.part n) act) ((u.part n).session k)).op ≡ ((u.part n).session k).op + 1) → Then
@@ -650,7 +650,7 @@ module _ (w : World) (u : Fleet) (c : Cluster) (from n : ℕ) (letter : OwnMessa
           to = goes_to;
           asked = λ going.
               known.sound.asks (record { from = from; to = n; letter = letter }) within ask may.home (went_on going)
-              ∙ ap (λ z. node_at (w.plans (u.plan z)) letter.server) (sym may.home ∙ sym goes_to);
+              ∙ ap (λ z. node_at (w.plans (u.last_plan z)) letter.server) (sym may.home ∙ sym goes_to);
         }),
       )
 

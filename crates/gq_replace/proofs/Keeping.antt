@@ -9,11 +9,11 @@ use Rattle.gq_cluster.specs.Facts.{OwnFact}
 use Rattle.gq_cluster.specs.Cluster.{Part, Act, Asks, Comes, given_part, node_of, fact_of, part_after}
 use Rattle.gq_cluster.specs.Keeping.{kept_of, with_fact}
 use Rattle.gq_cluster.proofs.Keeping.{all_acts_keep}
-use Rattle.gq_repair.specs.Plans.{place_of}
-use Rattle.gq_repair.specs.Fleet.{World, Fleet, FleetStep, Begins, StartsAgain, Does, Answers, Hears, Gives, Takes, new_fleet, first_part, is_ready_by, after_fleet_step, MayDo, MayHappen, AllMayHappen}
-use Rattle.gq_repair.specs.Keeping.{Own, Had, KeptFiles, files_of_part, with_fleet_fact, fleet_fact, fleet_facts, AllFleetFactsSuffice}
-use Rattle.gq_repair.proofs.Acting.{reserved_after, lacks_after, asked_brings, heard_brings}
-use Rattle.gq_repair.proofs.Moving.{does_here}
+use Rattle.gq_replace.specs.Plans.{place_of}
+use Rattle.gq_replace.specs.Fleet.{World, Fleet, FleetStep, Begins, StartsAgain, Does, Answers, Hears, Gives, Takes, new_fleet, first_part, is_ready_by, after_fleet_step, MayDo, MayHappen, AllMayHappen}
+use Rattle.gq_replace.specs.Keeping.{Own, Had, KeptFiles, files_of_part, with_fleet_fact, fleet_fact, fleet_facts, AllFleetFactsSuffice}
+use Rattle.gq_replace.proofs.Acting.{reserved_after, lacks_after, asked_brings, heard_brings}
+use Rattle.gq_replace.proofs.Moving.{does_here}
 
 -- ---- an act
 
@@ -109,7 +109,7 @@ step_keeps w u n (Takes node mate file copy) begun may = by (cases_eq n node)
 -- a node that was started stays so, with its first plan
 record StaysBegun (w : World) (u v : Fleet) (n : ℕ) : Type 0 where
   begun : v.begun n ≡ true
-  first : v.first n ≡ u.first n
+  first : v.first_plan n ≡ u.first_plan n
 
 stays_begun : (w : World) (u : Fleet) (n : ℕ) (step : FleetStep) → u.begun n ≡ true → MayHappen w u step → StaysBegun w u (after_fleet_step w u step) n
 stays_begun w u n (Begins node plan) begun may = by (cases_eq n node)
@@ -134,7 +134,7 @@ stays_begun w u n (Takes node mate file copy) begun may = record { begun = begun
 
 -- from a fleet on in which the node was started
 since : (w : World) (steps : List FleetStep) (u : Fleet) (n : ℕ) → u.begun n ≡ true → AllMayHappen w u steps →
-    (files_of_part ((fold (after_fleet_step w) u steps).part n) ≡ fold with_fleet_fact (files_of_part (u.part n)) (fleet_facts w u n steps)) × ((fold (after_fleet_step w) u steps).first n ≡ u.first n)
+    (files_of_part ((fold (after_fleet_step w) u steps).part n) ≡ fold with_fleet_fact (files_of_part (u.part n)) (fleet_facts w u n steps)) × ((fold (after_fleet_step w) u steps).first_plan n ≡ u.first_plan n)
 since w [] u n begun may = (refl, refl)
 since w (step ∷ steps) u n begun may =
     let v : Fleet = after_fleet_step w u step in
@@ -144,7 +144,7 @@ since w (step ∷ steps) u n begun may =
 
 -- a node that was not started yet is started by the step, and has what its first plan says; or it is not, and the step is no fact of it
 data Before (w : World) (u v : Fleet) (n : ℕ) (step : FleetStep) : Type 0 where
-  IsStarted : v.begun n ≡ true → v.part n ≡ first_part w n (v.first n) → fleet_fact w u n step ≡ None → Before w u v n step
+  IsStarted : v.begun n ≡ true → v.part n ≡ first_part w n (v.first_plan n) → fleet_fact w u n step ≡ None → Before w u v n step
   IsNot : v.begun n ≡ false → fleet_fact w u n step ≡ None → Before w u v n step
 
 before : (w : World) (u : Fleet) (n : ℕ) (step : FleetStep) → u.begun n ≡ false → MayHappen w u step → Before w u (after_fleet_step w u step) n step
@@ -181,7 +181,7 @@ before w u n (Takes node mate file copy) not_yet may = by (cases_eq n node)
 -- from one on in which it was not
 from_start : (w : World) (steps : List FleetStep) (u : Fleet) (n : ℕ) → u.begun n ≡ false → AllMayHappen w u steps →
     let last : Fleet = fold (after_fleet_step w) u steps in
-    last.begun n ≡ true → files_of_part (last.part n) ≡ fold with_fleet_fact (files_of_part (first_part w n (last.first n))) (fleet_facts w u n steps)
+    last.begun n ≡ true → files_of_part (last.part n) ≡ fold with_fleet_fact (files_of_part (first_part w n (last.first_plan n))) (fleet_facts w u n steps)
 from_start w [] u n not_yet may begun = absurd (true≢false (sym begun ∙ not_yet))
 from_start w (step ∷ steps) u n not_yet may begun = by (before w u n step not_yet may.0) (λ still. from_start w steps v n still may.1 begun)
   where
@@ -192,12 +192,12 @@ from_start w (step ∷ steps) u n not_yet may begun = by (before w u n step not_
     last = fold (after_fleet_step w) v steps
 
     Then : Type 0
-    Then = files_of_part (last.part n) ≡ fold with_fleet_fact (files_of_part (first_part w n (last.first n))) (fleet_facts w u n (step ∷ steps))
+    Then = files_of_part (last.part n) ≡ fold with_fleet_fact (files_of_part (first_part w n (last.first_plan n))) (fleet_facts w u n (step ∷ steps))
 
-    facts : fleet_fact w u n step ≡ None → fold with_fleet_fact (files_of_part (first_part w n (last.first n))) (fleet_facts w v n steps) ≡ fold with_fleet_fact (files_of_part (first_part w n (last.first n))) (fleet_facts w u n (step ∷ steps))
-    facts none = ap (λ z. fold with_fleet_fact (with_fleet_fact (files_of_part (first_part w n (last.first n))) z) (fleet_facts w v n steps)) (sym none)
+    facts : fleet_fact w u n step ≡ None → fold with_fleet_fact (files_of_part (first_part w n (last.first_plan n))) (fleet_facts w v n steps) ≡ fold with_fleet_fact (files_of_part (first_part w n (last.first_plan n))) (fleet_facts w u n (step ∷ steps))
+    facts none = ap (λ z. fold with_fleet_fact (with_fleet_fact (files_of_part (first_part w n (last.first_plan n))) z) (fleet_facts w v n steps)) (sym none)
 
-    by : Before w u v n step → (v.begun n ≡ false → files_of_part (last.part n) ≡ fold with_fleet_fact (files_of_part (first_part w n (last.first n))) (fleet_facts w v n steps)) → Then
+    by : Before w u v n step → (v.begun n ≡ false → files_of_part (last.part n) ≡ fold with_fleet_fact (files_of_part (first_part w n (last.first_plan n))) (fleet_facts w v n steps)) → Then
     by (IsNot still none) later = later still ∙ facts none
     by (IsStarted is part none) later =
         let then_is = since w steps v n is may.1 in

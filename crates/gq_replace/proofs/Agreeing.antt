@@ -7,11 +7,11 @@ use Rattle.gq_tag.specs.Tag.{File}
 use Rattle.gq_desk.specs.Plans.{is_in}
 use Rattle.gq_phase.specs.Quorums.{are_mates}
 use Rattle.gq_cluster.specs.Cluster.{Cluster, Part, NodeStep, new_cluster, after_step, CanFollow}
-use Rattle.gq_repair.specs.Plans.{place_of, IsChain}
-use Rattle.gq_repair.specs.Fleet.{World, Fleet, Fetched, new_fleet}
-use Rattle.gq_repair.proofs.Acting.{Same, Offers}
-use Rattle.gq_repair.proofs.Reached.{Reached, IsBounded}
-use Rattle.gq_repair.proofs.Sound.{Sound, HasIt, alone, GoesOnAt, it_still, first_still}
+use Rattle.gq_replace.specs.Plans.{place_of, IsChain}
+use Rattle.gq_replace.specs.Fleet.{World, Fleet, Fetched, new_fleet}
+use Rattle.gq_replace.proofs.Acting.{Same, Offers}
+use Rattle.gq_replace.proofs.Reached.{Reached, IsBounded}
+use Rattle.gq_replace.proofs.Sound.{Sound, HasIt, alone, GoesOnAt, it_still, first_still}
 
 -- ---- the relation
 
@@ -37,7 +37,7 @@ pub record Agrees (w : World) (u : Fleet) (c : Cluster) : Type 0 where
   pub given : (x : Fetched) → Contains u.fetched x → IsGiven w u c x
   -- a file that no node of the place has, and one that was lost by none
   pub untouched : (place : ℕ) (file : File) → ((n : ℕ) → place_of n ≡ place → HasIt w u n file → ⊥) → (c.part place).brought file ≡ []
-  pub kept : (place : ℕ) (file : File) → ((n : ℕ) → u.ready n ≡ true → place_of n ≡ place → (w.plans (u.first n)).volumes ≤ file.volume) → (c.part place).lacks file ≡ false
+  pub kept : (place : ℕ) (file : File) → ((n : ℕ) → u.ready n ≡ true → place_of n ≡ place → (w.plans (u.first_plan n)).volumes ≤ file.volume) → (c.part place).lacks file ≡ false
   pub offers : Offers c
 
 -- all that is known before a step
@@ -145,7 +145,7 @@ agrees_on w n u v c d chain sound agrees on follows = record {
       | inr other ↦ (absurd (none n other.0 (it_still w n u v chain on n file other.1)))
     ]
 
-    kept : (place : ℕ) (file : File) → ((m : ℕ) → v.ready m ≡ true → place_of m ≡ place → (w.plans (v.first m)).volumes ≤ file.volume) → (d.part place).lacks file ≡ false
+    kept : (place : ℕ) (file : File) → ((m : ℕ) → v.ready m ≡ true → place_of m ≡ place → (w.plans (v.first_plan m)).volumes ≤ file.volume) → (d.part place).lacks file ≡ false
     kept place file low = follows.lacks place file ∙ agrees.kept place file (λ m ready at.
         let P : ℕ → Type 0 = λ z. (w.plans z).volumes ≤ file.volume in
         subst P (first_still w n u v on m (sound.ready m ready)) (low m (on.ready m ∙ ready) at))

@@ -1,9 +1,12 @@
 -- One tenant at nodes of which some are lost, and replaced by new ones.
 --
--- What a node does with a line or a letter is as in a cluster, by its own part. Here is what is more: each node has a plan, and writes to the
--- nodes of its plan. A new node has none of the files that its first plan names. It asks all other nodes of its plan whether theirs has it;
--- once all of them said so, it is *ready*, and those that its plan says are replaced are *gone*. Then, file by file, a node of its column gives
--- it a copy.
+-- What a node does with a line or a letter is as in a cluster, by its own part. Here is what is more: each node has a plan, and writes asks and
+-- stores to the nodes of its plan. A new node has none of the files of the volumes that its first plan has. All other nodes of its plan have to
+-- tell it that theirs has it; once all of them did, it is *ready*, and the nodes that its plan says are replaced are *gone*. Then, file by file,
+-- a node of its column gives it a copy.
+--
+-- Nothing here keeps a node that is gone from acting, and no node looks at who sends it a letter: that one which is gone takes no step is a premise
+-- (*MayHappen*). Requests that a node refuses by itself, as of a volume that its plan does not have, and letters that it passes over, are no steps.
 use Rattle.std.specs.Prelude.{◌≡◌, ℕ, ◌*◌, ◌<◌, ◌≤◌, List, [], ◌∷◌, ◌++◌, Bool, true, false, ◌==◌, ◌&&◌, ◌||◌, not, nat_lt, Contains, ⊤, map, filter, fold, if◌then◌else◌}
 use Rattle.std.specs.List.{range_with_len, list_all}
 use Rattle.gq_tag.specs.declared.StoredCopy.{StoredCopy}
@@ -14,7 +17,7 @@ use Rattle.gq_model.specs.Trace.{Session, new_session}
 use Rattle.gq_cluster.specs.Facts.{none_reserved}
 use Rattle.gq_cluster.specs.Restarts.{begun_anew}
 use Rattle.gq_cluster.specs.Cluster.{Setting, Part, Act, Asks, Comes, NodeStep, Acts, Restarts, Loses, Returns, new_part, copy_in, is_within, given_part, session_named, IsOfSession, step_of, part_after}
-use Rattle.gq_repair.specs.Plans.{Plan, place_of, generation, node_at, has_node, is_replaced}
+use Rattle.gq_replace.specs.Plans.{Plan, place_of, generation, node_at, has_node, is_replaced}
 
 -- ---- the state
 
@@ -43,12 +46,13 @@ pub record Fetched : Type 0 where
 
 -- all nodes that ever were, and what they wrote
 pub record Fleet : Type 0 where
-  -- the node was started; the plan that it was started with first, and the one that it was started with last
+  -- the node was started; the number of the plan that it was started with first, and of the one that it was started with last
   pub begun : (node : ℕ) → Bool
-  pub first : (node : ℕ) → ℕ
-  pub plan : (node : ℕ) → ℕ
+  pub first_plan : (node : ℕ) → ℕ
+  pub last_plan : (node : ℕ) → ℕ
   pub part : (node : ℕ) → Part
-  -- whom a new node heard since its start, and whether that were all others of its plan at some time
+  -- whom a new node heard since its start, and whether these were ever all others of its plan. It need not know that they were: one that hears
+  -- them all again behind a start does less than it may
   pub heard : (node other : ℕ) → Bool
   pub ready : (node : ℕ) → Bool
   pub gone : (node : ℕ) → Bool
@@ -59,8 +63,8 @@ pub record Fleet : Type 0 where
 abbrev pub new_fleet : Fleet
 new_fleet = record {
   begun = λ node. false;
-  first = λ node. 0;
-  plan = λ node. 0;
+  first_plan = λ node. 0;
+  last_plan = λ node. 0;
   part = λ node. new_part;
   heard = λ node other. false;
   ready = λ node. false;
@@ -72,7 +76,7 @@ new_fleet = record {
 
 -- the plan that the node has
 abbrev pub plan_of : World → Fleet → (node : ℕ) → Plan
-plan_of w u node = w.plans (u.plan node)
+plan_of w u node = w.plans (u.last_plan node)
 
 -- the node was started, and is not gone
 abbrev pub IsActing : Fleet → (node : ℕ) → Type 0
@@ -117,13 +121,13 @@ part_again w node part = record part { session = session_again w node part }
 abbrev pub starts_with : World → (node plan : ℕ) → Part → Fleet → Fleet
 starts_with w node plan part u = record u {
   begun = λ n. if n == node then true else u.begun n;
-  plan = λ n. if n == node then plan else u.plan n;
+  last_plan = λ n. if n == node then plan else u.last_plan n;
   part = λ n. if n == node then part else u.part n;
   heard = λ n other. not (n == node) && u.heard n other;
 }
 
 abbrev pub begins : World → (node plan : ℕ) → Fleet → Fleet
-begins w node plan u = record (starts_with w node plan (first_part w node plan) u) { first = λ n. if n == node then plan else u.first n }
+begins w node plan u = record (starts_with w node plan (first_part w node plan) u) { first_plan = λ n. if n == node then plan else u.first_plan n }
 
 abbrev pub starts_again : World → (node plan : ℕ) → Fleet → Fleet
 starts_again w node plan u = starts_with w node plan (part_again w node (u.part node)) u
@@ -152,7 +156,7 @@ with_heard node other u = record u { heard = λ n m. ((n == node) && (m == other
 abbrev pub heard_all : World → Fleet → (node : ℕ) → Bool
 heard_all w u node = list_all (λ place. (place == place_of node) || u.heard node (node_at (plan_of w u node) place)) (range_with_len 0 (w.setting.grid.rows * w.setting.grid.cols))
 
--- it is for the first time that it heard all of them
+-- with this one it has heard all, for the first time
 abbrev pub is_ready_by : World → (node other : ℕ) → Fleet → Bool
 is_ready_by w node other u = not (u.ready node) && heard_all w (with_heard node other u) node
 
@@ -207,11 +211,12 @@ abbrev pub MayDo : World → Fleet → (node : ℕ) → Act → Type 0
 MayDo w u node (Asks line aim) = IsOfSession line × (w.setting.home (session_named line) ≡ node)
 MayDo w u node (Comes letter aim) = (from : ℕ) × Contains u.posted (record { from = from; to = node; letter = letter }) × MayCome w u from node letter
 
--- A node that is gone does nothing any more. Any other may be started, and again with a later plan, if the plan has it; may answer a new node
--- that its plan has; and give its copy of a file to a node of its column which is ready.
+-- A node that is gone does nothing any more. Any other may be started once for the first time, and again with the same plan or a later one, if the
+-- plan has it; may answer a new node that its plan has; and give its copy of a file to a node of its column which is ready. Each may come late, and
+-- again.
 abbrev pub MayHappen : World → Fleet → FleetStep → Type 0
 MayHappen w u (Begins node plan) = (u.begun node ≡ false) × (u.gone node ≡ false) × (has_node (w.plans plan) node ≡ true)
-MayHappen w u (StartsAgain node plan) = IsActing u node × (u.plan node ≤ plan) × (has_node (w.plans plan) node ≡ true)
+MayHappen w u (StartsAgain node plan) = IsActing u node × (u.last_plan node ≤ plan) × (has_node (w.plans plan) node ≡ true)
 MayHappen w u (Does node act) = IsActing u node × MayDo w u node act
 MayHappen w u (Answers node new) = IsActing u node × (has_node (plan_of w u node) new ≡ true)
 MayHappen w u (Hears node other) = IsActing u node × (0 < generation node) × Contains u.joined (record { from = other; to = node })
@@ -224,7 +229,8 @@ AllMayHappen w u (step ∷ steps) = MayHappen w u step × AllMayHappen w (after_
 
 -- ---- the steps of the law of clusters
 
--- the nodes that are replaced, of those that are homes of sessions, start again: they are gone, and do nothing with what their sessions had
+-- What sessions of nodes that are replaced were doing is given up, as by a start of their home: such a node is gone, and does nothing with it any
+-- more. A home is named once for each of its sessions.
 abbrev pub ends_of_gone : World → Plan → List NodeStep
 ends_of_gone w plan = map Restarts (filter (is_replaced plan) (map w.setting.home (range_with_len 1 w.setting.row.sessions)))
 
@@ -235,7 +241,7 @@ node_steps w u (Begins node plan) = []
 node_steps w u (StartsAgain node plan) = Restarts node ∷ []
 node_steps w u (Does node act) = Acts act ∷ []
 node_steps w u (Answers node new) = []
-node_steps w u (Hears node other) = if is_ready_by w node other u then ends_of_gone w (plan_of w u node) ++ Loses (place_of node) (w.plans (u.first node)).volumes ∷ [] else []
+node_steps w u (Hears node other) = if is_ready_by w node other u then ends_of_gone w (plan_of w u node) ++ Loses (place_of node) (w.plans (u.first_plan node)).volumes ∷ [] else []
 node_steps w u (Gives mate node file) = []
 node_steps w u (Takes node mate file copy) = Returns (place_of node) file (place_of mate) copy ∷ []
 

@@ -5,7 +5,7 @@ use Rattle.gq_tag.specs.Tag.{File, is_file, first_copy, newer_of}
 use Rattle.gq_cluster.specs.Facts.{OwnFact}
 use Rattle.gq_cluster.specs.Cluster.{Part, fact_of}
 use Rattle.gq_cluster.specs.Keeping.{KeptPart, kept_of, with_fact}
-use Rattle.gq_repair.specs.Fleet.{World, Fleet, FleetStep, Does, Takes, new_fleet, first_part, after_fleet_step, fleet_after, AllMayHappen}
+use Rattle.gq_replace.specs.Fleet.{World, Fleet, FleetStep, Does, Takes, new_fleet, first_part, after_fleet_step, fleet_after, AllMayHappen}
 
 pub data FleetFact : Type 0 where
   -- what a node of a cluster must not forget
@@ -45,4 +45,4 @@ fleet_facts w u n (step ∷ steps) = fleet_fact w u n step ∷ fleet_facts w (af
 abbrev pub AllFleetFactsSuffice : Type 0
 AllFleetFactsSuffice = (w : World) (steps : List FleetStep) (n : ℕ) → AllMayHappen w new_fleet steps →
     let u : Fleet = fleet_after w steps in
-    u.begun n ≡ true → files_of_part (u.part n) ≡ fold with_fleet_fact (files_of_part (first_part w n (u.first n))) (fleet_facts w new_fleet n steps)
+    u.begun n ≡ true → files_of_part (u.part n) ≡ fold with_fleet_fact (files_of_part (first_part w n (u.first_plan n))) (fleet_facts w new_fleet n steps)

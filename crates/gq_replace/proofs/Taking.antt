@@ -7,13 +7,13 @@ use Rattle.gq_tag.specs.declared.StoredCopy.{StoredCopy}
 use Rattle.gq_tag.specs.Tag.{File, is_file, first_copy, greatest}
 use Rattle.gq_phase.specs.Quorums.{are_mates}
 use Rattle.gq_cluster.specs.Cluster.{Cluster, Part, Returns, copy_in, given_part, with_return}
-use Rattle.gq_repair.specs.Plans.{place_of, generation, has_node}
-use Rattle.gq_repair.specs.Fleet.{World, Fleet, Joined, Fetched, plan_of, IsActing, has_file, with_heard, gives, takes}
-use Rattle.gq_repair.proofs.Chains.{same_node}
-use Rattle.gq_repair.proofs.Acting.{Same, held_offered}
-use Rattle.gq_repair.proofs.Sound.{Sound, Knows, HasIt, has_it, alone, GoesOnAt, GoesSame, it_still, sound_on}
-use Rattle.gq_repair.proofs.Agreeing.{Holds, IsGiven, Agrees, Known, Moved}
-use Rattle.gq_repair.proofs.Moving.{file_is}
+use Rattle.gq_replace.specs.Plans.{place_of, generation, has_node}
+use Rattle.gq_replace.specs.Fleet.{World, Fleet, Joined, Fetched, plan_of, IsActing, has_file, with_heard, gives, takes}
+use Rattle.gq_replace.proofs.Chains.{same_node}
+use Rattle.gq_replace.proofs.Acting.{Same, held_offered}
+use Rattle.gq_replace.proofs.Sound.{Sound, Knows, HasIt, has_it, alone, GoesOnAt, GoesSame, it_still, sound_on}
+use Rattle.gq_replace.proofs.Agreeing.{Holds, IsGiven, Agrees, Known, Moved}
+use Rattle.gq_replace.proofs.Moving.{file_is}
 
 -- ---- a node answers a new one
 
@@ -56,7 +56,7 @@ answers_moves w u c n new known acting has = record {
     joined : (x : Joined) → Contains then_fleet.joined x → Knows w then_fleet x.from x.to
     joined x within = elim (Contains-push_cases u.joined (record { from = n; to = new }) x within) [
       | inl old ↦ (let k = sound.joined x old in record { begun = k.begun; plan = k.plan; before = k.before; has = k.has })
-      | inr is ↦ (let P : Joined → Type 0 = λ z. Knows w then_fleet z.from z.to in subst P is (record { begun = acting.0; plan = u.plan n; before = omega arith; has = has }))
+      | inr is ↦ (let P : Joined → Type 0 = λ z. Knows w then_fleet z.from z.to in subst P is (record { begun = acting.0; plan = u.last_plan n; before = omega arith; has = has }))
     ]
 
 -- ---- which a new node hears
@@ -108,7 +108,7 @@ heard_known w u c n other known within = record {
             record {
               begun = ap u.begun from ∙ k.begun;
               plan = k.plan;
-              before = (let P : ℕ → Type 0 = λ z. k.plan ≤ u.plan z in subst P (sym from) k.before);
+              before = (let P : ℕ → Type 0 = λ z. k.plan ≤ u.last_plan z in subst P (sym from) k.before);
               has = ap (has_node (w.plans k.plan)) node ∙ k.has;
             }
         by (inr old) = let k : Knows w u o m = sound.heard m o (rw old at is) in record { begun = k.begun; plan = k.plan; before = k.before; has = k.has }
@@ -229,7 +229,7 @@ module _ (w : World) (u : Fleet) (c : Cluster) (n mate : ℕ) (file : File) (cop
   other_volume f beyond =
       let was = known.sound.begun n acting.0 in
       let low = (known.sound.lacking n file lacks).1 in
-      let more = (known.chain (u.first n) (u.plan n) was.later).volumes in
+      let more = (known.chain (u.first_plan n) (u.last_plan n) was.later).volumes in
       rw (ne_eqb file.volume f.volume (λ same. absurd (omega (arith, low, more, beyond, same)))) refl
 
   given_on : GoesOnAt w n u given_fleet
@@ -276,7 +276,7 @@ module _ (w : World) (u : Fleet) (c : Cluster) (n mate : ℕ) (file : File) (cop
     begun = acting.0;
     within = (
         let low = (known.sound.lacking n file lacks).1 in
-        let more = (known.chain (u.first n) (u.plan n) (known.sound.begun n acting.0).later).volumes in
+        let more = (known.chain (u.first_plan n) (u.last_plan n) (known.sound.begun n acting.0).later).volumes in
         omega (arith, low, more));
     has = ap (λ z. z.lacks file) here ∙ has_this (u.part n) file this;
   }
@@ -405,7 +405,7 @@ module _ (w : World) (u : Fleet) (c : Cluster) (n mate : ℕ) (file : File) (cop
           by (inl away) = (base_same place f away).1 ∙ known.agrees.untouched place f (λ m at it. none m at (it_still w n u given_fleet known.chain given_on m f it))
           by (inr this) = absurd (let P : File → Type 0 = λ z. HasIt w given_fleet n z in none n this.0 (subst P (file_is file f this.1) has_now))
 
-      kept : (place : ℕ) (f : File) → ((m : ℕ) → u.ready m ≡ true → place_of m ≡ place → (w.plans (u.first m)).volumes ≤ f.volume) → (given_cluster.part place).lacks f ≡ false
+      kept : (place : ℕ) (f : File) → ((m : ℕ) → u.ready m ≡ true → place_of m ≡ place → (w.plans (u.first_plan m)).volumes ≤ f.volume) → (given_cluster.part place).lacks f ≡ false
       kept place f low = by (which place f)
         where
           by : ((place_of n ≢ place) ⊎ (is_file file f ≡ false)) ⊎ ((place_of n ≡ place) × (is_file file f ≡ true)) → (given_cluster.part place).lacks f ≡ false

@@ -10,8 +10,8 @@ use Rattle.gq_model.specs.Trace.{Session}
 use Rattle.gq_cluster.specs.Cluster.{Setting, Cluster, Act, Restarts, going_at, gives_up, leapt_part, leapt, after_act, after_acts, after_step, CanFollow}
 use Rattle.gq_cluster.specs.Restarts.{GivesUp}
 use Rattle.gq_cluster.proofs.Restarting.{node_gives}
-use Rattle.gq_repair.proofs.Acting.{Same, Offers, act_offers, act_offering}
-use Rattle.gq_repair.proofs.Reached.{Reached, reached_more, used}
+use Rattle.gq_replace.proofs.Acting.{Same, Offers, act_offers, act_offering}
+use Rattle.gq_replace.proofs.Reached.{Reached, reached_more, used}
 
 -- ---- what could be given to servers
 

@@ -12,13 +12,13 @@ use Rattle.gq_desk.specs.declared.volumes.VolumeRow.{VolumeRow}
 use Rattle.gq_phase.specs.declared.Outcome.TheVariants.{Wrote, Gave}
 use Rattle.gq_phase.specs.Quorums.{collect_quorum, store_quorum, ends_collect, ends_store, are_mates}
 use Rattle.gq_model.specs.declared.events.Line.TheVariants.{Write, Read}
-use Rattle.gq_model.specs.declared.said.Said.TheVariants.{Began, Noted, Round, Done}
+use Rattle.gq_model.specs.declared.said.Said.TheVariants.{Began, Noted, Round, Done, Abandoned}
 use Rattle.gq_cluster.specs.Cluster.{NodeStep, Acts, Restarts, Loses, Returns, Asks, Comes, everyone, new_cluster, exchanges}
 use Rattle.gq_cluster.specs.Laws.{StepsEnough}
-use Rattle.gq_repair.specs.Plans.{Plan, IsChain, place_of}
-use Rattle.gq_repair.specs.Fleet.{World, FleetStep, Begins, StartsAgain, Does, Answers, Hears, Gives, Takes, new_fleet, AllMayHappen, all_node_steps}
-use Rattle.gq_repair.specs.Laws.{HomesStand, world_of, IsRight}
-use Rattle.gq_repair.proofs.Following.{all_right}
+use Rattle.gq_replace.specs.Plans.{Plan, IsChain, place_of}
+use Rattle.gq_replace.specs.Fleet.{World, FleetStep, Begins, StartsAgain, Does, Answers, Hears, Gives, Takes, new_fleet, AllMayHappen, all_node_steps}
+use Rattle.gq_replace.specs.Laws.{HomesStand, world_of, IsRight}
+use Rattle.gq_replace.proofs.Following.{all_right}
 
 -- two servers in one column; session 1 has its home at node 0, session 2 at node 1, and session 17 at node 64, which replaces node 0
 abbrev column : Grid
@@ -50,6 +50,10 @@ written = record { tag = record { number = 1; session = 2 }; bytes = 104 ∷ 105
 abbrev letter : (op round server : ℕ) → Body → OwnMessage
 letter op round server body = record { session = 2; op = op; round = round; server = server; file = file; body = body }
 
+-- and one of the first operation of session 17
+abbrev own_letter : (round server : ℕ) → Body → OwnMessage
+own_letter round server body = record { session = 17; op = 1; round = round; server = server; file = file; body = body }
+
 -- session 2 writes, and both nodes store
 abbrev write_steps : List FleetStep
 write_steps =
@@ -64,12 +68,13 @@ write_steps =
     ∷ Does 1 (Comes (letter 1 2 1 Stored) everyone)
     ∷ []
 
--- Node 0 is lost. Node 1 starts with the plan that says so, and session 2 reads: it asks node 64, which does not answer until it has heard
--- node 1 and was given its copy.
+-- Node 0 is taken for lost. Node 1 starts with the plan that says so, and session 2 reads: it asks node 64, which does not answer until it has
+-- heard node 1 and was given its copy. What session 1 began meanwhile at node 0 is given up. Session 17, of the new node, then reads too.
 abbrev read_steps : List FleetStep
 read_steps =
     StartsAgain 1 1
     ∷ Begins 64 1
+    ∷ Does 0 (Asks (Read 1 0 0) everyone)
     ∷ Does 1 (Asks (Read 2 0 0) everyone)
     ∷ Answers 1 64
     ∷ Hears 64 1
@@ -81,6 +86,13 @@ read_steps =
     ∷ Does 1 (Comes (letter 1025 2 1 (Store written)) everyone)
     ∷ Does 1 (Comes (letter 1025 2 0 Stored) everyone)
     ∷ Does 1 (Comes (letter 1025 2 1 Stored) everyone)
+    ∷ Does 64 (Asks (Read 17 0 0) everyone)
+    ∷ Does 64 (Comes (own_letter 1 0 Ask) everyone)
+    ∷ Does 64 (Comes (own_letter 1 0 (Copy written)) everyone)
+    ∷ Does 64 (Comes (own_letter 2 0 (Store written)) everyone)
+    ∷ Does 1 (Comes (own_letter 2 1 (Store written)) everyone)
+    ∷ Does 64 (Comes (own_letter 2 0 Stored) everyone)
+    ∷ Does 64 (Comes (own_letter 2 1 Stored) everyone)
     ∷ []
 
 abbrev steps : List FleetStep
@@ -122,16 +134,24 @@ may_happen =
     and ((refl, refl), omega arith, refl)
     and (refl, refl, refl)
     and ((refl, refl), (tt, refl))
+    and ((refl, refl), (tt, refl))
     and ((refl, refl), refl)
     and ((refl, refl), omega arith, (0, omega arith, refl))
     and ((refl, refl), refl, refl, refl)
     and ((refl, refl), refl, (0, omega arith, refl))
-    and ((refl, refl), (1, (6, omega arith, refl), record { place = refl; home = refl; has = refl }))
-    and ((refl, refl), (64, (7, omega arith, refl), refl))
-    and ((refl, refl), (1, (8, omega arith, refl), record { place = refl; home = refl; has = refl }))
+    and ((refl, refl), (1, (7, omega arith, refl), record { place = refl; home = refl; has = refl }))
+    and ((refl, refl), (64, (8, omega arith, refl), refl))
     and ((refl, refl), (1, (9, omega arith, refl), record { place = refl; home = refl; has = refl }))
-    and ((refl, refl), (64, (10, omega arith, refl), refl))
-    and ((refl, refl), (1, (11, omega arith, refl), refl))
+    and ((refl, refl), (1, (10, omega arith, refl), record { place = refl; home = refl; has = refl }))
+    and ((refl, refl), (64, (11, omega arith, refl), refl))
+    and ((refl, refl), (1, (12, omega arith, refl), refl))
+    and ((refl, refl), (tt, refl))
+    and ((refl, refl), (64, (13, omega arith, refl), record { place = refl; home = refl; has = refl }))
+    and ((refl, refl), (64, (14, omega arith, refl), refl))
+    and ((refl, refl), (64, (15, omega arith, refl), record { place = refl; home = refl; has = refl }))
+    and ((refl, refl), (64, (16, omega arith, refl), record { place = refl; home = refl; has = refl }))
+    and ((refl, refl), (64, (17, omega arith, refl), refl))
+    and ((refl, refl), (1, (18, omega arith, refl), refl))
     and tt
 
 -- ---- what is done in the cluster
@@ -146,6 +166,7 @@ done_steps =
     ∷ Acts (Comes (letter 1 2 0 Stored) everyone)
     ∷ Acts (Comes (letter 1 2 1 Stored) everyone)
     ∷ Restarts 1
+    ∷ Acts (Asks (Read 1 0 0) everyone)
     ∷ Acts (Asks (Read 2 0 0) everyone)
     ∷ map Restarts (0 ∷ 0 ∷ 0 ∷ 0 ∷ 0 ∷ 0 ∷ 0 ∷ 0 ∷ 0 ∷ 0 ∷ 0 ∷ 0 ∷ 0 ∷ 0 ∷ 0 ∷ 0 ∷ [])
     ++ Loses 0 1
@@ -156,6 +177,13 @@ done_steps =
     ∷ Acts (Comes (letter 1025 2 1 (Store written)) everyone)
     ∷ Acts (Comes (letter 1025 2 0 Stored) everyone)
     ∷ Acts (Comes (letter 1025 2 1 Stored) everyone)
+    ∷ Acts (Asks (Read 17 0 0) everyone)
+    ∷ Acts (Comes (own_letter 1 0 Ask) everyone)
+    ∷ Acts (Comes (own_letter 1 0 (Copy written)) everyone)
+    ∷ Acts (Comes (own_letter 2 0 (Store written)) everyone)
+    ∷ Acts (Comes (own_letter 2 1 (Store written)) everyone)
+    ∷ Acts (Comes (own_letter 2 0 Stored) everyone)
+    ∷ Acts (Comes (own_letter 2 1 Stored) everyone)
     ∷ []
 
 pub done : all_node_steps two new_fleet steps ≡ done_steps
@@ -164,7 +192,9 @@ done = refl
 
 pub said : map (λ e. e.said) (exchanges two.setting new_cluster done_steps) ≡
     Some (Began 1 1) ∷ None ∷ Some (Round 2 (Some written.tag) 2) ∷ None ∷ None ∷ Some Noted ∷ Some (Done (Wrote 2 1 written.tag))
-    ∷ Some (Began 1025 1) ∷ None ∷ Some (Round 2 (Some written.tag) 2) ∷ None ∷ None ∷ Some Noted ∷ Some (Done (Gave 2 1025 written))
+    ∷ Some (Began 1 1) ∷ Some (Began 1025 1) ∷ Some Abandoned
+    ∷ None ∷ Some (Round 2 (Some written.tag) 2) ∷ None ∷ None ∷ Some Noted ∷ Some (Done (Gave 2 1025 written))
+    ∷ Some (Began 1 1) ∷ None ∷ Some (Round 2 (Some written.tag) 2) ∷ None ∷ None ∷ Some Noted ∷ Some (Done (Gave 17 1 written))
     ∷ []
 unfolding collect_quorum store_quorum ends_collect ends_store
 said = refl

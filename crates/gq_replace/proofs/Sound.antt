@@ -5,9 +5,9 @@ use Rattle.std.proofs.lemmas.Bool.{cases_eq, cases_Bool, cases_lt, and_parts, lt
 use Rattle.gq_tag.specs.Tag.{File, OwnMessage, to_server}
 use Rattle.gq_model.specs.Trace.{Session}
 use Rattle.gq_cluster.specs.Cluster.{new_part}
-use Rattle.gq_repair.specs.Plans.{place_of, generation, node_at, has_node, IsChain}
-use Rattle.gq_repair.specs.Fleet.{World, Fleet, Posted, Joined, new_fleet, plan_of, has_file, posts}
-use Rattle.gq_repair.proofs.Chains.{newer_later, same_node}
+use Rattle.gq_replace.specs.Plans.{place_of, generation, node_at, has_node, IsChain}
+use Rattle.gq_replace.specs.Fleet.{World, Fleet, Posted, Joined, new_fleet, plan_of, has_file, posts}
+use Rattle.gq_replace.proofs.Chains.{newer_later, same_node}
 
 -- ---- what is known
 
@@ -19,7 +19,7 @@ own w u k = (u.part (w.setting.home k)).session k
 pub record Knows (w : World) (u : Fleet) (node new : ℕ) : Type 0 where
   pub begun : u.begun node ≡ true
   pub plan : ℕ
-  pub before : plan ≤ u.plan node
+  pub before : plan ≤ u.last_plan node
   pub has : has_node (w.plans plan) new ≡ true
 
 -- the letter is of an operation that goes on
@@ -43,16 +43,16 @@ pub record IsReply (w : World) (u : Fleet) (x : Posted) : Type 0 where
 -- what is known of a node that was started
 pub record IsBegun (w : World) (u : Fleet) (n : ℕ) : Type 0 where
   pub now : has_node (plan_of w u n) n ≡ true
-  pub first : has_node (w.plans (u.first n)) n ≡ true
-  pub later : u.first n ≤ u.plan n
+  pub first : has_node (w.plans (u.first_plan n)) n ≡ true
+  pub later : u.first_plan n ≤ u.last_plan n
   -- it lacks files of its first plan alone, and has one of them where it was ready for it
-  pub having : (file : File) → 0 < generation n → file.volume < (w.plans (u.first n)).volumes → (u.part n).lacks file ≡ false → u.ready n ≡ true
+  pub having : (file : File) → 0 < generation n → file.volume < (w.plans (u.first_plan n)).volumes → (u.part n).lacks file ≡ false → u.ready n ≡ true
   pub unknown : (file : File) → (plan_of w u n).volumes ≤ file.volume → (u.part n).brought file ≡ []
 
 pub record Sound (w : World) (u : Fleet) : Type 0 where
   pub begun : (n : ℕ) → u.begun n ≡ true → IsBegun w u n
   pub fresh : (n : ℕ) → u.begun n ≡ false → u.part n ≡ new_part
-  pub lacking : (n : ℕ) (file : File) → (u.part n).lacks file ≡ true → (0 < generation n) × (file.volume < (w.plans (u.first n)).volumes)
+  pub lacking : (n : ℕ) (file : File) → (u.part n).lacks file ≡ true → (0 < generation n) × (file.volume < (w.plans (u.first_plan n)).volumes)
   pub ready : (n : ℕ) → u.ready n ≡ true → u.begun n ≡ true
   pub older : (n m : ℕ) → u.ready n ≡ true → place_of m ≡ place_of n → generation m < generation n → u.gone m ≡ true
   pub heard : (n m : ℕ) → u.heard n m ≡ true → Knows w u m n
@@ -76,8 +76,8 @@ newer_lacks w u old new plan file chain sound still has within begun place less 
   | inl lacks ↦ lacks
   | inr has_it ↦ (absurd (
       let b : IsBegun w u new = sound.begun new begun in
-      let order : plan ≤ u.first new = newer_later w.plans chain plan (u.first new) old new place has b.first less in
-      let more = (chain plan (u.first new) order).volumes in
+      let order : plan ≤ u.first_plan new = newer_later w.plans chain plan (u.first_plan new) old new place has b.first less in
+      let more = (chain plan (u.first_plan new) order).volumes in
       let ready : u.ready new ≡ true = b.having file (omega (arith, less)) (omega (arith, more, within)) has_it in
       true≢false (sym ready ∙ none_newer w u old new sound still place less)))
 ]
@@ -104,9 +104,9 @@ from_it w u n file it = rw (it.begun, lt-ltb file.volume (plan_of w u n).volumes
 -- of the nodes of one place that are not gone, one alone has the file
 pub alone : (w : World) (u : Fleet) (n m : ℕ) (file : File) → IsChain w.plans → Sound w u → u.gone n ≡ false → u.gone m ≡ false → place_of n ≡ place_of m → HasIt w u n file → HasIt w u m file → n ≡ m
 alone w u n m file chain sound still also place has_n has_m = elim (cases_lt (generation n) (generation m)) [
-  | inl less ↦ (absurd (true≢false (sym (newer_lacks w u n m (u.plan n) file chain sound still (sound.begun n has_n.begun).now has_n.within has_m.begun place less) ∙ has_m.has)))
+  | inl less ↦ (absurd (true≢false (sym (newer_lacks w u n m (u.last_plan n) file chain sound still (sound.begun n has_n.begun).now has_n.within has_m.begun place less) ∙ has_m.has)))
   | inr most ↦ (elim (cases_lt (generation m) (generation n)) [
-    | inl less ↦ (absurd (true≢false (sym (newer_lacks w u m n (u.plan m) file chain sound also (sound.begun m has_m.begun).now has_m.within has_n.begun (sym place) less) ∙ has_n.has)))
+    | inl less ↦ (absurd (true≢false (sym (newer_lacks w u m n (u.last_plan m) file chain sound also (sound.begun m has_m.begun).now has_m.within has_n.begun (sym place) less) ∙ has_n.has)))
     | inr least ↦ (same_node n m place (let equal : generation n ≡ generation m = omega (arith, most, least) in equal))
   ])
 ]
@@ -116,14 +116,14 @@ alone w u n m file chain sound still also place has_n has_m = elim (cases_lt (ge
 -- the second fleet is the first one, but that node n goes on
 pub record GoesOnAt (w : World) (n : ℕ) (u v : Fleet) : Type 0 where
   pub away_begun : (m : ℕ) → m ≢ n → v.begun m ≡ u.begun m
-  pub away_first : (m : ℕ) → m ≢ n → v.first m ≡ u.first m
-  pub away_plan : (m : ℕ) → m ≢ n → v.plan m ≡ u.plan m
+  pub away_first : (m : ℕ) → m ≢ n → v.first_plan m ≡ u.first_plan m
+  pub away_plan : (m : ℕ) → m ≢ n → v.last_plan m ≡ u.last_plan m
   pub away_part : (m : ℕ) → m ≢ n → v.part m ≡ u.part m
   pub begun : v.begun n ≡ true
-  pub first : u.begun n ≡ true → v.first n ≡ u.first n
-  pub plan : u.begun n ≡ true → u.plan n ≤ v.plan n
+  pub first : u.begun n ≡ true → v.first_plan n ≡ u.first_plan n
+  pub plan : u.begun n ≡ true → u.last_plan n ≤ v.last_plan n
   pub has : (file : File) → u.begun n ≡ true → (u.part n).lacks file ≡ false → (v.part n).lacks file ≡ false
-  pub lacking : (file : File) → (v.part n).lacks file ≡ true → (0 < generation n) × (file.volume < (w.plans (v.first n)).volumes)
+  pub lacking : (file : File) → (v.part n).lacks file ≡ true → (0 < generation n) × (file.volume < (w.plans (v.first_plan n)).volumes)
   pub is_begun : IsBegun w v n
   pub ready : (m : ℕ) → v.ready m ≡ u.ready m
   pub gone : (m : ℕ) → v.gone m ≡ u.gone m
@@ -132,7 +132,7 @@ pub record GoesOnAt (w : World) (n : ℕ) (u v : Fleet) : Type 0 where
 
 -- an operation that goes on at the node did so before, with the same plan, if it is of a letter that was posted
 abbrev pub GoesSame : World → ℕ → Fleet → Fleet → Type 0
-GoesSame w n u v = (x : Posted) → Contains u.posted x → w.setting.home x.letter.session ≡ n → IsGoing w v x.letter → IsGoing w u x.letter × (v.plan n ≡ u.plan n)
+GoesSame w n u v = (x : Posted) → Contains u.posted x → w.setting.home x.letter.session ≡ n → IsGoing w v x.letter → IsGoing w u x.letter × (v.last_plan n ≡ u.last_plan n)
 
 -- what was posted before, or is sound by itself
 abbrev pub PostsSound : World → Fleet → Fleet → Type 0
@@ -144,16 +144,16 @@ begun_still w n u v on m begun = elim (cases_eq m n) [
   | inr ne ↦ (on.away_begun m ne ∙ begun)
 ]
 
-pub first_still : (w : World) (n : ℕ) (u v : Fleet) → GoesOnAt w n u v → (m : ℕ) → u.begun m ≡ true → v.first m ≡ u.first m
+pub first_still : (w : World) (n : ℕ) (u v : Fleet) → GoesOnAt w n u v → (m : ℕ) → u.begun m ≡ true → v.first_plan m ≡ u.first_plan m
 first_still w n u v on m begun = elim (cases_eq m n) [
-  | inl same ↦ (ap v.first same ∙ on.first (ap u.begun (sym same) ∙ begun) ∙ ap u.first (sym same))
+  | inl same ↦ (ap v.first_plan same ∙ on.first (ap u.begun (sym same) ∙ begun) ∙ ap u.first_plan (sym same))
   | inr ne ↦ (on.away_first m ne)
 ]
 
-plan_grows : (w : World) (n : ℕ) (u v : Fleet) → GoesOnAt w n u v → (m : ℕ) → u.begun m ≡ true → u.plan m ≤ v.plan m
+plan_grows : (w : World) (n : ℕ) (u v : Fleet) → GoesOnAt w n u v → (m : ℕ) → u.begun m ≡ true → u.last_plan m ≤ v.last_plan m
 plan_grows w n u v on m begun = elim (cases_eq m n) [
-  | inl same ↦ (let P : ℕ → Type 0 = λ z. u.plan z ≤ v.plan z in subst P (sym same) (on.plan (ap u.begun (sym same) ∙ begun)))
-  | inr ne ↦ (let same : v.plan m ≡ u.plan m = on.away_plan m ne in omega (arith, same))
+  | inl same ↦ (let P : ℕ → Type 0 = λ z. u.last_plan z ≤ v.last_plan z in subst P (sym same) (on.plan (ap u.begun (sym same) ∙ begun)))
+  | inr ne ↦ (let same : v.last_plan m ≡ u.last_plan m = on.away_plan m ne in omega (arith, same))
 ]
 
 has_still : (w : World) (n : ℕ) (u v : Fleet) → GoesOnAt w n u v → (m : ℕ) (file : File) → u.begun m ≡ true → (u.part m).lacks file ≡ false → (v.part m).lacks file ≡ false
@@ -165,7 +165,7 @@ has_still w n u v on m file begun has = elim (cases_eq m n) [
 pub it_still : (w : World) (n : ℕ) (u v : Fleet) → IsChain w.plans → GoesOnAt w n u v → (m : ℕ) (file : File) → HasIt w u m file → HasIt w v m file
 it_still w n u v chain on m file it = record {
   begun = begun_still w n u v on m it.begun;
-  within = (let more = (chain (u.plan m) (v.plan m) (plan_grows w n u v on m it.begun)).volumes in let low = it.within in omega (arith, more, low));
+  within = (let more = (chain (u.last_plan m) (v.last_plan m) (plan_grows w n u v on m it.begun)).volumes in let low = it.within in omega (arith, more, low));
   has = has_still w n u v on m file it.begun it.has;
 }
 
@@ -217,9 +217,9 @@ sound_on w n u v sound on same posts = record {
       | inr ne ↦ (on.away_part m ne ∙ sound.fresh m (sym (on.away_begun m ne) ∙ is))
     ]
 
-    lacking : (m : ℕ) (file : File) → (v.part m).lacks file ≡ true → (0 < generation m) × (file.volume < (w.plans (v.first m)).volumes)
+    lacking : (m : ℕ) (file : File) → (v.part m).lacks file ≡ true → (0 < generation m) × (file.volume < (w.plans (v.first_plan m)).volumes)
     lacking m file is = elim (cases_eq m n) [
-      | inl same ↦ (let P : ℕ → Type 0 = λ z. (0 < generation z) × (file.volume < (w.plans (v.first z)).volumes) in subst P (sym same) (on.lacking file (ap (λ z. (v.part z).lacks file) (sym same) ∙ is)))
+      | inl same ↦ (let P : ℕ → Type 0 = λ z. (0 < generation z) × (file.volume < (w.plans (v.first_plan z)).volumes) in subst P (sym same) (on.lacking file (ap (λ z. (v.part z).lacks file) (sym same) ∙ is)))
       | inr ne ↦ (let P : ℕ → Type 0 = λ z. (0 < generation m) × (file.volume < (w.plans z).volumes) in subst P (sym (on.away_first m ne)) (sound.lacking m file (ap (λ z. z.lacks file) (sym (on.away_part m ne)) ∙ is)))
     ]
 
@@ -230,16 +230,16 @@ sound_on w n u v sound on same posts = record {
         record { busy = ap (λ z. is_some (z.session letter.session).current) (sym part) ∙ going.busy; op = ap (λ z. (z.session letter.session).op) (sym part) ∙ going.op }
 
     -- the home of a letter's session, and its plan
-    at_home : (x : Posted) → Contains u.posted x → IsGoing w v x.letter → IsGoing w u x.letter × (v.plan (w.setting.home x.letter.session) ≡ u.plan (w.setting.home x.letter.session))
+    at_home : (x : Posted) → Contains u.posted x → IsGoing w v x.letter → IsGoing w u x.letter × (v.last_plan (w.setting.home x.letter.session) ≡ u.last_plan (w.setting.home x.letter.session))
     at_home x old going = elim (cases_eq (w.setting.home x.letter.session) n) [
-      | inl here ↦ (let was = same x old here going in (was.0, ap v.plan here ∙ was.1 ∙ ap u.plan (sym here)))
+      | inl here ↦ (let was = same x old here going in (was.0, ap v.last_plan here ∙ was.1 ∙ ap u.last_plan (sym here)))
       | inr ne ↦ (going_away x.letter ne going, on.away_plan (w.setting.home x.letter.session) ne)
     ]
 
     old_ask : (x : Posted) → Contains u.posted x → to_server x.letter.body ≡ true → IsAsk w v x
     old_ask x old ask home going =
         let was = at_home x old going in
-        let plan : v.plan x.from ≡ u.plan x.from = ap v.plan (sym home) ∙ was.1 ∙ ap u.plan home in
+        let plan : v.last_plan x.from ≡ u.last_plan x.from = ap v.last_plan (sym home) ∙ was.1 ∙ ap u.last_plan home in
         sound.asks x old ask home was.0 ∙ ap (λ z. node_at (w.plans z) x.letter.server) (sym plan)
 
     old_reply : (x : Posted) → Contains u.posted x → IsReply w u x → IsReply w v x
@@ -250,7 +250,7 @@ sound_on w n u v sound on same posts = record {
       to = r.to;
       asked = λ going.
           let was = at_home x old going in
-          let plan : v.plan x.to ≡ u.plan x.to = ap v.plan r.to ∙ was.1 ∙ ap u.plan (sym r.to) in
+          let plan : v.last_plan x.to ≡ u.last_plan x.to = ap v.last_plan r.to ∙ was.1 ∙ ap u.last_plan (sym r.to) in
           r.asked was.0 ∙ ap (λ z. node_at (w.plans z) x.letter.server) (sym plan);
     }
 

@@ -9,8 +9,8 @@ use Rattle.gq_laws.specs.Orders.{order}
 use Rattle.gq_cluster.specs.Cluster.{Cluster, NodeStep, new_cluster, copy_in, step_of, step_in, after_step, cluster_after, CanFollow}
 use Rattle.gq_cluster.specs.Laws.{IsServed, StepsEnough, setting_of}
 use Rattle.gq_cluster.specs.Operations.{operations_at}
-use Rattle.gq_repair.specs.Plans.{Plan, IsChain, place_of}
-use Rattle.gq_repair.specs.Fleet.{World, Fleet, FleetStep, Does, new_fleet, has_file, after_fleet_step, fleet_after, AllMayHappen, node_steps, all_node_steps}
+use Rattle.gq_replace.specs.Plans.{Plan, IsChain, place_of}
+use Rattle.gq_replace.specs.Fleet.{World, Fleet, FleetStep, Does, new_fleet, has_file, after_fleet_step, fleet_after, AllMayHappen, node_steps, all_node_steps}
 
 -- a node tells and sends what is told and sent in the cluster
 abbrev pub SaidBy : World → Fleet → Cluster → FleetStep → Type 0
@@ -28,7 +28,7 @@ pub record IsAlike (w : World) (u : Fleet) (c : Cluster) : Type 0 where
   pub copies : (node : ℕ) (file : File) → u.gone node ≡ false → has_file w u node file ≡ true → copy_in (c.part (place_of node)) file ≡ copy_in (u.part node) file
   pub written : c.written ≡ map (λ posted. posted.letter) u.posted
 
--- the steps of the cluster may follow one another, the same is told and sent, and in the end all is alike
+-- the steps of the cluster may follow one another, the same is told and sent, and in the end the cluster is like the nodes
 pub record Follows (w : World) (steps : List FleetStep) : Type 0 where
   pub can : CanFollow w.setting new_cluster (all_node_steps w new_fleet steps)
   pub said : AllSaid w new_fleet new_cluster steps
@@ -47,7 +47,7 @@ AllFollow = (grid : Grid) (row : TenantRow) (home : ℕ → ℕ) (opens : List V
     let w : World = world_of grid row home opens plans in
     HomesStand grid home → IsChain plans → StepsEnough row opens (all_node_steps w new_fleet steps) → AllMayHappen w new_fleet steps → Follows w steps
 
--- so there is a run of the service, and the operations on each file are those of one register
+-- the cluster's steps are a run of the service, and the operations on each file, read off them, are those of one register
 pub record IsRight (grid : Grid) (row : TenantRow) (home : ℕ → ℕ) (opens : List VolumeRow) (steps : List NodeStep) : Type 0 where
   pub served : IsServed grid row home opens steps
   pub legal : (file : File) → Legal (operations_at (setting_of grid row home opens) steps file) (order (operations_at (setting_of grid row home opens) steps file))

@@ -13,15 +13,15 @@ use Rattle.gq_cluster.specs.Cluster.{Setting, Cluster, NodeStep, Loses, new_clus
 use Rattle.gq_cluster.specs.Laws.{setting_of, StepsEnough}
 use Rattle.gq_cluster.proofs.Clusters.{all_clusters_serve}
 use Rattle.gq_cluster.proofs.Registers.{all_clusters_legal}
-use Rattle.gq_repair.specs.Plans.{Plan, IsChain, place_of}
-use Rattle.gq_repair.specs.Fleet.{World, Fleet, FleetStep, Begins, StartsAgain, Does, Answers, Hears, Gives, Takes, new_fleet, plan_of, heard_all, with_heard, is_ready_by, with_ready, after_fleet_step, fleet_after, MayHappen, AllMayHappen, ends_of_gone, node_steps, all_node_steps}
-use Rattle.gq_repair.specs.Laws.{SaidBy, AllSaid, Follows, world_of, HomesStand, AllFollow, AllRight}
-use Rattle.gq_repair.proofs.Reached.{bounded, can_append}
-use Rattle.gq_repair.proofs.Sound.{Sound, new_sound, has_it}
-use Rattle.gq_repair.proofs.Agreeing.{Agrees, Known, Moved, new_agrees}
-use Rattle.gq_repair.proofs.Moving.{begins_moves, again_moves, does_moves}
-use Rattle.gq_repair.proofs.Taking.{answers_moves, heard_known, gives_moves, takes_moves}
-use Rattle.gq_repair.proofs.Readying.{ready_moves}
+use Rattle.gq_replace.specs.Plans.{Plan, IsChain, place_of}
+use Rattle.gq_replace.specs.Fleet.{World, Fleet, FleetStep, Begins, StartsAgain, Does, Answers, Hears, Gives, Takes, new_fleet, plan_of, heard_all, with_heard, is_ready_by, with_ready, after_fleet_step, fleet_after, MayHappen, AllMayHappen, ends_of_gone, node_steps, all_node_steps}
+use Rattle.gq_replace.specs.Laws.{SaidBy, AllSaid, Follows, world_of, HomesStand, AllFollow, AllRight}
+use Rattle.gq_replace.proofs.Reached.{bounded, can_append}
+use Rattle.gq_replace.proofs.Sound.{Sound, new_sound, has_it}
+use Rattle.gq_replace.proofs.Agreeing.{Agrees, Known, Moved, new_agrees}
+use Rattle.gq_replace.proofs.Moving.{begins_moves, again_moves, does_moves}
+use Rattle.gq_replace.proofs.Taking.{answers_moves, heard_known, gives_moves, takes_moves}
+use Rattle.gq_replace.proofs.Readying.{ready_moves}
 
 -- ---- one step
 
@@ -42,7 +42,7 @@ moves w u c (Hears node other) known stand may = (by (is_ready_by w node other u
     then_known = heard_known w u c node other known may.2
 
     by : (b : Bool) → is_ready_by w node other u ≡ b →
-        Moved w c (if b then with_ready w node heard else heard) (if b then ends_of_gone w (plan_of w u node) ++ Loses (place_of node) (w.plans (u.first node)).volumes ∷ [] else [])
+        Moved w c (if b then with_ready w node heard else heard) (if b then ends_of_gone w (plan_of w u node) ++ Loses (place_of node) (w.plans (u.first_plan node)).volumes ∷ [] else [])
     by false is = record { can = tt; sound = then_known.sound; agrees = then_known.agrees }
     by true is =
         let parts = and_parts (not (u.ready node)) (heard_all w heard node) is in

@@ -1,5 +1,0 @@
-use Rattle.gq_repair.proofs.laws.facts.Goals as goal
-use Rattle.gq_repair.proofs.Keeping.{all_fleet_facts_suffice}
-
-pub returns : goal.returns
-returns c = all_fleet_facts_suffice
