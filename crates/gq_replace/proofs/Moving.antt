@@ -21,7 +21,7 @@ use Rattle.gq_replace.proofs.Chains.{newer_later, same_node}
 use Rattle.gq_replace.proofs.Acting.{Same, SameAct, act_away, act_here, act_offers, act_offering, asked_act, heard_act, after_same, session_then, session_after, went_on_then, lacks_after, asked_brings, heard_brings, served, served_is, served_same, served_other, served_session}
 use Rattle.gq_replace.proofs.Again.{restart_offers, restart_offering, gives}
 use Rattle.gq_replace.proofs.Sending.{AllAsk, each_asks, line_asks, letter_asks}
-use Rattle.gq_replace.proofs.Sound.{Sound, IsBegun, IsGoing, IsAsk, IsReply, HasIt, has_it, none_newer, newer_lacks, GoesOnAt, GoesSame, PostsSound, sound_on}
+use Rattle.gq_replace.proofs.Sound.{Sound, IsBegun, IsGoing, going_same, IsAsk, IsReply, HasIt, has_it, none_newer, newer_lacks, GoesOnAt, GoesSame, PostsSound, sound_on}
 use Rattle.gq_replace.proofs.Agreeing.{Holds, Agrees, Known, Moved, FollowsAt, agrees_on, from_map, to_map}
 
 -- session k of the node, as both have it
@@ -572,11 +572,15 @@ module _ (w : World) (u : Fleet) (c : Cluster) (from n : ℕ) (letter : OwnMessa
       ∙ sym (served_is w.setting aim (c.part (place_of n)) letter ask held.has)
       ∙ ap (λ z. step_of w.setting (c.part z) (Comes letter aim)) at
 
-  mine_session : (k : ℕ) → Same (served_fleet.part n) (u.part n) k
-  mine_session k =
-      let same = served_session w.setting (place_of n) (u.part n) letter aim k ask it.has in
-      let here = does_here w n (Comes letter aim) u in
-      record { session = ap (λ z. z.session k) here ∙ same.session; reserved = ap (λ z. z.reserved k) here ∙ same.reserved }
+  mine_session : (m k : ℕ) → Same (served_fleet.part m) (u.part m) k
+  mine_session m k = elim (cases_eq m n) [
+    | inl same ↦ (
+        let P : ℕ → Type 0 = λ z. Same (served_fleet.part z) (u.part z) k in
+        let served_same = served_session w.setting (place_of n) (u.part n) letter aim k ask it.has in
+        let here = does_here w n (Comes letter aim) u in
+        subst P (sym same) (record { session = ap (λ z. z.session k) here ∙ served_same.session; reserved = ap (λ z. z.reserved k) here ∙ served_same.reserved }))
+    | inr ne ↦ (let away : served_fleet.part m ≡ u.part m = rw (ne_eqb m n ne) refl in record { session = ap (λ z. z.session k) away; reserved = ap (λ z. z.reserved k) away })
+  ]
 
   base_session : (m k : ℕ) → Same (served_cluster.part m) (c.part m) k
   base_session m k = elim (cases_eq m (place_of n)) [
@@ -596,16 +600,7 @@ module _ (w : World) (u : Fleet) (c : Cluster) (from n : ℕ) (letter : OwnMessa
           rw (ne_eqb letter.file.volume file.volume (λ same. absurd (omega (arith, low, beyond, same)))) refl
 
   served_goes : GoesSame w n u served_fleet
-  served_goes x old home going = (
-    record {
-      busy = ap (λ z. is_some ((u.part z).session x.letter.session).current) home ∙ ap (λ z. is_some z.current) (sym same) ∙ ap (λ z. is_some ((served_fleet.part z).session x.letter.session).current) (sym home) ∙ going.busy;
-      op = ap (λ z. ((u.part z).session x.letter.session).op) home ∙ ap (λ z. z.op) (sym same) ∙ ap (λ z. ((served_fleet.part z).session x.letter.session).op) (sym home) ∙ going.op;
-    },
-    refl,
-  )
-    where
-      same : (served_fleet.part n).session x.letter.session ≡ (u.part n).session x.letter.session
-      same = (mine_session x.letter.session).session
+  served_goes x old home going = (going_same w u served_fleet x.letter (mine_session (w.setting.home x.letter.session) x.letter.session).session going, refl)
 
   served_posts : PostsSound w u served_fleet
   served_posts = new_posts w n (Comes letter aim) u each
@@ -627,18 +622,7 @@ module _ (w : World) (u : Fleet) (c : Cluster) (from n : ℕ) (letter : OwnMessa
 
       -- the session's operation goes on as before
       went_on : IsGoing w served_fleet reply → IsGoing w u letter
-      went_on going = by (cases_eq (w.setting.home letter.session) n)
-        where
-          by : (w.setting.home letter.session ≡ n) ⊎ (w.setting.home letter.session ≢ n) → IsGoing w u letter
-          by (inl home) =
-              let same = (mine_session letter.session).session in
-              record {
-                busy = ap (λ z. is_some ((u.part z).session letter.session).current) home ∙ ap (λ z. is_some z.current) (sym same) ∙ ap (λ z. is_some ((served_fleet.part z).session letter.session).current) (sym home) ∙ going.busy;
-                op = ap (λ z. ((u.part z).session letter.session).op) home ∙ ap (λ z. z.op) (sym same) ∙ ap (λ z. ((served_fleet.part z).session letter.session).op) (sym home) ∙ going.op;
-              }
-          by (inr ne) =
-              let part : served_fleet.part (w.setting.home letter.session) ≡ u.part (w.setting.home letter.session) = served_on.away_part (w.setting.home letter.session) ne in
-              record { busy = ap (λ z. is_some (z.session letter.session).current) (sym part) ∙ going.busy; op = ap (λ z. (z.session letter.session).op) (sym part) ∙ going.op }
+      went_on going = going_same w u served_fleet letter (mine_session (w.setting.home letter.session) letter.session).session (record { busy = going.busy; op = going.op })
 
       its_reply : Sound_posted reply
       its_reply = (
@@ -670,7 +654,7 @@ module _ (w : World) (u : Fleet) (c : Cluster) (from n : ℕ) (letter : OwnMessa
     own = λ k home.
         let old = own_same w u c n known.agrees acting.1 k home in
         let base = base_session n k in
-        record { session = (mine_session k).session ∙ old.session ∙ sym base.session; reserved = (mine_session k).reserved ∙ old.reserved ∙ sym base.reserved };
+        record { session = (mine_session n k).session ∙ old.session ∙ sym base.session; reserved = (mine_session n k).reserved ∙ old.reserved ∙ sym base.reserved };
     lacks = lacks;
     brought = brought;
     holds = holds;

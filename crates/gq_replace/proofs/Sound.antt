@@ -27,6 +27,10 @@ pub record IsGoing (w : World) (u : Fleet) (letter : OwnMessage) : Type 0 where
   pub busy : is_some (own w u letter.session).current ≡ true
   pub op : (own w u letter.session).op ≡ letter.op
 
+-- where the session is the same, so it is
+pub going_same : (w : World) (u v : Fleet) (letter : OwnMessage) → own w v letter.session ≡ own w u letter.session → IsGoing w v letter → IsGoing w u letter
+going_same w u v letter same going = record { busy = ap (λ z. is_some z.current) (sym same) ∙ going.busy; op = ap (λ z. z.op) (sym same) ∙ going.op }
+
 -- a letter from its session's home to a server goes to the node that the home's plan has there, while its operation goes on
 abbrev pub IsAsk : World → Fleet → Posted → Type 0
 IsAsk w u x = w.setting.home x.letter.session ≡ x.from → IsGoing w u x.letter → x.to ≡ node_at (plan_of w u x.from) x.letter.server
@@ -225,9 +229,7 @@ sound_on w n u v sound on same posts = record {
 
     -- of a session whose home is another node
     going_away : (letter : OwnMessage) → w.setting.home letter.session ≢ n → IsGoing w v letter → IsGoing w u letter
-    going_away letter ne going =
-        let part : v.part (w.setting.home letter.session) ≡ u.part (w.setting.home letter.session) = on.away_part (w.setting.home letter.session) ne in
-        record { busy = ap (λ z. is_some (z.session letter.session).current) (sym part) ∙ going.busy; op = ap (λ z. (z.session letter.session).op) (sym part) ∙ going.op }
+    going_away letter ne going = going_same w u v letter (ap (λ z. z.session letter.session) (on.away_part (w.setting.home letter.session) ne)) going
 
     -- the home of a letter's session, and its plan
     at_home : (x : Posted) → Contains u.posted x → IsGoing w v x.letter → IsGoing w u x.letter × (v.last_plan (w.setting.home x.letter.session) ≡ u.last_plan (w.setting.home x.letter.session))

@@ -1,5 +1,5 @@
 -- What new nodes are told, and the copies that they are given.
-use Rattle.std.proofs.Common.{◌≡◌, ◌≢◌, ◌⊎◌, ℕ, ◌≤◌, Bool, true, false, ◌&&◌, not, [], ◌∷◌, ◌++◌, refl, sym, ap, ◌∙◌, subst, inl, inr, is_some, arith, eqb}
+use Rattle.std.proofs.Common.{◌≡◌, ◌≢◌, ◌⊎◌, ℕ, ◌≤◌, Bool, true, false, ◌&&◌, not, List, [], ◌∷◌, ◌++◌, refl, sym, ap, ◌∙◌, subst, inl, inr, arith, eqb}
 use Rattle.std.specs.Prelude.{Contains}
 use Rattle.std.proofs.lemmas.Bool.{cases_eq, cases_Bool, cases_lt, eq-eqb, ne_eqb, eqb-true, and_parts, and_left, true≢false}
 use Rattle.std.proofs.lemmas.List.Elements.{Contains-append_left, Contains-push_cases}
@@ -11,23 +11,26 @@ use Rattle.gq_replace.specs.Plans.{place_of, generation, has_node}
 use Rattle.gq_replace.specs.Fleet.{World, Fleet, Joined, Fetched, plan_of, IsActing, has_file, with_heard, gives, takes}
 use Rattle.gq_replace.proofs.Chains.{same_node}
 use Rattle.gq_replace.proofs.Acting.{Same, held_offered}
-use Rattle.gq_replace.proofs.Sound.{Sound, Knows, HasIt, has_it, alone, GoesOnAt, GoesSame, it_still, sound_on}
+use Rattle.gq_replace.proofs.Sound.{Sound, Knows, going_same, HasIt, has_it, alone, GoesOnAt, GoesSame, it_still, sound_on}
 use Rattle.gq_replace.proofs.Agreeing.{Holds, IsGiven, Agrees, Known, Moved}
 use Rattle.gq_replace.proofs.Moving.{file_is}
 
--- ---- a node answers a new one
+-- ---- lists alone
 
-pub answers_moves : (w : World) (u : Fleet) (c : Cluster) (n new : ℕ) → Known w u c → IsActing u n → has_node (plan_of w u n) new ≡ true → Moved w c (record u { joined = u.joined ++ record { from = n; to = new } ∷ [] }) []
-answers_moves w u c n new known acting has = record {
-  can = tt;
+-- what nodes heard, and what was written to new ones, may be other, where each of it is true
+lists_known : (w : World) (u : Fleet) (c : Cluster) (heard : ℕ → ℕ → Bool) (joined : List Joined) (fetched : List Fetched) → Known w u c →
+    ((n m : ℕ) → heard n m ≡ true → Knows w u m n) → ((x : Joined) → Contains joined x → Knows w u x.from x.to) → ((x : Fetched) → Contains fetched x → IsGiven w u c x) →
+    Known w (record u { heard = heard; joined = joined; fetched = fetched }) c
+lists_known w u c heard joined fetched known all_heard all_joined all_fetched = record {
+  chain = known.chain;
   sound = record {
-    begun = λ m is. let b = sound.begun m is in record { now = b.now; first = b.first; later = b.later; having = b.having; unknown = b.unknown };
+    begun = λ n is. let b = sound.begun n is in record { now = b.now; first = b.first; later = b.later; having = b.having; unknown = b.unknown };
     fresh = sound.fresh;
     lacking = sound.lacking;
     ready = sound.ready;
     older = sound.older;
-    heard = λ m other is. let k = sound.heard m other is in record { begun = k.begun; plan = k.plan; before = k.before; has = k.has };
-    joined = joined;
+    heard = λ n m is. let k = all_heard n m is in record { begun = k.begun; plan = k.plan; before = k.before; has = k.has };
+    joined = λ x within. let k = all_joined x within in record { begun = k.begun; plan = k.plan; before = k.before; has = k.has };
     asks = λ x within ask home going. sound.asks x within ask home (record { busy = going.busy; op = going.op });
     replies = λ x within reply. let r = sound.replies x within reply in record { begun = r.begun; place = r.place; has = r.has; to = r.to; asked = λ going. r.asked (record { busy = going.busy; op = going.op }) };
   };
@@ -35,54 +38,10 @@ answers_moves w u c n new known acting has = record {
     written = agrees.written;
     same = agrees.same;
     idle = agrees.idle;
-    holds = λ m file still it. agrees.holds m file still (record { begun = it.begun; within = it.within; has = it.has });
+    holds = λ n file still it. agrees.holds n file still (record { begun = it.begun; within = it.within; has = it.has });
     lost = agrees.lost;
-    given = λ x within. let g = agrees.given x within in record { mates = g.mates; ready = g.ready; offered = g.offered };
-    untouched = λ place file none. agrees.untouched place file (λ m at it. none m at (record { begun = it.begun; within = it.within; has = it.has }));
-    kept = agrees.kept;
-    offers = agrees.offers;
-  };
-}
-  where
-    sound : Sound w u
-    sound = known.sound
-
-    agrees : Agrees w u c
-    agrees = known.agrees
-
-    then_fleet : Fleet
-    then_fleet = record u { joined = u.joined ++ record { from = n; to = new } ∷ [] }
-
-    joined : (x : Joined) → Contains then_fleet.joined x → Knows w then_fleet x.from x.to
-    joined x within = elim (Contains-push_cases u.joined (record { from = n; to = new }) x within) [
-      | inl old ↦ (let k = sound.joined x old in record { begun = k.begun; plan = k.plan; before = k.before; has = k.has })
-      | inr is ↦ (let P : Joined → Type 0 = λ z. Knows w then_fleet z.from z.to in subst P is (record { begun = acting.0; plan = u.last_plan n; before = omega arith; has = has }))
-    ]
-
--- ---- which a new node hears
-
-pub heard_known : (w : World) (u : Fleet) (c : Cluster) (n other : ℕ) → Known w u c → Contains u.joined (record { from = other; to = n }) → Known w (with_heard n other u) c
-heard_known w u c n other known within = record {
-  chain = known.chain;
-  sound = record {
-    begun = λ m is. let b = sound.begun m is in record { now = b.now; first = b.first; later = b.later; having = b.having; unknown = b.unknown };
-    fresh = sound.fresh;
-    lacking = sound.lacking;
-    ready = sound.ready;
-    older = sound.older;
-    heard = heard;
-    joined = λ x inside. let k = sound.joined x inside in record { begun = k.begun; plan = k.plan; before = k.before; has = k.has };
-    asks = λ x inside ask home going. sound.asks x inside ask home (record { busy = going.busy; op = going.op });
-    replies = λ x inside reply. let r = sound.replies x inside reply in record { begun = r.begun; place = r.place; has = r.has; to = r.to; asked = λ going. r.asked (record { busy = going.busy; op = going.op }) };
-  };
-  agrees = record {
-    written = agrees.written;
-    same = agrees.same;
-    idle = agrees.idle;
-    holds = λ m file still it. agrees.holds m file still (record { begun = it.begun; within = it.within; has = it.has });
-    lost = agrees.lost;
-    given = λ x inside. let g = agrees.given x inside in record { mates = g.mates; ready = g.ready; offered = g.offered };
-    untouched = λ place file none. agrees.untouched place file (λ m at it. none m at (record { begun = it.begun; within = it.within; has = it.has }));
+    given = λ x within. let g = all_fetched x within in record { mates = g.mates; ready = g.ready; offered = g.offered };
+    untouched = λ place file none. agrees.untouched place file (λ n at it. none n at (record { begun = it.begun; within = it.within; has = it.has }));
     kept = agrees.kept;
     offers = agrees.offers;
   };
@@ -96,80 +55,69 @@ heard_known w u c n other known within = record {
     agrees : Agrees w u c
     agrees = known.agrees
 
-    heard : (m o : ℕ) → (with_heard n other u).heard m o ≡ true → Knows w (with_heard n other u) o m
+-- in the cluster nothing happens then
+still_moved : (w : World) (v : Fleet) (c : Cluster) → Known w v c → Moved w c v []
+still_moved w v c known = record { can = tt; sound = known.sound; agrees = known.agrees }
+
+-- ---- a node answers a new one
+
+pub answers_moves : (w : World) (u : Fleet) (c : Cluster) (n new : ℕ) → Known w u c → IsActing u n → has_node (plan_of w u n) new ≡ true → Moved w c (record u { joined = u.joined ++ record { from = n; to = new } ∷ [] }) []
+answers_moves w u c n new known acting has =
+    still_moved w (record u { joined = u.joined ++ record { from = n; to = new } ∷ [] }) c
+    (lists_known w u c u.heard (u.joined ++ record { from = n; to = new } ∷ []) u.fetched known known.sound.heard joined known.agrees.given)
+  where
+    joined : (x : Joined) → Contains (u.joined ++ record { from = n; to = new } ∷ []) x → Knows w u x.from x.to
+    joined x within = elim (Contains-push_cases u.joined (record { from = n; to = new }) x within) [
+      | inl old ↦ (known.sound.joined x old)
+      | inr is ↦ (let P : Joined → Type 0 = λ z. Knows w u z.from z.to in subst P is (record { begun = acting.0; plan = u.last_plan n; before = omega arith; has = has }))
+    ]
+
+-- ---- which a new node hears
+
+pub heard_known : (w : World) (u : Fleet) (c : Cluster) (n other : ℕ) → Known w u c → Contains u.joined (record { from = other; to = n }) → Known w (with_heard n other u) c
+heard_known w u c n other known within = lists_known w u c (with_heard n other u).heard u.joined u.fetched known heard known.sound.joined known.agrees.given
+  where
+    heard : (m o : ℕ) → (with_heard n other u).heard m o ≡ true → Knows w u o m
     heard m o is = by (cases_Bool (eqb m n && eqb o other))
       where
-        by : ((eqb m n && eqb o other) ≡ true) ⊎ ((eqb m n && eqb o other) ≡ false) → Knows w (with_heard n other u) o m
+        by : ((eqb m n && eqb o other) ≡ true) ⊎ ((eqb m n && eqb o other) ≡ false) → Knows w u o m
         by (inl this) =
             let parts = and_parts (eqb m n) (eqb o other) this in
-            let node : m ≡ n = eqb-true m n parts.0 in
-            let from : o ≡ other = eqb-true o other parts.1 in
-            let k : Knows w u other n = sound.joined (record { from = other; to = n }) within in
-            record {
-              begun = ap u.begun from ∙ k.begun;
-              plan = k.plan;
-              before = (let P : ℕ → Type 0 = λ z. k.plan ≤ u.last_plan z in subst P (sym from) k.before);
-              has = ap (has_node (w.plans k.plan)) node ∙ k.has;
-            }
-        by (inr old) = let k : Knows w u o m = sound.heard m o (rw old at is) in record { begun = k.begun; plan = k.plan; before = k.before; has = k.has }
+            let node : n ≡ m = sym (eqb-true m n parts.0) in
+            let from : other ≡ o = sym (eqb-true o other parts.1) in
+            let P : ℕ → Type 0 = λ z. Knows w u z m in
+            let Q : ℕ → Type 0 = λ z. Knows w u other z in
+            subst P from (subst Q node (known.sound.joined (record { from = other; to = n }) within))
+        by (inr old) = known.sound.heard m o (rw old at is)
 
 -- ---- a mate tells its copy
 
 pub gives_moves : (w : World) (u : Fleet) (c : Cluster) (mate n : ℕ) (file : File) → Known w u c → IsActing u mate → has_file w u mate file ≡ true → are_mates w.setting.grid (place_of n) (place_of mate) ≡ true → u.ready n ≡ true → Moved w c (gives mate n file u) []
-gives_moves w u c mate n file known acting has mates ready = record {
-  can = tt;
-  sound = record {
-    begun = λ m is. let b = sound.begun m is in record { now = b.now; first = b.first; later = b.later; having = b.having; unknown = b.unknown };
-    fresh = sound.fresh;
-    lacking = sound.lacking;
-    ready = sound.ready;
-    older = sound.older;
-    heard = λ m other is. let k = sound.heard m other is in record { begun = k.begun; plan = k.plan; before = k.before; has = k.has };
-    joined = λ x within. let k = sound.joined x within in record { begun = k.begun; plan = k.plan; before = k.before; has = k.has };
-    asks = λ x within ask home going. sound.asks x within ask home (record { busy = going.busy; op = going.op });
-    replies = λ x within reply. let r = sound.replies x within reply in record { begun = r.begun; place = r.place; has = r.has; to = r.to; asked = λ going. r.asked (record { busy = going.busy; op = going.op }) };
-  };
-  agrees = record {
-    written = agrees.written;
-    same = agrees.same;
-    idle = agrees.idle;
-    holds = λ m f still it. agrees.holds m f still (record { begun = it.begun; within = it.within; has = it.has });
-    lost = agrees.lost;
-    given = given;
-    untouched = λ place f none. agrees.untouched place f (λ m at it. none m at (record { begun = it.begun; within = it.within; has = it.has }));
-    kept = agrees.kept;
-    offers = agrees.offers;
-  };
-}
+gives_moves w u c mate n file known acting has mates ready =
+    still_moved w (gives mate n file u) c (lists_known w u c u.heard u.joined (gives mate n file u).fetched known known.sound.heard known.sound.joined given)
   where
-    sound : Sound w u
-    sound = known.sound
-
-    agrees : Agrees w u c
-    agrees = known.agrees
-
     told : Fetched
     told = record { mate = mate; node = n; file = file; copy = copy_in (u.part mate) file }
 
     held : Holds (u.part mate) (c.part (place_of mate)) file
-    held = agrees.holds mate file acting.1 (has_it w u mate file has)
+    held = known.agrees.holds mate file acting.1 (has_it w u mate file has)
 
     copies : copy_in (c.part (place_of mate)) file ≡ copy_in (u.part mate) file
     copies = ap (λ z. greatest (first_copy ∷ z)) held.brought
 
-    its : IsGiven w (gives mate n file u) c told
+    its : IsGiven w u c told
     its = record {
       mates = mates;
       ready = ready;
       offered = λ still lacks.
           let P : StoredCopy → Type 0 = λ z. Contains (c.offered (place_of n) file (place_of mate)) z in
-          subst P copies (agrees.offers (place_of n) file (place_of mate) (agrees.lost n file still ready lacks) held.has);
+          subst P copies (known.agrees.offers (place_of n) file (place_of mate) (known.agrees.lost n file still ready lacks) held.has);
     }
 
-    given : (x : Fetched) → Contains (gives mate n file u).fetched x → IsGiven w (gives mate n file u) c x
+    given : (x : Fetched) → Contains (gives mate n file u).fetched x → IsGiven w u c x
     given x within = elim (Contains-push_cases u.fetched told x within) [
-      | inl old ↦ (let g = agrees.given x old in record { mates = g.mates; ready = g.ready; offered = g.offered })
-      | inr is ↦ (let P : Fetched → Type 0 = λ z. IsGiven w (gives mate n file u) c z in subst P is its)
+      | inl old ↦ (known.agrees.given x old)
+      | inr is ↦ (let P : Fetched → Type 0 = λ z. IsGiven w u c z in subst P is its)
     ]
 
 -- ---- the node takes it
@@ -256,16 +204,15 @@ module _ (w : World) (u : Fleet) (c : Cluster) (n mate : ℕ) (file : File) (cop
     joined = refl;
   }
 
+  own_session : (m k : ℕ) → Same (given_fleet.part m) (u.part m) k
+  own_session m k = by (cases_eq m n)
+    where
+      by : (m ≡ n) ⊎ (m ≢ n) → Same (given_fleet.part m) (u.part m) k
+      by (inl same) = let P : ℕ → Type 0 = λ z. Same (given_fleet.part z) (u.part z) k in subst P (sym same) (record { session = ap (λ z. z.session k) here; reserved = ap (λ z. z.reserved k) here })
+      by (inr ne) = record { session = ap (λ z. z.session k) (given_on.away_part m ne); reserved = ap (λ z. z.reserved k) (given_on.away_part m ne) }
+
   given_goes : GoesSame w n u given_fleet
-  given_goes x old home going =
-      let part : given_fleet.part (w.setting.home x.letter.session) ≡ given_part file copy (u.part n) = ap given_fleet.part home ∙ here in
-      let back : u.part n ≡ u.part (w.setting.home x.letter.session) = ap u.part (sym home) in (
-        record {
-          busy = ap (λ z. is_some (z.session x.letter.session).current) (sym back) ∙ ap (λ z. is_some (z.session x.letter.session).current) (sym part) ∙ going.busy;
-          op = ap (λ z. (z.session x.letter.session).op) (sym back) ∙ ap (λ z. (z.session x.letter.session).op) (sym part) ∙ going.op;
-        },
-        refl,
-      )
+  given_goes x old home going = (going_same w u given_fleet x.letter (own_session (w.setting.home x.letter.session) x.letter.session).session going, refl)
 
   given_sound : Sound w given_fleet
   given_sound = sound_on w n u given_fleet known.sound given_on given_goes (λ x inside. inl inside)
@@ -290,13 +237,6 @@ module _ (w : World) (u : Fleet) (c : Cluster) (n mate : ℕ) (file : File) (cop
       by : (place_of n ≡ m) ⊎ (place_of n ≢ m) → Same (given_cluster.part m) (c.part m) k
       by (inl same) = record { session = ap (λ z. z.session k) (base_here m same); reserved = ap (λ z. z.reserved k) (base_here m same) }
       by (inr ne) = record { session = ap (λ z. z.session k) (base_away m ne); reserved = ap (λ z. z.reserved k) (base_away m ne) }
-
-  own_session : (m k : ℕ) → Same (given_fleet.part m) (u.part m) k
-  own_session m k = by (cases_eq m n)
-    where
-      by : (m ≡ n) ⊎ (m ≢ n) → Same (given_fleet.part m) (u.part m) k
-      by (inl same) = let P : ℕ → Type 0 = λ z. Same (given_fleet.part z) (u.part z) k in subst P (sym same) (record { session = ap (λ z. z.session k) here; reserved = ap (λ z. z.reserved k) here })
-      by (inr ne) = record { session = ap (λ z. z.session k) (given_on.away_part m ne); reserved = ap (λ z. z.reserved k) (given_on.away_part m ne) }
 
   -- the place has the same of another file, and any other place of all
   base_same : (place : ℕ) (f : File) → (place_of n ≢ place) ⊎ (is_file file f ≡ false) → ((given_cluster.part place).lacks f ≡ (c.part place).lacks f) × ((given_cluster.part place).brought f ≡ (c.part place).brought f)
