@@ -611,8 +611,8 @@ module _ (w : World) (u : Fleet) (c : Cluster) (from n : ℕ) (letter : OwnMessa
       sent : (step_of w.setting (u.part n) (Comes letter aim)).new ≡ reply ∷ []
       sent = ap (λ (z : Step). z.new) (served_is w.setting aim (u.part n) letter ask it.has)
 
-      Sound_posted : OwnMessage → Type 0
-      Sound_posted l = let x : Posted = record { from = n; to = address w u n l; letter = l } in (to_server l.body ≡ true → IsAsk w served_fleet x) × (to_server l.body ≡ false → IsReply w served_fleet x)
+      IsSoundPost : OwnMessage → Type 0
+      IsSoundPost l = let x : Posted = record { from = n; to = address w u n l; letter = l } in (to_server l.body ≡ true → IsAsk w served_fleet x) × (to_server l.body ≡ false → IsReply w served_fleet x)
 
       comes : to_server reply.body ≡ false
       comes = reply_comes (copy_in (u.part n) letter.file) letter.body
@@ -624,7 +624,7 @@ module _ (w : World) (u : Fleet) (c : Cluster) (from n : ℕ) (letter : OwnMessa
       went_on : IsGoing w served_fleet reply → IsGoing w u letter
       went_on going = going_same w u served_fleet letter (mine_session (w.setting.home letter.session) letter.session).session (record { busy = going.busy; op = going.op })
 
-      its_reply : Sound_posted reply
+      its_reply : IsSoundPost reply
       its_reply = (
         (λ asks. absurd (true≢false (sym asks ∙ comes))),
         (λ is. record {
@@ -638,11 +638,11 @@ module _ (w : World) (u : Fleet) (c : Cluster) (from n : ℕ) (letter : OwnMessa
         }),
       )
 
-      each : (l : OwnMessage) → Contains (step_of w.setting (u.part n) (Comes letter aim)).new l → Sound_posted l
+      each : (l : OwnMessage) → Contains (step_of w.setting (u.part n) (Comes letter aim)).new l → IsSoundPost l
       each l inside = let P : List OwnMessage → Type 0 = λ z. Contains z l in only (subst P sent inside)
         where
-          only : Contains (reply ∷ []) l → Sound_posted l
-          only (zero, low, is) = subst Sound_posted is its_reply
+          only : Contains (reply ∷ []) l → IsSoundPost l
+          only (zero, low, is) = subst IsSoundPost is its_reply
           only (suc i, low, is) = absurd (omega (arith, low))
 
   served_follows : FollowsAt w n u served_fleet c served_cluster

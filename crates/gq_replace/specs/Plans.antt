@@ -1,8 +1,9 @@
 -- Which node stands at a place of the grid.
 --
--- The words: a *place* is a server of the grid. A *plan* says which nodes were lost, each by its place, in order, and how many volumes there are. A node that is lost is
--- *replaced* by a new one at the same place, with a number that no node had before: the first node of a place has the place's number,
--- and each further one a number that is greater by `most_places` than the one before. Its *generation* says how many stood there before it.
+-- The words: a *place* is a server of the grid. A *plan* says which nodes were lost, each by its place, in order, and how many volumes there are.
+-- A node that is lost is *replaced* by a new one at the same place, with a number that no node had before: the first node of a place has the
+-- place's number, and each further one a number that is greater by `most_places` than the one before. Its *generation* says how many stood
+-- there before it.
 use Rattle.std.specs.Prelude.{◌≡◌, ℕ, ◌+◌, ◌*◌, ◌/◌, ◌%◌, ◌≤◌, List, ◌++◌, Bool, ◌==◌, nat_lt}
 use Rattle.std.specs.List.{count_by}
 
