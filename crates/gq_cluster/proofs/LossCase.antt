@@ -14,7 +14,7 @@ use Rattle.gq_phase.specs.declared.Outcome.TheVariants.{Wrote, Gave}
 use Rattle.gq_phase.specs.Quorums.{collect_quorum, store_quorum, ends_collect, ends_store, are_mates}
 use Rattle.gq_model.specs.declared.events.Line.TheVariants.{Write, Read}
 use Rattle.gq_model.specs.declared.said.Said.TheVariants.{Began, Noted, Round, Done}
-use Rattle.gq_model.specs.Lone.{is_awaited}
+use Rattle.gq_model.specs.Trace.{is_awaited}
 use Rattle.gq_laws.specs.Operations.{Legal}
 use Rattle.gq_laws.specs.Orders.{order}
 use Rattle.gq_cluster.specs.Cluster.{Setting, Cluster, NodeStep, Acts, Loses, Returns, Asks, Comes, everyone, new_cluster, cluster_after, copy_in, NoneCounts, CanFollow, exchanges}
