@@ -39,7 +39,7 @@ servers_from grid row t (Server line ∷ events) p q same =
     (servers_serving grid row nobody p q line same)
 servers_from grid row t (Stray ∷ events) p q same = servers_from grid row t events p q same
 
-servers_same : (plan : CheckedPlan) (t : ℕ) (events : List Event) → SameServers (past_at plan t events).trace (server_past plan events).trace
+pub servers_same : (plan : CheckedPlan) (t : ℕ) (events : List Event) → SameServers (past_at plan t events).trace (server_past plan events).trace
 servers_same plan t events = servers_from plan.grid (row_at plan t) t events start start (record { up = refl; gone = refl })
 
 -- ---- what is told

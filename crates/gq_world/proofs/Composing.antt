@@ -27,13 +27,15 @@ taken_own : (w : Tables) (t : ℕ) (known : Known) → t < length w.lines → Ag
 taken_own w t known within agrees = record {
   lines = unwrap_or-slice_get (slice_set w.lines t (taken_at w t + 1)) t 0 ∙ get_or-set_same w.lines t (taken_at w t + 1) 0 within ∙ ap (λ n. n + 1) agrees.lines;
   up = agrees.up;
+  gone = agrees.gone;
   account = agrees.account;
   sent = agrees.sent;
   lost = agrees.lost;
   messages = agrees.messages;
   accounts = agrees.accounts;
   copies = agrees.copies;
-  whole = agrees.whole;
+  lacking = agrees.lacking;
+  down = agrees.down;
   seats = agrees.seats;
 }
 
@@ -41,13 +43,15 @@ taken_other : (w : Tables) (t u : ℕ) (known : Known) → u ≢ t → Agrees w 
 taken_other w t u known other agrees = record {
   lines = unwrap_or-slice_get (slice_set w.lines t (taken_at w t + 1)) u 0 ∙ get_or-set_other w.lines t u (taken_at w t + 1) 0 other ∙ sym (unwrap_or-slice_get w.lines u 0) ∙ agrees.lines;
   up = agrees.up;
+  gone = agrees.gone;
   account = agrees.account;
   sent = agrees.sent;
   lost = agrees.lost;
   messages = agrees.messages;
   accounts = agrees.accounts;
   copies = agrees.copies;
-  whole = agrees.whole;
+  lacking = agrees.lacking;
+  down = agrees.down;
   seats = agrees.seats;
 }
 

@@ -210,13 +210,15 @@ heard_own w t n m seats heard known message s h agrees is said heard_is =
     record {
       lines = agrees.lines;
       up = agrees.up;
+      gone = agrees.gone;
       account = agrees.account;
       sent = ap (λ lanes. length (lane_at lanes t)) lanes_is ∙ sent_count w.lanes t state new h.lanes agrees.sent;
       lost = new_not_lost state new agrees.lost;
       messages = λ k. ap (λ lanes. message_at (lane_at lanes t) k) lanes_is ∙ sent_messages w.lanes t state new h.lanes agrees.sent agrees.messages agrees.lost k;
       accounts = agrees.accounts;
       copies = λ server within file. agrees.copies server within file ∙ sym (same_held state n (length state.sent) message s server file goes);
-      whole = agrees.whole;
+      lacking = agrees.lacking;
+      down = agrees.down;
       seats = λ place within.
           let first = h.first in
           let last = h.last in
@@ -251,13 +253,15 @@ heard_other w t u seats heard known other agrees =
     record {
       lines = agrees.lines;
       up = agrees.up;
+      gone = agrees.gone;
       account = agrees.account;
       sent = ap length lane ∙ agrees.sent;
       lost = agrees.lost;
       messages = λ k. ap (λ l. message_at l k) lane ∙ agrees.messages k;
       accounts = agrees.accounts;
       copies = agrees.copies;
-      whole = agrees.whole;
+      lacking = agrees.lacking;
+      down = agrees.down;
       seats = λ place within. subst (λ all. SeatAgrees w.plan.grid u (place + 1) (seat_in all place) known.state) (sym there) (agrees.seats place within);
     }
 
@@ -273,4 +277,5 @@ heard_acts w t n m seats heard h = record {
       (heard_own w t n m seats heard known message s h agrees f.2 refl (says w t n m seats heard known message h agrees f.2));
   others = λ u other known agrees. heard_other w t u seats heard known other agrees;
   servers = refl;
+  gone = refl;
 }

@@ -55,6 +55,7 @@ opened_own w t files blocks stores known h agrees =
     record {
       lines = agrees.lines;
       up = agrees.up;
+      gone = agrees.gone;
       account = set_here w.desk t (with_volume v a) h.desk ∙ ap (with_volume v) agrees.account;
       sent = agrees.sent ∙ ap length (sym nothing);
       lost = λ n past'. agrees.lost n (subst (λ l. length l ≤ n) nothing past');
@@ -69,8 +70,9 @@ opened_own w t files blocks stores known h agrees =
       copies = λ s within file.
           let inside : s < length w.stores = let count = h.count in omega arith in
           (h.added s inside).copies (file_of t file) ∙ agrees.copies s within file;
-      whole = agrees.whole;
-      seats = λ place within. let before = agrees.seats place within in record { op = before.op; sits = before.sits };
+      lacking = agrees.lacking;
+      down = agrees.down;
+      seats = λ place within. let before = agrees.seats place within in record { op = before.op; answered = before.answered; sits = before.sits };
     }
 
 opened_other : (w : Tables) (t u files blocks : ℕ) (stores : List StoreCopies) (known : Known) → u ≢ t → Opens w t files blocks stores → Agrees w u known → Agrees (opened_tables w t files blocks stores) u known
@@ -79,6 +81,7 @@ opened_other w t u files blocks stores known other h agrees =
     record {
       lines = agrees.lines;
       up = agrees.up;
+      gone = agrees.gone;
       account = set_there w.desk t u (with_volume v (account_at w.desk t)) other ∙ agrees.account;
       sent = agrees.sent;
       lost = agrees.lost;
@@ -92,7 +95,8 @@ opened_other w t u files blocks stores known other h agrees =
       copies = λ s within file.
           let inside : s < length w.stores = let count = h.count in omega arith in
           (h.added s inside).copies (file_of u file) ∙ agrees.copies s within file;
-      whole = agrees.whole;
+      lacking = agrees.lacking;
+      down = agrees.down;
       seats = agrees.seats;
     }
 
@@ -102,6 +106,7 @@ opened_acts w t files blocks stores h = record {
   own = λ known agrees. subst (Agrees (opened_tables w t files blocks stores) t) (sym (opened_known w t files blocks known agrees h.sound)) (opened_own w t files blocks stores known h agrees);
   others = λ u other known agrees. opened_other w t u files blocks stores known other h agrees;
   servers = refl;
+  gone = refl;
 }
 
 pub open_tells : (w : Tables) (t files blocks : ℕ) (fault : Option OpenFault) → open_fault (account_at w.desk t) (record { files = files; blocks = blocks }) ≡ fault → TellsLine w t (NewVolume files blocks) (open_told (length (account_at w.desk t).volumes) fault)
@@ -118,6 +123,7 @@ refused_acts w t files blocks word is = record {
       subst (Agrees w t) (sym same) agrees;
   others = λ u other known agrees. agrees;
   servers = refl;
+  gone = refl;
 }
 
 -- ---- the conditions

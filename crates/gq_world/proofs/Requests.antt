@@ -235,6 +235,7 @@ refused_acts w t line word refuses = record {
   own = λ known agrees. subst (Agrees w t) (sym (ap (λ s. record known { state = state_after_turn known.state (Own line) s }) (refuses known agrees))) agrees;
   others = λ u other known agrees. agrees;
   servers = refl;
+  gone = refl;
 }
 
 pub early : (w : Tables) (t k : ℕ) (task : Task) (line : Line) (causes : List Cause) (word : Refusal) → IsRequest w t k task line causes → first_cause causes ≡ Some word → Refuses w t line word
@@ -336,13 +337,15 @@ begun_own w t k task line causes code messages known r h agrees =
     record {
       lines = agrees.lines;
       up = agrees.up;
+      gone = agrees.gone;
       account = agrees.account;
       sent = ap (λ lanes. length (lane_at lanes t)) lanes_is ∙ sent_count w.lanes t state new h.lanes agrees.sent;
       lost = new_not_lost state new agrees.lost;
       messages = λ m. ap (λ lanes. message_at (lane_at lanes t) m) lanes_is ∙ sent_messages w.lanes t state new h.lanes agrees.sent agrees.messages agrees.lost m;
       accounts = agrees.accounts;
       copies = agrees.copies;
-      whole = agrees.whole;
+      lacking = agrees.lacking;
+      down = agrees.down;
       seats = λ place within.
           let Q : List Seat → Type 0 = λ all. SeatAgrees w.plan.grid t (place + 1) (seat_in all place) after in
           let low = s.0 in
@@ -376,13 +379,15 @@ begun_other w t u place code messages known other agrees =
     record {
       lines = agrees.lines;
       up = agrees.up;
+      gone = agrees.gone;
       account = agrees.account;
       sent = ap length lane ∙ agrees.sent;
       lost = agrees.lost;
       messages = λ m. ap (λ l. message_at l m) lane ∙ agrees.messages m;
       accounts = agrees.accounts;
       copies = agrees.copies;
-      whole = agrees.whole;
+      lacking = agrees.lacking;
+      down = agrees.down;
       seats = λ p within. subst (λ all. SeatAgrees w.plan.grid u (p + 1) (seat_in all p) known.state) (sym there) (agrees.seats p within);
     }
 
@@ -392,6 +397,7 @@ begun_acts w t k task line causes code messages r h = record {
   own = λ known agrees. subst (Agrees (begun_tables w t (k - 1) code messages) t) (sym (begun_known w t k task line causes known r agrees h.asked h.quorum)) (begun_own w t k task line causes code messages known r h agrees);
   others = λ u other known agrees. begun_other w t u (k - 1) code messages known other agrees;
   servers = refl;
+  gone = refl;
 }
 
 -- ---- the conditions

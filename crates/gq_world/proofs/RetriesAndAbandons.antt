@@ -156,13 +156,15 @@ abandon_own w t k known tenants places asked agrees =
     record {
       lines = agrees.lines;
       up = agrees.up;
+      gone = agrees.gone;
       account = agrees.account;
       sent = agrees.sent;
       lost = agrees.lost;
       messages = agrees.messages;
       accounts = agrees.accounts;
       copies = agrees.copies;
-      whole = agrees.whole;
+      lacking = agrees.lacking;
+      down = agrees.down;
       seats = λ place within.
           let Q : List Seat → Type 0 = λ all. SeatAgrees w.plan.grid t (place + 1) (seat_in all place) new in
           subst Q (sym here) (elim (cases_eq place (k - 1)) [
@@ -192,13 +194,15 @@ abandon_other w t u place known other agrees =
     record {
       lines = agrees.lines;
       up = agrees.up;
+      gone = agrees.gone;
       account = agrees.account;
       sent = agrees.sent;
       lost = agrees.lost;
       messages = agrees.messages;
       accounts = agrees.accounts;
       copies = agrees.copies;
-      whole = agrees.whole;
+      lacking = agrees.lacking;
+      down = agrees.down;
       seats = λ p within. subst (λ all. SeatAgrees w.plan.grid u (p + 1) (seat_in all p) known.state) (sym there) (agrees.seats p within);
     }
 
@@ -208,6 +212,7 @@ abandon_acts w t k tenants places asked = record {
   own = λ known agrees. subst (Agrees (rested_tables w t (k - 1)) t) (sym (abandon_known w t k known asked agrees)) (abandon_own w t k known tenants places asked agrees);
   others = λ u other known agrees. abandon_other w t u (k - 1) known other agrees;
   servers = refl;
+  gone = refl;
 }
 
 -- ---- it sends its round's message once more
@@ -317,14 +322,16 @@ again_own w t k messages known h agrees =
     subst (Agrees (record w { lanes = with_sent w.lanes t messages }) t) (sym (ap (λ step. record known { state = state_after_turn state (Own (Retry k)) step }) a.step)) (record {
       lines = agrees.lines;
       up = agrees.up;
+      gone = agrees.gone;
       account = agrees.account;
       sent = ap (λ lanes. length (lane_at lanes t)) lanes_is ∙ sent_count w.lanes t state a.new h.lanes agrees.sent;
       lost = new_not_lost state a.new agrees.lost;
       messages = λ m. ap (λ lanes. message_at (lane_at lanes t) m) lanes_is ∙ sent_messages w.lanes t state a.new h.lanes agrees.sent agrees.messages agrees.lost m;
       accounts = agrees.accounts;
       copies = agrees.copies;
-      whole = agrees.whole;
-      seats = λ place within. let seat = agrees.seats place within in record { op = seat.op; sits = seat.sits };
+      lacking = agrees.lacking;
+      down = agrees.down;
+      seats = λ place within. let seat = agrees.seats place within in record { op = seat.op; answered = seat.answered; sits = seat.sits };
     })
 
 again_other : (w : Tables) (t u : ℕ) (messages : List Message) (known : Known) → u ≢ t → Agrees w u known → Agrees (record w { lanes = with_sent w.lanes t messages }) u known
@@ -333,13 +340,15 @@ again_other w t u messages known other agrees =
     record {
       lines = agrees.lines;
       up = agrees.up;
+      gone = agrees.gone;
       account = agrees.account;
       sent = ap length lane ∙ agrees.sent;
       lost = agrees.lost;
       messages = λ m. ap (λ l. message_at l m) lane ∙ agrees.messages m;
       accounts = agrees.accounts;
       copies = agrees.copies;
-      whole = agrees.whole;
+      lacking = agrees.lacking;
+      down = agrees.down;
       seats = agrees.seats;
     }
 
@@ -349,4 +358,5 @@ again_acts w t k messages h = record {
   own = λ known agrees. again_own w t k messages known h agrees;
   others = λ u other known agrees. again_other w t u messages known other agrees;
   servers = refl;
+  gone = refl;
 }

@@ -35,8 +35,9 @@ agrees_up w set up u known is agrees = record {
   messages = agrees.messages;
   accounts = agrees.accounts;
   copies = agrees.copies;
-  whole = agrees.whole;
-  seats = λ place within. let seat = agrees.seats place within in record { op = seat.op; sits = seat.sits };
+  lacking = agrees.lacking;
+  down = agrees.down;
+  seats = λ place within. let seat = agrees.seats place within in record { op = seat.op; answered = seat.answered; sits = seat.sits };
 }
 
 -- the servers go on, for each tenant alike

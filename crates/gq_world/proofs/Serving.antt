@@ -210,13 +210,15 @@ served_own w t n m reply store known message h agrees is up =
     record {
       lines = agrees.lines;
       up = agrees.up;
+      gone = agrees.gone;
       account = agrees.account;
       sent = ap (λ lanes. length (lane_at lanes t)) lanes_is ∙ sent_count w.lanes t state new h.lanes agrees.sent;
       lost = new_not_lost state new agrees.lost;
       messages = λ k. ap (λ lanes. message_at (lane_at lanes t) k) lanes_is ∙ sent_messages w.lanes t state new h.lanes agrees.sent agrees.messages agrees.lost k;
       accounts = λ s within. account_stays w t m store s h.stores h.accounts (agrees.accounts s within);
       copies = copies_here w t n m reply store known message h agrees is up;
-      whole = agrees.whole;
+      lacking = agrees.lacking;
+      down = agrees.down;
       seats = λ place within.
           let before = agrees.seats place within in
           let session : (changed (serving n message (length state.sent) copy) state).session (place + 1) ≡ state.session (place + 1) = no_deed state n (length state.sent) (place + 1) message copy goes in
@@ -229,6 +231,7 @@ served_other w t u n m reply store known other tenant h agrees =
     record {
       lines = agrees.lines;
       up = agrees.up;
+      gone = agrees.gone;
       account = agrees.account;
       sent = ap length lane ∙ agrees.sent;
       lost = agrees.lost;
@@ -241,7 +244,8 @@ served_other w t u n m reply store known other tenant h agrees =
             let apart : file_of u file ≢ m.file = λ e. other (ap (λ (x : FileId). x.tenant) e ∙ tenant) in
             ap (λ (x : StoreCopies). copy_at x (file_of u file)) here ∙ h.others (file_of u file) apart ∙ ap (λ x. copy_at (store_at w.stores x) (file_of u file)) (sym at) ∙ agrees.copies s within file)
       ];
-      whole = agrees.whole;
+      lacking = agrees.lacking;
+      down = agrees.down;
       seats = agrees.seats;
     }
 
@@ -270,6 +274,7 @@ served_acts w t n m reply store ready h = record {
       let tenant : m.file.tenant ≡ t = ap (λ (x : Message). x.file.tenant) f.2 in
       served_other w t u n m reply store known other tenant h agrees;
   servers = refl;
+  gone = refl;
 }
 
 -- ---- the server is down
@@ -312,6 +317,7 @@ down_own w t n known message agrees goes down =
     record {
       lines = agrees.lines;
       up = agrees.up;
+      gone = agrees.gone;
       account = agrees.account;
       sent = agrees.sent ∙ ap length (sym nothing);
       lost = λ k past. agrees.lost k (subst (λ (l : List OwnMessage). length l ≤ k) nothing past);
@@ -319,7 +325,8 @@ down_own w t n known message agrees goes down =
       accounts = agrees.accounts;
       copies = λ s within file. agrees.copies s within file
           ∙ sym (ap (λ copies. greatest (first_copy ∷ copies)) (nothing_brought (serves state.up state.lacks) message.session message.op message.round message.server message.file message.body state.brought s file down));
-      whole = agrees.whole;
+      lacking = agrees.lacking;
+      down = agrees.down;
       seats = λ place within. seat_same w.plan.grid t (place + 1) (seat_in (seats_at w.seats t) place) state (changed (record { turn = Own (Deliver n); message = Some message; told = IsDown; new = [] }) state)
           (down_deed state n (place + 1) message goes) (agrees.seats place within);
     }
@@ -339,6 +346,7 @@ down_acts w t n m h = record {
       subst (Agrees w t) (sym (down_known w.plan.grid (row_at w.plan t) known n message f.1 goes down)) (down_own w t n known message agrees goes down);
   others = λ u other known agrees. agrees;
   servers = refl;
+  gone = refl;
 }
 
 -- ---- it is never refused

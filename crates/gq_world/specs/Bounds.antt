@@ -76,9 +76,11 @@ pub record MessageFits (grid : Grid) (row : TenantRow) (n : ℕ) (volumes : List
   pub file : IsThere volumes message.file
   pub body : BodyFits n (room volumes message.file.volume) message.body
 
--- the message is of an operation that its session began; where that is the one that it has, of a file of its volume
+-- the message is of an operation that its session began, where that is its last one of a round that began, and where it has it of a
+-- file of its volume
 pub record IsOfSession (s : Session) (message : OwnMessage) : Type 0 where
   pub begun : message.op ≤ s.op
+  pub round : message.op ≡ s.op → message.round ≤ s.round
   pub volume : (task : Task) → s.current ≡ Some task → message.op ≡ s.op → message.file.volume ≡ volume_of task
 
 -- ---- all of it

@@ -3,7 +3,10 @@ use Rattle.std.specs.Prelude.{◌≡◌, ℕ, ◌<◌, List, Option, Some, None}
 use Rattle.gq_grid.specs.Grid.{Grid, Servers}
 use Rattle.gq_tag.specs.declared.Message.{Message}
 use Rattle.gq_tag.specs.Tag.{OwnMessage, own_message}
+use Rattle.gq_grid.specs.Sets.{no_set}
+use Rattle.gq_grid.specs.declared.ServerSet.{ServerSet}
 use Rattle.gq_phase.specs.declared.Heard.{Heard}
+use Rattle.gq_phase.specs.declared.Heard.TheVariants.{Stale, Noted, Next, Done}
 use Rattle.gq_phase.specs.declared.ResendRefused.{ResendRefused}
 use Rattle.gq_phase.specs.declared.operation.Operation.{Operation as Code}
 use Rattle.gq_phase.specs.Phase.{Operation, Heard as Saying, HeardStale, HeardNoted, HeardNext, HeardDone, hear, with_reply, moved}
@@ -29,9 +32,17 @@ abbrev pub last_of : ℕ → Option Operation → ℕ
 last_of last None = last
 last_of last (Some o) = o.floor
 
+-- the servers that sent replies of the operation and round: none once another round begins
+abbrev pub answered_after : Heard → ServerSet → ServerSet
+answered_after (Next round tag messages) answered = no_set
+answered_after Stale answered = answered
+answered_after Noted answered = answered
+answered_after (Done outcome) answered = answered
+
 -- whatever operation the seat stands for, this is what it says, and the seat stands for it afterwards
 pub record SeatHears (old new : Seat) (up : Servers) (message : Message) (heard : Heard) : Type 0 where
   pub op : new.op ≡ old.op
+  pub answered : new.answered ≡ answered_after heard old.answered
   pub says : (grid : Grid) (t last : ℕ) (o : Option Operation) → Sits grid t old.floor old.operation last o → heard ≡ heard_as t (said_by grid up o (own_message message))
   pub sits : (grid : Grid) (t last : ℕ) (o : Option Operation) → Sits grid t old.floor old.operation last o →
       Sits grid t new.floor new.operation (last_of last o) (operation_after o (own_message message) (said_by grid up o (own_message message)))

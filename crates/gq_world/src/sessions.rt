@@ -13,12 +13,14 @@ use gq_tag::MessageView;
 use std::alloc::Global;
 use std::marker::Model;
 
-/// A session: how many operations it began, its operation if it has one, and its own last number while it has none.
+/// A session: how many operations it began, its operation if it has one, the servers that sent replies of this operation and
+/// its round, heard or not, and its own last number while it has none.
 #[derive(Drop)]
 pub(crate) struct Seat {
     pub(crate) op: u32,
     pub(crate) floor: u64,
     pub(crate) operation: Option<Operation>,
+    pub(crate) answered: ServerSet,
 }
 
 /// The sessions of a tenant. Session `k` has place `k - 1`.
@@ -51,6 +53,7 @@ impl Seats {
                 op: 0,
                 floor: 0,
                 operation: None,
+                answered: ServerSet::empty(),
             });
         }
         Ok(Seats { items })
@@ -66,7 +69,28 @@ impl Seats {
         let seat = &mut self.items[place];
         seat.op += 1;
         seat.operation = Some(operation);
+        seat.answered = ServerSet::empty();
         seat.op
+    }
+
+    // A server sends a reply to this message of a session.
+    #[inline(always)]
+    pub(crate) fn answers(&mut self, message: &MessageView<'_>) {
+        let seat = &mut self.items[message.session as usize - 1];
+        if let Some(operation) = &seat.operation
+            && operation.is_current(message)
+        {
+            seat.answered.insert(message.server as usize);
+        }
+    }
+
+    // The server is lost: each session that counts on it gives its operation up.
+    pub(crate) fn give_up(&mut self, server: usize) {
+        for place in 0..self.items.len() {
+            if self.items[place].counts_on(server) {
+                self.abandon(place);
+            }
+        }
     }
 
     // The session at the place sends its round's message once more, where the servers of `up` are up.
@@ -167,8 +191,25 @@ impl Seat {
                 self.rest(floor);
                 Ok(Heard::Done(outcome))
             }
+            Heard::Next {
+                round,
+                tag,
+                messages,
+            } => {
+                self.answered = ServerSet::empty();
+                Ok(Heard::Next {
+                    round,
+                    tag,
+                    messages,
+                })
+            }
             heard => Ok(heard),
         }
+    }
+
+    // Whether the session's operation counts on the server.
+    fn counts_on(&self, server: usize) -> bool {
+        self.operation.is_some() && self.answered.has(server)
     }
 
     // The session has no operation any more, and this is its own last number.

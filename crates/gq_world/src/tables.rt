@@ -16,6 +16,7 @@ ghost use Rattle.gq_world.specs.Tables.{no_seat};
 ghost use Rattle.gq_world.specs.Whole.{FewSessions};
 
 use crate::chooser::Chooser;
+use crate::mates::{mate_among, take_copies};
 use crate::new_files::add_everywhere;
 use crate::replies::{answer, serve};
 use crate::sending::answer_heard;
@@ -39,6 +40,8 @@ pub(crate) struct Core {
     alloc: Global,
     plan: Plan,
     up: Chooser,
+    // the servers that are not lost
+    kept: ServerSet,
     // how many steps of each tenant are taken
     lines: Vec<u32>,
     desk: Desk,
@@ -103,10 +106,12 @@ impl Core {
         let stores = new_stores(alloc, &plan)?;
         let seats = new_seats(alloc, &plan)?;
         let up = Chooser::new(*plan.grid());
+        let kept = ServerSet::all(plan.grid());
         Ok(Core {
             alloc,
             plan,
             up,
+            kept,
             lines,
             desk,
             post,
@@ -122,6 +127,7 @@ impl Core {
             alloc: _,
             plan,
             up,
+            kept: _,
             lines,
             desk,
             post,
@@ -608,6 +614,7 @@ impl Core {
             return Ok(Answer::Down);
         }
         let file = message.file;
+        self.seats[tenant as usize].answers(&message);
         let store = &mut self.stores[server];
         let response = serve(store, &mut self.content, &message)?;
         let number = answer(
@@ -633,11 +640,56 @@ impl Core {
         let servers = self.plan.grid().servers();
         if server as usize >= servers {
             Some(ServerRefusal::NoServer)
+        } else if !self.kept.has(server as usize) {
+            Some(ServerRefusal::Lost)
         } else if self.up.has(server as usize) == up {
             Some(ServerRefusal::Same)
         } else {
             None
         }
+    }
+
+    // Why a line is refused by which the server is lost.
+    fn loss_refusal(&self, server: u32) -> Option<ServerRefusal> {
+        let grid = self.plan.grid();
+        if server as usize >= grid.servers() {
+            Some(ServerRefusal::NoServer)
+        } else if !self.kept.has(server as usize) {
+            Some(ServerRefusal::Same)
+        } else if mate_among(grid, self.kept, server as usize).is_none() {
+            Some(ServerRefusal::Last)
+        } else {
+            None
+        }
+    }
+
+    // The mate that gives a server its copies which is repaired, or why the line is refused.
+    fn mate(&self, server: u32) -> Result<usize, ServerRefusal> {
+        let grid = self.plan.grid();
+        if server as usize >= grid.servers() {
+            Err(ServerRefusal::NoServer)
+        } else if self.kept.has(server as usize) {
+            Err(ServerRefusal::Same)
+        } else {
+            mate_among(grid, self.up.servers(), server as usize).ok_or(ServerRefusal::NoMate)
+        }
+    }
+
+    // The server is lost, with its copies; operations that count on it are given up.
+    fn lose_server(&mut self, server: usize) {
+        for tenant in 0..self.seats.len() {
+            self.seats[tenant].give_up(server);
+        }
+        self.stores[server].lose();
+        self.up.remove(server);
+        self.kept.remove(server);
+    }
+
+    // The server is up again, and has the copies of the mate.
+    fn repair(&mut self, server: usize, mate: usize) {
+        take_copies(&mut self.stores, server, mate);
+        self.up.insert(server);
+        self.kept.insert(server);
     }
 
     // A server line.
@@ -660,6 +712,20 @@ impl Core {
                 None => {
                     self.up.insert(*server as usize);
                     Answer::ServerOk
+                }
+            },
+            ServerLine::Lost { server } => match self.loss_refusal(*server) {
+                Some(word) => Answer::ServerRefused(word),
+                None => {
+                    self.lose_server(*server as usize);
+                    Answer::ServerOk
+                }
+            },
+            ServerLine::Repaired { server } => match self.mate(*server) {
+                Err(word) => Answer::ServerRefused(word),
+                Ok(mate) => {
+                    self.repair(*server as usize, mate);
+                    Answer::Repaired { mate: mate as u32 }
                 }
             },
         }

@@ -1,0 +1,35 @@
+//! Who can give a server its copies back.
+
+ghost use Rattle.std.specs.Prelude.{◌≡◌, ◌*◌, ◌<◌, ◌≤◌, IfSome};
+ghost use Rattle.gq_grid.specs.Sets.{servers};
+ghost use Rattle.gq_grid.specs.declared.TheConstants.{MOST_SERVERS};
+ghost use Rattle.gq_model.specs.Lone.{mate_among};
+
+use gq_grid::{Grid, ServerSet};
+use gq_phase::are_mates;
+use gq_store::ServerStore;
+
+/// The least server of the set that can give this one its copies back, itself left out.
+pub(crate) fn mate_among(grid: &Grid, set: ServerSet, server: usize) -> Option<usize>
+    requires { server < grid.now.rows * grid.now.cols }
+    ensures mate { result ≡ mate_among grid.now (servers set) server }
+    ensures within { IfSome result (λ mate. mate < grid.now.rows * grid.now.cols) }
+{
+    for mate in 0..grid.servers() {
+        if set.has(mate) && mate != server && are_mates(grid, server, mate) {
+            return Some(mate);
+        }
+    }
+    None
+}
+
+/// The server takes the copies of its mate.
+pub(crate) fn take_copies(stores: &mut Vec<ServerStore>, server: usize, mate: usize) {
+    if server < mate {
+        let (low, high) = stores.as_mut_slice().split_at_mut(mate);
+        low[server].take_from(&high[0]);
+    } else {
+        let (low, high) = stores.as_mut_slice().split_at_mut(server);
+        high[0].take_from(&low[mate]);
+    }
+}
