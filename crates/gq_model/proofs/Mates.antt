@@ -1,5 +1,6 @@
 -- Who gives a repaired server its copies is up, and stands in its column.
-use Rattle.std.proofs.Common.{◌≡◌, ℕ, ◌*◌, ◌<◌, ◌&&◌, Bool, true, false, not, Option, Some, None, refl, eqb, nat_lt, arith}
+use Rattle.std.proofs.Common.{◌≡◌, ℕ, ◌*◌, ◌<◌, ◌&&◌, Bool, true, false, not, Option, Some, None, refl, ap, eqb, nat_lt, arith}
+use Rattle.std.specs.Prelude.{unwrap_or}
 use Rattle.std.proofs.lemmas.Bool.{true≢false, and_parts, not-true}
 use Rattle.gq_grid.specs.Grid.{Grid, Servers}
 use Rattle.gq_grid.proofs.Meeting.{found_passes}
@@ -38,7 +39,7 @@ repair grid up gone n fine = go (nat_lt n (grid.rows * grid.cols)) refl (gone n)
     go false out c is m found = absurd (true≢false (rw out at fine))
     go true within false back m found = absurd (true≢false (rw (within, back) at fine))
     go true within true lost None none = absurd (true≢false (rw (within, lost, none) at fine))
-    go true within true lost (Some mate) found = record { mate = mate; told = rw (within, lost, found) refl; lost = lost; is_mate = mate_is grid up n mate found }
+    go true within true lost (Some mate) found = record { mate = mate; told = rw (within, lost, found) (ap Repaired (ap (λ o. unwrap_or o n) found)); lost = lost; is_mate = mate_is grid up n mate found }
 
 -- a server that comes back was not lost
 pub comes_kept : (grid : Grid) (up gone : Servers) (n : ℕ) → is_refusal (server_told grid up gone (Up n)) ≡ false → gone n ≡ false
