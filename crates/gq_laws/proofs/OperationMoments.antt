@@ -11,7 +11,7 @@ use Rattle.gq_desk.specs.declared.volumes.VolumeRow.{VolumeRow}
 use Rattle.gq_phase.specs.Phase.{Task, Writing, Reading, Listing, Operation, HeardNext, HeardDone, hear_current, with_reply, is_collect, stored_copy, decided_copy, with_decided}
 use Rattle.gq_phase.specs.declared.Outcome.{Outcome}
 use Rattle.gq_phase.specs.declared.Outcome.TheVariants.{Wrote}
-use Rattle.gq_model.specs.Trace.{files_of, Turn, Own, Trace, Past, Begins, Moves, Ends, Leaps, up, task_of, volumes}
+use Rattle.gq_model.specs.Trace.{files_of, Turn, Own, Serving, Leaping, Losing, Returning, Entry, Trace, Past, Begins, Moves, Ends, Leaps, deed, up, task_of, volumes}
 use Rattle.gq_model.specs.declared.events.Line.{Line}
 use Rattle.gq_model.specs.declared.events.Line.TheVariants.{Write, Read, List as ListFiles}
 use Rattle.gq_model.specs.Told.{Told, Began}
@@ -322,6 +322,17 @@ pub record Begun (grid : Grid) (row : TenantRow) (file : File) (p : Past) (n : �
   pub begin : a.begin ≡ n
   pub like : BegunAs file (volumes p.trace) a task (ending a.session rest) (write_tag a.session rest)
 
+-- a line of the tenant gives up no operation
+own_deed : (t : Trace) (k : ℕ) (e : Entry) (line : Line) → e.turn ≡ Own line → deed_on t k e ≡ deed k e
+own_deed t k e line is = go e.turn e.message e.told e.new is
+  where
+    go : (turn : Turn) (message : Option OwnMessage) (told : Told) (new : List OwnMessage) → turn ≡ Own line → deed_on t k (record { turn = turn; message = message; told = told; new = new }) ≡ deed k (record { turn = turn; message = message; told = told; new = new })
+    go (Own l) message told new is = refl
+    go (Serving l) message told new is = absurd (let bad : Serving l ≡ Own line = is in cc)
+    go (Leaping s last number) message told new is = refl
+    go (Losing s volumes) message told new is = refl
+    go (Returning s f mate copy) message told new is = refl
+
 began_goes : (grid : Grid) (row : TenantRow) (p : Past) (x : Turn) (o first count : ℕ) → said grid row p x ≡ Began o first count → Goes grid row p x
 began_goes grid row p x o first count says = go (goes_or_not grid row p x)
   where
@@ -350,7 +361,7 @@ begun_is grid row file p n (Own (Write k v f bytes)) rest a i h = go (said grid 
             let g = began_goes grid row p (Own (Write k v f bytes)) o first count is in
             let same = one_of (record { kind = Writes bytes; session = k; op = o; begin = n; end = end_place (ending k rest); tag = write_tag k rest }) a i (rw (is, e) at h) in
             let P : Op → Type 0 = λ z. Begun grid row file p n (Own (Write k v f bytes)) rest z in
-            subst P same (record { g = g; line = Write k v f bytes; task = Writing (record { volume = v; place = f }) bytes; turn = refl; does = rw (g.turn, eq-eqb k k refl); asks = refl; begin = refl; like = AsWrite bytes (ap (λ z. Writing z bytes) (same_file (record { volume = v; place = f }) file e)) refl refl refl })
+            subst P same (record { g = g; line = Write k v f bytes; task = Writing (record { volume = v; place = f }) bytes; turn = refl; does = own_deed p.trace k g.e (Write k v f bytes) g.turn ∙ rw (g.turn, eq-eqb k k refl) refl; asks = refl; begin = refl; like = AsWrite bytes (ap (λ z. Writing z bytes) (same_file (record { volume = v; place = f }) file e)) refl refl refl })
     go _ is = absurd (let bad : None ≡ Some a = rw is at h in cc)
 begun_is grid row file p n (Own (Read k v f)) rest a i h = go (said grid row p (Own (Read k v f))) refl
   where
@@ -363,7 +374,7 @@ begun_is grid row file p n (Own (Read k v f)) rest a i h = go (said grid row p (
             let g = began_goes grid row p (Own (Read k v f)) o first count is in
             let same = one_of (record { kind = Reads (option_map (λ c. c.bytes) (copy_told (ending k rest))); session = k; op = o; begin = n; end = end_place (ending k rest); tag = option_map (λ c. c.tag) (copy_told (ending k rest)) }) a i (rw (is, e) at h) in
             let P : Op → Type 0 = λ z. Begun grid row file p n (Own (Read k v f)) rest z in
-            subst P same (record { g = g; line = Read k v f; task = Reading (record { volume = v; place = f }); turn = refl; does = rw (g.turn, eq-eqb k k refl); asks = refl; begin = refl; like = AsRead (ap Reading (same_file (record { volume = v; place = f }) file e)) refl refl refl })
+            subst P same (record { g = g; line = Read k v f; task = Reading (record { volume = v; place = f }); turn = refl; does = own_deed p.trace k g.e (Read k v f) g.turn ∙ rw (g.turn, eq-eqb k k refl) refl; asks = refl; begin = refl; like = AsRead (ap Reading (same_file (record { volume = v; place = f }) file e)) refl refl refl })
     go _ is = absurd (let bad : None ≡ Some a = rw is at h in cc)
 begun_is grid row file p n (Own (ListFiles k v)) rest a i h = go (said grid row p (Own (ListFiles k v))) refl
   where
@@ -376,7 +387,7 @@ begun_is grid row file p n (Own (ListFiles k v)) rest a i h = go (said grid row 
             let g = began_goes grid row p (Own (ListFiles k v)) o first count is in
             let same = one_of (record { kind = Rows (option_map (λ r. r.length) (row_told file.place (ending k rest))); session = k; op = o; begin = n; end = end_place (ending k rest); tag = option_map (λ r. r.tag) (row_told file.place (ending k rest)) }) a i (rw (is, e) at h) in
             let P : Op → Type 0 = λ z. Begun grid row file p n (Own (ListFiles k v)) rest z in
-            subst P same (record { g = g; line = ListFiles k v; task = Listing v (files_of (volumes p.trace) v); turn = refl; does = rw (g.turn, eq-eqb k k refl); asks = refl; begin = refl; like = AsRow (ap (λ z. Listing z (files_of (volumes p.trace) z)) (eqb-true v file.volume e)) refl refl refl })
+            subst P same (record { g = g; line = ListFiles k v; task = Listing v (files_of (volumes p.trace) v); turn = refl; does = own_deed p.trace k g.e (ListFiles k v) g.turn ∙ rw (g.turn, eq-eqb k k refl) refl; asks = refl; begin = refl; like = AsRow (ap (λ z. Listing z (files_of (volumes p.trace) z)) (eqb-true v file.volume e)) refl refl refl })
     go _ is = absurd (let bad : None ≡ Some a = rw is at h in cc)
 begun_is grid row file p n x rest a i h = absurd (let bad : None ≡ Some a = h in cc)
 
