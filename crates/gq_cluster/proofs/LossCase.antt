@@ -1,9 +1,7 @@
 -- A worked case, computed: of two nodes in one column one loses its disk, and is given its file by the other. No proof rests on it. The
 -- words on quorums are opened here to compute, as in WorkedCase.
-use Rattle.std.proofs.Common.{◌≡◌, ℕ, zero, suc, ◌-◌, ◌%◌, true, false, List, [], ◌∷◌, ◌++◌, map, refl, subst, Some, None, arith}
-use Rattle.std.specs.Prelude.{Contains, filter_map}
+use Rattle.std.proofs.Common.{◌≡◌, ℕ, zero, suc, ◌-◌, ◌%◌, false, List, [], ◌∷◌, ◌++◌, map, refl, subst, Some, None, arith}
 use Rattle.gq_grid.specs.Grid.{Grid}
-use Rattle.gq_tag.specs.declared.Tag.{Tag}
 use Rattle.gq_tag.specs.declared.StoredCopy.{StoredCopy}
 use Rattle.gq_tag.specs.declared.Body.{Body}
 use Rattle.gq_tag.specs.declared.Body.TheVariants.{Ask, Copy, Store, Stored}

@@ -24,7 +24,7 @@ use Rattle.gq_cluster.specs.Laws.{arrival_by, turn_exchanges, exchanges_from, di
 use Rattle.gq_cluster.proofs.ServerLines.{NoneGone, as_aimed, SetsAll, all_set}
 use Rattle.gq_cluster.proofs.Numbers.{numbered, numbered_step, refusal_is, said_is, delivered_deed_is}
 use Rattle.gq_cluster.proofs.Alike.{asked_alike, heard_alike, served_alike}
-use Rattle.gq_cluster.proofs.Parts.{state_at, part_then, parts_then, parts_lack, parts_here, parts_away, refused_part, accepted_part, refused_quiet}
+use Rattle.gq_cluster.proofs.Parts.{state_at, act_deed, part_then, parts_then, parts_lack, parts_here, parts_away, refused_part, accepted_part, refused_quiet}
 use Rattle.gq_cluster.proofs.Standing.{Stands, stands_on, lines_of_disks, holds_as, offers_on, exchanges_behind}
 
 -- whether the server serves the file, at this past; and as the act's node has it
@@ -139,7 +139,9 @@ sessions_go s q c act stands e deeds elsewhere k = by (cases_eq (s.home k) (node
     by : (s.home k ≡ node_of s.home act) ⊎ (s.home k ≢ node_of s.home act) → session_by (volumes q.trace) k (deed k e) (session q.trace k) ≡ (parts_then s c act (s.home k)).session k
     by (inl same) =
         let its : session q.trace k ≡ (c.part (node_of s.home act)).session k = stands.sessions k ∙ ap (λ z. (c.part z).session k) same in
-        (λ i. session_by (stands.opened i) k (deeds k i) (its i)) ∙ ap (λ z. z.session k) (sym (parts_here s c act (s.home k) same))
+        (λ i. session_by (stands.opened i) k (deeds k i) (its i))
+        ∙ ap (λ d. session_by s.volumes k d ((c.part (node_of s.home act)).session k)) (sym (act_deed [] k ((c.part (node_of s.home act)).session k) act (step_in s c act)))
+        ∙ ap (λ z. z.session k) (sym (parts_here s c act (s.home k) same))
     by (inr ne) =
         (λ i. session_by (volumes q.trace) k (elsewhere k ne i) (session q.trace k)) ∙ stands.sessions k ∙ ap (λ z. z.session k) (sym (parts_away s c act (s.home k) ne))
 

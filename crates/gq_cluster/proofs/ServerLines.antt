@@ -71,10 +71,14 @@ apart_is : (p : Past) (wanted : Bool) (n x : ℕ) → n ≢ x → up (with_chang
 apart_is p true n x ne = rw (ne_eqb n x ne) refl
 apart_is p false n x ne = rw (ne_eqb n x ne) refl
 
+offers_is : (p : Past) (wanted : Bool) (n : ℕ) → OffersMore p (with_change p (change wanted n))
+offers_is p true n = λ server file mate copy within. Contains-append_left (offered p.trace server file mate) _ copy within
+offers_is p false n = λ server file mate copy within. Contains-append_left (offered p.trace server file mate) _ copy within
+
 changes : (p q : Past) (wanted : Bool) (n : ℕ) → q ≡ with_change p (change wanted n) → Sets p q wanted n
 changes p q wanted n same =
     let P : Past → Type 0 = λ z. Sets p z wanted n in
-    subst P (sym same) (record { lines = refl; rest = rest_stays p wanted n; this = this_is p wanted n; apart = apart_is p wanted n; offers = λ server file mate copy within. Contains-append_left (offered p.trace server file mate) _ copy within })
+    subst P (sym same) (record { lines = refl; rest = rest_stays p wanted n; this = this_is p wanted n; apart = apart_is p wanted n; offers = offers_is p wanted n })
 
 -- what is told to the line decides
 after_serving : (grid : Grid) (row : TenantRow) (p : Past) (line : ServerLine) (w : Told) → server_told grid (up p.trace) (gone p.trace) line ≡ w → after grid row p (Serving line) ≡ record { lines = p.lines; trace = trace_after p.trace (Serving line) (quiet w) }

@@ -54,11 +54,11 @@ stands_on s p q c aim all stands = record {
 -- by them no disk is lost
 pub lines_of_disks : (aim : Servers) (servers : List ℕ) → filter_map disk_turn (lines_for aim servers) ≡ []
 lines_of_disks aim [] = refl
-lines_of_disks aim (n ∷ servers) = by (aim n)
+lines_of_disks aim (n ∷ servers) = by (aim n) (lines_of_disks aim servers)
   where
-    by : (b : Bool) → filter_map disk_turn (Serving (change b n) ∷ lines_for aim servers) ≡ []
-    by true = lines_of_disks aim servers
-    by false = lines_of_disks aim servers
+    by : (b : Bool) → filter_map disk_turn (lines_for aim servers) ≡ [] → filter_map disk_turn (Serving (change b n) ∷ lines_for aim servers) ≡ []
+    by true later = later
+    by false later = later
 
 -- they do nothing to a session or to a server
 pub exchanges_behind : (grid : Grid) (row : TenantRow) (aim : Servers) (servers : List ℕ) (turns : List Turn) (p : Past) →
