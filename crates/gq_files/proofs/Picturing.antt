@@ -19,7 +19,7 @@ use Rattle.gq_model.specs.Events.{server_turn, server_lines, answer_to}
 use Rattle.gq_picture.specs.declared.absences.Absence.{Absence}
 use Rattle.gq_picture.specs.declared.absences.Effect.{Effect}
 use Rattle.gq_picture.specs.declared.absences.Effect.TheVariants.{Nothing, GoesDown, ComesBack}
-use Rattle.gq_picture.specs.Absences.{effect, absence_at, absences, counted_from, is_return, return_place}
+use Rattle.gq_picture.specs.Absences.{effect_of, absence_at, absences, counted_from, is_return, return_place}
 use Rattle.gq_picture.proofs.Outages.{effects_from, effects_are}
 use Rattle.gq_picture.specs.Drawing.{IsDrawing}
 use Rattle.gq_picture.specs.Laws.{TellsNoLie, all_effects}
@@ -45,8 +45,8 @@ as_many t n (e ∷ events) = by (is_seen (Some t) e) refl (as_many t (n + 1) eve
     by false is later = rw is later
 
 -- a server line does the same behind the same server lines
-line_same : (plan : CheckedPlan) (seen past : List Event) (line : ServerLine) → server_lines seen ≡ server_lines past → effect (OfServer line) (answer_to plan seen (OfServer line)) ≡ effect (OfServer line) (answer_to plan past (OfServer line))
-line_same plan seen past line same = λ i. effect (OfServer line) (said plan.grid nobody (past_of plan.grid nobody (same i)) (Serving line))
+line_same : (plan : CheckedPlan) (seen past : List Event) (line : ServerLine) → server_lines seen ≡ server_lines past → effect_of (OfServer line) (answer_to plan seen (OfServer line)) ≡ effect_of (OfServer line) (answer_to plan past (OfServer line))
+line_same plan seen past line same = λ i. effect_of (OfServer line) (said plan.grid nobody (past_of plan.grid nobody (same i)) (Serving line))
 
 lines_more : (seen past : List Event) (event : Event) → server_lines seen ≡ server_lines past → server_lines (seen ++ event ∷ []) ≡ server_lines (past ++ event ∷ [])
 lines_more seen past event same = filter_map-append server_turn seen (event ∷ []) ∙ ap (λ z. z ++ filter_map server_turn (event ∷ [])) same ∙ sym (filter_map-append server_turn past (event ∷ []))
@@ -80,7 +80,7 @@ unfolding effects_from
 absences_seen plan t n servers seen past [] same = refl
 absences_seen plan t n servers seen past (OfServer line ∷ events) same =
     let more : server_lines (seen ++ OfServer line ∷ []) ≡ server_lines (past ++ OfServer line ∷ []) = lines_more seen past (OfServer line) same in
-    let here : Effect = effect (OfServer line) (answer_to plan past (OfServer line)) in
+    let here : Effect = effect_of (OfServer line) (answer_to plan past (OfServer line)) in
     (λ i. absence_at servers n (line_same plan seen past line same i) (seen_places (Some t) (n + 1) events) (effects_from plan (seen ++ OfServer line ∷ []) (seen_events (Some t) events)) ++ absences_seen plan t (n + 1) servers (seen ++ OfServer line ∷ []) (past ++ OfServer line ∷ []) events more i)
     ∙ ap (λ first. first ++ absences servers (counted_from (n + 1) (effects_from plan (past ++ OfServer line ∷ []) events)) (effects_from plan (past ++ OfServer line ∷ []) events))
     (absence_same servers n here (seen_places (Some t) (n + 1) events) (counted_from (n + 1) (effects_from plan (past ++ OfServer line ∷ []) events)) (effects_from plan (seen ++ OfServer line ∷ []) (seen_events (Some t) events)) (effects_from plan (past ++ OfServer line ∷ []) events)

@@ -1,11 +1,10 @@
 -- The absences that are read off events are the times in which the model has a server down.
-use Rattle.std.proofs.Common.{◌≡◌, ◌≢◌, ◌⊎◌, ◌∙◌, ℕ, zero, suc, ◌+◌, ◌*◌, ◌<◌, ◌≤◌, Bool, true, false, List, [], ◌∷◌, ◌++◌, length, Option, Some, None, refl, sym, ap, subst, arith, inl, inr, append_assoc, append-nil}
-use Rattle.std.specs.Prelude.{◌==◌, ◌||◌, nat_lt, fold, slice_index_or, Contains, if◌then◌else◌}
+use Rattle.std.proofs.Common.{◌≡◌, ◌⊎◌, ◌∙◌, ℕ, zero, suc, ◌+◌, ◌*◌, ◌<◌, ◌≤◌, Bool, true, false, List, [], ◌∷◌, ◌++◌, length, Option, Some, None, refl, sym, ap, subst, arith, inl, inr, append_assoc, append-nil}
+use Rattle.std.specs.Prelude.{◌==◌, ◌||◌, nat_lt, slice_index_or, Contains, if◌then◌else◌}
 use Rattle.std.proofs.lemmas.Bool.{cases_eq, cases_Bool, eq-eqb, ne_eqb, lt-ltb}
 use Rattle.std.proofs.lemmas.List.Elements.{Contains-append_left, Contains-append_right, Contains-append_cases}
-use Rattle.gq_grid.specs.Grid.{Grid, Servers}
+use Rattle.gq_grid.specs.Grid.{Servers}
 use Rattle.gq_desk.specs.CheckedPlan.{CheckedPlan, row_at}
-use Rattle.gq_desk.specs.declared.plans.TenantRow.{TenantRow}
 use Rattle.gq_model.specs.declared.events.Event.{Event}
 use Rattle.gq_model.specs.declared.events.Event.TheVariants.{Tenant, Server as OfServer, Stray}
 use Rattle.gq_model.specs.declared.events.ServerLine.{ServerLine}
@@ -14,12 +13,12 @@ use Rattle.gq_model.specs.Trace.{Own, Serving, Past, up, up_by, gone}
 use Rattle.gq_model.specs.Lone.{after, is_refusal, server_told}
 use Rattle.gq_model.specs.Events.{past_at, server_past, answer_to}
 use Rattle.gq_laws.specs.Tenants.{answers_from}
-use Rattle.gq_laws.proofs.Acts.{SameServers, servers_own, next_up, next_up_is}
+use Rattle.gq_laws.proofs.Acts.{SameServers, servers_own, next_up_is}
 use Rattle.gq_laws.proofs.AllTenants.{servers_same, past_more}
 use Rattle.gq_picture.specs.declared.absences.Absence.{Absence}
 use Rattle.gq_picture.specs.declared.absences.Effect.{Effect}
 use Rattle.gq_picture.specs.declared.absences.Effect.TheVariants.{Nothing, GoesDown, ComesBack}
-use Rattle.gq_picture.specs.Absences.{line_effect, effect, effects, is_return, return_place, absence_at, absences, counted_from}
+use Rattle.gq_picture.specs.Absences.{line_effect, effect_of, effects, is_return, return_place, absence_at, absences, counted_from}
 use Rattle.gq_picture.specs.Laws.{all_effects, IsAbsentAt, AbsencesAreTrue}
 
 -- ---- the model
@@ -43,7 +42,7 @@ next_line false before (Lost n) s = refl
 next_line false before (Repaired n) s = refl
 
 -- by one event
-event_is : (plan : CheckedPlan) (t s : ℕ) (past : List Event) (event : Event) → up (past_at plan t (past ++ event ∷ [])).trace s ≡ next s (effect event (answer_to plan past event)) (up (past_at plan t past).trace s)
+event_is : (plan : CheckedPlan) (t s : ℕ) (past : List Event) (event : Event) → up (past_at plan t (past ++ event ∷ [])).trace s ≡ next s (effect_of event (answer_to plan past event)) (up (past_at plan t past).trace s)
 event_is plan t s past (Tenant u line) = elim (cases_eq u t) [
   | inl same ↦ (ap (λ (p : Past). up p.trace s) (past_more plan t past (Tenant u line) (Some (Own line)) (rw (eq-eqb u t same) refl)) ∙ ap (λ (f : Servers). f s) (servers_own plan.grid (row_at plan t) (past_at plan t past) line).up)
   | inr other ↦ (ap (λ (p : Past). up p.trace s) (past_more plan t past (Tenant u line) None (rw (ne_eqb u t other) refl)))
@@ -59,12 +58,12 @@ event_is plan t s past Stray = ap (λ (p : Past). up p.trace s) (past_more plan 
 -- what the events do that come after those past
 unfoldable pub effects_from : CheckedPlan → List Event → List Event → List Effect
 effects_from plan past [] = []
-effects_from plan past (event ∷ events) = effect event (answer_to plan past event) ∷ effects_from plan (past ++ event ∷ []) events
+effects_from plan past (event ∷ events) = effect_of event (answer_to plan past event) ∷ effects_from plan (past ++ event ∷ []) events
 
 pub effects_are : (plan : CheckedPlan) (past events : List Event) → effects events (answers_from plan past events) ≡ effects_from plan past events
 unfolding effects_from
 effects_are plan past [] = refl
-effects_are plan past (event ∷ events) = ap (λ more. effect event (answer_to plan past event) ∷ more) (effects_are plan (past ++ event ∷ []) events)
+effects_are plan past (event ∷ events) = ap (λ more. effect_of event (answer_to plan past event) ∷ more) (effects_are plan (past ++ event ∷ []) events)
 
 joined : (past before : List Event) (event : Event) → (past ++ event ∷ []) ++ before ≡ past ++ event ∷ before
 joined past before event = rw append_assoc refl
@@ -73,7 +72,7 @@ effects_from-append : (plan : CheckedPlan) (past before after : List Event) → 
 unfolding effects_from
 effects_from-append plan past [] after = ap (λ z. effects_from plan z after) (sym (append-nil past))
 effects_from-append plan past (event ∷ before) after =
-    ap (λ more. effect event (answer_to plan past event) ∷ more)
+    ap (λ more. effect_of event (answer_to plan past event) ∷ more)
     (effects_from-append plan (past ++ event ∷ []) before after ∙ ap (λ z. effects_from plan (past ++ event ∷ []) before ++ effects_from plan z after) (joined past before event))
 
 effects_from-length : (plan : CheckedPlan) (past events : List Event) → length (effects_from plan past events) ≡ length events
@@ -291,7 +290,7 @@ absences_are_true plan t s before after event small = (
     first = effects_from plan [] before
 
     this : Effect
-    this = effect event (answer_to plan before event)
+    this = effect_of event (answer_to plan before event)
 
     later : List Effect
     later = effects_from plan (before ++ event ∷ []) after

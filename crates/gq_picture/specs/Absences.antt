@@ -19,14 +19,14 @@ line_effect (Lost server) = GoesDown server
 line_effect (Repaired server) = ComesBack server
 
 -- what an event does to servers of which this is told
-abbrev pub effect : Event → Told → Effect
-effect (OfServer line) told = if is_refusal told then Nothing else line_effect line
-effect (Tenant tenant line) told = Nothing
-effect Stray told = Nothing
+abbrev pub effect_of : Event → Told → Effect
+effect_of (OfServer line) told = if is_refusal told then Nothing else line_effect line
+effect_of (Tenant tenant line) told = Nothing
+effect_of Stray told = Nothing
 
 -- what events do of which these are told
 abbrev pub effects : List Event → List Told → List Effect
-effects (event ∷ events) (told ∷ more) = effect event told ∷ effects events more
+effects (event ∷ events) (told ∷ more) = effect_of event told ∷ effects events more
 effects _ _ = []
 
 -- the server comes back by it

@@ -3,7 +3,7 @@
 ghost use Rattle.std.specs.Prelude.{◌≡◌, ◌≤◌, ◌++◌, length, map, reverse, IfOk, OnOk, None, get_or};
 ghost use Rattle.gq_model.specs.Lone.{is_refusal};
 ghost use Rattle.gq_model.specs.Shown.{shown};
-ghost use Rattle.gq_picture.specs.Absences.{absence_in, absences, effect, effects, line_effect, with_return};
+ghost use Rattle.gq_picture.specs.Absences.{absence_in, absences, effect_of, effects, line_effect, with_return};
 
 use gq_memory::{GrowVec, OutOfMemory, filled};
 use gq_model::{Answer, Event, ServerLine};
@@ -50,8 +50,8 @@ fn line_effect(line: ServerLine) -> Effect
 }
 
 // What the event of this answer does to servers.
-fn effect(event: &Event, answer: &Answer) -> Effect
-    ensures { result ≡ effect event.now (shown answer.now) }
+fn effect_of(event: &Event, answer: &Answer) -> Effect
+    ensures { result ≡ effect_of event.now (shown answer.now) }
 {
     match event {
         Event::Server { line } => {
@@ -66,6 +66,7 @@ fn effect(event: &Event, answer: &Answer) -> Effect
 }
 
 /// What the events of these answers do to servers.
+#[tactic(auto, using(crate::proofs::Effects::effects_all))]
 pub fn read_effects(
     alloc: Global,
     events: &[Event],
@@ -76,7 +77,7 @@ pub fn read_effects(
 {
     let mut all = Vec::new(alloc);
     for i in 0..events.len() {
-        all.grow(effect(&events[i], &answers[i]))?;
+        all.grow(effect_of(&events[i], &answers[i]))?;
     }
     Ok(all)
 }
