@@ -3,6 +3,7 @@ pub mod AllLines
 pub mod Bounding
 pub mod Choosing
 pub mod Composing
+pub mod Counting
 pub mod Delivering
 pub mod Hearing
 pub mod Keeping

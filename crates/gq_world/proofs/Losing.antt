@@ -48,7 +48,7 @@ nothing_tells w t n there known agrees = sym (told_by (own_message_at known.stat
 pub nothing_acts : (w : Tables) (t n : ℕ) → is_some (message_at (lane_at w.lanes t) n) ≡ false → Acts w t (Lose n) w
 nothing_acts w t n there = record {
   plan = refl;
-  own = λ known agrees. subst (Agrees w t) (sym (refused known (told_by (own_message_at known.state n) false (was_there w t n known false agrees there)))) agrees;
+  own = λ known most bounded agrees. subst (Agrees w t) (sym (refused known (told_by (own_message_at known.state n) false (was_there w t n known false agrees there)))) agrees;
   others = λ u other known agrees. agrees;
   servers = refl;
   gone = refl;
@@ -125,7 +125,7 @@ lost_other w t u n known other agrees = record {
 pub lost_acts : (w : Tables) (t n : ℕ) → t < length w.lanes → is_some (message_at (lane_at w.lanes t) n) ≡ true → Acts w t (Lose n) (record w { lanes = lost w.lanes t n })
 lost_acts w t n within there = record {
   plan = refl;
-  own = λ known agrees.
+  own = λ known most bounded agrees.
       let known_there : is_some (own_message_at known.state n) ≡ true = was_there w t n known true agrees there in
       subst (Agrees (record w { lanes = lost w.lanes t n }) t) (sym (lost_known w t n known (told_by (own_message_at known.state n) true known_there))) (lost_own w t n known within known_there agrees);
   others = λ u other known agrees. lost_other w t u n known other agrees;

@@ -10,6 +10,7 @@ use Rattle.gq_model.specs.Told.{Told, StrayBad}
 use Rattle.gq_model.specs.Trace.{Turn, Own, Serving, Leaping, Losing, Returning, State, Known, changed, up_by, gone_by}
 use Rattle.gq_model.specs.Lone.{Step, entry_of, step, told, line_step, line_told, is_refusal, server_told}
 use Rattle.gq_model.specs.Events.{turn_of}
+use Rattle.gq_world.specs.Bounds.{IsBounded}
 use Rattle.gq_world.specs.Tables.{Tables, Agrees, up_in, gone_in}
 
 -- the steps that are taken after a turn
@@ -44,10 +45,11 @@ gone_after grid up gone (Server line) = if is_refusal (server_told grid up gone 
 gone_after grid up gone (Tenant tenant line) = gone
 gone_after grid up gone Stray = gone
 
--- the event leads from the old tables to the new: whatever the tables had for a tenant, they have after what the tenant sees of it
+-- the event leads from the old tables to the new: whatever the tables had for a tenant that can be known of a run, they have after what the
+-- tenant sees of it
 pub record Advances (old : Tables) (event : Event) (new : Tables) : Type 0 where
   pub plan : new.plan ≡ old.plan
-  pub tenants : (t : ℕ) → t < length old.plan.rows → (known : Known) → Agrees old t known → Agrees new t (next_seen old.plan.grid (row_at old.plan t) known (turn_of t event))
+  pub tenants : (t : ℕ) → t < length old.plan.rows → (known : Known) (most : ℕ) → IsBounded old.plan.grid (row_at old.plan t) most known.state → Agrees old t known → Agrees new t (next_seen old.plan.grid (row_at old.plan t) known (turn_of t event))
   pub servers : up_in new.plan.grid new.up ≡ up_after old.plan.grid (up_in old.plan.grid old.up) (gone_in old.plan.grid old.kept) event
   pub gone : gone_in new.plan.grid new.kept ≡ gone_after old.plan.grid (up_in old.plan.grid old.up) (gone_in old.plan.grid old.kept) event
 
@@ -66,7 +68,7 @@ acted grid row known line = record { lines = known.lines; state = state_after_tu
 -- it leads from the old tables to the new: the tenant's part goes on, and the others' are unchanged
 pub record Acts (old : Tables) (t : ℕ) (line : Line) (new : Tables) : Type 0 where
   pub plan : new.plan ≡ old.plan
-  pub own : (known : Known) → Agrees old t known → Agrees new t (acted old.plan.grid (row_at old.plan t) known line)
+  pub own : (known : Known) (most : ℕ) → IsBounded old.plan.grid (row_at old.plan t) most known.state → Agrees old t known → Agrees new t (acted old.plan.grid (row_at old.plan t) known line)
   pub others : (u : ℕ) → u ≢ t → (known : Known) → Agrees old u known → Agrees new u known
   pub servers : up_in new.plan.grid new.up ≡ up_in old.plan.grid old.up
   pub gone : gone_in new.plan.grid new.kept ≡ gone_in old.plan.grid old.kept

@@ -1,9 +1,10 @@
 //! Who can give a server its copies back.
 
-ghost use Rattle.std.specs.Prelude.{◌≡◌, ◌*◌, ◌<◌, ◌≤◌, IfSome};
+ghost use Rattle.std.specs.Prelude.{◌≡◌, ◌≢◌, ◌*◌, ◌<◌, length, slice_set, IfSome};
 ghost use Rattle.gq_grid.specs.Sets.{servers};
-ghost use Rattle.gq_grid.specs.declared.TheConstants.{MOST_SERVERS};
 ghost use Rattle.gq_model.specs.Lone.{mate_among};
+ghost use Rattle.gq_store.specs.Copies.{store_accounts};
+ghost use Rattle.gq_world.specs.Tables.{store_at};
 
 use gq_grid::{Grid, ServerSet};
 use gq_phase::are_mates;
@@ -23,8 +24,15 @@ pub(crate) fn mate_among(grid: &Grid, set: ServerSet, server: usize) -> Option<u
     None
 }
 
-/// The server takes the copies of its mate.
-pub(crate) fn take_copies(stores: &mut Vec<ServerStore>, server: usize, mate: usize) {
+/// The server takes the copies of its mate, another server.
+pub(crate) fn take_copies(stores: &mut Vec<ServerStore>, server: usize, mate: usize)
+    requires server { server < length stores.old.items }
+    requires mate { mate < length stores.old.items }
+    requires apart { mate ≢ server }
+    requires accounts { store_accounts (store_at stores.old.items server) ≡ store_accounts (store_at stores.old.items mate) }
+    requires blocks { (store_at stores.old.items server).blocks ≡ (store_at stores.old.items mate).blocks }
+    ensures { stores.new.items ≡ slice_set stores.old.items server (store_at stores.old.items mate) }
+{
     if server < mate {
         let (low, high) = stores.as_mut_slice().split_at_mut(mate);
         low[server].take_from(&high[0]);

@@ -105,7 +105,7 @@ returns-then-not-to_server-clause-acts c =
       others = λ place other. c.hear.ensures.others place other ∙ ap (λ seats. seat_in seats place) seats_is;
     } in
     let now = ap (λ (x : Tables). record x { lanes = with_sent x.lanes t (messages_of heard); seats = slice_set x.seats t c.hear.new.self }) (sym c.self.view_is) in
-    let V : List Lane → Tables = λ lanes. record { plan = c.self.inside.plan; up = c.self.inside.up.up; lines = c.self.inside.lines.items; desk = c.self.inside.desk; lanes = lanes; stores = c.self.inside.stores.items; seats = slice_set c.self.inside.seats.items t c.hear.new.self } in
+    let V : List Lane → Tables = λ lanes. record { plan = c.self.inside.plan; up = c.self.inside.up.up; kept = c.self.inside.kept; lines = c.self.inside.lines.items; desk = c.self.inside.desk; lanes = lanes; stores = c.self.inside.stores.items; seats = slice_set c.self.inside.seats.items t c.hear.new.self } in
     on_ok_weaker {P = c.answer_heard.new.post ≡ with_sent c.self.inside.post t (messages_of heard)} {Q = Acts w t (Deliver n) (V c.answer_heard.new.post)} c.answer_heard.result
     (λ sent. subst (Acts w t (Deliver n)) (now ∙ ap V (sym sent)) (heard_acts w t n m c.hear.new.self heard at))
     c.answer_heard.ensures.sent
@@ -284,7 +284,7 @@ returns-clause-acts c =
     } in
     let asked : message_at (lane_at c.self.inside.post t) c.from-2.result ≡ Some m = ap (message_at (lane_at c.self.inside.post t)) (c.from-2.ensures ∙ sym c.from.ensures) ∙ sym c.in-Some.ensures in
     let now = ap (λ (x : Tables). record x { stores = slice_set x.stores m.server c.answer.new.store; lanes = with_sent x.lanes t (reply ∷ []) }) (sym c.self.view_is) in
-    let V : List Lane → ℕ → Tables = λ lanes place. record { plan = c.self.inside.plan; up = c.self.inside.up.up; lines = c.self.inside.lines.items; desk = c.self.inside.desk; lanes = lanes; stores = slice_set c.self.inside.stores.items place c.answer.new.store; seats = c.self.inside.seats.items } in
+    let V : List Lane → ℕ → Tables = λ lanes place. record { plan = c.self.inside.plan; up = c.self.inside.up.up; kept = c.self.inside.kept; lines = c.self.inside.lines.items; desk = c.self.inside.desk; lanes = lanes; stores = slice_set c.self.inside.stores.items place c.answer.new.store; seats = c.self.inside.seats.items } in
     subst (Acts w t (Deliver n)) (now ∙ ap (λ lanes. V lanes m.server) (sym (c.in_ok-number.ensures.sent m asked)) ∙ ap (V c.answer.new.post) (sym server)) (served_acts w t n m reply c.answer.new.store r at)
 
 pub hear-requires-clause-first : goal.hear-requires-clause-first
@@ -498,7 +498,7 @@ returns-then-noted-clause-acts c =
       hears = hears;
       others = λ place other. c.notes.ensures.others place other ∙ ap (λ seats. seat_in seats place) seats_was;
     } in
-    let V : List Lane → Tables = λ lanes. record { plan = c.self.inside.plan; up = c.self.inside.up.up; lines = c.self.inside.lines.items; desk = c.self.inside.desk; lanes = lanes; stores = c.self.inside.stores.items; seats = slice_set c.self.inside.seats.items t c.notes.new.self } in
+    let V : List Lane → Tables = λ lanes. record { plan = c.self.inside.plan; up = c.self.inside.up.up; kept = c.self.inside.kept; lines = c.self.inside.lines.items; desk = c.self.inside.desk; lanes = lanes; stores = c.self.inside.stores.items; seats = slice_set c.self.inside.seats.items t c.notes.new.self } in
     let now = ap (λ (x : Tables). record x { lanes = with_sent x.lanes t []; seats = slice_set x.seats t c.notes.new.self }) (sym c.self.view_is) in
     let none : with_sent c.self.inside.post t [] ≡ c.self.inside.post = ap (slice_set c.self.inside.post t) (append-nil (lane_at c.self.inside.post t)) ∙ set-get_or c.self.inside.post t [] in
     subst (Acts w t (Deliver n)) (now ∙ ap V none) (heard_acts w t n m c.notes.new.self Noted at)
