@@ -114,7 +114,7 @@ left_known grid row known line left =
     ∙ ap (known_with known.state line (known.lines + 1)) (left_step grid row known line left)
 
 pub spent_advances : (w : Tables) (t : ℕ) (line : Line) → nat_le (row_at w.plan t).steps (taken_at w t) ≡ true → Advances w (Tenant t line) w
-spent_advances w t line spent = own_advances w w t line refl refl
+spent_advances w t line spent = own_advances w w t line refl refl refl
     (λ known most bounded agrees. subst (Agrees w t) (sym (spent_known w.plan.grid (row_at w.plan t) known line (rw agrees.lines at spent))) agrees)
     (λ u other known agrees. agrees)
 

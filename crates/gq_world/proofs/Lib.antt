@@ -10,6 +10,7 @@ pub mod Keeping
 pub mod Lanes
 pub mod Listing
 pub mod Losing
+pub mod LossWords
 pub mod BoundedSteps
 pub mod Opening
 pub mod Quiet
@@ -22,3 +23,4 @@ pub mod Soundness
 pub mod Standing
 pub mod Starting
 pub mod Steps
+pub mod Taking

@@ -1,11 +1,13 @@
 -- What a session's seat stands for after a message.
-use Rattle.std.proofs.Common.{◌≡◌, ◌∙◌, ℕ, Option, Some, None, refl}
+use Rattle.std.proofs.Common.{◌≡◌, ◌∙◌, ℕ, Option, Some, None, List, refl}
 use Rattle.gq_grid.specs.Grid.{Grid, Servers}
+use Rattle.gq_grid.specs.declared.ServerSet.{ServerSet}
+use Rattle.gq_tag.specs.declared.Tag.{Tag}
 use Rattle.gq_tag.specs.declared.Message.{Message}
 use Rattle.gq_tag.specs.Tag.{OwnMessage, own_message}
 use Rattle.gq_phase.specs.declared.Outcome.{Outcome}
 use Rattle.gq_phase.specs.declared.Heard.{Heard}
-use Rattle.gq_phase.specs.declared.Heard.TheVariants.{Stale, Done}
+use Rattle.gq_phase.specs.declared.Heard.TheVariants.{Stale, Noted, Next, Done}
 use Rattle.gq_phase.specs.declared.operation.Operation.{Operation as Code}
 use Rattle.gq_phase.specs.Phase.{Operation, Heard as Saying, HeardStale, HeardNoted, HeardNext, HeardDone, hear}
 use Rattle.gq_phase.specs.Standing.{StandsAfter, HearsAs, heard_as, floor_of}
@@ -85,3 +87,10 @@ seat_is_empty old up m is = record {
   says = λ grid t last o sits. empty_says old.floor up m grid t last o (rw is at sits);
   sits = λ grid t last o sits. rw is (empty_stays old.floor up m grid t last o (rw is at sits));
 }
+
+-- a reply that begins no round leaves who sent replies
+pub answered_still : (heard : Heard) (answered : ServerSet) → ((round : ℕ) (tag : Option Tag) (messages : List Message) → heard ≡ Next round tag messages → ⊥) → answered_after heard answered ≡ answered
+answered_still Stale answered not = refl
+answered_still Noted answered not = refl
+answered_still (Next round tag messages) answered not = absurd (not round tag messages refl)
+answered_still (Done outcome) answered not = refl
