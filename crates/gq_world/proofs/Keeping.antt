@@ -1,7 +1,6 @@
 -- What is known of a run stays bounded, one step more: one lemma for each line that acts in one session, and the lines.
 use Rattle.std.proofs.Common.{◌≡◌, ◌≢◌, ◌∙◌, ℕ, ◌+◌, ◌<◌, ◌≤◌, false, List, [], ◌++◌, length, refl, sym, ap, subst, Option, Some, None, arith, All, inl, inr}
-use Rattle.std.specs.Prelude.{option_map, ◌==◌}
-use Rattle.std.proofs.lemmas.Bool.{cases_eq, and_parts, eqb-true}
+use Rattle.std.proofs.lemmas.Bool.{cases_eq}
 use Rattle.std.proofs.lemmas.List.Elements.{All-nil, All-append, All-weaker}
 use Rattle.gq_grid.specs.Grid.{Grid}
 use Rattle.gq_tag.specs.declared.StoredCopy.{StoredCopy}
@@ -10,13 +9,13 @@ use Rattle.gq_tag.specs.declared.Body.TheVariants.{Ask, Copy, Store, Stored}
 use Rattle.gq_tag.specs.Tag.{File, OwnMessage, to_server}
 use Rattle.gq_desk.specs.declared.plans.TenantRow.{TenantRow}
 use Rattle.gq_desk.specs.declared.volumes.VolumeRow.{VolumeRow}
-use Rattle.gq_phase.specs.Phase.{Task, Reply, Operation, Heard as Saying, HeardStale, HeardNoted, HeardNext, HeardDone, hear, stored_copy, heard_copies, begun, round_file, round_messages}
+use Rattle.gq_phase.specs.Phase.{Task, Reply, Operation, Heard as Saying, HeardStale, HeardNoted, HeardNext, HeardDone, stored_copy, heard_copies, begun, round_file, round_messages}
 use Rattle.gq_model.specs.Trace.{State, Session, changed, serves, own_message_at, operation, operation_with, session_by, heard_deed, files_of}
 use Rattle.gq_model.specs.Lone.{heard_step}
 use Rattle.gq_world.specs.Bounds.{CopyFits, BodyFits, room, volume_of, TaskFits, OperationFits, SessionFits, MessageFits, IsOfSession, IsBounded}
 use Rattle.gq_world.specs.Seats.{said_by}
 use Rattle.gq_world.proofs.Ready.{all_at, sent_at}
-use Rattle.gq_world.proofs.Bounding.{fits_more, IsOfRound, HeardFits, hear_fits, round_fits}
+use Rattle.gq_world.proofs.Bounding.{fits_more, IsOfRound, HeardFits, round_fits}
 use Rattle.gq_world.proofs.Delivering.{delivery, own_session, other_session, same_brought, session_of, says_stale, RisesTo, rises, saying_fits}
 
 -- ---- one number more

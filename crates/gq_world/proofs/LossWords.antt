@@ -1,6 +1,6 @@
 -- Why a line is refused by which a server is lost or repaired, in the tables; a mate's store has the same accounts.
-use Rattle.std.proofs.Common.{◌≡◌, ◌∙◌, ◌≢◌, ℕ, ◌*◌, ◌<◌, ◌≤◌, Bool, true, false, ◌&&◌, not, List, length, get_or, Option, Some, None, refl, sym, ap, subst, arith, All}
-use Rattle.std.specs.Prelude.{is_none, unwrap_or, nat_lt, ◌==◌, if◌then◌else◌}
+use Rattle.std.proofs.Common.{◌≡◌, ◌∙◌, ℕ, ◌*◌, ◌<◌, true, false, not, length, get_or, Option, Some, None, refl, sym, ap, subst, arith}
+use Rattle.std.specs.Prelude.{is_none, unwrap_or, nat_lt, if◌then◌else◌}
 use Rattle.std.proofs.lemmas.Bool.Decides.{nat_tests}
 use Rattle.std.proofs.lemmas.Bool.{eqb-false}
 use Rattle.std.proofs.lemmas.Option.{unwrap_or-slice_get}
@@ -8,11 +8,10 @@ use Rattle.std.proofs.lemmas.List.{same_lists, get_or_default}
 use Rattle.gq_grid.specs.Grid.{Grid, Servers}
 use Rattle.gq_grid.specs.Sets.{servers}
 use Rattle.gq_grid.specs.declared.ServerSet.{ServerSet}
-use Rattle.gq_desk.specs.CheckedPlan.{row_at}
-use Rattle.gq_desk.specs.Volumes.{Account, account_at, no_account}
-use Rattle.gq_store.specs.Copies.{StoreCopies, store_accounts}
+use Rattle.gq_desk.specs.Volumes.{account_at, no_account}
+use Rattle.gq_store.specs.Copies.{store_accounts}
 use Rattle.gq_model.specs.declared.events.ServerRefusal.{ServerRefusal}
-use Rattle.gq_model.specs.declared.events.ServerRefusal.TheVariants.{NoServer, Same, Last, NoMate}
+use Rattle.gq_model.specs.declared.events.ServerRefusal.TheVariants.{Last, NoMate}
 use Rattle.gq_model.specs.declared.events.ServerLine.TheVariants.{Lost as ServerLost, Repaired as ServerRepaired}
 use Rattle.gq_model.specs.Told.{ServerOk, Repaired}
 use Rattle.gq_model.specs.Lone.{loss_refusal, repair_refusal, mate_among, outside, server_told, is_refusal}

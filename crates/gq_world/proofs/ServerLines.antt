@@ -1,37 +1,36 @@
 -- What a server line does to the tables.
-use Rattle.std.proofs.Common.{◌≡◌, ◌≢◌, ◌∙◌, ℕ, ◌+◌, ◌*◌, ◌<◌, ◌≤◌, Bool, true, false, ◌&&◌, ◌||◌, not, List, [], ◌∷◌, ◌++◌, length, Option, Some, None, refl, sym, ap, subst, arith, inl, inr, ◌⊎◌, append-nil, All}
+use Rattle.std.proofs.Common.{◌≡◌, ◌≢◌, ◌∙◌, ℕ, ◌+◌, ◌*◌, ◌<◌, ◌≤◌, Bool, true, false, ◌&&◌, ◌||◌, not, List, [], ◌∷◌, ◌++◌, length, Option, Some, None, refl, sym, ap, subst, arith, inl, inr, append-nil, All}
 use Rattle.std.proofs.Math.Path.{fun_ext}
-use Rattle.std.specs.Prelude.{IsSome, is_some, is_none, if◌then◌else◌, nat_lt, ◌==◌, find, fold, option_map}
-use Rattle.std.proofs.lemmas.Bool.{cases_Bool, cases_eq, true≢false, eq-eqb, ne_eqb, eqb-true, and_left}
+use Rattle.std.specs.Prelude.{IsSome, is_some, if◌then◌else◌, nat_lt, ◌==◌, find, fold, option_map}
+use Rattle.std.proofs.lemmas.Bool.{cases_Bool, cases_eq, true≢false, eq-eqb, ne_eqb, eqb-true}
 use Rattle.std.proofs.lemmas.Bool.Decides.{nat_tests}
 use Rattle.std.proofs.lemmas.List.Elements.{All-head, All-tail, All-weaker}
 use Rattle.gq_grid.specs.Grid.{Grid, Servers, below, with_server, without_server}
 use Rattle.gq_grid.specs.Sets.{servers}
 use Rattle.gq_grid.specs.declared.ServerSet.{ServerSet}
 use Rattle.gq_tag.specs.declared.StoredCopy.{StoredCopy}
-use Rattle.gq_tag.specs.Tag.{File, OwnMessage, file_of, message_of, first_copy, greatest, newer_of, is_less}
+use Rattle.gq_tag.specs.Tag.{File, OwnMessage, file_of, message_of, first_copy, newer_of, is_less}
 use Rattle.gq_tag.proofs.Order.{IsAtMost, at_most_refl, at_most_trans, at_most_less, newer_of-left, newer_of-at_most}
 use Rattle.gq_desk.specs.CheckedPlan.{row_at}
 use Rattle.gq_desk.specs.Volumes.{Account, account_at}
 use Rattle.gq_phase.specs.declared.operation.Operation.{Operation as Code}
 use Rattle.gq_phase.specs.Phase.{Task}
-use Rattle.gq_phase.specs.Standing.{last_number}
 use Rattle.gq_phase.specs.Quorums.{are_mates}
 use Rattle.gq_store.specs.Copies.{StoreCopies, store_accounts, copy_at}
 use Rattle.gq_model.specs.declared.events.Event.TheVariants.{Server}
 use Rattle.gq_model.specs.declared.events.ServerLine.{ServerLine}
 use Rattle.gq_model.specs.declared.events.ServerLine.TheVariants.{Down, Up, Lost as ServerLost, Repaired as ServerRepaired}
 use Rattle.gq_model.specs.Told.{Told, ServerOk, Repaired}
-use Rattle.gq_model.specs.Trace.{Serving, State, Session, Known, Ends, Elsewhere, changed, up_by, gone_by, session_by, operation_with, own_message_at, held, counts_on, is_given, copy_of}
-use Rattle.gq_model.specs.Lone.{quiet, entry_of, change_refusal, loss_refusal, mate_among, outside, server_told, is_refusal}
+use Rattle.gq_model.specs.Trace.{Serving, State, Session, Known, Ends, Elsewhere, changed, up_by, gone_by, session_by, operation_with, own_message_at, held, counts_on, copy_of}
+use Rattle.gq_model.specs.Lone.{quiet, entry_of, change_refusal, mate_among, outside, server_told, is_refusal}
 use Rattle.gq_model.proofs.Mates.{comes_kept}
 use Rattle.gq_laws.proofs.Holding.{greatest-cons}
 use Rattle.gq_world.specs.declared.sessions.Seat.{Seat}
 use Rattle.gq_world.specs.Tables.{Tables, Agrees, SeatAgrees, Sits, up_in, gone_in, store_at, seats_at, seat_in}
 use Rattle.gq_world.specs.Asking.{rested_seat}
-use Rattle.gq_world.specs.Seats.{seat_counts_on, left_seat}
+use Rattle.gq_world.specs.Seats.{left_seat}
 use Rattle.gq_world.specs.Losses.{Loses, Repairs, HasMate}
-use Rattle.gq_world.specs.Machine.{state_after_turn, up_after, gone_after, Advances}
+use Rattle.gq_world.specs.Machine.{state_after_turn, Advances}
 use Rattle.gq_world.proofs.Bounding.{below_all}
 use Rattle.gq_world.proofs.RetriesAndAbandons.{rests_at}
 use Rattle.gq_world.proofs.Serving.{up_here, seat_same}

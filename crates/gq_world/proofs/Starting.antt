@@ -15,7 +15,7 @@ use Rattle.gq_tag.specs.Tag.{File, file_of, first_copy}
 use Rattle.gq_desk.specs.declared.limits.TheConstants.{MOST_SESSIONS}
 use Rattle.gq_desk.specs.declared.plans.TenantRow.{TenantRow}
 use Rattle.gq_desk.specs.CheckedPlan.{CheckedPlan, nobody, row_at}
-use Rattle.gq_desk.specs.Volumes.{Account, no_account, account_at, new_account}
+use Rattle.gq_desk.specs.Volumes.{no_account, account_at, new_account}
 use Rattle.gq_post.specs.Lanes.{lane_at, message_at}
 use Rattle.gq_store.specs.Copies.{StoreCopies, VolumeCopies, copies_account, store_accounts, new_tenant, empty_store, tenant_in, volume_copy, copy_at, empty_volume}
 use Rattle.gq_model.specs.Trace.{questions}

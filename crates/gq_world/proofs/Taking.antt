@@ -1,7 +1,7 @@
 -- A server takes the copies of its mate, of the stores in two parts.
-use Rattle.std.proofs.Common.{◌≡◌, ◌∙◌, ℕ, ◌-◌, ◌<◌, ◌≤◌, List, ◌++◌, length, get_or, sym, ap, refl, arith}
+use Rattle.std.proofs.Common.{◌≡◌, ◌∙◌, ℕ, ◌-◌, ◌<◌, List, ◌++◌, length, get_or, sym, ap, arith}
 use Rattle.std.specs.Prelude.{slice_set}
-use Rattle.std.proofs.lemmas.List.{get_or_default, set-append_left, set-append_right, get_or-append_right, get_or_append_left, length-append}
+use Rattle.std.proofs.lemmas.List.{get_or_default, set-append_left, set-append_right, get_or-append_right, get_or_append_left}
 use Rattle.gq_store.specs.Copies.{StoreCopies}
 use Rattle.gq_world.specs.Tables.{no_store, store_at}
 

@@ -1,5 +1,5 @@
 -- One more server.
-use Rattle.std.proofs.Common.{◌≡◌, ◌∙◌, ◌*◌, ◌<◌, ◌&&◌, not, sym, arith}
+use Rattle.std.proofs.Common.{◌∙◌, ◌*◌, ◌<◌, ◌&&◌, not, sym, arith}
 use Rattle.std.specs.Prelude.{◌==◌}
 use Rattle.gq_grid.specs.Sets.{servers}
 use Rattle.gq_grid.proofs.Ranges.{find_more}

@@ -1,5 +1,5 @@
 -- The stores in two parts, of which one has the server and the other its mate.
-use Rattle.std.proofs.Common.{◌≡◌, ◌∙◌, ◌≢◌, ◌<◌, ◌++◌, length, ap, sym, arith}
+use Rattle.std.proofs.Common.{◌∙◌, ◌++◌, ap, arith}
 use Rattle.std.specs.Prelude.{slice_set}
 use Rattle.gq_world.proofs.Taking.{from_above, from_below}
 use Rattle.gq_world.proofs.mates.take_from.Goals as goal

@@ -1,8 +1,6 @@
 -- The mate that is found among the servers that are not lost decides.
-use Rattle.std.proofs.Common.{◌≡◌, ◌∙◌, ℕ, ◌*◌, ◌<◌, true, None, Some, ap, sym, arith}
-use Rattle.gq_grid.specs.Grid.{Grid}
+use Rattle.std.proofs.Common.{◌≡◌, ◌∙◌, ◌*◌, ◌<◌, true, None, Some, ap, sym, arith}
 use Rattle.gq_grid.specs.Sets.{servers}
-use Rattle.gq_grid.specs.declared.ServerSet.{ServerSet}
 use Rattle.gq_world.specs.Tables.{Tables}
 use Rattle.gq_world.proofs.LossWords.{loss_word}
 use Rattle.gq_world.proofs.tables.Core.loss_refusal.Goals as goal

@@ -1,8 +1,6 @@
 -- The mate that is found among the servers that are up decides.
-use Rattle.std.proofs.Common.{◌≡◌, ◌∙◌, ℕ, ◌*◌, ◌<◌, false, None, Some, ap, sym, arith}
-use Rattle.gq_grid.specs.Grid.{Grid}
+use Rattle.std.proofs.Common.{◌≡◌, ◌∙◌, ◌*◌, ◌<◌, false, None, ap, sym, arith}
 use Rattle.gq_grid.specs.Sets.{servers}
-use Rattle.gq_grid.specs.declared.ServerSet.{ServerSet}
 use Rattle.gq_world.specs.Tables.{Tables}
 use Rattle.gq_world.proofs.LossWords.{repair_word, mate_found}
 use Rattle.gq_world.proofs.tables.Core.mate.Goals as goal

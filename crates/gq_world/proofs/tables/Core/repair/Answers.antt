@@ -1,5 +1,5 @@
 -- All stores have the accounts of the desk.
-use Rattle.std.proofs.Common.{◌≡◌, ◌∙◌, ℕ, List, ap, sym, subst}
+use Rattle.std.proofs.Common.{◌≡◌, List, ap, sym, subst}
 use Rattle.gq_store.specs.Copies.{StoreCopies, store_accounts}
 use Rattle.gq_world.specs.Tables.{Tables, IsShaped, store_at}
 use Rattle.gq_world.proofs.LossWords.{same_accounts}
