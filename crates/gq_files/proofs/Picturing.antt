@@ -1,7 +1,8 @@
 -- The picture of what a tenant sees is that of all lines.
-use Rattle.std.proofs.Common.{◌≡◌, ◌∙◌, ℕ, suc, ◌+◌, List, [], ◌∷◌, ◌++◌, Bool, true, false, Option, Some, None, map, length, refl, sym, ap, subst, append-nil}
+use Rattle.std.proofs.Common.{◌≡◌, ◌∙◌, ℕ, suc, ◌+◌, List, [], ◌∷◌, ◌++◌, Bool, true, false, Option, Some, None, map, length, refl, sym, ap, subst, append-nil, arith}
 use Rattle.std.specs.Prelude.{nat_lt, filter_map, if◌then◌else◌}
 use Rattle.std.specs.List.{cons_option}
+use Rattle.std.proofs.lemmas.List.{length-map}
 use Rattle.std.proofs.lemmas.List.Elements.{filter_map-append}
 use Rattle.gq_tag.specs.Tag.{File}
 use Rattle.gq_desk.specs.CheckedPlan.{CheckedPlan, nobody}
@@ -13,13 +14,18 @@ use Rattle.gq_laws.proofs.AllTenants.{all_tenants_tagged}
 use Rattle.gq_model.specs.declared.events.Event.{Event}
 use Rattle.gq_model.specs.declared.events.Event.TheVariants.{Tenant, Server as OfServer, Stray}
 use Rattle.gq_model.specs.declared.events.ServerLine.{ServerLine}
+use Rattle.gq_model.specs.declared.events.Answer.{Answer}
+use Rattle.gq_model.specs.Shown.{shown}
+use Rattle.gq_model.specs.Told.{Told}
 use Rattle.gq_model.specs.Trace.{Serving}
+use Rattle.gq_order.specs.Runs.{IsRun}
+use Rattle.gq_script.proofs.Completing.{length-answers}
 use Rattle.gq_model.specs.Lone.{said, past_of}
 use Rattle.gq_model.specs.Events.{server_turn, server_lines, answer_to}
 use Rattle.gq_picture.specs.declared.absences.Absence.{Absence}
 use Rattle.gq_picture.specs.declared.absences.Effect.{Effect}
 use Rattle.gq_picture.specs.declared.absences.Effect.TheVariants.{Nothing, GoesDown, ComesBack}
-use Rattle.gq_picture.specs.Absences.{effect_of, absence_at, absences, counted_from, is_return, return_place}
+use Rattle.gq_picture.specs.Absences.{effect_of, effects, absence_at, absences, counted_from, is_return, return_place}
 use Rattle.gq_picture.proofs.Outages.{effects_from, effects_are}
 use Rattle.gq_picture.specs.Drawing.{IsDrawing}
 use Rattle.gq_picture.specs.Laws.{TellsNoLie, all_effects}
@@ -68,11 +74,17 @@ return_seen plan t n s seen past [] same = refl
 return_seen plan t n s seen past (OfServer line ∷ events) same =
     (λ i. if is_return s (line_same plan seen past line same i) then Some n else return_seen plan t (n + 1) s (seen ++ OfServer line ∷ []) (past ++ OfServer line ∷ []) events (lines_more seen past (OfServer line) same) i)
 return_seen plan t n s seen past (Stray ∷ events) same = return_seen plan t (n + 1) s seen (past ++ Stray ∷ []) events (lines_passed seen past Stray refl same)
-return_seen plan t n s seen past (Tenant tenant line ∷ events) same = by (is_seen (Some t) (Tenant tenant line)) refl
+return_seen plan t n s seen past (Tenant tenant line ∷ events) same =
+    by (is_seen (Some t) (Tenant tenant line)) refl
+    (return_seen plan t (n + 1) s (seen ++ Tenant tenant line ∷ []) (past ++ Tenant tenant line ∷ []) events (lines_more seen past (Tenant tenant line) same))
+    (return_seen plan t (n + 1) s seen (past ++ Tenant tenant line ∷ []) events (lines_passed seen past (Tenant tenant line) refl same))
   where
-    by : (b : Bool) → is_seen (Some t) (Tenant tenant line) ≡ b → return_place s (seen_places (Some t) n (Tenant tenant line ∷ events)) (effects_from plan seen (seen_events (Some t) (Tenant tenant line ∷ events))) ≡ return_place s (counted_from (n + 1) (effects_from plan (past ++ Tenant tenant line ∷ []) events)) (effects_from plan (past ++ Tenant tenant line ∷ []) events)
-    by true is = rw is (return_seen plan t (n + 1) s (seen ++ Tenant tenant line ∷ []) (past ++ Tenant tenant line ∷ []) events (lines_more seen past (Tenant tenant line) same))
-    by false is = rw is (return_seen plan t (n + 1) s seen (past ++ Tenant tenant line ∷ []) events (lines_passed seen past (Tenant tenant line) refl same))
+    T : List Event → Type 0
+    T before = return_place s (seen_places (Some t) (n + 1) events) (effects_from plan before (seen_events (Some t) events)) ≡ return_place s (counted_from (n + 1) (effects_from plan (past ++ Tenant tenant line ∷ []) events)) (effects_from plan (past ++ Tenant tenant line ∷ []) events)
+
+    by : (b : Bool) → is_seen (Some t) (Tenant tenant line) ≡ b → T (seen ++ Tenant tenant line ∷ []) → T seen → return_place s (seen_places (Some t) n (Tenant tenant line ∷ events)) (effects_from plan seen (seen_events (Some t) (Tenant tenant line ∷ events))) ≡ return_place s (counted_from (n + 1) (effects_from plan (past ++ Tenant tenant line ∷ []) events)) (effects_from plan (past ++ Tenant tenant line ∷ []) events)
+    by true is its other = rw is its
+    by false is its other = rw is other
 
 absences_seen : (plan : CheckedPlan) (t n servers : ℕ) (seen past events : List Event) → server_lines seen ≡ server_lines past →
     absences servers (seen_places (Some t) n events) (effects_from plan seen (seen_events (Some t) events)) ≡ absences servers (counted_from n (effects_from plan past events)) (effects_from plan past events)
@@ -86,11 +98,17 @@ absences_seen plan t n servers seen past (OfServer line ∷ events) same =
     (absence_same servers n here (seen_places (Some t) (n + 1) events) (counted_from (n + 1) (effects_from plan (past ++ OfServer line ∷ []) events)) (effects_from plan (seen ++ OfServer line ∷ []) (seen_events (Some t) events)) (effects_from plan (past ++ OfServer line ∷ []) events)
     (λ s. return_seen plan t (n + 1) s (seen ++ OfServer line ∷ []) (past ++ OfServer line ∷ []) events more))
 absences_seen plan t n servers seen past (Stray ∷ events) same = absences_seen plan t (n + 1) servers seen (past ++ Stray ∷ []) events (lines_passed seen past Stray refl same)
-absences_seen plan t n servers seen past (Tenant tenant line ∷ events) same = by (is_seen (Some t) (Tenant tenant line)) refl
+absences_seen plan t n servers seen past (Tenant tenant line ∷ events) same =
+    by (is_seen (Some t) (Tenant tenant line)) refl
+    (absences_seen plan t (n + 1) servers (seen ++ Tenant tenant line ∷ []) (past ++ Tenant tenant line ∷ []) events (lines_more seen past (Tenant tenant line) same))
+    (absences_seen plan t (n + 1) servers seen (past ++ Tenant tenant line ∷ []) events (lines_passed seen past (Tenant tenant line) refl same))
   where
-    by : (b : Bool) → is_seen (Some t) (Tenant tenant line) ≡ b → absences servers (seen_places (Some t) n (Tenant tenant line ∷ events)) (effects_from plan seen (seen_events (Some t) (Tenant tenant line ∷ events))) ≡ absences servers (counted_from (n + 1) (effects_from plan (past ++ Tenant tenant line ∷ []) events)) (effects_from plan (past ++ Tenant tenant line ∷ []) events)
-    by true is = rw is (absences_seen plan t (n + 1) servers (seen ++ Tenant tenant line ∷ []) (past ++ Tenant tenant line ∷ []) events (lines_more seen past (Tenant tenant line) same))
-    by false is = rw is (absences_seen plan t (n + 1) servers seen (past ++ Tenant tenant line ∷ []) events (lines_passed seen past (Tenant tenant line) refl same))
+    T : List Event → Type 0
+    T before = absences servers (seen_places (Some t) (n + 1) events) (effects_from plan before (seen_events (Some t) events)) ≡ absences servers (counted_from (n + 1) (effects_from plan (past ++ Tenant tenant line ∷ []) events)) (effects_from plan (past ++ Tenant tenant line ∷ []) events)
+
+    by : (b : Bool) → is_seen (Some t) (Tenant tenant line) ≡ b → T (seen ++ Tenant tenant line ∷ []) → T seen → absences servers (seen_places (Some t) n (Tenant tenant line ∷ events)) (effects_from plan seen (seen_events (Some t) (Tenant tenant line ∷ events))) ≡ absences servers (counted_from (n + 1) (effects_from plan (past ++ Tenant tenant line ∷ []) events)) (effects_from plan (past ++ Tenant tenant line ∷ []) events)
+    by true is its other = rw is its
+    by false is its other = rw is other
 
 -- ---- the picture
 
@@ -132,3 +150,13 @@ picture_written plan world_plan t file lines name kept places text is seen stand
         ∙ (ap (λ (all : List Effect). absences (servers_of plan) (seen_places (Some t) 0 events) all) (effects_are plan [] (seen_events (Some t) events))
         ∙ (absences_seen plan t 0 (servers_of plan) [] [] events refl
         ∙ ap (λ (all : List Effect). absences (servers_of plan) (counted_from 0 all) all) (sym (effects_are plan [] events))))))
+
+-- ---- as many effects as events
+
+pub effects-length : (events : List Event) (told : List Told) → length told ≡ length events → length (effects events told) ≡ length events
+effects-length [] told same = refl
+effects-length (event ∷ events) [] same = absurd (omega arith)
+effects-length (event ∷ events) (one ∷ more) same = ap suc (effects-length events more (omega arith))
+
+pub run_count : (plan : CheckedPlan) (events : List Event) (given : List Answer) → IsRun plan events given → length given ≡ length events
+run_count plan events given run = sym (length-map given shown) ∙ ap length run ∙ length-answers plan events []

@@ -71,9 +71,10 @@ fn picture_text(
 {
     let places = answered.places.as_slice();
     let events = answered.events.as_slice();
+    let answers = answered.answers.as_slice();
     let ops = operations_answered(alloc, plan, answered, file)?;
     let order = order(alloc, ops.as_slice())?;
-    let effects = read_effects(alloc, events, answered.answers.as_slice())?;
+    let effects = read_effects(alloc, events, answers)?;
     let absences = read_absences(alloc, plan.grid().servers(), places, effects.as_slice())?;
     let drawing = draw(alloc, ops, order.as_slice(), absences.as_slice())?;
     let mut text = Vec::new(alloc);
