@@ -38,5 +38,5 @@ mates_by_place grid server mate server_in mate_in = go (eqb (server % grid.cols)
         let within : c < grid.cols = mod_below server grid.cols some in
         let there : column_servers grid c mate ≡ true = rw places (own_column grid mate mate_in) in
         let both : share_column grid server mate ≡ true =
-          any_from (λ x. column_servers grid x server && column_servers grid x mate) 0 grid.cols c (omega arith) (omega (arith, within)) (and_from (column_servers grid c server) (column_servers grid c mate) (own_column grid server server_in) there) in
+        any_from (λ x. column_servers grid x server && column_servers grid x mate) 0 grid.cols c (omega arith) (omega (arith, within)) (and_from (column_servers grid c server) (column_servers grid c mate) (own_column grid server server_in) there) in
         true≢false (sym both ∙ is))

@@ -22,13 +22,9 @@ pub struct Absence {
 pub enum Effect {
     Nothing,
     /// The server goes down; it may have been down, and may be lost.
-    GoesDown {
-        server: u32,
-    },
+    GoesDown { server: u32 },
     /// The server comes back.
-    ComesBack {
-        server: u32,
-    },
+    ComesBack { server: u32 },
 }
 
 // Whether the line of this answer is refused.

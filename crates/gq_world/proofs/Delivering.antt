@@ -220,7 +220,7 @@ seat_after grid t n state message old new s owners later goes says agrees op ans
     let P : Session → Type 0 = λ after. (new.op ≡ after.op) × (IsSome new.operation → (server : ℕ) → servers new.answered server ≡ counts_on sent k after server) × Sits grid t new.floor new.operation after.floor (option_map (operation_with k after) after.current) in
     let after : Session = session_by state.volumes k (heard_deed message (heard_step first s).told) session in
     let stands = heard_sits grid t k state.volumes message first session.op session.current session.round session.heard session.collected session.floor s new.floor new.operation
-        (says_stale grid state.up k session message s says) sits in
+    (says_stale grid state.up k session message s says) sits in
     let both : P after = (
       op ∙ agrees.op ∙ sym (heard_op state.volumes k first message s session),
       (λ busy server.

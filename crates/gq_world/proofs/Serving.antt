@@ -224,9 +224,9 @@ seat_answers grid t seat now m old new message copy goes is answers sent same ag
     answers.answered server
     ∙ ap (λ b. b || (is_of seat.operation m && (m.server == server))) (agrees.answered (rw here refl) server)
     ∙ ap (λ b. counts_on old.sent k s server || b) (
-        ap (λ code. is_of code m && (m.server == server)) here
-        ∙ ap (λ (l : Message). is_current_as code l && (l.server == server)) is
-        ∙ counted_so code s message copy server goes o.2.going o.2.op o.2.round (ap is_some o.1))
+    ap (λ code. is_of code m && (m.server == server)) here
+    ∙ ap (λ (l : Message). is_current_as code l && (l.server == server)) is
+    ∙ counted_so code s message copy server goes o.2.going o.2.op o.2.round (ap is_some o.1))
     ∙ sym (one_counted old.sent (reply_to copy message) k s server)
     ∙ ap (λ l. counts_on l k s server) (sym sent) in
     let P : Session → Type 0 = λ after. (seat.op ≡ after.op) × (IsSome seat.operation → (server : ℕ) → servers now.answered server ≡ counts_on new.sent k after server) × Sits grid t seat.floor seat.operation after.floor (option_map (operation_with k after) after.current) in
