@@ -34,8 +34,8 @@ class Session:
         # A round of 0: there is no operation. The last collect round of an operation, and whether it writes.
         self.op, self.round, self.last_collect, self.writes = 0, 0, 0, False
         self.heard, self.file, self.last_number = 0, 0, 0
-        # Of the round the greatest tag heard and the servers that told it, or the tag that it stores.
-        self.tag, self.givers = FIRST, 0
+        # Of the round the greatest tag heard and the servers that told it, or the tag that it stores; and the servers that replied.
+        self.tag, self.givers, self.answered = FIRST, 0, 0
         # Messages as number, server, operation, round, file, tag or none, and whether it is a reply.
         self.under_way = []
 
@@ -49,17 +49,19 @@ class Tenant:
 
 
 class Lines:
-    """An iterator with no end. `lost`, `changed` and `listed`: how often a message is lost, a server goes down or comes up,
-    and an operation is a listing; with `every`, not by chance but every so many-th message is lost. Each tenant has one volume of
-    so many files and blocks."""
+    """An iterator with no end. `lost`, `changed`, `broken` and `listed`: how often a message is lost, a server goes down or comes up,
+    one is lost or repaired, and an operation is a listing; with `every`, not by chance but every so many-th message is lost. Each
+    tenant has one volume of so many files and blocks."""
 
-    def __init__(self, draw, names, sessions, lost=0.001, changed=0.0003, listed=0.01, rows=4, cols=4, files=FILES, blocks=BLOCKS, every=None):
-        self.draw, self.lost, self.changed, self.listed = draw, lost, changed, listed
+    def __init__(self, draw, names, sessions, lost=0.001, changed=0.0003, broken=0, listed=0.01, rows=4, cols=4, files=FILES, blocks=BLOCKS, every=None):
+        self.draw, self.lost, self.changed, self.broken, self.listed = draw, lost, changed, broken, listed
         self.files, self.most_bytes = files, 64 * blocks
         self.every, self.carried = every, 0
         self.tenants = [Tenant(name, sessions) for name in names]
         self.grid = Grid(rows, cols)
         self.up = sum(self.grid.rows)
+        # the servers that are lost
+        self.gone = 0
         self.opens = [f"{name} open {files} {blocks}\n" for name in reversed(names)]
 
     def __iter__(self):
@@ -70,17 +72,48 @@ class Lines:
             return self.opens.pop()
         if self.draw.random() < self.changed:
             return self.change()
+        if self.broken and self.draw.random() < self.broken:
+            return self.break_or_repair()
         tenant = self.draw.choice(self.tenants)
         session = self.draw.choice(tenant.sessions)
         return f"{tenant.name} {self.ask(session)}\n"
 
     def change(self):
         # (the more are down, the likelier one comes up: so a row and a column are up most of the time)
-        down = [server for server in self.grid.servers if not self.up >> server & 1]
-        comes_up = self.draw.randrange(MOST_DOWN) < len(down) or len(down) == len(self.grid.servers)
-        server = self.draw.choice(down if comes_up else [server for server in self.grid.servers if server not in down])
+        kept = [server for server in self.grid.servers if not self.gone >> server & 1]
+        down = [server for server in kept if not self.up >> server & 1]
+        comes_up = self.draw.randrange(MOST_DOWN) < len(down) or len(down) == len(kept)
+        server = self.draw.choice(down if comes_up else [server for server in kept if server not in down])
         self.up ^= 1 << server
         return f"server {server} {'up' if self.up >> server & 1 else 'down'}\n"
+
+    def mates(self, server):
+        """The other servers of its column."""
+        return next(column for column in self.grid.cols if column >> server & 1) & ~(1 << server)
+
+    def break_or_repair(self):
+        """A server is lost, or repaired; any server, so that now and then the line is refused."""
+        server = self.draw.choice(self.grid.servers)
+        if self.gone >> server & 1:
+            mates = self.mates(server) & self.up
+            if mates:
+                mate = (mates & -mates).bit_length() - 1
+                for tenant in self.tenants:
+                    for file in range(self.files):
+                        tenant.tags[server, file] = tenant.tags.get((mate, file), FIRST)
+                self.up |= 1 << server
+                self.gone ^= 1 << server
+            return f"server {server} repaired\n"
+        if self.mates(server) & ~self.gone:
+            self.up &= ~(1 << server)
+            self.gone |= 1 << server
+            for tenant in self.tenants:
+                for file in range(self.files):
+                    tenant.tags.pop((server, file), None)
+                for session in tenant.sessions:
+                    if session.answered >> server & 1:
+                        self.begin_round(session, 0)
+        return f"server {server} lost\n"
 
     def ask(self, session):
         if not session.round:
@@ -107,7 +140,7 @@ class Lines:
                 tenant.sent += 1
 
     def begin_round(self, session, number, tag=FIRST):
-        session.round, session.heard, session.tag, session.givers = number, 0, tag, 0
+        session.round, session.heard, session.tag, session.givers, session.answered = number, 0, tag, 0, 0
         # Few messages of earlier rounds stay under way.
         del session.under_way[1:]
         if number:
@@ -153,6 +186,8 @@ class Lines:
         if not is_reply:
             if self.up >> server & 1:
                 told = self.serve(session.tenant, server, file, tag)
+                if (op, round_number) == (session.op, session.round):
+                    session.answered |= 1 << server
                 session.under_way.append((session.tenant.sent, server, op, round_number, file, told, True))
                 session.tenant.sent += 1
         elif (op, round_number) == (session.op, session.round):

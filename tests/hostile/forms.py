@@ -22,7 +22,6 @@ DELIVERIES = re.compile(
     + rb"|read (?P<read>%s) %s %s (?:-|(?:[0-9a-f]{2})+)" % (N, N, TAG)
     + rb"|list (?P<list>%s) %s(?: %s:%s\.%s)+)" % (N, N, N, N, N)
 )
-RESENT = re.compile(rb"resent %s" % RANGE)
 
 
 def lines_of(text):
@@ -125,11 +124,12 @@ def plan_of(text):
 
 
 class Servers:
-    """The grid, and which of its servers are up."""
+    """The grid, which of its servers are up, and which are lost."""
 
     def __init__(self, plan):
         self.rows, self.cols = plan.rows, plan.cols
         self.up = set(range(plan.rows * plan.cols))
+        self.lost = set()
         self.choose()
 
     def choose(self):
@@ -139,24 +139,49 @@ class Servers:
         row = next((place for place, servers in enumerate(rows) if servers <= self.up), None)
         col = next((place for place, servers in enumerate(cols) if servers <= self.up), None)
         self.quorum = None if None in (row, col) else (row, col, sorted(rows[row] | cols[col]))
-        self.row_up, self.column_up = row is not None, col is not None
+        self.row_up = [] if row is None else sorted(rows[row])
+        self.column_up = [] if col is None else sorted(cols[col])
 
     def asked(self, round):
-        """How many servers a round that begins now sends to: those of a row where it collects, of a column where it stores."""
-        if round % 2:
-            return self.cols if self.row_up else 0
-        return self.rows if self.column_up else 0
+        """The servers that a round that begins now sends to: those of a row where it collects, of a column where it stores."""
+        return self.row_up if round % 2 else self.column_up
 
-    def answer(self, words):
-        """The answer to a server line, by the words behind the first."""
-        server = number(words[0]) if len(words) == 2 and words[1] in (b"down", b"up") else None
+    def mates(self, server):
+        """The other servers of its column."""
+        return set(range(server % self.cols, self.rows * self.cols, self.cols)) - {server}
+
+    def refusal(self, server, verb):
+        """Why a line of this form is refused."""
+        if server >= self.rows * self.cols:
+            return b"noserver"
+        if verb in (b"down", b"up"):
+            if server in self.lost:
+                return b"lost"
+            return b"same" if (server in self.up) == (verb == b"up") else None
+        if (server in self.lost) == (verb == b"lost"):
+            return b"same"
+        if verb == b"lost":
+            return b"last" if self.mates(server) <= self.lost else None
+        return None if self.mates(server) & self.up else b"nomate"
+
+    def answer(self, words, tenants):
+        """The answer to a server line, by the words behind the first, and what it does to the tenants."""
+        verb = words[1] if len(words) == 2 and words[1] in (b"down", b"up", b"lost", b"repaired") else None
+        server = number(words[0]) if verb else None
         if server is None:
             return b"server refused bad"
-        if server >= self.rows * self.cols:
-            return b"server refused noserver"
-        if (server in self.up) == (words[1] == b"up"):
-            return b"server refused same"
-        self.up ^= {server}
+        word = self.refusal(server, verb)
+        if word:
+            return b"server refused " + word
+        if verb in (b"up", b"repaired"):
+            self.up.add(server)
+            self.lost.discard(server)
+        else:
+            self.up.discard(server)
+        if verb == b"lost":
+            self.lost.add(server)
+            for tenant in tenants:
+                tenant.lose(server)
         self.choose()
         return b"server ok"
 
@@ -173,9 +198,12 @@ class Tenant:
         self.lines = 0
         self.volumes, self.free = [], row.share
         self.ops = [0] * (row.sessions + 1)
-        # the round of each session's operation, the session of each message, and which messages are replies
+        # the round of each session's operation; the servers that were heard in it, and those that sent a reply of it
         self.rounds = [None] * (row.sessions + 1)
-        self.owners, self.lost, self.replies = [], set(), set()
+        self.heard = [set() for _ in self.rounds]
+        self.answered = [set() for _ in self.rounds]
+        # of each message its session, operation, round and server; which messages are lost, and which are replies
+        self.messages, self.lost, self.replies = [], set(), set()
 
     def check(self, words, answer):
         """Takes a line, by the words behind the first, and its answer."""
@@ -243,9 +271,20 @@ class Tenant:
         asked = self.servers.asked(1)
         if not asked:
             return b"refused noquorum"
-        self.rounds[session] = 1
         self.ops[session] += 1
+        self.begin_round(session, 1)
         return b"op %d sent %s" % (self.ops[session], self.sending(session, asked))
+
+    def begin_round(self, session, round):
+        """The session's operation is in this round from now on."""
+        self.rounds[session] = round
+        self.heard[session], self.answered[session] = set(), set()
+
+    def lose(self, server):
+        """The server is lost: operations are given up that count on it."""
+        for session, answered in enumerate(self.answered):
+            if server in answered:
+                self.rounds[session] = None
 
     def gone_on(self, verb, session, answer):
         if not 1 <= session <= self.row.sessions:
@@ -258,28 +297,31 @@ class Tenant:
         asked = self.servers.asked(self.rounds[session])
         if not asked:
             return b"refused noquorum"
-        told = RESENT.fullmatch(answer)
-        if not told:
-            return b"resent .."
-        # (it is sent to those of them that were not heard, which no answer tells)
-        count = int(told["last"]) - int(told["first"]) + 1
-        return b"resent " + self.sending(session, min(max(count, 1), asked))
+        return b"resent " + self.sending(session, [server for server in asked if server not in self.heard[session]])
 
     def met(self, verb, message, answer):
-        if message >= len(self.owners) or message in self.lost:
+        if message >= len(self.messages) or message in self.lost:
             return b"refused nomessage"
         if verb == b"lose":
             self.lost.add(message)
             return b"lost"
-        told = DELIVERIES.fullmatch(answer)
+        session, op, round, server = self.messages[message]
+        current = self.rounds[session] and (op, round) == (self.ops[session], self.rounds[session])
         # (a message that was told as a reply goes to a session, every other one to a server)
-        goes_to_server = answer == b"down" or told and told["reply"]
-        if not told or bool(goes_to_server) == (message in self.replies):
-            return b"what is told to a session" if message in self.replies else b"what is told to a server"
-        session = self.owners[message]
-        if told["reply"]:
-            self.replies.add(len(self.owners))
-            return b"reply %s" % self.sending(session, 1).split()[0]
+        if message not in self.replies:
+            if server not in self.servers.up:
+                return b"down"
+            if current:
+                self.answered[session].add(server)
+            self.replies.add(len(self.messages))
+            self.messages.append((session, op, round, server))
+            return b"reply %d" % (len(self.messages) - 1)
+        if not current:
+            return b"stale"
+        self.heard[session].add(server)
+        told = DELIVERIES.fullmatch(answer)
+        if not told or answer in (b"down", b"stale") or told["reply"]:
+            return b"what is told to a session"
         if told["round"]:
             return self.gone_to(session, told)
         done = told["write"] or told["read"] or told["list"]
@@ -291,8 +333,6 @@ class Tenant:
             if told["read"] and self.rounds[session] > 2:
                 return b"an end of a read"
             self.rounds[session] = None
-        elif answer == b"noted" and not self.rounds[session]:
-            return b"stale"
         return answer
 
     def gone_to(self, session, told):
@@ -301,15 +341,15 @@ class Tenant:
         last, round = self.rounds[session], int(told["round"])
         if not last or round not in ([last + 1, last + 2] if last % 2 else [last + 1]) or bool(told["tag"]) != (round % 2 == 0):
             return b"a round that can follow %s" % last
-        self.rounds[session] = round
+        self.begin_round(session, round)
         asked = self.servers.asked(round)
         return b"round %d%s sent %s" % (round, told["tag"] or b"", self.sending(session, asked) if asked else b"none")
 
-    def sending(self, session, count):
-        """The numbers of so many messages of the session, which are sent now."""
-        first = len(self.owners)
-        self.owners += [session] * count
-        return b"%d to %d" % (first, first + count - 1)
+    def sending(self, session, servers):
+        """The numbers of the messages of the session's round, which are sent to these servers now."""
+        first = len(self.messages)
+        self.messages += [(session, self.ops[session], self.rounds[session], server) for server in servers]
+        return b"%d to %d" % (first, len(self.messages) - 1)
 
 
 def check_answers(plan, lines, output):
@@ -330,7 +370,7 @@ def check_answers(plan, lines, output):
                 told[first].append(answer)
                 tenants[first].check(words, answer[len(head) :])
             else:
-                wanted = servers.answer(words) if first == b"server" else b"? refused bad"
+                wanted = servers.answer(words, tenants.values()) if first == b"server" else b"? refused bad"
                 if answer != wanted:
                     raise Wrong(f"not {wanted!r}")
         except Wrong as wrong:

@@ -15,7 +15,7 @@ EDGES = [b"%d" % (limit + step) for limit in (1, 8, 16, 64, 1024, 4096, 16384, 6
 EDGES += [b"9" * 10, b"9" * 30, b"1" + b"0" * 400]
 NO_NUMBERS = [b"", b"-", b"-1", b"+1", b"00", b"01", b"0x1", b"1e3", b"1.0", b"1_0", b" 1", b"\xd9\xa1", b"1\r", b"1\0"]
 # Words that some line has, and some that look like them.
-WORDS = b"quorum open volumes write read list deliver lose retry abandon server down up tenant grid blocks go".split()
+WORDS = b"quorum open volumes write read list deliver lose retry abandon server down up lost repaired tenant grid blocks go".split()
 WORDS += [b"Quorum", b"quorums", b"volume", b"dn", b"-", b"--", b"?", b"0a", b"0A", b"0g", b"\xc3\xa4", b"\t", b"\0", b"\r"]
 ALMOST_NAMES = [b"server", b"servers", b"serve", b"Server", b"a" * 16, b"a" * 17, b"Ann", b"ann1", b"an n", b"ann\r", b"\xff", b""]
 ALMOST_NAMES += [b"?", b"-", b"go", b"grid", b"tenant", b"{", b"`", b"@", b"z", b"[", b"an\0", b"\xc3\xa4"]
@@ -88,6 +88,7 @@ def good_lines(draw, plan, tenants):
         sessions,
         lost=0.02,
         changed=0.01,
+        broken=0.01,
         listed=0.1,
         rows=plan.rows,
         cols=plan.cols,
@@ -117,7 +118,7 @@ def a_line(draw, name):
 
 
 def a_server_line(draw):
-    return b"server " + any_number(draw) + draw.choice([b" down\n", b" up\n", b" up \n", b"\n"])
+    return b"server " + any_number(draw) + draw.choice([b" down\n", b" up\n", b" lost\n", b" repaired\n", b" up \n", b"\n"])
 
 
 def any_line(draw, name):

@@ -34,6 +34,6 @@ def a_crowd(draw):
     names = ["ann", "bob"][: draw.choice([1, 1, 2])]
     sessions, files = draw.choice([2, 3, 4, 8, 16]), draw.choice([1, 1, 2])
     rows, cols = draw.randint(1, 3), draw.randint(1, 3)
-    lines = Crowd(draw, names, sessions, lost=0.02, changed=0.01, rows=rows, cols=cols, files=files, blocks=2)
+    lines = Crowd(draw, names, sessions, lost=0.02, changed=0.01, broken=draw.choice([0, 0.01]), rows=rows, cols=cols, files=files, blocks=2)
     plan = [f"grid {rows} {cols}", f"blocks {4 * len(names)}", *(f"tenant {name} 4 {sessions} 1000000" for name in names), "go"]
     return "\n".join(plan) + "\n" + "".join(next(lines) for _ in range(draw.choice([60, 200, 600, 1200])))

@@ -16,8 +16,19 @@ def history_of(name, volume, file, lines, answers, number):
     """The lines of the history: lines and answers are those of the script after `go`, and the first of them is the line of this
     number."""
     events, going, given_up = [], {}, {}
+    # the sessions that may have given up since a server was lost
+    left_alone = set()
+
+    def gives_up(session):
+        operation = going.pop(session)
+        if operation:
+            given_up[session] = operation[3]
+            going["given up", operation[4]] = operation
+
     for time, (line, answer) in enumerate(zip(lines, answers), number):
         first, _, rest = line.partition(" ")
+        if first == "server" and rest.endswith(" lost") and answer == "server ok":
+            left_alone |= {session for session in going if isinstance(session, int)}
         if first != name:
             continue
         words, told = rest.split(" "), answer.partition(" ")[2]
@@ -26,7 +37,10 @@ def history_of(name, volume, file, lines, answers, number):
             session = int(words[1])
             if session in going:
                 # (it has been given up; its end comes behind all lines)
-                raise ValueError(f"session {session} has an operation")
+                if session not in left_alone:
+                    raise ValueError(f"session {session} has an operation")
+                gives_up(session)
+            left_alone.discard(session)
             is_here = int(words[2]) == volume and (words[0] == "list" or int(words[3]) == file)
             if is_here:
                 function = {"write": "write", "read": "read", "list": "length"}[words[0]]
@@ -46,11 +60,7 @@ def history_of(name, volume, file, lines, answers, number):
                     value = done[4].split(" ")[file].partition(":")[0]
                 events.append((time, "ok", process, function, value))
         elif told == "abandoned":
-            session = int(words[1])
-            operation = going.pop(session)
-            if operation:
-                given_up[session] = operation[3]
-                going["given up", operation[4]] = operation
+            gives_up(int(words[1]))
     left = sorted((operation for operation in going.values() if operation), key=lambda operation: operation[4])
     events += [(number + len(lines), "info", process, function, value) for function, process, value, _, _ in left]
     return [

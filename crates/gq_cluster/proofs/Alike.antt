@@ -28,7 +28,7 @@ pub record Alike (grid : Grid) (k : ℕ) (a b : State) : Type 0 where
 
 -- the first state with these volumes, and with this for each session
 abbrev with_these : State → List VolumeRow → Session → State
-with_these a volumes session = record { up = a.up; volumes = volumes; sent = a.sent; is_lost = a.is_lost; lacks = a.lacks; brought = a.brought; offered = a.offered; session = λ k. session }
+with_these a volumes session = record { up = a.up; gone = a.gone; volumes = volumes; sent = a.sent; is_lost = a.is_lost; lacks = a.lacks; brought = a.brought; offered = a.offered; session = λ k. session }
 
 -- ---- whom the quorums are taken of
 

@@ -14,7 +14,7 @@ use Rattle.gq_tag.specs.Tag.{File, greatest, first_copy}
 use Rattle.gq_desk.specs.declared.plans.TenantRow.{TenantRow}
 use Rattle.gq_desk.specs.declared.volumes.VolumeRow.{VolumeRow}
 use Rattle.gq_model.specs.declared.events.Line.TheVariants.{NewVolume}
-use Rattle.gq_model.specs.Trace.{Turn, Own, Losing, Returning, Trace, Past, new_session, start, questions, up, sent, is_lost, lacks, brought, session}
+use Rattle.gq_model.specs.Trace.{Turn, Own, Losing, Returning, Trace, Past, new_session, start, questions, up, gone, sent, is_lost, lacks, brought, session}
 use Rattle.gq_model.specs.Lone.{Step, after, step_at, is_refusal, past_of}
 use Rattle.gq_cluster.specs.Cluster.{Setting, Cluster, Act, NodeStep, Acts, Restarts, Loses, Returns, Exchange, CanAct, CanHappen, CanFollow, new_cluster, going_at, gives_up, acts_of, after_act, after_acts, after_step, cluster_after, exchanges_of, exchanges}
 use Rattle.gq_cluster.specs.Laws.{turn_exchanges, exchanges_from, openings, opened, setting_of, disk_turn, disk_step, StepsEnough, AllClustersServe}
@@ -155,6 +155,7 @@ record IsFresh (p : Past) : Type 0 where
   none : sent p.trace ≡ []
   kept : (n : ℕ) → is_lost p.trace n ≡ false
   alive : (n : ℕ) → up p.trace n ≡ true
+  here : (n : ℕ) → gone p.trace n ≡ false
   whole : (n : ℕ) (file : File) → lacks p.trace n file ≡ false
   copies : (n : ℕ) (file : File) → brought p.trace n file ≡ []
   sessions : (k : ℕ) → session p.trace k ≡ new_session
@@ -179,8 +180,8 @@ open_fresh grid row v p fresh = on (is_refusal step.told) refl
     P t = IsFresh (record { lines = p.lines + 1; trace = t })
 
     on : (b : Bool) → is_refusal step.told ≡ b → IsFresh (after grid row p turn)
-    on true e = rw e (record { none = fresh.none; kept = fresh.kept; alive = fresh.alive; whole = fresh.whole; copies = fresh.copies; sessions = fresh.sessions })
-    on false e = rw e (record { none = (λ i. fresh.none i ++ new i); kept = fresh.kept; alive = fresh.alive; whole = fresh.whole; copies = fresh.copies; sessions = fresh.sessions })
+    on true e = rw e (record { none = fresh.none; kept = fresh.kept; alive = fresh.alive; here = fresh.here; whole = fresh.whole; copies = fresh.copies; sessions = fresh.sessions })
+    on false e = rw e (record { none = (λ i. fresh.none i ++ new i); kept = fresh.kept; alive = fresh.alive; here = fresh.here; whole = fresh.whole; copies = fresh.copies; sessions = fresh.sessions })
 
 opens_fresh : (grid : Grid) (row : TenantRow) (opens : List VolumeRow) (p : Past) → IsFresh p → IsFresh (fold (after grid row) p (openings opens))
 opens_fresh grid row [] p fresh = fresh
@@ -192,8 +193,8 @@ opens_lines grid row (v ∷ opens) p = let later = opens_lines grid row opens (a
 
 opened_stands : (grid : Grid) (row : TenantRow) (home : ℕ → ℕ) (opens : List VolumeRow) → Stands (setting_of grid row home opens) (opened grid row opens) new_cluster
 opened_stands grid row home opens =
-    let fresh : IsFresh (opened grid row opens) = opens_fresh grid row opens start (record { none = refl; kept = λ n. refl; alive = λ n. refl; whole = λ n file. refl; copies = λ n file. refl; sessions = λ k. refl }) in
-    record { opened = refl; written = fresh.none; kept = fresh.kept; beyond = λ n out. fresh.alive n; lacking = fresh.whole; copies = fresh.copies; sessions = fresh.sessions; offers = λ server file mate copy within. absurd (omega (arith, within.1)) }
+    let fresh : IsFresh (opened grid row opens) = opens_fresh grid row opens start (record { none = refl; kept = λ n. refl; alive = λ n. refl; here = λ n. refl; whole = λ n file. refl; copies = λ n file. refl; sessions = λ k. refl }) in
+    record { opened = refl; written = fresh.none; kept = fresh.kept; beyond = λ n out. fresh.alive n; none_gone = fresh.here; lacking = fresh.whole; copies = fresh.copies; sessions = fresh.sessions; offers = λ server file mate copy within. absurd (omega (arith, within.1)) }
 
 -- ---- the law
 

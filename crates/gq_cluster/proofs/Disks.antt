@@ -1,16 +1,15 @@
 -- A disk is lost by one turn of the model, and a server is given a copy by one; neither does anything in a session.
-use Rattle.std.proofs.Common.{◌≡◌, ◌⊎◌, ℕ, zero, suc, ◌+◌, Bool, true, false, ◌&&◌, ◌||◌, not, List, [], ◌∷◌, ◌++◌, refl, sym, ap, ◌∙◌, subst, inl, inr, None, arith, append-nil, eqb}
+use Rattle.std.proofs.Common.{◌≡◌, ℕ, zero, suc, Bool, true, false, ◌&&◌, ◌||◌, not, List, [], ◌∷◌, refl, sym, ap, ◌∙◌, subst, None, arith, append-nil, eqb}
 use Rattle.std.specs.Prelude.{Contains, if◌then◌else◌}
 use Rattle.std.specs.List.{list_any}
-use Rattle.std.specs.Str.{bytes_eq}
-use Rattle.std.proofs.lemmas.Bool.{and_parts, eq-eqb, eqb-true, or_left, or_right, true≢false}
+use Rattle.std.proofs.lemmas.Bool.{and_parts, eq-eqb, eqb-true, or_left, or_right}
 use Rattle.std.proofs.lemmas.Slice.Eq.{bytes_eq-Decides}
 use Rattle.gq_tag.specs.declared.StoredCopy.{StoredCopy}
 use Rattle.gq_tag.specs.Tag.{File, is_file, OwnMessage, to_server}
 use Rattle.gq_phase.specs.Quorums.{are_mates}
-use Rattle.gq_model.specs.Told.{Told, ServerOk}
-use Rattle.gq_model.specs.Trace.{Turn, Losing, Returning, Entry, Past, questions, sent, lacks, lacks_by, is_loss, brought, offered, session}
-use Rattle.gq_model.specs.Lone.{after, trace_after, quiet, is_awaited, is_counted, loss_told, equal_copies, return_told}
+use Rattle.gq_model.specs.Told.{ServerOk}
+use Rattle.gq_model.specs.Trace.{Turn, Losing, Returning, Entry, Past, questions, sent, lacks, is_awaited, brought, offered, session}
+use Rattle.gq_model.specs.Lone.{after, trace_after, quiet, is_counted, loss_told, equal_copies, return_told}
 use Rattle.gq_cluster.specs.Cluster.{Setting, Cluster, Part, NoneCounts, is_within, parts_with, lost_part, given_part, with_loss, with_return}
 use Rattle.gq_cluster.proofs.Standing.{Stands, holds_as, offers_on}
 
@@ -62,6 +61,7 @@ loses s p c server volumes stands none = subst P (sym then_is) (record {
     written = append-nil (sent p.trace) ∙ stands.written;
     kept = stands.kept;
     beyond = stands.beyond;
+    none_gone = stands.none_gone;
     lacking = lacking;
     copies = copies;
     sessions = λ k. stands.sessions k ∙ kept (s.home k) k (eqb server (s.home k));
@@ -124,6 +124,7 @@ returns s p c server file mate copy stands lack mates among = subst P (sym then_
     written = append-nil (sent p.trace) ∙ stands.written;
     kept = stands.kept;
     beyond = stands.beyond;
+    none_gone = stands.none_gone;
     lacking = lacking;
     copies = copies;
     sessions = λ k. stands.sessions k ∙ kept (s.home k) k (eqb server (s.home k));

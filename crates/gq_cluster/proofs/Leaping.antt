@@ -9,7 +9,7 @@ use Rattle.gq_grid.specs.Grid.{Grid}
 use Rattle.gq_desk.specs.declared.plans.TenantRow.{TenantRow}
 use Rattle.gq_desk.specs.Plans.{is_in}
 use Rattle.gq_model.specs.Told.{ServerOk}
-use Rattle.gq_model.specs.Trace.{Turn, Leaping, Leaps, Entry, State, Session, Past, new_session, questions, up, volumes, sent, is_lost, lacks, brought, session, session_by, offered}
+use Rattle.gq_model.specs.Trace.{Turn, Leaping, Leaps, Entry, State, Session, Past, new_session, questions, up, gone, volumes, sent, is_lost, lacks, brought, session, session_by, offered}
 use Rattle.gq_model.specs.Lone.{after, leap_told, trace_after, quiet}
 use Rattle.gq_cluster.specs.Facts.{Reserved}
 use Rattle.gq_cluster.specs.Cluster.{Setting, Cluster, leapt_part, leapt}
@@ -32,7 +32,7 @@ leaps_for s c node ks = map (leap s c) (filter (λ k. eqb (s.home k) node) ks)
 
 -- all but the sessions, and what servers could give
 abbrev pub without_sessions : State → State
-without_sessions state = record { up = state.up; volumes = state.volumes; sent = state.sent; is_lost = state.is_lost; lacks = state.lacks; brought = state.brought; offered = λ server file mate. []; session = λ k. new_session }
+without_sessions state = record { up = state.up; gone = state.gone; volumes = state.volumes; sent = state.sent; is_lost = state.is_lost; lacks = state.lacks; brought = state.brought; offered = λ server file mate. []; session = λ k. new_session }
 
 -- ---- one turn
 
@@ -52,7 +52,7 @@ abbrev with_leap : Past → (k op number : ℕ) → Past
 with_leap p k op number = record { lines = p.lines; trace = entry_for k op number ∷ p.trace }
 
 rest_stays : (p : Past) (k op number : ℕ) → without_sessions (questions (with_leap p k op number).trace) ≡ without_sessions (questions p.trace)
-rest_stays p k op number = λ i. record { up = up p.trace; volumes = volumes p.trace; sent = append-nil (sent p.trace) i; is_lost = is_lost p.trace; lacks = lacks p.trace; brought = brought p.trace; offered = λ server file mate. []; session = λ j. new_session }
+rest_stays p k op number = λ i. record { up = up p.trace; gone = gone p.trace; volumes = volumes p.trace; sent = append-nil (sent p.trace) i; is_lost = is_lost p.trace; lacks = lacks p.trace; brought = brought p.trace; offered = λ server file mate. []; session = λ j. new_session }
 
 leap_goes : (s : Setting) (p : Past) (k op number : ℕ) → (session p.trace k).current ≡ None → GoesOn s k op number p (after s.grid s.row p (Leaping k op number))
 leap_goes s p k op number idle = subst P (sym then_is) (record {
@@ -182,6 +182,7 @@ node_leaps s p c node stands idle = record {
     written = ap (λ z. z.sent) all.rest ∙ stands.written;
     kept = λ n. ap (λ z. z.is_lost n) all.rest ∙ stands.kept n;
     beyond = λ n out. ap (λ z. z.up n) all.rest ∙ stands.beyond n out;
+    none_gone = λ n. ap (λ z. z.gone n) all.rest ∙ stands.none_gone n;
     lacking = λ n file. ap (λ z. z.lacks n file) all.rest ∙ stands.lacking n file ∙ same_lacks n file (eqb n node);
     copies = λ n file. ap (λ z. z.brought n file) all.rest ∙ stands.copies n file ∙ same_copies n file (eqb n node);
     sessions = sessions;

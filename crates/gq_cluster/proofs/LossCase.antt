@@ -1,9 +1,7 @@
 -- A worked case, computed: of two nodes in one column one loses its disk, and is given its file by the other. No proof rests on it. The
 -- words on quorums are opened here to compute, as in WorkedCase.
-use Rattle.std.proofs.Common.{◌≡◌, ℕ, zero, suc, ◌-◌, ◌%◌, true, false, List, [], ◌∷◌, ◌++◌, map, refl, subst, Some, None, arith}
-use Rattle.std.specs.Prelude.{Contains, filter_map}
+use Rattle.std.proofs.Common.{◌≡◌, ℕ, zero, suc, ◌-◌, ◌%◌, false, List, [], ◌∷◌, ◌++◌, map, refl, subst, Some, None, arith}
 use Rattle.gq_grid.specs.Grid.{Grid}
-use Rattle.gq_tag.specs.declared.Tag.{Tag}
 use Rattle.gq_tag.specs.declared.StoredCopy.{StoredCopy}
 use Rattle.gq_tag.specs.declared.Body.{Body}
 use Rattle.gq_tag.specs.declared.Body.TheVariants.{Ask, Copy, Store, Stored}
@@ -14,7 +12,7 @@ use Rattle.gq_phase.specs.declared.Outcome.TheVariants.{Wrote, Gave}
 use Rattle.gq_phase.specs.Quorums.{collect_quorum, store_quorum, ends_collect, ends_store, are_mates}
 use Rattle.gq_model.specs.declared.events.Line.TheVariants.{Write, Read}
 use Rattle.gq_model.specs.declared.said.Said.TheVariants.{Began, Noted, Round, Done}
-use Rattle.gq_model.specs.Lone.{is_awaited}
+use Rattle.gq_model.specs.Trace.{is_awaited}
 use Rattle.gq_laws.specs.Operations.{Legal}
 use Rattle.gq_laws.specs.Orders.{order}
 use Rattle.gq_cluster.specs.Cluster.{Setting, Cluster, NodeStep, Acts, Loses, Returns, Asks, Comes, everyone, new_cluster, cluster_after, copy_in, NoneCounts, CanFollow, exchanges}

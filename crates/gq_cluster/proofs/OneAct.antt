@@ -21,10 +21,10 @@ use Rattle.gq_model.specs.Lone.{Step, after, step_at, line_step, asked_step, del
 use Rattle.gq_laws.proofs.Found.{position_of}
 use Rattle.gq_cluster.specs.Cluster.{Setting, Cluster, Act, Asks, Comes, session_named, IsOfSession, CanAct, everyone, aim_of, node_of, step_in, act_entry, parts_after, with_held, after_act, arrival_of, exchange_of}
 use Rattle.gq_cluster.specs.Laws.{arrival_by, turn_exchanges, exchanges_from, disk_turn}
-use Rattle.gq_cluster.proofs.ServerLines.{as_aimed, SetsAll, all_set}
+use Rattle.gq_cluster.proofs.ServerLines.{NoneGone, as_aimed, SetsAll, all_set}
 use Rattle.gq_cluster.proofs.Numbers.{numbered, numbered_step, refusal_is, said_is, delivered_deed_is}
 use Rattle.gq_cluster.proofs.Alike.{asked_alike, heard_alike, served_alike}
-use Rattle.gq_cluster.proofs.Parts.{state_at, part_then, parts_then, parts_lack, parts_here, parts_away, refused_part, accepted_part, refused_quiet}
+use Rattle.gq_cluster.proofs.Parts.{state_at, act_deed, part_then, parts_then, parts_lack, parts_here, parts_away, refused_part, accepted_part, refused_quiet}
 use Rattle.gq_cluster.proofs.Standing.{Stands, stands_on, lines_of_disks, holds_as, offers_on, exchanges_behind}
 
 -- whether the server serves the file, at this past; and as the act's node has it
@@ -108,6 +108,7 @@ plays s q c act stands steps p = record { line = p.line; did = did; stands = on 
           written = stands.written ∙ sym (append-nil c.written) ∙ ap (λ z. c.written ++ z) (sym none);
           kept = stands.kept;
           beyond = stands.beyond;
+          none_gone = stands.none_gone;
           lacking = λ m file. stands.lacking m file ∙ ap (λ z. z.lacks file) (sym (refused_part s c act e m));
           copies = λ m file. stands.copies m file ∙ ap (λ z. z.brought file) (sym (refused_part s c act e m));
           sessions = λ k. stands.sessions k ∙ ap (λ z. z.session k) (sym (refused_part s c act e (s.home k)));
@@ -121,6 +122,7 @@ plays s q c act stands steps p = record { line = p.line; did = did; stands = on 
           written = ap (λ z. z ++ mine.new) stands.written;
           kept = λ m. p.loses (is_lost q.trace) m ∙ stands.kept m;
           beyond = stands.beyond;
+          none_gone = stands.none_gone;
           lacking = lacking e;
           copies = copies e;
           sessions = λ k. p.sessions k ∙ ap (λ z. z.session k) (sym (accepted_part s c act e (s.home k)));
@@ -137,7 +139,9 @@ sessions_go s q c act stands e deeds elsewhere k = by (cases_eq (s.home k) (node
     by : (s.home k ≡ node_of s.home act) ⊎ (s.home k ≢ node_of s.home act) → session_by (volumes q.trace) k (deed k e) (session q.trace k) ≡ (parts_then s c act (s.home k)).session k
     by (inl same) =
         let its : session q.trace k ≡ (c.part (node_of s.home act)).session k = stands.sessions k ∙ ap (λ z. (c.part z).session k) same in
-        (λ i. session_by (stands.opened i) k (deeds k i) (its i)) ∙ ap (λ z. z.session k) (sym (parts_here s c act (s.home k) same))
+        (λ i. session_by (stands.opened i) k (deeds k i) (its i))
+        ∙ ap (λ d. session_by s.volumes k d ((c.part (node_of s.home act)).session k)) (sym (act_deed [] k ((c.part (node_of s.home act)).session k) act (step_in s c act)))
+        ∙ ap (λ z. z.session k) (sym (parts_here s c act (s.home k) same))
     by (inr ne) =
         (λ i. session_by (volumes q.trace) k (elsewhere k ne i) (session q.trace k)) ∙ stands.sessions k ∙ ap (λ z. z.session k) (sym (parts_away s c act (s.home k) ne))
 
@@ -347,13 +351,13 @@ pub record IsActed (s : Setting) (p : Past) (c : Cluster) (act : Act) : Type 0 w
   pub stands : Stands s (fold (after s.grid s.row) p turns) (after_act s c act)
   pub lines : (fold (after s.grid s.row) p turns).lines ≡ p.lines + 1
 
-behind : (s : Setting) (p : Past) (c : Cluster) (act : Act) → IsPlayed s (fold (after s.grid s.row) p (as_aimed s.grid (aim_of act))) c act → IsActed s p c act
-behind s p c act played = record {
+behind : (s : Setting) (p : Past) (c : Cluster) (act : Act) → NoneGone p → IsPlayed s (fold (after s.grid s.row) p (as_aimed s.grid (aim_of act))) c act → IsActed s p c act
+behind s p c act none_gone played = record {
   turns = set ++ Own played.line ∷ [];
   disks = filter_map-append disk_turn set (Own played.line ∷ []) ∙ ap (λ z. z ++ []) (lines_of_disks (aim_of act) (below (s.grid.rows * s.grid.cols)));
   did = exchanges_behind s.grid s.row (aim_of act) (below (s.grid.rows * s.grid.cols)) (Own played.line ∷ []) p ∙ ap (λ z. z ++ []) played.did;
   stands = subst P (sym grown) played.stands;
-  lines = ap (λ z. z.lines) grown ∙ ap (λ n. n + 1) (all_set s.grid s.row (aim_of act) p).lines;
+  lines = ap (λ z. z.lines) grown ∙ ap (λ n. n + 1) (all_set s.grid s.row (aim_of act) p none_gone).lines;
 }
   where
     set : List Turn
@@ -391,8 +395,8 @@ plays_act s q c (Comes m aim) stands aimed can = by (to_server m.body) refl
 pub one_act : (s : Setting) (p : Past) (c : Cluster) (act : Act) → Stands s p c → p.lines < s.row.steps → CanAct c act → IsActed s p c act
 one_act s p c act stands steps can =
     let q : Past = fold (after s.grid s.row) p (as_aimed s.grid (aim_of act)) in
-    let set : SetsAll p q (aim_of act) 0 (s.grid.rows * s.grid.cols) = all_set s.grid s.row (aim_of act) p in
+    let set : SetsAll p q (aim_of act) 0 (s.grid.rows * s.grid.cols) = all_set s.grid s.row (aim_of act) p stands.none_gone in
     let now : Stands s q c = stands_on s p q c (aim_of act) set stands in
     let aimed : Aimed s q (aim_of act) = λ n within. set.these n (omega arith) (omega arith) in
     let lines = set.lines in
-    behind s p c act (plays s q c act now (omega arith) (plays_act s q c act now aimed can))
+    behind s p c act stands.none_gone (plays s q c act now (omega arith) (plays_act s q c act now aimed can))

@@ -1,5 +1,5 @@
 -- What an act leaves of the parts, and that what is refused sends nothing.
-use Rattle.std.proofs.Common.{◌≡◌, ◌≢◌, ◌⊎◌, ℕ, Bool, true, false, [], length, refl, sym, ap, ◌∙◌, subst, inl, inr, Option, Some, None}
+use Rattle.std.proofs.Common.{◌≡◌, ◌≢◌, ◌⊎◌, ℕ, Bool, true, false, List, [], length, refl, sym, ap, ◌∙◌, subst, inl, inr, Option, Some, None}
 use Rattle.std.specs.Prelude.{◌==◌, if◌then◌else◌}
 use Rattle.std.proofs.lemmas.Bool.{cases_eq, eq-eqb, ne_eqb, true≢false}
 use Rattle.gq_grid.specs.Grid.{Grid, Servers}
@@ -11,7 +11,7 @@ use Rattle.gq_model.specs.declared.events.Line.TheVariants.{Write, Read, List as
 use Rattle.gq_model.specs.declared.events.Refusal.{Refusal}
 use Rattle.gq_model.specs.declared.events.Refusal.TheVariants.{NoQuorum}
 use Rattle.gq_model.specs.Told.{Resent, Refused}
-use Rattle.gq_model.specs.Trace.{State, serves, operation, changed}
+use Rattle.gq_model.specs.Trace.{State, Session, serves, operation, changed, deed, deed_in}
 use Rattle.gq_model.specs.Lone.{Step, asked_step, deliver_step, first_cause, session_causes, session_step, retry_step, hear_step, heard_step, serve_step, is_refusal, unless, quiet}
 use Rattle.gq_cluster.specs.Facts.{Reserved, with_reserved}
 use Rattle.gq_cluster.specs.Cluster.{Setting, Cluster, Part, Act, Asks, Comes, aim_of, node_of, part_of, state_of, act_step, act_entry, step_in, fact_of, part_after, parts_after}
@@ -25,6 +25,11 @@ state_at s c act = state_of s.volumes (aim_of act) (c.part (node_of s.home act))
 -- what is reserved behind the act for the sessions of its node
 abbrev pub reserved_then : Setting → Cluster → Act → ℕ → Reserved
 reserved_then s c act = with_reserved (fact_of s (c.part (node_of s.home act)) act) (c.part (node_of s.home act)).reserved
+
+-- by an act no operation is given up
+pub act_deed : (sent : List OwnMessage) (k : ℕ) (z : Session) (act : Act) (step : Step) → deed_in sent k z (act_entry act step) ≡ deed k (act_entry act step)
+act_deed sent k z (Asks line aim) step = refl
+act_deed sent k z (Comes letter aim) step = refl
 
 -- the part of that node, as number n, after an act that is not refused
 abbrev pub part_then : Setting → Cluster → Act → ℕ → Part

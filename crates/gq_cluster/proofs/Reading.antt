@@ -9,14 +9,15 @@ use Rattle.gq_desk.specs.declared.plans.TenantRow.{TenantRow}
 use Rattle.gq_phase.specs.Quorums.{are_mates}
 use Rattle.gq_model.specs.declared.events.Line.{Line}
 use Rattle.gq_model.specs.declared.events.ServerLine.{ServerLine}
+use Rattle.gq_model.specs.declared.events.ServerLine.TheVariants.{Bad as BadServer, Down, Up, Lost as ServerLost, Repaired as ServerRepaired}
 use Rattle.gq_model.specs.declared.events.ServerRefusal.{ServerRefusal}
 use Rattle.gq_model.specs.declared.events.ServerRefusal.TheVariants.{Same}
 use Rattle.gq_model.specs.declared.events.Line.TheVariants.{Write, Read, List as ListFiles, Deliver, Retry, Abandon}
 use Rattle.gq_model.specs.declared.events.Refusal.TheVariants.{Spent, Busy, NoMessage}
 use Rattle.gq_model.specs.Told.{Told, Began, Round, Done, Abandoned, Refused, ServerOk, ServerRefused}
 use Rattle.gq_model.specs.Said.{said_in}
-use Rattle.gq_model.specs.Trace.{Turn, Own, Serving, Leaping, Losing, Returning, State, Past, questions, sent, up}
-use Rattle.gq_model.specs.Lone.{after, said, step_at, message_of_turn, server_told, server_refusal, leap_told, loss_told, is_counted, return_told, equal_copies, quiet, deliver_step}
+use Rattle.gq_model.specs.Trace.{Turn, Own, Serving, Leaping, Losing, Returning, State, Past, questions, sent, up, gone}
+use Rattle.gq_model.specs.Lone.{after, said, step_at, message_of_turn, server_told, server_refusal, server_done, leap_told, loss_told, is_counted, return_told, equal_copies, quiet, deliver_step}
 use Rattle.gq_laws.specs.Operations.{SessionAnswer, ending, write_tag, begun_at, begun_in}
 use Rattle.gq_laws.specs.Laws.{IsRising}
 use Rattle.gq_laws.proofs.Words.{message_at}
@@ -193,11 +194,18 @@ places_rise n (Returning s f mate copy ∷ turns) i j low = places_rise (n + 1) 
 
 -- ---- one turn
 
-server_silent : (grid : Grid) (up : Servers) (line : ServerLine) → IsSilent (server_told grid up line)
-server_silent grid up line = by (server_refusal grid up line) refl
+done_silent : (grid : Grid) (up : Servers) (line : ServerLine) → IsSilent (server_done grid up line)
+done_silent grid up (ServerRepaired n) = tt
+done_silent grid up (ServerLost n) = tt
+done_silent grid up (Down n) = tt
+done_silent grid up (Up n) = tt
+done_silent grid up BadServer = tt
+
+server_silent : (grid : Grid) (up gone : Servers) (line : ServerLine) → IsSilent (server_told grid up gone line)
+server_silent grid up gone line = by (server_refusal grid up gone line) refl
   where
-    by : (word : Option ServerRefusal) → server_refusal grid up line ≡ word → IsSilent (server_told grid up line)
-    by None is = rw is tt
+    by : (word : Option ServerRefusal) → server_refusal grid up gone line ≡ word → IsSilent (server_told grid up gone line)
+    by None is = rw is (done_silent grid up line)
     by (Some word) is = rw is tt
 
 leap_silent : (state : State) (k : ℕ) → IsSilent (leap_told state k)
@@ -286,7 +294,7 @@ reads grid row [] p n = record { ends = λ k. refl; tags = λ k. refl; begins = 
 reads grid row (Serving line ∷ turns) p n =
     let P : List SessionAnswer → Type 0 = λ z. SameReading z (answers_at (own_places (n + 1) turns) (exchanges_from grid row (after grid row p (Serving line)) turns)) in
     subst P (sym (tells-cons grid row p n (Serving line) turns))
-    (silent_left (first_told grid row p n (Serving line)) (tells grid row (after grid row p (Serving line)) (n + 1) turns) (answers_at (own_places (n + 1) turns) (exchanges_from grid row (after grid row p (Serving line)) turns)) (server_silent grid (up p.trace) line)
+    (silent_left (first_told grid row p n (Serving line)) (tells grid row (after grid row p (Serving line)) (n + 1) turns) (answers_at (own_places (n + 1) turns) (exchanges_from grid row (after grid row p (Serving line)) turns)) (server_silent grid (up p.trace) (gone p.trace) line)
     (reads grid row turns (after grid row p (Serving line)) (n + 1)))
 reads grid row (Leaping k op number ∷ turns) p n =
     let turn : Turn = Leaping k op number in

@@ -12,7 +12,7 @@ use Rattle.gq_model.specs.declared.events.ServerLine.{ServerLine}
 use Rattle.gq_model.specs.declared.events.ServerLine.TheVariants.{Down, Up}
 use Rattle.gq_model.specs.declared.events.ServerRefusal.TheVariants.{Same}
 use Rattle.gq_model.specs.Told.{Told, ServerOk, ServerRefused}
-use Rattle.gq_model.specs.Trace.{Turn, Serving, Entry, State, Past, questions, up, volumes, sent, is_lost, lacks, brought, session, offered}
+use Rattle.gq_model.specs.Trace.{Turn, Serving, Entry, State, Past, questions, up, gone, volumes, sent, is_lost, lacks, brought, session, offered}
 use Rattle.gq_model.specs.Lone.{after, server_told, trace_after, quiet}
 use Rattle.gq_cluster.specs.Cluster.{everyone}
 
@@ -31,7 +31,7 @@ as_aimed grid aim = lines_for aim (below (grid.rows * grid.cols))
 
 -- all but who is up, and what servers could give
 abbrev pub others : State → State
-others state = record { up = everyone; volumes = state.volumes; sent = state.sent; is_lost = state.is_lost; lacks = state.lacks; brought = state.brought; offered = λ server file mate. []; session = state.session }
+others state = record { up = everyone; gone = state.gone; volumes = state.volumes; sent = state.sent; is_lost = state.is_lost; lacks = state.lacks; brought = state.brought; offered = λ server file mate. []; session = state.session }
 
 -- what a server could be given behind the first past, it could be given behind the second
 abbrev pub OffersMore : Past → Past → Type 0
@@ -60,8 +60,8 @@ abbrev with_change : Past → ServerLine → Past
 with_change p line = record { lines = p.lines; trace = changed_by line ∷ p.trace }
 
 rest_stays : (p : Past) (wanted : Bool) (n : ℕ) → others (questions (with_change p (change wanted n)).trace) ≡ others (questions p.trace)
-rest_stays p true n = λ i. record { up = everyone; volumes = volumes p.trace; sent = append-nil (sent p.trace) i; is_lost = is_lost p.trace; lacks = lacks p.trace; brought = brought p.trace; offered = λ server file mate. []; session = session p.trace }
-rest_stays p false n = λ i. record { up = everyone; volumes = volumes p.trace; sent = append-nil (sent p.trace) i; is_lost = is_lost p.trace; lacks = lacks p.trace; brought = brought p.trace; offered = λ server file mate. []; session = session p.trace }
+rest_stays p true n = λ i. record { up = everyone; gone = gone p.trace; volumes = volumes p.trace; sent = append-nil (sent p.trace) i; is_lost = is_lost p.trace; lacks = lacks p.trace; brought = brought p.trace; offered = λ server file mate. []; session = session p.trace }
+rest_stays p false n = λ i. record { up = everyone; gone = gone p.trace; volumes = volumes p.trace; sent = append-nil (sent p.trace) i; is_lost = is_lost p.trace; lacks = lacks p.trace; brought = brought p.trace; offered = λ server file mate. []; session = session p.trace }
 
 this_is : (p : Past) (wanted : Bool) (n : ℕ) → up (with_change p (change wanted n)).trace n ≡ wanted
 this_is p true n = rw (eq-eqb n n refl) refl
@@ -71,26 +71,30 @@ apart_is : (p : Past) (wanted : Bool) (n x : ℕ) → n ≢ x → up (with_chang
 apart_is p true n x ne = rw (ne_eqb n x ne) refl
 apart_is p false n x ne = rw (ne_eqb n x ne) refl
 
+offers_is : (p : Past) (wanted : Bool) (n : ℕ) → OffersMore p (with_change p (change wanted n))
+offers_is p true n = λ server file mate copy within. Contains-append_left (offered p.trace server file mate) _ copy within
+offers_is p false n = λ server file mate copy within. Contains-append_left (offered p.trace server file mate) _ copy within
+
 changes : (p q : Past) (wanted : Bool) (n : ℕ) → q ≡ with_change p (change wanted n) → Sets p q wanted n
 changes p q wanted n same =
     let P : Past → Type 0 = λ z. Sets p z wanted n in
-    subst P (sym same) (record { lines = refl; rest = rest_stays p wanted n; this = this_is p wanted n; apart = apart_is p wanted n; offers = λ server file mate copy within. Contains-append_left (offered p.trace server file mate) _ copy within })
+    subst P (sym same) (record { lines = refl; rest = rest_stays p wanted n; this = this_is p wanted n; apart = apart_is p wanted n; offers = offers_is p wanted n })
 
 -- what is told to the line decides
-after_serving : (grid : Grid) (row : TenantRow) (p : Past) (line : ServerLine) (w : Told) → server_told grid (up p.trace) line ≡ w → after grid row p (Serving line) ≡ record { lines = p.lines; trace = trace_after p.trace (Serving line) (quiet w) }
+after_serving : (grid : Grid) (row : TenantRow) (p : Past) (line : ServerLine) (w : Told) → server_told grid (up p.trace) (gone p.trace) line ≡ w → after grid row p (Serving line) ≡ record { lines = p.lines; trace = trace_after p.trace (Serving line) (quiet w) }
 after_serving grid row p line w said = λ i. record { lines = p.lines; trace = trace_after p.trace (Serving line) (quiet (said i)) }
 
-sets : (grid : Grid) (row : TenantRow) (p : Past) (wanted : Bool) (n : ℕ) → n < grid.rows * grid.cols → Sets p (after grid row p (Serving (change wanted n))) wanted n
-sets grid row p wanted n within = go wanted (up p.trace n) refl
+sets : (grid : Grid) (row : TenantRow) (p : Past) (wanted : Bool) (n : ℕ) → gone p.trace n ≡ false → n < grid.rows * grid.cols → Sets p (after grid row p (Serving (change wanted n))) wanted n
+sets grid row p wanted n here within = go wanted (up p.trace n) refl
   where
     inside : nat_lt n (grid.rows * grid.cols) ≡ true
     inside = lt-ltb n (grid.rows * grid.cols) within
 
     go : (b is : Bool) → up p.trace n ≡ is → Sets p (after grid row p (Serving (change b n))) b n
-    go true true e = stays p (after grid row p (Serving (Up n))) true n (after_serving grid row p (Up n) (ServerRefused Same) (rw (inside, e) refl)) e
-    go true false e = changes p (after grid row p (Serving (Up n))) true n (after_serving grid row p (Up n) ServerOk (rw (inside, e) refl))
-    go false true e = changes p (after grid row p (Serving (Down n))) false n (after_serving grid row p (Down n) ServerOk (rw (inside, e) refl))
-    go false false e = stays p (after grid row p (Serving (Down n))) false n (after_serving grid row p (Down n) (ServerRefused Same) (rw (inside, e) refl)) e
+    go true true e = stays p (after grid row p (Serving (Up n))) true n (after_serving grid row p (Up n) (ServerRefused Same) (rw (inside, here, e) refl)) e
+    go true false e = changes p (after grid row p (Serving (Up n))) true n (after_serving grid row p (Up n) ServerOk (rw (inside, here, e) refl))
+    go false true e = changes p (after grid row p (Serving (Down n))) false n (after_serving grid row p (Down n) ServerOk (rw (inside, here, e) refl))
+    go false false e = stays p (after grid row p (Serving (Down n))) false n (after_serving grid row p (Down n) (ServerRefused Same) (rw (inside, here, e) refl)) e
 
 -- ---- all lines
 
@@ -116,13 +120,17 @@ sets_more p q z aim a n one more = record { lines = more.lines ∙ one.lines; re
     apart x (inl low) = more.apart x (inl (omega arith)) ∙ one.apart x (λ same. omega arith)
     apart x (inr high) = more.apart x (inr (omega arith)) ∙ one.apart x (λ same. omega arith)
 
-sets_from : (grid : Grid) (row : TenantRow) (aim : Servers) (a n : ℕ) (p : Past) → a + n ≤ grid.rows * grid.cols → SetsAll p (fold (after grid row) p (lines_for aim (range_with_len a n))) aim a n
-sets_from grid row aim a zero p low = record { lines = refl; rest = refl; these = λ x from below. absurd (omega arith); apart = λ x out. refl; offers = λ server file mate copy within. within }
-sets_from grid row aim a (suc n) p low =
-    sets_more p (after grid row p (Serving (change (aim a) a))) (fold (after grid row) (after grid row p (Serving (change (aim a) a))) (lines_for aim (range_with_len (a + 1) n))) aim a n
-    (sets grid row p (aim a) a (omega arith))
-    (sets_from grid row aim (a + 1) n (after grid row p (Serving (change (aim a) a))) (omega arith))
+-- no server is lost
+abbrev pub NoneGone : Past → Type 0
+NoneGone p = (n : ℕ) → gone p.trace n ≡ false
+
+sets_from : (grid : Grid) (row : TenantRow) (aim : Servers) (a n : ℕ) (p : Past) → NoneGone p → a + n ≤ grid.rows * grid.cols → SetsAll p (fold (after grid row) p (lines_for aim (range_with_len a n))) aim a n
+sets_from grid row aim a zero p here low = record { lines = refl; rest = refl; these = λ x from below. absurd (omega arith); apart = λ x out. refl; offers = λ server file mate copy within. within }
+sets_from grid row aim a (suc n) p here low =
+    let one = sets grid row p (aim a) a (here a) (omega arith) in
+    sets_more p (after grid row p (Serving (change (aim a) a))) (fold (after grid row) (after grid row p (Serving (change (aim a) a))) (lines_for aim (range_with_len (a + 1) n))) aim a n one
+    (sets_from grid row aim (a + 1) n (after grid row p (Serving (change (aim a) a))) (λ n. ap (λ z. z.gone n) one.rest ∙ here n) (omega arith))
 
 -- behind these lines exactly the servers of the aim are up, of those of the grid
-pub all_set : (grid : Grid) (row : TenantRow) (aim : Servers) (p : Past) → SetsAll p (fold (after grid row) p (as_aimed grid aim)) aim 0 (grid.rows * grid.cols)
-all_set grid row aim p = sets_from grid row aim 0 (grid.rows * grid.cols) p (omega arith)
+pub all_set : (grid : Grid) (row : TenantRow) (aim : Servers) (p : Past) → NoneGone p → SetsAll p (fold (after grid row) p (as_aimed grid aim)) aim 0 (grid.rows * grid.cols)
+all_set grid row aim p here = sets_from grid row aim 0 (grid.rows * grid.cols) p here (omega arith)

@@ -18,8 +18,8 @@ use Rattle.gq_model.specs.declared.events.Line.{Line}
 use Rattle.gq_model.specs.declared.events.Line.TheVariants.{Write, Read, List as ListFiles, Deliver, Retry, Abandon}
 use Rattle.gq_model.specs.declared.said.Said.{Said}
 use Rattle.gq_model.specs.Said.{said_in}
-use Rattle.gq_model.specs.Trace.{Own, Entry, State, Session, Leaps, new_session, session_by, changed}
-use Rattle.gq_model.specs.Lone.{Step, asked_step, deliver_step, is_refusal, is_awaited}
+use Rattle.gq_model.specs.Trace.{Own, Entry, State, Session, Leaps, new_session, session_by, changed, is_awaited}
+use Rattle.gq_model.specs.Lone.{Step, asked_step, deliver_step, is_refusal}
 use Rattle.gq_desk.specs.Plans.{is_in}
 use Rattle.gq_cluster.specs.Facts.{OwnFact, Reserved, none_reserved, reserving, with_reserved, replaced_in}
 
@@ -44,7 +44,7 @@ copy_in part file = greatest (first_copy ∷ part.brought file)
 -- that the node's lacks; of these an act looks at its own server's alone
 abbrev pub state_of : List VolumeRow → Servers → Part → State
 state_of volumes aim part =
-    record { up = aim; volumes = volumes; sent = []; is_lost = λ n. false; lacks = λ server. part.lacks; brought = λ server. part.brought; offered = λ server file mate. []; session = part.session }
+    record { up = aim; gone = λ server. false; volumes = volumes; sent = []; is_lost = λ n. false; lacks = λ server. part.lacks; brought = λ server. part.brought; offered = λ server file mate. []; session = part.session }
 
 -- node n's part of a state, with what is reserved for its sessions
 abbrev pub part_of : ℕ → (ℕ → Reserved) → State → Part

@@ -6,6 +6,7 @@ use Rattle.gq_desk.specs.declared.plans.TenantRow.{TenantRow}
 use Rattle.gq_desk.specs.declared.volumes.VolumeRow.{VolumeRow}
 use Rattle.gq_model.specs.declared.events.Line.{Line}
 use Rattle.gq_model.specs.declared.events.Line.TheVariants.{NewVolume}
+use Rattle.gq_model.specs.declared.events.ServerLine.TheVariants.{Lost as ServerLost, Repaired as ServerRepaired}
 use Rattle.gq_model.specs.Said.{said_in}
 use Rattle.gq_model.specs.Trace.{Turn, Own, Serving, Leaping, Losing, Returning, Trace, State, Past, questions, sent, lacks, session, volumes, held}
 use Rattle.gq_model.specs.Lone.{Step, step_at, after, past_of, message_of_turn}
@@ -54,6 +55,8 @@ pub record Has (home : ℕ → ℕ) (trace : Trace) (c : Cluster) : Type 0 where
 abbrev pub disk_turn : Turn → Option Turn
 disk_turn (Losing server volumes) = Some (Losing server volumes)
 disk_turn (Returning server file mate copy) = Some (Returning server file mate copy)
+disk_turn (Serving (ServerLost server)) = Some (Serving (ServerLost server))
+disk_turn (Serving (ServerRepaired server)) = Some (Serving (ServerRepaired server))
 disk_turn _ = None
 
 abbrev pub disk_step : NodeStep → Option Turn

@@ -8,7 +8,7 @@ use Rattle.gq_laws.specs.Orders.{order}
 use Rattle.gq_model.specs.declared.events.Event.{Event}
 use Rattle.gq_picture.specs.Absences.{absences, counted_from}
 use Rattle.gq_picture.specs.Drawing.{IsDrawing}
-use Rattle.gq_picture.specs.Laws.{TellsNoLie}
+use Rattle.gq_picture.specs.Laws.{TellsNoLie, all_effects}
 use Rattle.gq_picture.specs.declared.absences.Absence.{Absence}
 use Rattle.gq_picture.specs.declared.drawing.Drawing.{Drawing}
 use Rattle.gq_text.specs.Input.{event_of, place_named}
@@ -31,7 +31,7 @@ heading_of plan t file =
 
 -- when servers were down, in a run of these events
 abbrev pub absences_of : CheckedPlan → List Event → List Absence
-absences_of plan events = absences (servers_of plan) (counted_from 0 events) events
+absences_of plan events = absences (servers_of plan) (counted_from 0 (all_effects plan events)) (all_effects plan events)
 
 -- the text is that of a drawing of the operations in their order, which tells no lie
 pub record TellsPicture (name : List ℕ) (heading : Heading) (ops : List Op) (absences : List Absence) (text : List ℕ) : Type 0 where

@@ -7,6 +7,7 @@ ghost use Rattle.gq_laws.specs.Operations.{Tagged};
 ghost use Rattle.gq_laws.specs.Tenants.{tenant_operations};
 ghost use Rattle.gq_order.specs.Runs.{IsRun};
 ghost use Rattle.gq_picture.specs.Absences.{absences};
+ghost use Rattle.gq_picture.specs.Laws.{all_effects};
 ghost use Rattle.gq_text.specs.Lines.{lines_of};
 ghost use Rattle.gq_script.specs.Out.{IsAccepted};
 ghost use Rattle.gq_text.specs.PlanText.{plan_of, NamesTenant};
@@ -21,7 +22,7 @@ use crate::order::OrderFault;
 use gq_desk::Plan;
 use gq_memory::OutOfMemory;
 use gq_order::order;
-use gq_picture::{draw, read_absences};
+use gq_picture::{draw, read_absences, read_effects};
 use gq_script::{Answered, MOST_INPUT, RunFault, Watched, read_whole, write_whole};
 use gq_svg::{Heading, put_picture};
 use gq_tag::FileId;
@@ -66,13 +67,15 @@ fn picture_text(
         Tagged (map (placed answered.now.places.items) (tenant_operations plan.now answered.now.events.items file.tenant (file_place file)))
         → TellsPicture name.now (heading_of plan.now file.tenant (file_place file))
         (map (placed answered.now.places.items) (tenant_operations plan.now answered.now.events.items file.tenant (file_place file)))
-        (absences (servers_of plan.now) answered.now.places.items answered.now.events.items) text.items) }
+        (absences (servers_of plan.now) answered.now.places.items (all_effects plan.now answered.now.events.items)) text.items) }
 {
     let places = answered.places.as_slice();
     let events = answered.events.as_slice();
+    let answers = answered.answers.as_slice();
     let ops = operations_answered(alloc, plan, answered, file)?;
     let order = order(alloc, ops.as_slice())?;
-    let absences = read_absences(alloc, plan.grid().servers(), places, events)?;
+    let effects = read_effects(alloc, events, answers)?;
+    let absences = read_absences(alloc, plan.grid().servers(), places, effects.as_slice())?;
     let drawing = draw(alloc, ops, order.as_slice(), absences.as_slice())?;
     let mut text = Vec::new(alloc);
     put_picture(&mut text, name, heading(plan, file), &drawing)?;

@@ -14,14 +14,14 @@ column_of cols r c within =
     let turned : r * cols + c ≡ c + r * cols = omega arith in
     ap (λ n. n % cols) turned ∙ add-mul-mod_self_right c r cols ∙ mod-eq_of_lt within
 
-is_in_column : (grid : Grid) (c server : ℕ) → c < grid.cols → column_servers grid c server ≡ true → server % grid.cols ≡ c
+pub is_in_column : (grid : Grid) (c server : ℕ) → c < grid.cols → column_servers grid c server ≡ true → server % grid.cols ≡ c
 is_in_column grid c server within inside =
     let at = one_of (λ r. eqb (server_at grid r c) server) 0 grid.rows inside in
     let same : server_at grid at.0 c ≡ server = eqb-true (server_at grid at.0 c) server at.3 in
     ap (λ n. n % grid.cols) (sym same) ∙ column_of grid.cols at.0 c within
 
 -- the column in which both stand
-shared : (grid : Grid) (server mate : ℕ) → share_column grid server mate ≡ true → (c : ℕ) × (c < grid.cols) × (column_servers grid c server ≡ true) × (column_servers grid c mate ≡ true)
+pub shared : (grid : Grid) (server mate : ℕ) → share_column grid server mate ≡ true → (c : ℕ) × (c < grid.cols) × (column_servers grid c server ≡ true) × (column_servers grid c mate ≡ true)
 shared grid server mate h =
     let at = one_of (λ c. column_servers grid c server && column_servers grid c mate) 0 grid.cols h in
     let both = and_parts (column_servers grid at.0 server) (column_servers grid at.0 mate) at.3 in

@@ -3,7 +3,7 @@
 
 ghost use Rattle.std.specs.Prelude.{◌≡◌, ◌↔◌, ℕ, true, false, ◌+◌, ◌*◌, ◌<◌, ◌≤◌, IfOk, IsErrOf, IfSome, IsNone, Some, None, MatchOption, option_map};
 ghost use Rattle.gq_grid.specs.Grid.{Grid as Shape, Servers, no_servers, all_servers, with_server, without_server, server_at, is_full_row, is_full_column, row_servers, column_servers, either, is_side, least_row, least_column, has_row, has_column, covers, choose, choice_servers};
-ghost use Rattle.gq_grid.specs.Sets.{servers, shown_choice};
+ghost use Rattle.gq_grid.specs.Sets.{no_set, servers, shown_choice};
 
 pub mod laws;
 
@@ -69,7 +69,8 @@ pub struct ColumnChoice {
 impl ServerSet {
     /// The set of no server.
     pub fn empty() -> ServerSet
-        ensures { servers result ≡ no_servers }
+        ensures none { servers result ≡ no_servers }
+        ensures value { result ≡ no_set }
     {
         ServerSet { bits: 0 }
     }

@@ -14,17 +14,18 @@ use Rattle.gq_desk.specs.Volumes.{open_fault}
 use Rattle.gq_phase.specs.Phase.{Task, Writing, Reading, Listing, Operation, Heard, HeardStale, HeardNoted, HeardNext, HeardDone, hear, hear_current, with_reply, is_current, round_quorum, round_messages, messages_to, heard_servers}
 use Rattle.gq_phase.specs.declared.Outcome.{Outcome}
 use Rattle.gq_phase.specs.Quorums.{are_mates}
-use Rattle.gq_model.specs.Trace.{files_of, Past, up_by, Turn, Own, Serving, Leaping, Losing, Returning, Entry, is_loss, lacks, serves, Trace, Elsewhere, Begins, Hears, Moves, Ends, Leaps, deed, is_lost, sent, up, task_of, volumes, questions, session, operation_with, account_of, State}
+use Rattle.gq_model.specs.Trace.{files_of, Past, up_by, gone_by, Turn, Own, Serving, Leaping, Losing, Returning, Entry, is_loss, is_awaited, counts_on, lacks, serves, Trace, Deed, Elsewhere, Begins, Hears, Moves, Ends, Leaps, is_lost, sent, up, gone, task_of, volumes, questions, session, session_by, operation_with, account_of, State}
 use Rattle.gq_model.specs.declared.events.Line.{Line}
 use Rattle.gq_model.specs.declared.events.ServerLine.{ServerLine}
+use Rattle.gq_model.specs.declared.events.ServerLine.TheVariants.{Bad as BadServer, Down, Up, Lost as ServerLost, Repaired as ServerRepaired}
 use Rattle.gq_model.specs.declared.events.Line.TheVariants.{Bad, Quorum, NewVolume, Volumes, Write, Read, List as ListFiles, Deliver, Lose, Retry, Abandon}
 use Rattle.gq_model.specs.Told.{Told, Opened, Began, Replied, Noted, Round, Done, Resent, Abandoned, Refused, ServerOk, ServerRefused}
-use Rattle.gq_model.specs.Lone.{after, said, step_at, entry_of, is_refusal, is_awaited, is_counted, loss_told, equal_copies, return_told, server_refusal, server_told, choice_told, open_told, lose_told, deliver_step, first_operation, reply_to, Step, Cause, unless, first_cause, session_causes, session_step, line_step, no_session, busy, no_volume, no_quorum}
+use Rattle.gq_model.specs.Lone.{after, said, step_at, entry_of, is_refusal, is_counted, loss_told, equal_copies, return_told, server_refusal, server_done, server_told, choice_told, open_told, lose_told, deliver_step, first_operation, reply_to, Step, Cause, unless, first_cause, session_causes, session_step, line_step, no_session, busy, no_volume, no_quorum}
 use Rattle.gq_model.specs.declared.events.Refusal.{Refusal}
 use Rattle.gq_model.specs.declared.events.Refusal.TheVariants.{Busy, NoMessage}
 use Rattle.gq_model.specs.declared.events.ServerRefusal.{ServerRefusal}
 use Rattle.gq_model.specs.declared.events.ServerRefusal.TheVariants.{Same}
-use Rattle.gq_laws.proofs.Words.{delivered, message_at, step_on, current, op, round, held}
+use Rattle.gq_laws.proofs.Words.{delivered, message_at, step_on, deed_on, current, op, round, held}
 use Rattle.gq_laws.specs.Operations.{session_of}
 use Rattle.gq_laws.proofs.Runs.{Follows}
 use Rattle.gq_laws.proofs.Found.{contains_at}
@@ -181,21 +182,23 @@ pub record Comes (t : Trace) (k : ℕ) (l : OwnMessage) (task : Task) : Type 0 w
 
 -- what an entry does in session k
 pub data Doing (grid : Grid) (t : Trace) (e : Entry) (k : ℕ) : Type 0 where
-  Requests : (line : Line) (task : Task) (first : ℕ) → e.turn ≡ Own line → task_of (volumes t) line ≡ Some task → deed k e ≡ Begins line → e.told ≡ Began (op t k + 1) first (length e.new) → e.new ≡ round_messages grid (up t) (first_round t k task) → Doing grid t e k
-  Serves : (l : OwnMessage) (n : ℕ) → Contains (sent t) l → l.session ≡ k → to_server l.body ≡ true → serves (up t) (lacks t) l.server l.file ≡ true → e.message ≡ Some l → deed k e ≡ Elsewhere → e.told ≡ Replied n → e.new ≡ back t l ∷ [] → Doing grid t e k
-  Notes : (l : OwnMessage) (task : Task) → Comes t k l task → deed k e ≡ Hears l → e.told ≡ Noted → e.new ≡ [] → Doing grid t e k
-  Turns : (l : OwnMessage) (task : Task) (r : ℕ) (tag : Option Tag) (first : ℕ) → Comes t k l task → e.message ≡ Some l → deed k e ≡ Moves l r tag → e.told ≡ Round r tag first (length e.new) → hear_current grid (up t) (with_reply (going t k task) l) ≡ HeardNext r tag e.new → Doing grid t e k
-  Finishes : (l : OwnMessage) (task : Task) (outcome : Outcome) → Comes t k l task → deed k e ≡ Ends → e.told ≡ Done outcome → e.new ≡ [] → hear_current grid (up t) (with_reply (going t k task) l) ≡ HeardDone outcome → Doing grid t e k
-  Resends : (task : Task) (set : Servers) (first : ℕ) → current t k ≡ Some task → deed k e ≡ Elsewhere → e.told ≡ Resent first (length e.new) → e.new ≡ messages_to grid (going t k task) set → Doing grid t e k
-  Abandons : deed k e ≡ Ends → e.told ≡ Abandoned → e.new ≡ [] → Doing grid t e k
-  Jumps : (last number : ℕ) → current t k ≡ None → deed k e ≡ Leaps last number → IsPassive e.told → e.new ≡ [] → Doing grid t e k
-  Silent : deed k e ≡ Elsewhere → IsPassive e.told → e.new ≡ [] → Doing grid t e k
+  Requests : (line : Line) (task : Task) (first : ℕ) → e.turn ≡ Own line → task_of (volumes t) line ≡ Some task → deed_on t k e ≡ Begins line → e.told ≡ Began (op t k + 1) first (length e.new) → e.new ≡ round_messages grid (up t) (first_round t k task) → Doing grid t e k
+  Serves : (l : OwnMessage) (n : ℕ) → Contains (sent t) l → l.session ≡ k → to_server l.body ≡ true → serves (up t) (lacks t) l.server l.file ≡ true → e.message ≡ Some l → deed_on t k e ≡ Elsewhere → e.told ≡ Replied n → e.new ≡ back t l ∷ [] → Doing grid t e k
+  Notes : (l : OwnMessage) (task : Task) → Comes t k l task → deed_on t k e ≡ Hears l → e.told ≡ Noted → e.new ≡ [] → Doing grid t e k
+  Turns : (l : OwnMessage) (task : Task) (r : ℕ) (tag : Option Tag) (first : ℕ) → Comes t k l task → e.message ≡ Some l → deed_on t k e ≡ Moves l r tag → e.told ≡ Round r tag first (length e.new) → hear_current grid (up t) (with_reply (going t k task) l) ≡ HeardNext r tag e.new → Doing grid t e k
+  Finishes : (l : OwnMessage) (task : Task) (outcome : Outcome) → Comes t k l task → deed_on t k e ≡ Ends → e.told ≡ Done outcome → e.new ≡ [] → hear_current grid (up t) (with_reply (going t k task) l) ≡ HeardDone outcome → Doing grid t e k
+  Resends : (task : Task) (set : Servers) (first : ℕ) → current t k ≡ Some task → deed_on t k e ≡ Elsewhere → e.told ≡ Resent first (length e.new) → e.new ≡ messages_to grid (going t k task) set → Doing grid t e k
+  Abandons : deed_on t k e ≡ Ends → e.told ≡ Abandoned → e.new ≡ [] → Doing grid t e k
+  -- a server is lost on which the operation counts
+  GivesUp : deed_on t k e ≡ Ends → IsPassive e.told → e.new ≡ [] → Doing grid t e k
+  Jumps : (last number : ℕ) → current t k ≡ None → deed_on t k e ≡ Leaps last number → IsPassive e.told → e.new ≡ [] → Doing grid t e k
+  Silent : deed_on t k e ≡ Elsewhere → IsPassive e.told → e.new ≡ [] → Doing grid t e k
 
--- the session that the turn is about, and what it does there
+-- the session that the turn is about, and what it does there; in others it does nothing, or gives their operations up
 pub record Act (grid : Grid) (t : Trace) (e : Entry) : Type 0 where
   pub k : ℕ
   pub about : session_of (sessions (sent t)) e.turn ≡ k
-  pub others : (s : ℕ) → k ≢ s → deed s e ≡ Elsewhere
+  pub others : (s : ℕ) → k ≢ s → (deed_on t s e ≡ Elsewhere) ⊎ (deed_on t s e ≡ Ends)
   pub what : Doing grid t e k
 
 -- ---- what no turn takes
@@ -206,10 +209,19 @@ none_passes p [] m none within = absurd (omega (arith, within.1))
 none_passes p (x ∷ ms) m none (zero, low, is) = let P : OwnMessage → Type 0 = λ z. p z ≡ false in subst P is (or_parts (p x) (list_any p ms) none).0
 none_passes p (x ∷ ms) m none (suc i, low, is) = none_passes p ms m (or_parts (p x) (list_any p ms) none).1 (i, omega arith, is)
 
--- no copy is lost at a server of which a reply of session k's operation and round was sent
-pub awaited_kept : (grid : Grid) (row : TenantRow) (t : Trace) (e : Entry) (k : ℕ) (l : OwnMessage) (task : Task) → Follows grid row t e → Comes t k l task → is_loss e.turn l.server l.file ≡ false
-awaited_kept grid row t e k l task follows comes = go e.turn e.message e.told e.new follows
+-- what neither does nothing nor ends an operation is no deed of another session
+pub aside_stays : {d : Deed} → (d ≡ Elsewhere) ⊎ (d ≡ Ends) → (d ≡ Elsewhere → ⊥) → (d ≡ Ends → ⊥) → ⊥
+aside_stays (inl is) nothing over = nothing is
+aside_stays (inr is) nothing over = over is
+
+-- no copy is lost at a server of which a reply of session k's operation and round was sent, where the operation goes on
+pub awaited_kept : (grid : Grid) (row : TenantRow) (t : Trace) (e : Entry) (k : ℕ) (l : OwnMessage) (task next : Task) → Follows grid row t e → Comes t k l task → current (e ∷ t) k ≡ Some next → is_loss e.turn l.server l.file ≡ false
+awaited_kept grid row t e k l task next follows comes goes_on = go e.turn e.message e.told e.new follows goes_on
   where
+    uncounted : (b : Bool) → b && true ≡ false → b ≡ false
+    uncounted true h = h
+    uncounted false h = refl
+
     -- the session of the reply awaits it
     awaited : is_awaited (session t l.session) l ≡ true
     awaited =
@@ -223,17 +235,27 @@ awaited_kept grid row t e k l task follows comes = go e.turn e.message e.told e.
     by turn said told fine false none =
         let not_counted : is_counted (questions t) turn l ≡ false = none_passes (is_counted (questions t) turn) (sent t) l none comes.inside in
         uncounted (is_loss turn l.server l.file) (rw (comes.reply, awaited) at not_counted)
-      where
-        uncounted : (b : Bool) → b && true ≡ false → b ≡ false
-        uncounted true h = h
-        uncounted false h = refl
 
-    go : (turn : Turn) (message : Option OwnMessage) (said : Told) (new : List OwnMessage) → Follows grid row t (record { turn = turn; message = message; told = said; new = new }) → is_loss turn l.server l.file ≡ false
-    go (Losing s volumes) message said new f = by (Losing s volumes) said f.told f.accepted (list_any (is_counted (questions t) (Losing s volumes)) (sent t)) refl
-    go (Own line) message said new f = refl
-    go (Serving line) message said new f = refl
-    go (Leaping s last number) message said new f = refl
-    go (Returning s file mate copy) message said new f = refl
+    -- the operation would not go on if a server were lost on which it counts
+    at_loss : (n : ℕ) (b : Bool) → counts_on (sent t) k (session t k) n ≡ b → (session_by (volumes t) k (if b then Ends else Elsewhere) (session t k)).current ≡ Some next → eqb n l.server ≡ false
+    at_loss n true counts goes_on = absurd (let bad : None ≡ Some next = goes_on in cc)
+    at_loss n false none goes_on =
+        let P : ℕ → Type 0 = λ z. is_awaited (session t z) l ≡ true in
+        let here : is_awaited (session t k) l ≡ true = subst P comes.its awaited in
+        let not_counted : (not (to_server l.body) && (eqb l.session k && (eqb n l.server && is_awaited (session t k) l))) ≡ false = none_passes _ (sent t) l none comes.inside in
+        uncounted (eqb n l.server) (rw (comes.reply, eq-eqb l.session k comes.its, here) at not_counted)
+
+    go : (turn : Turn) (message : Option OwnMessage) (said : Told) (new : List OwnMessage) → Follows grid row t (record { turn = turn; message = message; told = said; new = new }) →
+        current (record { turn = turn; message = message; told = said; new = new } ∷ t) k ≡ Some next → is_loss turn l.server l.file ≡ false
+    go (Losing s volumes) message said new f goes_on = by (Losing s volumes) said f.told f.accepted (list_any (is_counted (questions t) (Losing s volumes)) (sent t)) refl
+    go (Serving (ServerLost n)) message said new f goes_on = at_loss n (counts_on (sent t) k (session t k) n) refl goes_on
+    go (Serving (ServerRepaired n)) message said new f goes_on = refl
+    go (Serving (Down n)) message said new f goes_on = refl
+    go (Serving (Up n)) message said new f goes_on = refl
+    go (Serving BadServer) message said new f goes_on = refl
+    go (Own line) message said new f goes_on = refl
+    go (Leaping s last number) message said new f goes_on = refl
+    go (Returning s file mate copy) message said new f goes_on = refl
 
 -- an entry that delivers a message is of a line that does
 pub delivers_by : (grid : Grid) (row : TenantRow) (t : Trace) (turn : Turn) (message : Option OwnMessage) (l : OwnMessage) → message ≡ delivered t turn → message ≡ Some l → (n : ℕ) × (turn ≡ Own (Deliver n))
@@ -249,7 +271,7 @@ deliver_about : (t : Trace) (n : ℕ) (l : OwnMessage) → message_at t n ≡ So
 deliver_about t n l found = session_at (sent t) n l (message_sent t n l found)
 
 deliver_act : (grid : Grid) (t : Trace) (n : ℕ) (message : Option OwnMessage) → message_at t n ≡ message → Act grid t (deliver_entry grid t n message)
-deliver_act grid t n None found = record { k = slice_index (sessions (sent t)) n; about = refl; others = λ s ne. refl; what = Silent refl tt refl }
+deliver_act grid t n None found = record { k = slice_index (sessions (sent t)) n; about = refl; others = λ s ne. inl refl; what = Silent refl tt refl }
 deliver_act grid t n (Some l) found = go (to_server l.body) refl
   where
     x : Entry
@@ -281,8 +303,8 @@ deliver_act grid t n (Some l) found = go (to_server l.body) refl
     in_session e (Some task) busy = by e task busy (is_current (going t l.session task) l) refl (hear grid (up t) (going t l.session task) l) refl
 
     go : (b : Bool) → to_server l.body ≡ b → Act grid t x
-    go true e = record { k = l.session; about = deliver_about t n l found; others = λ s ne. rw e; what = served e (serves (up t) (lacks t) l.server l.file) refl }
-    go false e = record { k = l.session; about = deliver_about t n l found; others = λ s ne. rw (e, ne_eqb l.session s ne); what = in_session e (current t l.session) refl }
+    go true e = record { k = l.session; about = deliver_about t n l found; others = λ s ne. inl (rw e); what = served e (serves (up t) (lacks t) l.server l.file) refl }
+    go false e = record { k = l.session; about = deliver_about t n l found; others = λ s ne. inl (rw (e, ne_eqb l.session s ne)); what = in_session e (current t l.session) refl }
 
 retry_act : (grid : Grid) (row : TenantRow) (t : Trace) (k : ℕ) → Doing grid t (own_entry grid row t (Retry k)) k
 retry_act grid row t k = go (current t k) refl
@@ -312,22 +334,29 @@ lose_passive (Some message) = tt
 -- what each accepted line of the tenant does
 own_act : (grid : Grid) (row : TenantRow) (t : Trace) (line : Line) → Act grid t (own_entry grid row t line)
 own_act grid row t (Deliver n) = deliver_act grid t n (message_at t n) refl
-own_act grid row t (Write k v f bytes) = record { k = k; about = refl; others = λ s ne. rw (ne_eqb k s ne); what = Requests (Write k v f bytes) (Writing (record { volume = v; place = f }) bytes) (length (sent t)) refl refl (rw (eq-eqb k k refl)) refl refl }
-own_act grid row t (Read k v f) = record { k = k; about = refl; others = λ s ne. rw (ne_eqb k s ne); what = Requests (Read k v f) (Reading (record { volume = v; place = f })) (length (sent t)) refl refl (rw (eq-eqb k k refl)) refl refl }
-own_act grid row t (ListFiles k v) = record { k = k; about = refl; others = λ s ne. rw (ne_eqb k s ne); what = Requests (ListFiles k v) (Listing v (files_of (volumes t) v)) (length (sent t)) refl refl (rw (eq-eqb k k refl)) refl refl }
-own_act grid row t (Retry k) = record { k = k; about = refl; others = λ s ne. refl; what = retry_act grid row t k }
-own_act grid row t (Abandon k) = record { k = k; about = refl; others = λ s ne. rw (ne_eqb k s ne); what = Abandons (rw (eq-eqb k k refl)) refl refl }
-own_act grid row t Quorum = record { k = 0; about = refl; others = λ s ne. refl; what = Silent refl (choice_passive grid _) refl }
-own_act grid row t Bad = record { k = 0; about = refl; others = λ s ne. refl; what = Silent refl tt refl }
-own_act grid row t (NewVolume files blocks) = record { k = 0; about = refl; others = λ s ne. refl; what = Silent refl (open_passive (length (volumes t)) (open_fault (account_of row (questions t)) (record { files = files; blocks = blocks }))) refl }
-own_act grid row t Volumes = record { k = 0; about = refl; others = λ s ne. refl; what = Silent refl tt refl }
-own_act grid row t (Lose n) = record { k = 0; about = refl; others = λ s ne. refl; what = Silent refl (lose_passive (message_at t n)) refl }
+own_act grid row t (Write k v f bytes) = record { k = k; about = refl; others = λ s ne. inl (rw (ne_eqb k s ne)); what = Requests (Write k v f bytes) (Writing (record { volume = v; place = f }) bytes) (length (sent t)) refl refl (rw (eq-eqb k k refl)) refl refl }
+own_act grid row t (Read k v f) = record { k = k; about = refl; others = λ s ne. inl (rw (ne_eqb k s ne)); what = Requests (Read k v f) (Reading (record { volume = v; place = f })) (length (sent t)) refl refl (rw (eq-eqb k k refl)) refl refl }
+own_act grid row t (ListFiles k v) = record { k = k; about = refl; others = λ s ne. inl (rw (ne_eqb k s ne)); what = Requests (ListFiles k v) (Listing v (files_of (volumes t) v)) (length (sent t)) refl refl (rw (eq-eqb k k refl)) refl refl }
+own_act grid row t (Retry k) = record { k = k; about = refl; others = λ s ne. inl refl; what = retry_act grid row t k }
+own_act grid row t (Abandon k) = record { k = k; about = refl; others = λ s ne. inl (rw (ne_eqb k s ne)); what = Abandons (rw (eq-eqb k k refl)) refl refl }
+own_act grid row t Quorum = record { k = 0; about = refl; others = λ s ne. inl refl; what = Silent refl (choice_passive grid _) refl }
+own_act grid row t Bad = record { k = 0; about = refl; others = λ s ne. inl refl; what = Silent refl tt refl }
+own_act grid row t (NewVolume files blocks) = record { k = 0; about = refl; others = λ s ne. inl refl; what = Silent refl (open_passive (length (volumes t)) (open_fault (account_of row (questions t)) (record { files = files; blocks = blocks }))) refl }
+own_act grid row t Volumes = record { k = 0; about = refl; others = λ s ne. inl refl; what = Silent refl tt refl }
+own_act grid row t (Lose n) = record { k = 0; about = refl; others = λ s ne. inl refl; what = Silent refl (lose_passive (message_at t n)) refl }
 
-server_said : (grid : Grid) (up : Servers) (line : ServerLine) → IsPassive (server_told grid up line)
-server_said grid up line = go (server_refusal grid up line) refl
+done_passive : (grid : Grid) (up : Servers) (line : ServerLine) → IsPassive (server_done grid up line)
+done_passive grid up (ServerRepaired n) = tt
+done_passive grid up (ServerLost n) = tt
+done_passive grid up (Down n) = tt
+done_passive grid up (Up n) = tt
+done_passive grid up BadServer = tt
+
+server_said : (grid : Grid) (up gone : Servers) (line : ServerLine) → IsPassive (server_told grid up gone line)
+server_said grid up gone line = go (server_refusal grid up gone line) refl
   where
-    go : (r : Option ServerRefusal) → server_refusal grid up line ≡ r → IsPassive (server_told grid up line)
-    go None e = rw e tt
+    go : (r : Option ServerRefusal) → server_refusal grid up gone line ≡ r → IsPassive (server_told grid up gone line)
+    go None e = rw e (done_passive grid up line)
     go (Some word) e = rw e tt
 
 -- a leap, of a session that has no operation
@@ -342,16 +371,16 @@ leap_act grid row t k last number message said new f = by (current t k) refl
     by None idle =
         let told = f.told in
         let is : ServerOk ≡ said = rw idle at told in
-        record { k = k; about = refl; others = λ s ne. rw (ne_eqb k s ne); what = Jumps last number idle (rw (eq-eqb k k refl)) (subst P is tt) (sym f.new) }
+        record { k = k; about = refl; others = λ s ne. inl (rw (ne_eqb k s ne)); what = Jumps last number idle (rw (eq-eqb k k refl)) (subst P is tt) (sym f.new) }
     by (Some task) busy =
         let told = f.told in
         let is : Refused Busy ≡ said = rw busy at told in
         absurd (true≢false (ap is_refusal is ∙ f.accepted))
 
 -- a turn that is told what no session is told, and sends nothing
-silent_act : (grid : Grid) (row : TenantRow) (t : Trace) (turn : Turn) (message : Option OwnMessage) (said : Told) (new : List OwnMessage) → ((s : ℕ) → deed s (record { turn = turn; message = message; told = said; new = new }) ≡ Elsewhere) → session_of (sessions (sent t)) turn ≡ 0 → IsPassive said → [] ≡ new →
+silent_act : (grid : Grid) (row : TenantRow) (t : Trace) (turn : Turn) (message : Option OwnMessage) (said : Told) (new : List OwnMessage) → ((s : ℕ) → deed_on t s (record { turn = turn; message = message; told = said; new = new }) ≡ Elsewhere) → session_of (sessions (sent t)) turn ≡ 0 → IsPassive said → [] ≡ new →
     Act grid t (record { turn = turn; message = message; told = said; new = new })
-silent_act grid row t turn message said new none about passive is = record { k = 0; about = about; others = λ s ne. none s; what = Silent (none 0) passive (sym is) }
+silent_act grid row t turn message said new none about passive is = record { k = 0; about = about; others = λ s ne. inl (none s); what = Silent (none 0) passive (sym is) }
 
 loss_passive : (state : State) (turn : Turn) → IsPassive (loss_told state turn)
 loss_passive state turn = by (list_any (is_counted state turn) state.sent)
@@ -368,15 +397,43 @@ return_passive grid state server file mate copy = by (not (state.lacks server fi
     by false true = tt
     by false false = tt
 
+-- a server line that loses no server
+serving_act : (grid : Grid) (row : TenantRow) (t : Trace) (line : ServerLine) (message : Option OwnMessage) (said : Told) (new : List OwnMessage) → ((s : ℕ) → deed_on t s (record { turn = Serving line; message = message; told = said; new = new }) ≡ Elsewhere) →
+    Follows grid row t (record { turn = Serving line; message = message; told = said; new = new }) → Act grid t (record { turn = Serving line; message = message; told = said; new = new })
+serving_act grid row t line message said new none f =
+    let P : Told → Type 0 = λ x. IsPassive x in
+    silent_act grid row t (Serving line) message said new none refl (subst P f.told (server_said grid (up t) (gone t) line)) f.new
+
+-- one that does
+lost_act : (grid : Grid) (row : TenantRow) (t : Trace) (n : ℕ) (message : Option OwnMessage) (said : Told) (new : List OwnMessage) → Follows grid row t (record { turn = Serving (ServerLost n); message = message; told = said; new = new }) →
+    Act grid t (record { turn = Serving (ServerLost n); message = message; told = said; new = new })
+lost_act grid row t n message said new f = record { k = 0; about = refl; others = λ s ne. either (counts_on (sent t) s (session t s) n); what = by (either (counts_on (sent t) 0 (session t 0) n)) }
+  where
+    e : Entry
+    e = record { turn = Serving (ServerLost n); message = message; told = said; new = new }
+
+    either : (b : Bool) → ((if b then Ends else Elsewhere) ≡ Elsewhere) ⊎ ((if b then Ends else Elsewhere) ≡ Ends)
+    either true = inr refl
+    either false = inl refl
+
+    passive : IsPassive said
+    passive = let P : Told → Type 0 = λ x. IsPassive x in subst P f.told (server_said grid (up t) (gone t) (ServerLost n))
+
+    by : (deed_on t 0 e ≡ Elsewhere) ⊎ (deed_on t 0 e ≡ Ends) → Doing grid t e 0
+    by (inl is) = Silent is passive (sym f.new)
+    by (inr is) = GivesUp is passive (sym f.new)
+
 -- and what each entry of a run does
 pub act : (grid : Grid) (row : TenantRow) (t : Trace) (e : Entry) → Follows grid row t e → Act grid t e
 act grid row t e follows = go e.turn e.message e.told e.new follows
   where
     go : (turn : Turn) (message : Option OwnMessage) (said : Told) (new : List OwnMessage) → Follows grid row t (record { turn = turn; message = message; told = said; new = new }) → Act grid t (record { turn = turn; message = message; told = said; new = new })
     go (Own line) message said new f = let P : Entry → Type 0 = λ x. Act grid t x in subst P (is_own_entry grid row t line message said new f) (own_act grid row t line)
-    go (Serving line) message said new f =
-        let P : Told → Type 0 = λ x. IsPassive x in
-        record { k = 0; about = refl; others = λ s ne. refl; what = Silent refl (subst P f.told (server_said grid (up t) line)) (sym f.new) }
+    go (Serving (ServerLost n)) message said new f = lost_act grid row t n message said new f
+    go (Serving (ServerRepaired n)) message said new f = serving_act grid row t (ServerRepaired n) message said new (λ s. refl) f
+    go (Serving (Down n)) message said new f = serving_act grid row t (Down n) message said new (λ s. refl) f
+    go (Serving (Up n)) message said new f = serving_act grid row t (Up n) message said new (λ s. refl) f
+    go (Serving BadServer) message said new f = serving_act grid row t BadServer message said new (λ s. refl) f
     go (Leaping k last number) message said new f = leap_act grid row t k last number message said new f
     go (Losing s volumes) message said new f =
         let P : Told → Type 0 = λ x. IsPassive x in
@@ -392,7 +449,7 @@ pub record Turning (grid : Grid) (t : Trace) (e : Entry) (k r : ℕ) (tag : Opti
   pub comes : Comes t k l task
   pub heard : hear_current grid (up t) (with_reply (going t k task) l) ≡ HeardNext r tag e.new
 
-pub turning : (grid : Grid) (t : Trace) (e : Entry) (k : ℕ) (m : OwnMessage) (r : ℕ) (tag : Option Tag) → Act grid t e → deed k e ≡ Moves m r tag → Turning grid t e k r tag
+pub turning : (grid : Grid) (t : Trace) (e : Entry) (k : ℕ) (m : OwnMessage) (r : ℕ) (tag : Option Tag) → Act grid t e → deed_on t k e ≡ Moves m r tag → Turning grid t e k r tag
 turning grid t e k m r tag a does = go (cases_eq a.k k)
   where
     by : Doing grid t e k → Turning grid t e k r tag
@@ -407,37 +464,56 @@ turning grid t e k m r tag a does = go (cases_eq a.k k)
     by (Finishes l task outcome comes is said new heard) = absurd (let bad : Ends ≡ Moves m r tag = sym is ∙ does in cc)
     by (Resends task set first busy is said new) = absurd (let bad : Elsewhere ≡ Moves m r tag = sym is ∙ does in cc)
     by (Abandons is said new) = absurd (let bad : Ends ≡ Moves m r tag = sym is ∙ does in cc)
+    by (GivesUp is passive new) = absurd (let bad : Ends ≡ Moves m r tag = sym is ∙ does in cc)
     by (Jumps last number idle is passive new) = absurd (let bad : Leaps last number ≡ Moves m r tag = sym is ∙ does in cc)
     by (Silent is passive new) = absurd (let bad : Elsewhere ≡ Moves m r tag = sym is ∙ does in cc)
 
     go : (a.k ≡ k) ⊎ (a.k ≢ k) → Turning grid t e k r tag
     go (inl same) = let P : ℕ → Type 0 = λ z. Doing grid t e z in by (subst P same a.what)
-    go (inr ne) = absurd (let bad : Elsewhere ≡ Moves m r tag = sym (a.others k ne) ∙ does in cc)
+    go (inr ne) = absurd (aside_stays (a.others k ne) (λ is. let bad : Elsewhere ≡ Moves m r tag = sym is ∙ does in cc) (λ is. let bad : Ends ≡ Moves m r tag = sym is ∙ does in cc))
 
 -- ---- server lines
 
+-- the same servers are up, and the same are gone
+pub record SameServers (t also : Trace) : Type 0 where
+  pub up : up t ≡ up also
+  pub gone : gone t ≡ gone also
+
 -- a line of the tenant leaves the servers as they are
-pub up_own : (grid : Grid) (row : TenantRow) (p : Past) (line : Line) → up (after grid row p (Own line)).trace ≡ up p.trace
-up_own grid row p line = by (is_refusal (step_at grid row p (Own line)).told)
+pub servers_own : (grid : Grid) (row : TenantRow) (p : Past) (line : Line) → SameServers (after grid row p (Own line)).trace p.trace
+servers_own grid row p line = by (is_refusal (step_at grid row p (Own line)).told)
   where
-    by : (b : Bool) → up (if b then p.trace else entry_of (questions p.trace) (Own line) (step_at grid row p (Own line)) ∷ p.trace) ≡ up p.trace
-    by true = refl
-    by false = refl
+    by : (b : Bool) → SameServers (if b then p.trace else entry_of (questions p.trace) (Own line) (step_at grid row p (Own line)) ∷ p.trace) p.trace
+    by true = record { up = refl; gone = refl }
+    by false = record { up = refl; gone = refl }
 
--- the servers that are up after a server line
-abbrev pub next_up : Grid → Servers → ServerLine → Servers
-next_up grid before line = if is_refusal (server_told grid before line) then before else up_by (Serving line) before
+-- the servers that are up after a server line, and those that are gone, where these were up and these gone
+abbrev pub next_up : Grid → Servers → Servers → ServerLine → Servers
+next_up grid up gone line = if is_refusal (server_told grid up gone line) then up else up_by (Serving line) up
 
-pub next_up_is : (grid : Grid) (row : TenantRow) (p : Past) (line : ServerLine) → up (after grid row p (Serving line)).trace ≡ next_up grid (up p.trace) line
-next_up_is grid row p line = by (is_refusal (server_told grid (up p.trace) line))
+abbrev pub next_gone : Grid → Servers → Servers → ServerLine → Servers
+next_gone grid up gone line = if is_refusal (server_told grid up gone line) then gone else gone_by (Serving line) gone
+
+pub next_up_is : (grid : Grid) (row : TenantRow) (p : Past) (line : ServerLine) → up (after grid row p (Serving line)).trace ≡ next_up grid (up p.trace) (gone p.trace) line
+next_up_is grid row p line = by (is_refusal (server_told grid (up p.trace) (gone p.trace) line))
   where
     by : (b : Bool) → up (if b then p.trace else entry_of (questions p.trace) (Serving line) (step_at grid row p (Serving line)) ∷ p.trace) ≡ (if b then up p.trace else up_by (Serving line) (up p.trace))
     by true = refl
     by false = refl
 
--- what a server line changes, and is told, depends on the servers alone
-pub up_serving : (grid : Grid) (row other : TenantRow) (p q : Past) (line : ServerLine) → up p.trace ≡ up q.trace → up (after grid row p (Serving line)).trace ≡ up (after grid other q (Serving line)).trace
-up_serving grid row other p q line same = next_up_is grid row p line ∙ ap (λ z. next_up grid z line) same ∙ sym (next_up_is grid other q line)
+pub next_gone_is : (grid : Grid) (row : TenantRow) (p : Past) (line : ServerLine) → gone (after grid row p (Serving line)).trace ≡ next_gone grid (up p.trace) (gone p.trace) line
+next_gone_is grid row p line = by (is_refusal (server_told grid (up p.trace) (gone p.trace) line))
+  where
+    by : (b : Bool) → gone (if b then p.trace else entry_of (questions p.trace) (Serving line) (step_at grid row p (Serving line)) ∷ p.trace) ≡ (if b then gone p.trace else gone_by (Serving line) (gone p.trace))
+    by true = refl
+    by false = refl
 
-pub said_serving : (grid : Grid) (row other : TenantRow) (p q : Past) (line : ServerLine) → up p.trace ≡ up q.trace → said grid row p (Serving line) ≡ said grid other q (Serving line)
-said_serving grid row other p q line same = ap (λ z. server_told grid z line) same
+-- what a server line changes, and is told, depends on the servers alone
+pub servers_serving : (grid : Grid) (row other : TenantRow) (p q : Past) (line : ServerLine) → SameServers p.trace q.trace → SameServers (after grid row p (Serving line)).trace (after grid other q (Serving line)).trace
+servers_serving grid row other p q line same = record {
+  up = next_up_is grid row p line ∙ (λ i. next_up grid (same.up i) (same.gone i) line) ∙ sym (next_up_is grid other q line);
+  gone = next_gone_is grid row p line ∙ (λ i. next_gone grid (same.up i) (same.gone i) line) ∙ sym (next_gone_is grid other q line);
+}
+
+pub said_serving : (grid : Grid) (row other : TenantRow) (p q : Past) (line : ServerLine) → SameServers p.trace q.trace → said grid row p (Serving line) ≡ said grid other q (Serving line)
+said_serving grid row other p q line same = λ i. server_told grid (same.up i) (same.gone i) line

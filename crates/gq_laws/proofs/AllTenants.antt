@@ -11,34 +11,36 @@ use Rattle.gq_desk.specs.CheckedPlan.{CheckedPlan, nobody, row_at}
 use Rattle.gq_desk.specs.declared.plans.TenantRow.{TenantRow}
 use Rattle.gq_model.specs.declared.events.Event.{Event}
 use Rattle.gq_model.specs.declared.events.Event.TheVariants.{Tenant, Server, Stray}
-use Rattle.gq_model.specs.Trace.{Turn, Own, Serving, Past, start, up}
+use Rattle.gq_model.specs.Trace.{Turn, Own, Serving, Past, start}
 use Rattle.gq_model.specs.Lone.{after, said, told_from}
 use Rattle.gq_model.specs.Events.{turn_of, own, server_lines, past_at, server_past, answer_to}
 use Rattle.gq_laws.specs.declared.ops.Op.{Op}
 use Rattle.gq_laws.specs.Operations.{Answered, answered_from, operations, Tagged}
 use Rattle.gq_laws.specs.Laws.{IsRising, lone_operations}
 use Rattle.gq_laws.specs.Tenants.{answers_from, seen_from, tenant_operations, AllTenantsTagged}
-use Rattle.gq_laws.proofs.Acts.{up_own, up_serving, said_serving}
+use Rattle.gq_laws.proofs.Acts.{SameServers, servers_own, servers_serving, said_serving}
 use Rattle.gq_laws.proofs.AllTagged.{all_tagged}
 use Rattle.gq_laws.proofs.OtherPlaces.{moved_turn, moved_op, operations-moved, tagged-moved}
 
--- ---- the servers that are up are those that the server lines leave
+-- ---- the servers that are up, and those that are gone, are those that the server lines leave
 
-up_from : (grid : Grid) (row : TenantRow) (t : ℕ) (events : List Event) (p q : Past) → up p.trace ≡ up q.trace → up (fold (after grid row) p (own t events)).trace ≡ up (fold (after grid nobody) q (server_lines events)).trace
-up_from grid row t [] p q same = same
-up_from grid row t (Tenant u line ∷ events) p q same = go (cases_eq u t) (λ p'. up_from grid row t events p' q)
+servers_from : (grid : Grid) (row : TenantRow) (t : ℕ) (events : List Event) (p q : Past) → SameServers p.trace q.trace → SameServers (fold (after grid row) p (own t events)).trace (fold (after grid nobody) q (server_lines events)).trace
+servers_from grid row t [] p q same = same
+servers_from grid row t (Tenant u line ∷ events) p q same = go (cases_eq u t) (λ p'. servers_from grid row t events p' q)
   where
-    go : (u ≡ t) ⊎ (u ≢ t) → ((p' : Past) → up p'.trace ≡ up q.trace → up (fold (after grid row) p' (own t events)).trace ≡ up (fold (after grid nobody) q (server_lines events)).trace) →
-        up (fold (after grid row) p (own t (Tenant u line ∷ events))).trace ≡ up (fold (after grid nobody) q (server_lines events)).trace
-    go (inl e) later = rw (eq-eqb u t e) (later (after grid row p (Own line)) (up_own grid row p line ∙ same))
+    go : (u ≡ t) ⊎ (u ≢ t) → ((p' : Past) → SameServers p'.trace q.trace → SameServers (fold (after grid row) p' (own t events)).trace (fold (after grid nobody) q (server_lines events)).trace) →
+        SameServers (fold (after grid row) p (own t (Tenant u line ∷ events))).trace (fold (after grid nobody) q (server_lines events)).trace
+    go (inl e) later =
+        let own = servers_own grid row p line in
+        rw (eq-eqb u t e) (later (after grid row p (Own line)) (record { up = own.up ∙ same.up; gone = own.gone ∙ same.gone }))
     go (inr ne) later = rw (ne_eqb u t ne) (later p same)
-up_from grid row t (Server line ∷ events) p q same =
-    up_from grid row t events (after grid row p (Serving line)) (after grid nobody q (Serving line))
-    (up_serving grid row nobody p q line same)
-up_from grid row t (Stray ∷ events) p q same = up_from grid row t events p q same
+servers_from grid row t (Server line ∷ events) p q same =
+    servers_from grid row t events (after grid row p (Serving line)) (after grid nobody q (Serving line))
+    (servers_serving grid row nobody p q line same)
+servers_from grid row t (Stray ∷ events) p q same = servers_from grid row t events p q same
 
-up_same : (plan : CheckedPlan) (t : ℕ) (events : List Event) → up (past_at plan t events).trace ≡ up (server_past plan events).trace
-up_same plan t events = up_from plan.grid (row_at plan t) t events start start refl
+pub servers_same : (plan : CheckedPlan) (t : ℕ) (events : List Event) → SameServers (past_at plan t events).trace (server_past plan events).trace
+servers_same plan t events = servers_from plan.grid (row_at plan t) t events start start (record { up = refl; gone = refl })
 
 -- ---- what is told
 
@@ -54,7 +56,7 @@ told_same plan t before (Tenant u line) turn sees = go (cases_eq u t)
 told_same plan t before (Server line) turn sees =
     let both : Some (Serving line) ≡ Some turn = sees in
     let same : Serving line ≡ turn = cc in
-    sym (said_serving plan.grid (row_at plan t) nobody (past_at plan t before) (server_past plan before) line (up_same plan t before)) ∙ ap (said plan.grid (row_at plan t) (past_at plan t before)) same
+    sym (said_serving plan.grid (row_at plan t) nobody (past_at plan t before) (server_past plan before) line (servers_same plan t before)) ∙ ap (said plan.grid (row_at plan t) (past_at plan t before)) same
 told_same plan t before Stray turn sees = absurd (let bad : None ≡ Some turn = sees in cc)
 
 -- the past after one event more

@@ -12,10 +12,10 @@ use Rattle.gq_desk.specs.declared.plans.TenantRow.{TenantRow}
 use Rattle.gq_phase.specs.Phase.{Task, Reply, Writing, Reading, Listing, Operation, listed_row, is_collect, stored_copy, hear_reply, reply_of, with_reply, with_decided, decided_copy, heard_copies, round_file}
 use Rattle.gq_phase.specs.declared.Outcome.{Outcome}
 use Rattle.gq_phase.specs.declared.Outcome.TheVariants.{Wrote}
-use Rattle.gq_model.specs.Trace.{files_of, Turn, Trace, Past, Begins, deed, up, volumes, task_of}
+use Rattle.gq_model.specs.Trace.{files_of, Turn, Trace, Past, Begins, up, volumes, task_of}
 use Rattle.gq_model.specs.declared.events.Line.{Line}
 use Rattle.gq_model.specs.Lone.{after}
-use Rattle.gq_laws.proofs.Words.{current, round, heard, collected, floor}
+use Rattle.gq_laws.proofs.Words.{deed_on, current, round, heard, collected, floor}
 use Rattle.gq_laws.specs.declared.ops.Kind.TheVariants.{Write as Writes, Read as Reads, Row as Rows}
 use Rattle.gq_laws.specs.declared.ops.Op.{Op}
 use Rattle.gq_laws.specs.Operations.{SessionAnswer, ending, write_tag, end_place, copy_told, row_told, is_write, Gives}
@@ -57,13 +57,13 @@ pub record Took (grid : Grid) (t : Trace) (task : Task) (i : ℕ) (begin : Trace
   pub least : (tag : Tag) → Settled grid begin (file_at task i) tag → IsAtMost tag c.tag
 
 -- right after it began
-begun_task : (grid : Grid) (row : TenantRow) (q : Past) (x : Turn) (k : ℕ) (g : Goes grid row q x) (line : Line) (task : Task) → deed k g.e ≡ Begins line → task_of (volumes q.trace) line ≡ Some task → current (after grid row q x).trace k ≡ Some task
+begun_task : (grid : Grid) (row : TenantRow) (q : Past) (x : Turn) (k : ℕ) (g : Goes grid row q x) (line : Line) (task : Task) → deed_on q.trace k g.e ≡ Begins line → task_of (volumes q.trace) line ≡ Some task → current (after grid row q x).trace k ≡ Some task
 begun_task grid row q x k g line task does asks = ap (λ t. current t k) g.grown ∙ (rw (does, current) asks)
 
-begun_start : (grid : Grid) (row : TenantRow) (q : Past) (x : Turn) (k : ℕ) (g : Goes grid row q x) (line : Line) → deed k g.e ≡ Begins line → op_start (after grid row q x).trace k ≡ q.trace
+begun_start : (grid : Grid) (row : TenantRow) (q : Past) (x : Turn) (k : ℕ) (g : Goes grid row q x) (line : Line) → deed_on q.trace k g.e ≡ Begins line → op_start (after grid row q x).trace k ≡ q.trace
 begun_start grid row q x k g line does = ap (λ t. op_start t k) g.grown ∙ (rw does)
 
-begun_round : (grid : Grid) (row : TenantRow) (q : Past) (x : Turn) (k : ℕ) (g : Goes grid row q x) (line : Line) → deed k g.e ≡ Begins line → round (after grid row q x).trace k ≡ 1
+begun_round : (grid : Grid) (row : TenantRow) (q : Past) (x : Turn) (k : ℕ) (g : Goes grid row q x) (line : Line) → deed_on q.trace k g.e ≡ Begins line → round (after grid row q x).trace k ≡ 1
 begun_round grid row q x k g line does = ap (λ t. round t k) g.grown ∙ (rw (does, round))
 
 -- what an operation has collected when it ends

@@ -9,7 +9,7 @@ use Rattle.gq_model.specs.declared.events.Line.TheVariants.{Deliver, Retry}
 use Rattle.gq_model.specs.Trace.{Own}
 use Rattle.gq_model.specs.Lone.{told_from}
 use Rattle.gq_model.specs.Events.{answer_to, own, past_at}
-use Rattle.gq_model.proofs.Whole.{past_whole}
+use Rattle.gq_model.proofs.Whole.{past_whole, up_has}
 use Rattle.gq_laws.specs.Tenants.{answers_from}
 use Rattle.gq_laws.specs.Progress.{Completes, AllTenantsComplete}
 use Rattle.gq_laws.proofs.AllTenants.{past_more}
@@ -24,5 +24,5 @@ next_told plan t (line ∷ lines) events =
 
 pub all_tenants_complete : AllTenantsComplete
 all_tenants_complete plan events t k o has q steps =
-    let alone : Completes plan.grid (row_at plan t) (past_at plan t events) o (Retry k) = all_operations_complete plan.grid (row_at plan t) (own t events) k o has q (λ server file is_up. past_whole plan t events server file) steps in
+    let alone : Completes plan.grid (row_at plan t) (past_at plan t events) o (Retry k) = all_operations_complete plan.grid (row_at plan t) (own t events) k o has q (up_has (past_at plan t events).trace (past_whole plan t events)) steps in
     record { alone = alone; told = next_told plan t (Retry k ∷ map Deliver alone.numbers) events ∙ alone.told }

@@ -5,14 +5,14 @@ use Rattle.gq_tag.specs.declared.Tag.{Tag}
 use Rattle.gq_tag.specs.Tag.{File, OwnMessage, greatest}
 use Rattle.gq_desk.specs.declared.plans.TenantRow.{TenantRow}
 use Rattle.gq_phase.specs.Phase.{Task, Writing, Reading, Listing, HeardNext, with_reply, hear_current, heard_copies, hear_reply, reply_of}
-use Rattle.gq_model.specs.Trace.{Entry, Trace, Deed, Elsewhere, Begins, Hears, Moves, Ends, Leaps, deed, up}
-use Rattle.gq_laws.proofs.Words.{current, floor, heard}
+use Rattle.gq_model.specs.Trace.{Entry, Trace, Deed, Elsewhere, Begins, Hears, Moves, Ends, Leaps, up}
+use Rattle.gq_laws.proofs.Words.{deed_on, current, floor, heard}
 use Rattle.gq_laws.proofs.Runs.{Follows}
 use Rattle.gq_laws.proofs.Acts.{act, Turning, turning, going}
 use Rattle.gq_laws.proofs.RoundEnds.{Next, ToStore, ToCollect, Skips, next_of}
 
 -- the tag that a write of session k makes is the session's; its number is above the session's last one, and is then that
-pub new_tag : (grid : Grid) (row : TenantRow) (t : Trace) (e : Entry) (k : ℕ) (file : File) (bytes : List ℕ) (l : OwnMessage) (r : ℕ) (tag : Tag) → Follows grid row t e → deed k e ≡ Moves l r (Some tag) → current t k ≡ Some (Writing file bytes) →
+pub new_tag : (grid : Grid) (row : TenantRow) (t : Trace) (e : Entry) (k : ℕ) (file : File) (bytes : List ℕ) (l : OwnMessage) (r : ℕ) (tag : Tag) → Follows grid row t e → deed_on t k e ≡ Moves l r (Some tag) → current t k ≡ Some (Writing file bytes) →
     (tag.session ≡ k) × (floor t k < tag.number) × (floor (e ∷ t) k ≡ tag.number)
 new_tag grid row t e k file bytes l r tag follows does busy = by (next_of grid (up t) (with_reply (going t k (Writing file bytes)) T.l) r (Some tag) e.new (subst P same T.heard))
   where
@@ -36,9 +36,9 @@ new_tag grid row t e k file bytes l r tag follows does busy = by (next_of grid (
 
 -- with one more entry
 pub floor_grows : (grid : Grid) (row : TenantRow) (t : Trace) (e : Entry) (k : ℕ) → Follows grid row t e → floor t k ≤ floor (e ∷ t) k
-floor_grows grid row t e k follows = go (deed k e) refl (current t k) refl
+floor_grows grid row t e k follows = go (deed_on t k e) refl (current t k) refl
   where
-    go : (d : Deed) → deed k e ≡ d → (task : Option Task) → current t k ≡ task → floor t k ≤ floor (e ∷ t) k
+    go : (d : Deed) → deed_on t k e ≡ d → (task : Option Task) → current t k ≡ task → floor t k ≤ floor (e ∷ t) k
     go (Moves m r (Some tag)) is (Some (Writing file bytes)) busy =
         let new = new_tag grid row t e k file bytes m r tag follows is busy in
         omega (arith, new.1, new.2)

@@ -13,10 +13,11 @@ use Rattle.gq_phase.specs.Phase.{Task, Operation, Heard, HeardStale, HeardNoted,
 use Rattle.gq_phase.proofs.Meeting.{nobody_ends}
 use Rattle.gq_model.specs.declared.events.Line.{Line}
 use Rattle.gq_model.specs.declared.events.Line.TheVariants.{Write, Read, List as ListFiles, Deliver, Lose, Abandon}
+use Rattle.gq_model.specs.declared.events.ServerLine.TheVariants.{Lost as ServerLost}
 use Rattle.gq_model.specs.Told.{Told, Noted, Round, Done}
-use Rattle.gq_model.specs.Trace.{Turn, Own, Leaping, Entry, Trace, Deed, Elsewhere, Begins, Hears, Moves, Ends, Leaps, deed, delivered_deed, heard_deed, Session, session, session_by, volumes, sent, is_lost, questions, up}
+use Rattle.gq_model.specs.Trace.{Turn, Own, Serving, Leaping, Entry, Trace, Deed, Elsewhere, Begins, Hears, Moves, Ends, Leaps, deed, delivered_deed, heard_deed, counts_on, Session, session, session_by, volumes, sent, is_lost, questions, up}
 use Rattle.gq_model.specs.Lone.{Cause, is_refusal, lose_told, heard_step, first_cause, session_causes, session_step, line_step, no_session, busy, no_volume, no_file, too_long, no_quorum}
-use Rattle.gq_laws.proofs.Words.{current, round, heard, message_at, step_on}
+use Rattle.gq_laws.proofs.Words.{deed_on, current, round, heard, message_at, step_on}
 use Rattle.gq_laws.proofs.Runs.{Follows, IsRun}
 use Rattle.gq_laws.proofs.Acts.{going, deliver_entry, is_own_entry, step_line, no_cause, message_sent}
 use Rattle.gq_laws.proofs.Remaining.{LeadsOn, round_leads}
@@ -94,20 +95,21 @@ first_fails cause rest h = go cause.0 refl
     go true e = absurd (let bad : Some cause.1 ≡ None = rw e at h in cc)
 
 -- an operation begins only in a session of the tenant
-pub begins_in_range : (grid : Grid) (row : TenantRow) (t : Trace) (e : Entry) (k : ℕ) (line : Line) → Follows grid row t e → deed k e ≡ Begins line → is_in 1 row.sessions k ≡ true
+pub begins_in_range : (grid : Grid) (row : TenantRow) (t : Trace) (e : Entry) (k : ℕ) (line : Line) → Follows grid row t e → deed_on t k e ≡ Begins line → is_in 1 row.sessions k ≡ true
 begins_in_range grid row t e k line follows does = go e.turn e.message e.told e.new follows does
   where
     in_range : (s : ℕ) → not (is_in 1 row.sessions s) ≡ false → eqb s k ≡ true → is_in 1 row.sessions k ≡ true
     in_range s inside same = subst (λ z. is_in 1 row.sessions z ≡ true) (eqb-true s k same) (not-false (is_in 1 row.sessions s) inside)
 
     go : (turn : Turn) (message : Option OwnMessage) (said : Told) (new : List OwnMessage) → Follows grid row t (record { turn = turn; message = message; told = said; new = new }) →
-        deed k (record { turn = turn; message = message; told = said; new = new }) ≡ Begins line → is_in 1 row.sessions k ≡ true
+        deed_on t k (record { turn = turn; message = message; told = said; new = new }) ≡ Begins line → is_in 1 row.sessions k ≡ true
     go (Own (Write s v f bytes)) message said new follows does = in_range s (first_fails (no_session row s) (busy (questions t) s ∷ no_volume (questions t) v ∷ no_file (questions t) v f ∷ too_long (questions t) v f bytes ∷ no_quorum grid (questions t) 1 ∷ []) (no_cause (first_cause (session_causes grid row (questions t) (Write s v f bytes))) (session_step grid (questions t) (Write s v f bytes)) (line_fine grid row t (Write s v f bytes) message said new follows))) (begins_if (eqb s k) (Write s v f bytes) line does)
     go (Own (Read s v f)) message said new follows does = in_range s (first_fails (no_session row s) (busy (questions t) s ∷ no_volume (questions t) v ∷ no_file (questions t) v f ∷ no_quorum grid (questions t) 1 ∷ []) (no_cause (first_cause (session_causes grid row (questions t) (Read s v f))) (session_step grid (questions t) (Read s v f)) (line_fine grid row t (Read s v f) message said new follows))) (begins_if (eqb s k) (Read s v f) line does)
     go (Own (ListFiles s v)) message said new follows does = in_range s (first_fails (no_session row s) (busy (questions t) s ∷ no_volume (questions t) v ∷ no_quorum grid (questions t) 1 ∷ []) (no_cause (first_cause (session_causes grid row (questions t) (ListFiles s v))) (session_step grid (questions t) (ListFiles s v)) (line_fine grid row t (ListFiles s v) message said new follows))) (begins_if (eqb s k) (ListFiles s v) line does)
     go (Own (Abandon s)) message said new follows does = absurd (ends_not (eqb s k) line does)
     go (Own (Deliver n)) message said new follows does = absurd (delivered_not k message said line does)
     go (Leaping s last number) message said new follows does = absurd (leaps_not (eqb s k) last number line does)
+    go (Serving (ServerLost n)) message said new follows does = absurd (ends_not (counts_on (sent t) k (session t k) n) line does)
     go other message said new follows does = absurd (let bad : Elsewhere ≡ Begins line = does in cc)
 
 -- ---- what was heard
@@ -153,7 +155,7 @@ delivered_goes_on grid t n m l task does busy = go (to_server m.body) refl
     go false e = by e (hear grid (up t) (going t m.session task) m) refl
 
 -- what a session heard with a reply that was noted does not end its round
-hears_goes_on : (grid : Grid) (row : TenantRow) (t : Trace) (e : Entry) (k : ℕ) (l : OwnMessage) (task : Task) → Follows grid row t e → deed k e ≡ Hears l → current t k ≡ Some task →
+hears_goes_on : (grid : Grid) (row : TenantRow) (t : Trace) (e : Entry) (k : ℕ) (l : OwnMessage) (task : Task) → Follows grid row t e → deed_on t k e ≡ Hears l → current t k ≡ Some task →
     ends_round grid (round t k) (hear_reply (heard t k) (reply_of l)) ≡ false
 hears_goes_on grid row t e k l task follows does busy = go e.turn e.message e.told e.new follows does
   where
@@ -180,11 +182,12 @@ hears_goes_on grid row t e k l task follows does busy = go e.turn e.message e.to
     of_message n (Some m) does = here n m does (eqb m.session k) refl
 
     go : (turn : Turn) (message : Option OwnMessage) (said : Told) (new : List OwnMessage) → Follows grid row t (record { turn = turn; message = message; told = said; new = new }) →
-        deed k (record { turn = turn; message = message; told = said; new = new }) ≡ Hears l → Result k
+        deed_on t k (record { turn = turn; message = message; told = said; new = new }) ≡ Hears l → Result k
     go (Own (Write s v f bytes)) message said new follows does = absurd (begins_not (eqb s k) (Write s v f bytes) does)
     go (Own (Read s v f)) message said new follows does = absurd (begins_not (eqb s k) (Read s v f) does)
     go (Own (ListFiles s v)) message said new follows does = absurd (begins_not (eqb s k) (ListFiles s v) does)
     go (Own (Abandon s)) message said new follows does = absurd (let bad : Ends ≡ Hears l = hears_if (eqb s k) Ends l does in cc)
+    go (Serving (ServerLost n)) message said new follows does = absurd (let bad : Ends ≡ Hears l = hears_if (counts_on (sent t) k (session t k) n) Ends l does in cc)
     go (Leaping s last number) message said new follows does = absurd (let bad : Leaps last number ≡ Hears l = hears_if (eqb s k) (Leaps last number) l does in cc)
     go (Own (Deliver n)) message said new follows does = of_message n (message_at t n) (ap (deed k) (is_own_entry grid row t (Deliver n) message said new follows) ∙ does)
     go other message said new follows does = absurd (let bad : Elsewhere ≡ Hears l = does in cc)
@@ -205,15 +208,15 @@ none_ends grid r some = by (is_collect r) refl
 
 pub while_going : (grid : Grid) (row : TenantRow) (t : Trace) → IsRun grid row t → (k : ℕ) (task : Task) → current t k ≡ Some task → WhileGoing grid row t k
 while_going grid row [] run k task has = absurd (let bad : None ≡ Some task = has in cc)
-while_going grid row (e ∷ t) run k task has = by (deed k e) refl (while_going grid row t run.0 k task)
+while_going grid row (e ∷ t) run k task has = by (deed_on t k e) refl (while_going grid row t run.0 k task)
   where
     Unended : Session → Type 0
     Unended s = ends_round grid s.round s.heard ≡ false
 
-    by : (d : Deed) → deed k e ≡ d → (current t k ≡ Some task → WhileGoing grid row t k) → WhileGoing grid row (e ∷ t) k
+    by : (d : Deed) → deed_on t k e ≡ d → (current t k ≡ Some task → WhileGoing grid row t k) → WhileGoing grid row (e ∷ t) k
     by d is before = at d is (λ i. session_by (volumes t) k (is i) (session t k)) before
       where
-        at : (d : Deed) → deed k e ≡ d → session (e ∷ t) k ≡ session_by (volumes t) k d (session t k) → (current t k ≡ Some task → WhileGoing grid row t k) → WhileGoing grid row (e ∷ t) k
+        at : (d : Deed) → deed_on t k e ≡ d → session (e ∷ t) k ≡ session_by (volumes t) k d (session t k) → (current t k ≡ Some task → WhileGoing grid row t k) → WhileGoing grid row (e ∷ t) k
         at Elsewhere is now before = let was = before (ap (λ s. s.current) (sym now) ∙ has) in record { in_range = was.in_range; unended = λ some. subst Unended (sym now) (was.unended some) }
         at (Begins line) is now before = record { in_range = begins_in_range grid row t e k line run.1 is; unended = λ some. subst Unended (sym now) (none_ends grid 1 some) }
         at (Hears l) is now before =

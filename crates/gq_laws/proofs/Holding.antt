@@ -5,7 +5,7 @@ use Rattle.std.specs.List.{list_any}
 use Rattle.std.specs.Str.{bytes_eq}
 use Rattle.std.proofs.lemmas.Bool.{true≢false, and_parts, eq-eqb, eqb-true}
 use Rattle.std.proofs.lemmas.List.{append-nil}
-use Rattle.std.proofs.lemmas.List.Elements.{Contains-append_cases}
+use Rattle.std.proofs.lemmas.List.Elements.{Contains-append_cases, Contains-push}
 use Rattle.std.proofs.lemmas.Slice.Eq.{bytes_eq-Decides}
 use Rattle.std.proofs.lemmas.List.Sums.{fold-append}
 use Rattle.gq_grid.specs.Grid.{Grid}
@@ -19,12 +19,14 @@ use Rattle.gq_tag.proofs.Greatest.{latest-cons}
 use Rattle.gq_desk.specs.declared.plans.TenantRow.{TenantRow}
 use Rattle.gq_phase.specs.Quorums.{are_mates}
 use Rattle.gq_phase.proofs.Meeting.{mates_of_mates}
-use Rattle.gq_model.specs.Told.{Told, Refused, ServerRefused}
+use Rattle.gq_model.specs.declared.events.ServerLine.TheVariants.{Bad as BadServer, Down, Up, Lost as ServerLost, Repaired as ServerRepaired}
+use Rattle.gq_model.specs.Told.{Told, Refused, Repaired, ServerRefused}
 use Rattle.gq_model.specs.declared.events.Refusal.TheVariants.{NoMessage}
 use Rattle.gq_model.specs.declared.events.ServerRefusal.TheVariants.{Same}
-use Rattle.gq_model.specs.Trace.{Turn, Own, Serving, Leaping, Losing, Returning, Entry, Trace, up, is_loss, lacks, lacks_by, serves, stored_by, left_by, brought, copy_of, offered, questions}
-use Rattle.gq_model.specs.Lone.{equal_copies, return_told, is_refusal}
-use Rattle.gq_laws.proofs.Words.{held, step_on}
+use Rattle.gq_model.specs.Trace.{Turn, Own, Serving, Leaping, Losing, Returning, Entry, Trace, up, gone, is_loss, is_given, lacks, lacks_by, serves, stored_by, left_by, brought, copy_of, offered, questions}
+use Rattle.gq_model.specs.Lone.{equal_copies, return_told, server_told, is_refusal}
+use Rattle.gq_model.proofs.Mates.{repair}
+use Rattle.gq_laws.proofs.Words.{delivered, held, step_on}
 use Rattle.gq_laws.proofs.Runs.{Extends, Follows, IsRun, Keeps, HeldBetween}
 
 -- ---- the greatest of some copies
@@ -47,64 +49,100 @@ greatest_more c copies more =
     let whole : fold newer_of (fold newer_of c copies) more ≡ greatest (c ∷ copies ++ more) = sym (fold-append newer_of c copies more) ∙ sym (greatest-cons c (copies ++ more)) in
     subst (λ a. P a (greatest (c ∷ copies ++ more))) (sym (greatest-cons c copies)) (subst (λ b. P (fold newer_of c copies) b) whole (fold_grows (fold newer_of c copies) more))
 
--- ---- what a turn does to a server's copy of a file
+-- ---- what an entry does to a server's copy of a file
 
--- the turn gives the server the file again
-pub record Gift (turn : Turn) (server : ℕ) (file : File) : Type 0 where
-  pub mate : ℕ
-  pub copy : StoredCopy
-  pub turn_is : turn ≡ Returning server file mate copy
+-- the entry gives the server, which lacks the file, a copy again: one that a mate held since the loss, or at a repair the one that a mate
+-- holds
+pub data Gift (turn : Turn) (told : Told) (t : Trace) (server : ℕ) (file : File) : Type 0 where
+  Returned : (mate : ℕ) (copy : StoredCopy) → turn ≡ Returning server file mate copy → Gift turn told t server file
+  Given : (mate : ℕ) → turn ≡ Serving (ServerRepaired server) → told ≡ Repaired mate → lacks t server file ≡ true → lacks t mate file ≡ false → Gift turn told t server file
+
+abbrev pub giver : {turn : Turn} {told : Told} {t : Trace} {server : ℕ} {file : File} → Gift turn told t server file → ℕ
+giver (Returned mate copy is) = mate
+giver (Given mate is told lack had) = mate
+
+abbrev pub gift : {turn : Turn} {told : Told} {t : Trace} {server : ℕ} {file : File} → Gift turn told t server file → StoredCopy
+gift (Returned mate copy is) = copy
+gift {t = t} {file = file} (Given mate is told lack had) = held t mate file
 
 -- the copy is lost, or given, or it is as it was
-pub data Copying (turn : Turn) (server : ℕ) (file : File) : Type 0 where
-  Loses : is_loss turn server file ≡ true → Copying turn server file
-  Gains : Gift turn server file → Copying turn server file
-  Leaves : is_loss turn server file ≡ false → ((before : ℕ → File → Bool) → lacks_by turn before server file ≡ before server file) → ((before : ℕ → File → List StoredCopy) → left_by turn before server file ≡ before server file) → Copying turn server file
+pub data Copying (turn : Turn) (told : Told) (t : Trace) (server : ℕ) (file : File) : Type 0 where
+  Loses : is_loss turn server file ≡ true → Copying turn told t server file
+  Gains : Gift turn told t server file → Copying turn told t server file
+  Leaves : is_loss turn server file ≡ false → lacks_by turn told (lacks t) server file ≡ lacks t server file → ((before : ℕ → File → List StoredCopy) → left_by (lacks t) turn told before server file ≡ before server file) → Copying turn told t server file
 
-pub copying : (turn : Turn) (server : ℕ) (file : File) → Copying turn server file
-copying (Own line) server file = Leaves refl (λ before. refl) (λ before. refl)
-copying (Serving line) server file = Leaves refl (λ before. refl) (λ before. refl)
-copying (Leaping k op number) server file = Leaves refl (λ before. refl) (λ before. refl)
-copying (Losing s volumes) server file = by (is_loss (Losing s volumes) server file) refl
+and_true : (b : Bool) → b && true ≡ b
+and_true true = refl
+and_true false = refl
+
+pub copying : (turn : Turn) (told : Told) (t : Trace) (server : ℕ) (file : File) → Copying turn told t server file
+copying (Own line) told t server file = Leaves refl refl (λ before. refl)
+copying (Serving BadServer) told t server file = Leaves refl refl (λ before. refl)
+copying (Serving (Down n)) told t server file = Leaves refl refl (λ before. refl)
+copying (Serving (Up n)) told t server file = Leaves refl refl (λ before. refl)
+copying (Serving (ServerLost n)) told t server file = by (eqb n server) refl
   where
-    by : (b : Bool) → is_loss (Losing s volumes) server file ≡ b → Copying (Losing s volumes) server file
+    by : (b : Bool) → eqb n server ≡ b → Copying (Serving (ServerLost n)) told t server file
     by true is = Loses is
-    by false is = Leaves is (λ before. rw is) (λ before. rw is)
-copying (Returning s f mate copy) server file = by (eqb s server && is_file f file) refl
+    by false is = Leaves is (rw is refl) (λ before. rw is refl)
+copying (Serving (ServerRepaired n)) told t server file = go told refl
   where
-    given : eqb s server && is_file f file ≡ true → Gift (Returning s f mate copy) server file
+    Result : Type 0
+    Result = Copying (Serving (ServerRepaired n)) told t server file
+
+    nothing : is_given told n (lacks t) server file ≡ false → Result
+    nothing none = Leaves refl (rw none (and_true (lacks t server file))) (λ before. rw none refl)
+
+    by : (mate : ℕ) → told ≡ Repaired mate → (b : Bool) → eqb n server ≡ b → (c : Bool) → lacks t server file ≡ c → (d : Bool) → lacks t mate file ≡ d → Result
+    by mate is true same true lack false had = Gains (Given mate (ap (λ z. Serving (ServerRepaired z)) (eqb-true n server same)) is lack had)
+    by mate is true same true lack true also = nothing (rw (is, same, lack, also) refl)
+    by mate is true same false has d e = nothing (rw (is, same, has) refl)
+    by mate is false other c lack d e = nothing (rw (is, other) refl)
+
+    go : (w : Told) → told ≡ w → Result
+    go (Repaired mate) is = by mate is (eqb n server) refl (lacks t server file) refl (lacks t mate file) refl
+    go w is = nothing (rw is refl)
+copying (Leaping k op number) told t server file = Leaves refl refl (λ before. refl)
+copying (Losing s volumes) told t server file = by (is_loss (Losing s volumes) server file) refl
+  where
+    by : (b : Bool) → is_loss (Losing s volumes) server file ≡ b → Copying (Losing s volumes) told t server file
+    by true is = Loses is
+    by false is = Leaves is (rw is) (λ before. rw is)
+copying (Returning s f mate copy) told t server file = by (eqb s server && is_file f file) refl
+  where
+    given : eqb s server && is_file f file ≡ true → Gift (Returning s f mate copy) told t server file
     given h =
         let both = and_parts (eqb s server) (is_file f file) h in
         let files = and_parts (eqb f.volume file.volume) (eqb f.place file.place) both.1 in
-        record {
-          mate = mate;
-          copy = copy;
-          turn_is = λ i. Returning (eqb-true s server both.0 i) (record { volume = eqb-true f.volume file.volume files.0 i; place = eqb-true f.place file.place files.1 i }) mate copy;
-        }
+        Returned mate copy (λ i. Returning (eqb-true s server both.0 i) (record { volume = eqb-true f.volume file.volume files.0 i; place = eqb-true f.place file.place files.1 i }) mate copy)
 
-    kept : (b : Bool) → b && true ≡ b
-    kept true = refl
-    kept false = refl
-
-    by : (b : Bool) → eqb s server && is_file f file ≡ b → Copying (Returning s f mate copy) server file
+    by : (b : Bool) → eqb s server && is_file f file ≡ b → Copying (Returning s f mate copy) told t server file
     by true h = Gains (given h)
-    by false h = Leaves refl (λ before. rw h (kept (before server file))) (λ before. rw h)
+    by false h = Leaves refl (rw h (and_true (lacks t server file))) (λ before. rw h)
 
 -- a server whose copy is lost lacks the file
-pub loss_lacks : (turn : Turn) (before : ℕ → File → Bool) (server : ℕ) (file : File) → is_loss turn server file ≡ true → lacks_by turn before server file ≡ true
-loss_lacks (Losing s volumes) before server file is = rw is
-loss_lacks (Own line) before server file is = absurd (true≢false (sym is))
-loss_lacks (Serving line) before server file is = absurd (true≢false (sym is))
-loss_lacks (Leaping k op number) before server file is = absurd (true≢false (sym is))
-loss_lacks (Returning s f mate copy) before server file is = absurd (true≢false (sym is))
+pub loss_lacks : (turn : Turn) (told : Told) (before : ℕ → File → Bool) (server : ℕ) (file : File) → is_loss turn server file ≡ true → lacks_by turn told before server file ≡ true
+loss_lacks (Losing s volumes) told before server file is = rw is
+loss_lacks (Serving (ServerLost n)) told before server file is = rw is
+loss_lacks (Serving (ServerRepaired n)) told before server file is = absurd (true≢false (sym is))
+loss_lacks (Serving (Down n)) told before server file is = absurd (true≢false (sym is))
+loss_lacks (Serving (Up n)) told before server file is = absurd (true≢false (sym is))
+loss_lacks (Serving BadServer) told before server file is = absurd (true≢false (sym is))
+loss_lacks (Own line) told before server file is = absurd (true≢false (sym is))
+loss_lacks (Leaping k op number) told before server file is = absurd (true≢false (sym is))
+loss_lacks (Returning s f mate copy) told before server file is = absurd (true≢false (sym is))
 
 -- a server that lacks the file lacked it before, or its copy is lost now
-pub lacked : (turn : Turn) (before : ℕ → File → Bool) (server : ℕ) (file : File) → is_loss turn server file ≡ false → lacks_by turn before server file ≡ true → before server file ≡ true
-lacked (Own line) before server file is h = h
-lacked (Serving line) before server file is h = h
-lacked (Leaping k op number) before server file is h = h
-lacked (Losing s volumes) before server file is h = rw is at h
-lacked (Returning s f mate copy) before server file is h = (and_parts (before server file) (not (eqb s server && is_file f file)) h).0
+pub lacked : (turn : Turn) (told : Told) (before : ℕ → File → Bool) (server : ℕ) (file : File) → is_loss turn server file ≡ false → lacks_by turn told before server file ≡ true → before server file ≡ true
+lacked (Own line) told before server file is h = h
+lacked (Serving BadServer) told before server file is h = h
+lacked (Serving (Down n)) told before server file is h = h
+lacked (Serving (Up n)) told before server file is h = h
+lacked (Serving (ServerLost n)) told before server file is h = rw is at h
+lacked (Serving (ServerRepaired n)) told before server file is h = (and_parts (before server file) (not (is_given told n before server file)) h).0
+lacked (Leaping k op number) told before server file is h = h
+lacked (Losing s volumes) told before server file is h = rw is at h
+lacked (Returning s f mate copy) told before server file is h = (and_parts (before server file) (not (eqb s server && is_file f file)) h).0
 
 -- ---- a copy that is given
 
@@ -129,21 +167,40 @@ pub record IsOffered (grid : Grid) (t : Trace) (server : ℕ) (file : File) (mat
   pub mates : are_mates grid server mate ≡ true
   pub among : Contains (offered t server file mate) copy
 
-pub given_offered : (grid : Grid) (row : TenantRow) (t : Trace) (e : Entry) (server : ℕ) (file : File) → Follows grid row t e → (g : Gift e.turn server file) → IsOffered grid t server file g.mate g.copy
-given_offered grid row t e server file follows g = by (lacks t server file) refl (are_mates grid server g.mate && list_any (equal_copies g.copy) (offered t server file g.mate)) refl
+returned_offered : (grid : Grid) (row : TenantRow) (t : Trace) (e : Entry) (server : ℕ) (file : File) (mate : ℕ) (copy : StoredCopy) → Follows grid row t e → e.turn ≡ Returning server file mate copy → IsOffered grid t server file mate copy
+returned_offered grid row t e server file mate copy follows turn_is = by (lacks t server file) refl (are_mates grid server mate && list_any (equal_copies copy) (offered t server file mate)) refl
   where
-    told : return_told grid (questions t) server file g.mate g.copy ≡ e.told
-    told = sym (ap (λ z. (step_on grid row follows.lines t z).told) g.turn_is) ∙ follows.told
+    told : return_told grid (questions t) server file mate copy ≡ e.told
+    told = sym (ap (λ z. (step_on grid row follows.lines t z).told) turn_is) ∙ follows.told
 
-    refused : (word : Told) → is_refusal word ≡ true → return_told grid (questions t) server file g.mate g.copy ≡ word → ⊥
+    refused : (word : Told) → is_refusal word ≡ true → return_told grid (questions t) server file mate copy ≡ word → ⊥
     refused word bad is = true≢false (sym bad ∙ ap is_refusal (sym is ∙ told) ∙ follows.accepted)
 
-    by : (b : Bool) → lacks t server file ≡ b → (c : Bool) → (are_mates grid server g.mate && list_any (equal_copies g.copy) (offered t server file g.mate)) ≡ c → IsOffered grid t server file g.mate g.copy
+    by : (b : Bool) → lacks t server file ≡ b → (c : Bool) → (are_mates grid server mate && list_any (equal_copies copy) (offered t server file mate)) ≡ c → IsOffered grid t server file mate copy
     by false has c h = absurd (refused (ServerRefused Same) refl (rw has))
     by true lack false h = absurd (refused (Refused NoMessage) refl (rw (lack, h)))
     by true lack true h =
-        let both = and_parts (are_mates grid server g.mate) (list_any (equal_copies g.copy) (offered t server file g.mate)) h in
-        record { lacked = lack; mates = both.0; among = is_among g.copy (offered t server file g.mate) both.1 }
+        let both = and_parts (are_mates grid server mate) (list_any (equal_copies copy) (offered t server file mate)) h in
+        record { lacked = lack; mates = both.0; among = is_among copy (offered t server file mate) both.1 }
+
+-- what a mate holds that has the file it could give, where some server lacks the file
+now_offered : (t : Trace) (server : ℕ) (file : File) (mate : ℕ) → lacks t server file ≡ true → lacks t mate file ≡ false → Contains (offered t server file mate) (held t mate file)
+now_offered [] server file mate lack had = absurd (true≢false (sym lack))
+now_offered (e ∷ t) server file mate lack had = rw had (Contains-push (if is_loss e.turn server file then [] else offered t server file mate) (held (e ∷ t) mate file))
+
+-- at a repair
+repaired_offered : (grid : Grid) (row : TenantRow) (t : Trace) (e : Entry) (server : ℕ) (file : File) (mate : ℕ) → Follows grid row t e → e.turn ≡ Serving (ServerRepaired server) → e.told ≡ Repaired mate → lacks t server file ≡ true → lacks t mate file ≡ false → IsOffered grid t server file mate (held t mate file)
+repaired_offered grid row t e server file mate follows turn_is told_is lack had =
+    let said : server_told grid (up t) (gone t) (ServerRepaired server) ≡ e.told = sym (ap (λ z. (step_on grid row follows.lines t z).told) turn_is) ∙ follows.told in
+    let r = repair grid (up t) (gone t) server (ap is_refusal said ∙ follows.accepted) in
+    let both : Repaired r.mate ≡ Repaired mate = sym r.told ∙ said ∙ told_is in
+    let same : r.mate ≡ mate = cc in
+    let P : ℕ → Type 0 = λ z. are_mates grid server z ≡ true in
+    record { lacked = lack; mates = subst P same r.is_mate.mates; among = now_offered t server file mate lack had }
+
+pub given_offered : (grid : Grid) (row : TenantRow) (t : Trace) (e : Entry) (server : ℕ) (file : File) → Follows grid row t e → (g : Gift e.turn e.told t server file) → IsOffered grid t server file (giver g) (gift g)
+given_offered grid row t e server file follows (Returned mate copy turn_is) = returned_offered grid row t e server file mate copy follows turn_is
+given_offered grid row t e server file follows (Given mate turn_is told_is lack had) = repaired_offered grid row t e server file mate follows turn_is told_is lack had
 
 -- ---- what a server holds
 
@@ -166,7 +223,7 @@ stored_more serving (Some m) before server file = go m.body refl
     go Stored is = ([], rw is (sym (append-nil (before server file))))
 
 -- with one more entry that leaves the copy
-held_left : (e : Entry) (t : Trace) (server : ℕ) (file : File) → ((before : ℕ → File → List StoredCopy) → left_by e.turn before server file ≡ before server file) → IsAtMost (held t server file).tag (held (e ∷ t) server file).tag
+held_left : (e : Entry) (t : Trace) (server : ℕ) (file : File) → ((before : ℕ → File → List StoredCopy) → left_by (lacks t) e.turn e.told before server file ≡ before server file) → IsAtMost (held t server file).tag (held (e ∷ t) server file).tag
 held_left e t server file left =
     let more = stored_more (serves (up t) (lacks t)) e.message (brought t) server file in
     let is : brought (e ∷ t) server file ≡ brought t server file ++ more.0 = left (stored_by (serves (up t) (lacks t)) e.message (brought t)) ∙ more.1 in
@@ -174,10 +231,14 @@ held_left e t server file left =
     subst P (sym is) (greatest_more first_copy (brought t server file) more.0)
 
 -- what a server holds that was given a copy
-pub held_given : (turn : Turn) (message : Option OwnMessage) (said : Told) (new : List OwnMessage) (t : Trace) (server : ℕ) (file : File) → (g : Gift turn server file) → held (record { turn = turn; message = message; told = said; new = new } ∷ t) server file ≡ newer_of first_copy g.copy
-held_given turn message said new t server file g =
-    let is : brought (record { turn = turn; message = message; told = said; new = new } ∷ t) server file ≡ g.copy ∷ [] = ap (λ z. left_by z (stored_by (serves (up t) (lacks t)) message (brought t)) server file) g.turn_is ∙ rw (eq-eqb server server refl, eq-eqb file.volume file.volume refl, eq-eqb file.place file.place refl) in
-    ap copy_of is ∙ greatest-push first_copy g.copy []
+pub held_given : (turn : Turn) (message : Option OwnMessage) (said : Told) (new : List OwnMessage) (t : Trace) (server : ℕ) (file : File) → message ≡ delivered t turn → (g : Gift turn said t server file) → held (record { turn = turn; message = message; told = said; new = new } ∷ t) server file ≡ newer_of first_copy (gift g)
+held_given turn message said new t server file comes (Returned mate copy turn_is) =
+    let is : brought (record { turn = turn; message = message; told = said; new = new } ∷ t) server file ≡ copy ∷ [] = ap (λ z. left_by (lacks t) z said (stored_by (serves (up t) (lacks t)) message (brought t)) server file) turn_is ∙ rw (eq-eqb server server refl, eq-eqb file.volume file.volume refl, eq-eqb file.place file.place refl) in
+    ap copy_of is ∙ greatest-push first_copy copy []
+held_given turn message said new t server file comes (Given mate turn_is told_is lack had) =
+    let none : message ≡ None = comes ∙ ap (delivered t) turn_is in
+    let is : brought (record { turn = turn; message = message; told = said; new = new } ∷ t) server file ≡ held t mate file ∷ [] = ap (λ z. left_by (lacks t) z said (stored_by (serves (up t) (lacks t)) message (brought t)) server file) turn_is ∙ rw (none, told_is, eq-eqb server server refl, lack, had) refl in
+    ap copy_of is ∙ greatest-push first_copy (held t mate file) []
 
 -- ---- what a server keeps
 
@@ -187,7 +248,7 @@ keeps_had grid [] server file tag had k = k
 keeps_had grid (e ∷ t) server file tag had k = by (is_loss e.turn server file) refl
   where
     by : (b : Bool) → is_loss e.turn server file ≡ b → IsAtMost tag (held (e ∷ t) server file).tag
-    by true lost = absurd (true≢false (sym (loss_lacks e.turn (lacks t) server file lost) ∙ had))
+    by true lost = absurd (true≢false (sym (loss_lacks e.turn e.told (lacks t) server file lost) ∙ had))
     by false is = rw (is, had) at k
 
 pub had_keeps : (grid : Grid) (t : Trace) (server : ℕ) (file : File) (tag : Tag) → lacks t server file ≡ false → IsAtMost tag (held t server file).tag → Keeps grid t server file tag
@@ -195,7 +256,7 @@ had_keeps grid [] server file tag had k = k
 had_keeps grid (e ∷ t) server file tag had k = by (is_loss e.turn server file) refl
   where
     by : (b : Bool) → is_loss e.turn server file ≡ b → Keeps grid (e ∷ t) server file tag
-    by true lost = absurd (true≢false (sym (loss_lacks e.turn (lacks t) server file lost) ∙ had))
+    by true lost = absurd (true≢false (sym (loss_lacks e.turn e.told (lacks t) server file lost) ∙ had))
     by false is = rw (is, had) k
 
 pub one_is : (x y : StoredCopy) → Contains (x ∷ []) y → x ≡ y
@@ -209,18 +270,18 @@ MatesKeep grid t = (server : ℕ) (file : File) (tag : Tag) → lacks t server f
 
 -- with one more entry, but a loss of it
 keeps_more : (grid : Grid) (row : TenantRow) (t : Trace) (e : Entry) → MatesKeep grid t → Follows grid row t e → (server : ℕ) (file : File) (tag : Tag) → is_loss e.turn server file ≡ false → Keeps grid t server file tag → Keeps grid (e ∷ t) server file tag
-keeps_more grid row t e mates follows server file tag none k = go (lacks (e ∷ t) server file) refl (copying e.turn server file)
+keeps_more grid row t e mates follows server file tag none k = go (lacks (e ∷ t) server file) refl (copying e.turn e.told t server file)
   where
-    go : (b : Bool) → lacks (e ∷ t) server file ≡ b → Copying e.turn server file → Keeps grid (e ∷ t) server file tag
+    go : (b : Bool) → lacks (e ∷ t) server file ≡ b → Copying e.turn e.told t server file → Keeps grid (e ∷ t) server file tag
     go true lack c = rw (none, lack) k
     go false had (Loses is) = absurd (true≢false (sym is ∙ none))
     go false had (Gains g) =
         let s = given_offered grid row t e server file follows g in
-        let low : IsAtMost tag g.copy.tag = (mates server file tag s.lacked k g.mate s.mates).1 g.copy s.among in
+        let low : IsAtMost tag (gift g).tag = (mates server file tag s.lacked k (giver g) s.mates).1 (gift g) s.among in
         let P : StoredCopy → Type 0 = λ z. IsAtMost tag z.tag in
-        rw (none, had) (subst P (sym (held_given e.turn e.message e.told e.new t server file g)) (at_most_trans tag g.copy.tag (newer_of first_copy g.copy).tag low (newer_of-right first_copy g.copy)))
+        rw (none, had) (subst P (sym (held_given e.turn e.message e.told e.new t server file follows.message g)) (at_most_trans tag (gift g).tag (newer_of first_copy (gift g)).tag low (newer_of-right first_copy (gift g))))
     go false had (Leaves is lack left) =
-        let before : IsAtMost tag (held t server file).tag = keeps_had grid t server file tag (sym (lack (lacks t)) ∙ had) k in
+        let before : IsAtMost tag (held t server file).tag = keeps_had grid t server file tag (sym lack ∙ had) k in
         rw (none, had) (at_most_trans tag (held t server file).tag (held (e ∷ t) server file).tag before (held_left e t server file left))
 
 mates_more : (grid : Grid) (row : TenantRow) (t : Trace) (e : Entry) → MatesKeep grid t → Follows grid row t e → MatesKeep grid (e ∷ t)
@@ -235,7 +296,7 @@ mates_more grid row t e mates follows server file tag lack k mate are = (now mat
       where
         by : (b : Bool) → is_loss e.turn server file ≡ b → Kept m
         by true lost = (rw lost at k) m is
-        by false none = let kept : Kept server = rw (none, lack) at k in (mates server file tag (lacked e.turn (lacks t) server file none lack) kept m is).0
+        by false none = let kept : Kept server = rw (none, lack) at k in (mates server file tag (lacked e.turn e.told (lacks t) server file none lack) kept m is).0
 
     now : (m : ℕ) → are_mates grid server m ≡ true → Keeps grid (e ∷ t) m file tag
     now m is = by (is_loss e.turn m file) refl
@@ -252,7 +313,7 @@ mates_more grid row t e mates follows server file tag lack k mate are = (now mat
         by false none =
             let kept : Kept server = rw (none, lack) at k in
             let within : Contains (offered t server file mate) copy = rw none at old in
-            (mates server file tag (lacked e.turn (lacks t) server file none lack) kept mate are).1 copy within
+            (mates server file tag (lacked e.turn e.told (lacks t) server file none lack) kept mate are).1 copy within
     shows copy (inr new) = by (lacks (e ∷ t) mate file) refl
       where
         by : (b : Bool) → lacks (e ∷ t) mate file ≡ b → IsAtMost tag copy.tag

@@ -15,12 +15,12 @@ use Rattle.gq_phase.specs.Phase.{Task, Reply, Writing, Reading, Listing, Operati
 use Rattle.gq_phase.specs.Quorums.{ends_collect, ends_store}
 use Rattle.gq_phase.proofs.Saying.{even_is}
 use Rattle.gq_model.specs.declared.events.Line.{Line}
-use Rattle.gq_model.specs.Trace.{Turn, Entry, Trace, Deed, Elsewhere, Begins, Hears, Moves, Ends, Leaps, deed, is_loss, sent, offered, up, volumes, task_of}
+use Rattle.gq_model.specs.Trace.{Turn, Entry, Trace, Deed, Elsewhere, Begins, Hears, Moves, Ends, Leaps, is_loss, sent, offered, up, volumes, task_of}
 use Rattle.gq_model.specs.Told.{Told}
-use Rattle.gq_laws.proofs.Words.{held, current, round, heard, collected, op}
+use Rattle.gq_laws.proofs.Words.{deed_on, held, current, round, heard, collected, op}
 use Rattle.gq_laws.proofs.Runs.{Follows, IsRun, IsKnown, Keeps, Settled, made, made_of, Made, Extends, Starts, HeldBetween, op_start, round_start, starts}
 use Rattle.gq_laws.proofs.Holding.{extends_more}
-use Rattle.gq_laws.proofs.Acts.{Act, Doing, Requests, Serves, Notes, Turns, Finishes, Resends, Abandons, Jumps, Silent, Comes, act, awaited_kept, going}
+use Rattle.gq_laws.proofs.Acts.{Act, Doing, Requests, Serves, Notes, Turns, Finishes, Resends, Abandons, GivesUp, Jumps, Silent, Comes, act, awaited_kept, going}
 use Rattle.gq_laws.proofs.RoundEnds.{Next, ToStore, ToCollect, Skips, next_of, write_stores, skip_ends, skip_greatest}
 use Rattle.gq_laws.proofs.SessionTurns.{Unmoved, elsewhere_unmoved, hears_unmoved}
 use Rattle.gq_laws.proofs.Found.{stored-push, hear_in}
@@ -68,9 +68,9 @@ pub record Invariant (grid : Grid) (t : Trace) : Type 0 where
 -- the operation, and its current round
 pub starts_along : (t : Trace) (k : ℕ) → Extends t (op_start t k) × Extends t (round_start t k)
 starts_along [] k = (([], refl), ([], refl))
-starts_along (e ∷ t) k = go (deed k e) refl (starts_along t k)
+starts_along (e ∷ t) k = go (deed_on t k e) refl (starts_along t k)
   where
-    go : (d : Deed) → deed k e ≡ d → Extends t (op_start t k) × Extends t (round_start t k) → Extends (e ∷ t) (op_start (e ∷ t) k) × Extends (e ∷ t) (round_start (e ∷ t) k)
+    go : (d : Deed) → deed_on t k e ≡ d → Extends t (op_start t k) × Extends t (round_start t k) → Extends (e ∷ t) (op_start (e ∷ t) k) × Extends (e ∷ t) (round_start (e ∷ t) k)
     go (Begins line) is before = rw is ((e ∷ [], refl), ([], refl))
     go (Moves m r tag) is before = rw is (extends_more e t (op_start t k) before.0, ([], refl))
     go (Hears m) is before = rw is (extends_more e t (op_start t k) before.0, extends_more e t (round_start t k) before.1)
@@ -83,16 +83,16 @@ starts_along (e ∷ t) k = go (deed k e) refl (starts_along t k)
 -- what becomes of session k
 pub data Change (grid : Grid) (t : Trace) (e : Entry) (k : ℕ) : Type 0 where
   Stays : Unmoved (e ∷ t) t k → heard (e ∷ t) k ≡ heard t k → Change grid t e k
-  Hearing : (l : OwnMessage) (task : Task) → Comes t k l task → deed k e ≡ Hears l → Change grid t e k
-  Moving : (l : OwnMessage) (task : Task) (r : ℕ) (tag : Option Tag) → Comes t k l task → e.message ≡ Some l → deed k e ≡ Moves l r tag → hear_current grid (up t) (with_reply (going t k task) l) ≡ HeardNext r tag e.new → Change grid t e k
-  Starting : (line : Line) (task : Task) → deed k e ≡ Begins line → task_of (volumes t) line ≡ Some task → Change grid t e k
-  Stopping : deed k e ≡ Ends → Change grid t e k
-  Jumping : (last number : ℕ) → deed k e ≡ Leaps last number → Change grid t e k
+  Hearing : (l : OwnMessage) (task : Task) → Comes t k l task → deed_on t k e ≡ Hears l → Change grid t e k
+  Moving : (l : OwnMessage) (task : Task) (r : ℕ) (tag : Option Tag) → Comes t k l task → e.message ≡ Some l → deed_on t k e ≡ Moves l r tag → hear_current grid (up t) (with_reply (going t k task) l) ≡ HeardNext r tag e.new → Change grid t e k
+  Starting : (line : Line) (task : Task) → deed_on t k e ≡ Begins line → task_of (volumes t) line ≡ Some task → Change grid t e k
+  Stopping : deed_on t k e ≡ Ends → Change grid t e k
+  Jumping : (last number : ℕ) → deed_on t k e ≡ Leaps last number → Change grid t e k
 
 pub change : (grid : Grid) (t : Trace) (e : Entry) (k : ℕ) → Act grid t e → Change grid t e k
 change grid t e k a = go (cases_eq a.k k)
   where
-    still : (s : ℕ) → deed s e ≡ Elsewhere → Change grid t e s
+    still : (s : ℕ) → deed_on t s e ≡ Elsewhere → Change grid t e s
     still s is = Stays (elsewhere_unmoved t e s is) (rw (is, heard))
 
     by : (s : ℕ) → Doing grid t e s → Change grid t e s
@@ -103,12 +103,17 @@ change grid t e k a = go (cases_eq a.k k)
     by s (Finishes l task outcome comes is said new heard) = Stopping is
     by s (Resends task set first busy is said new) = still s is
     by s (Abandons is said new) = Stopping is
+    by s (GivesUp is passive new) = Stopping is
     by s (Jumps last number idle is passive new) = Jumping last number is
     by s (Silent is passive new) = still s is
 
     go : (a.k ≡ k) ⊎ (a.k ≢ k) → Change grid t e k
     go (inl same) = let P : ℕ → Type 0 = λ z. Doing grid t e z in by k (subst P same a.what)
-    go (inr ne) = still k (a.others k ne)
+    go (inr ne) = aside (a.others k ne)
+      where
+        aside : (deed_on t k e ≡ Elsewhere) ⊎ (deed_on t k e ≡ Ends) → Change grid t e k
+        aside (inl is) = still k is
+        aside (inr is) = Stopping is
 
 -- ---- what a reply shows
 
@@ -158,12 +163,13 @@ holds_with grid row t k l task run inv comes =
 
 -- ---- the sessions after an entry
 
--- the entry loses no copy at a server that session k heard in its round, nor at one of which a reply comes to it
-pub steady : (grid : Grid) (row : TenantRow) (t : Trace) (e : Entry) (k : ℕ) (task : Task) → Follows grid row t e → Invariant grid t → current t k ≡ Some task → Steady e (round_file task (round t k)) (heard t k)
-steady grid row t e k task follows inv busy x within =
+-- the entry loses no copy at a server that session k heard in its round, nor at one of which a reply comes to it, where its operation
+-- goes on
+pub steady : (grid : Grid) (row : TenantRow) (t : Trace) (e : Entry) (k : ℕ) (task next : Task) → Follows grid row t e → Invariant grid t → current t k ≡ Some task → current (e ∷ t) k ≡ Some next → Steady e (round_file task (round t k)) (heard t k)
+steady grid row t e k task next follows inv busy goes_on x within =
     let was = inv.heard_sent k task x busy within in
     let P : ℕ → File → Type 0 = λ server file. is_loss e.turn server file ≡ false in
-    subst (λ server. P server (round_file task (round t k))) was.server (subst (λ file. P was.l.server file) was.file (awaited_kept grid row t e k was.l task follows was.comes))
+    subst (λ server. P server (round_file task (round t k))) was.server (subst (λ file. P was.l.server file) was.file (awaited_kept grid row t e k was.l task next follows was.comes goes_on))
 
 -- a message of session k's operation and round is of its round's file
 comes_file : (grid : Grid) (t : Trace) (k : ℕ) (l : OwnMessage) (task : Task) → Invariant grid t → Comes t k l task → l.file ≡ round_file task (round t k)
@@ -173,14 +179,14 @@ comes_file grid t k l task inv comes =
     let same_round : l.round ≡ round t l.session = comes.same_round ∙ ap (round t) (sym comes.its) in
     (inv.messages l comes.inside).file task busy same_op same_round ∙ ap (round_file task) comes.same_round
 
-steady_with : (grid : Grid) (row : TenantRow) (t : Trace) (e : Entry) (k : ℕ) (l : OwnMessage) (task : Task) → Follows grid row t e → Invariant grid t → Comes t k l task → Steady e (round_file task (round t k)) (hear_reply (heard t k) (reply_of l))
-steady_with grid row t e k l task follows inv comes x within = go (hear_in (heard t k) (reply_of l) x within)
+steady_with : (grid : Grid) (row : TenantRow) (t : Trace) (e : Entry) (k : ℕ) (l : OwnMessage) (task next : Task) → Follows grid row t e → Invariant grid t → Comes t k l task → current (e ∷ t) k ≡ Some next → Steady e (round_file task (round t k)) (hear_reply (heard t k) (reply_of l))
+steady_with grid row t e k l task next follows inv comes goes_on x within = go (hear_in (heard t k) (reply_of l) x within)
   where
     go : Contains (heard t k) x ⊎ (reply_of l ≡ x) → is_loss e.turn x.server (round_file task (round t k)) ≡ false
-    go (inl old) = steady grid row t e k task follows inv comes.busy x old
+    go (inl old) = steady grid row t e k task next follows inv comes.busy goes_on x old
     go (inr new) =
         let P : ℕ → File → Type 0 = λ server file. is_loss e.turn server file ≡ false in
-        subst (λ server. P server (round_file task (round t k))) (ap (λ y. y.server) new) (subst (λ file. P l.server file) (comes_file grid t k l task inv comes) (awaited_kept grid row t e k l task follows comes))
+        subst (λ server. P server (round_file task (round t k))) (ap (λ y. y.server) new) (subst (λ file. P l.server file) (comes_file grid t k l task inv comes) (awaited_kept grid row t e k l task next follows comes goes_on))
 
 -- what a session heard after an entry was sent
 pub heard_step : (grid : Grid) (row : TenantRow) (t : Trace) (e : Entry) → Follows grid row t e → Invariant grid t → (k : ℕ) (task : Task) (x : Reply) → current (e ∷ t) k ≡ Some task → Contains (heard (e ∷ t) k) x → WasSent (e ∷ t) k task x
@@ -231,24 +237,24 @@ holds_at grid t task r r' hs hs' cs cs' st st' a b c d h =
 
 -- a write's new copy is one that a write made
 made_now : (t : Trace) (turn : Turn) (message : Option OwnMessage) (said : Told) (new : List OwnMessage) (k : ℕ) (l : OwnMessage) (r : ℕ) (tag : Option Tag) (made_tag : Tag) (file : File) (bytes : List ℕ) →
-    message ≡ Some l → l.session ≡ k → deed k (record { turn = turn; message = message; told = said; new = new }) ≡ Moves l r tag → tag ≡ Some made_tag → current t k ≡ Some (Writing file bytes) →
+    message ≡ Some l → l.session ≡ k → deed_on t k (record { turn = turn; message = message; told = said; new = new }) ≡ Moves l r tag → tag ≡ Some made_tag → current t k ≡ Some (Writing file bytes) →
     Contains (made (record { turn = turn; message = message; told = said; new = new } ∷ t)) (record { file = file; copy = record { tag = made_tag; bytes = bytes } })
 made_now t turn message said new k l r tag made_tag file bytes is its does tag_is busy =
     let x : Made = record { file = file; copy = record { tag = made_tag; bytes = bytes } } in
-    let here : deed l.session (record { turn = turn; message = message; told = said; new = new }) ≡ Moves l r (Some made_tag) = ap (λ z. deed z (record { turn = turn; message = message; told = said; new = new })) its ∙ does ∙ ap (Moves l r) tag_is in
+    let here : deed_on t l.session (record { turn = turn; message = message; told = said; new = new }) ≡ Moves l r (Some made_tag) = ap (λ z. deed_on t z (record { turn = turn; message = message; told = said; new = new })) its ∙ does ∙ ap (Moves l r) tag_is in
     let there : current t l.session ≡ Some (Writing file bytes) = ap (current t) its ∙ busy in
-    let list : made (record { turn = turn; message = message; told = said; new = new } ∷ t) ≡ made t ++ made_of (deed l.session (record { turn = turn; message = message; told = said; new = new })) (current t l.session) = rw is in
+    let list : made (record { turn = turn; message = message; told = said; new = new } ∷ t) ≡ made t ++ made_of (deed_on t l.session (record { turn = turn; message = message; told = said; new = new })) (current t l.session) = rw is in
     let all : made (record { turn = turn; message = message; told = said; new = new } ∷ t) ≡ made t ++ x ∷ [] = list ∙ ap (λ z. made t ++ z) (ap (λ d. made_of d (current t l.session)) here ∙ ap (made_of (Moves l r (Some made_tag))) there) in
     let P : List Made → Type 0 = λ z. Contains z x in
     subst P (sym all) (Contains-push (made t) x)
 
 made_here : (t : Trace) (e : Entry) (k : ℕ) (l : OwnMessage) (r : ℕ) (tag : Option Tag) (made_tag : Tag) (file : File) (bytes : List ℕ) →
-    e.message ≡ Some l → l.session ≡ k → deed k e ≡ Moves l r tag → tag ≡ Some made_tag → current t k ≡ Some (Writing file bytes) →
+    e.message ≡ Some l → l.session ≡ k → deed_on t k e ≡ Moves l r tag → tag ≡ Some made_tag → current t k ≡ Some (Writing file bytes) →
     Contains (made (e ∷ t)) (record { file = file; copy = record { tag = made_tag; bytes = bytes } })
 made_here t e = made_now t e.turn e.message e.told e.new
 
 -- a collect round ends, and the store round of what was decided begins
-begin_store_holds : (grid : Grid) (row : TenantRow) (t : Trace) (e : Entry) (k : ℕ) (l : OwnMessage) (task : Task) (r : ℕ) (tag : Option Tag) → IsRun grid row t → Follows grid row t e → Steady e (round_file task (round t k)) (hear_reply (heard t k) (reply_of l)) → Comes t k l task → e.message ≡ Some l → deed k e ≡ Moves l r tag →
+begin_store_holds : (grid : Grid) (row : TenantRow) (t : Trace) (e : Entry) (k : ℕ) (l : OwnMessage) (task : Task) (r : ℕ) (tag : Option Tag) → IsRun grid row t → Follows grid row t e → Steady e (round_file task (round t k)) (hear_reply (heard t k) (reply_of l)) → Comes t k l task → e.message ≡ Some l → deed_on t k e ≡ Moves l r tag →
     Holds grid t task (round t k) (hear_reply (heard t k) (reply_of l)) (collected t k) (starts t k) → is_collect (round t k) ≡ true → ends_collect grid (heard_servers (hear_reply (heard t k) (reply_of l))) ≡ true →
     tag ≡ Some (decided_copy (with_reply (going t k task) l)).tag →
     Holds grid (e ∷ t) task (2 * length (collected t k ++ decided_copy (with_reply (going t k task) l) ∷ [])) [] (collected t k ++ decided_copy (with_reply (going t k task) l) ∷ []) (record { op = op_start t k; round = e ∷ t })
@@ -298,36 +304,36 @@ sessions_step grid row t e run follows inv k task busy = go (change grid t e k (
     one : (task' : Task) → current t k ≡ Some task' → current (e ∷ t) k ≡ current t k → task' ≡ task
     one task' was same = let both : Some task' ≡ Some task = sym was ∙ sym same ∙ busy in cc
 
-    next : (l : OwnMessage) (r : ℕ) (tag : Option Tag) → Comes t k l task → e.message ≡ Some l → deed k e ≡ Moves l r tag → Next grid (up t) (with_reply (going t k task) l) r tag e.new → Result
+    next : (l : OwnMessage) (r : ℕ) (tag : Option Tag) → Comes t k l task → e.message ≡ Some l → deed_on t k e ≡ Moves l r tag → Next grid (up t) (with_reply (going t k task) l) r tag e.new → Result
     next l r tag comes message does (ToStore odd ends r_is tag_is new_is) =
         at (2 * length (collected t k ++ decided_copy (with_reply (going t k task) l) ∷ [])) [] (collected t k ++ decided_copy (with_reply (going t k task) l) ∷ []) (record { op = op_start t k; round = e ∷ t })
         (sym r_is ∙ (rw (does, round))) (rw (does, heard)) (rw (does, collected, comes.busy, odd)) (rw does)
-        (begin_store_holds grid row t e k l task r tag run follows (steady_with grid row t e k l task follows inv comes) comes message does (holds_with grid row t k l task run inv comes) odd ends tag_is)
+        (begin_store_holds grid row t e k l task r tag run follows (steady_with grid row t e k l task task follows inv comes busy) comes message does (holds_with grid row t k l task run inv comes) odd ends tag_is)
     next l r tag comes message does (Skips v f lists odd ends skips r_is tag_is new_is) =
         let o : Operation = with_reply (going t k task) l in
         let cs : List StoredCopy = collected t k ++ decided_copy o ∷ [] in
         let since = extends_more e t (op_start t k) (starts_along t k).0 in
-        let h = holds_grow grid row e t task (round t k) o.heard (collected t k) (starts t k) run follows (steady_with grid row t e k l task follows inv comes) (holds_with grid row t k l task run inv comes) in
+        let h = holds_grow grid row e t task (round t k) o.heard (collected t k) (starts t k) run follows (steady_with grid row t e k l task task follows inv comes busy) (holds_with grid row t k l task run inv comes) in
         let settled = skip_settled grid (e ∷ t) task (round t k) (collected t k) (decided_copy o) (collect_number (round t k) (length (collected t k)) odd h.standing) (skip_settles grid (e ∷ t) o (starts t k) h skips) in
         at (2 * length cs + 1) [] cs (record { op = op_start t k; round = e ∷ t })
         (sym r_is ∙ (rw (does, round))) (rw (does, heard)) (rw (does, collected, comes.busy, odd)) (rw does)
         (holds_next grid (e ∷ t) task (2 * length cs) [] cs (record { op = op_start t k; round = e ∷ t }) (e ∷ t) (skip_holds grid row (e ∷ t) o (starts t k) (e ∷ t) (run, follows) h odd ends skips since) (even_is (length cs)) since settled)
     next l r tag comes message does (ToCollect v f lists even ends r_is tag_is new_is) =
         let hs : List Reply = hear_reply (heard t k) (reply_of l) in
-        let h = holds_grow grid row e t task (round t k) hs (collected t k) (starts t k) run follows (steady_with grid row t e k l task follows inv comes) (holds_with grid row t k l task run inv comes) in
+        let h = holds_grow grid row e t task (round t k) hs (collected t k) (starts t k) run follows (steady_with grid row t e k l task task follows inv comes busy) (holds_with grid row t k l task run inv comes) in
         at (2 * length (collected t k) + 1) [] (collected t k) (record { op = op_start t k; round = e ∷ t })
         (sym r_is ∙ (rw (does, round))) (rw (does, heard)) (rw (does, collected, comes.busy, even)) (rw does)
         (holds_next grid (e ∷ t) task (round t k) hs (collected t k) (starts t k) (e ∷ t) h even (extends_more e t (op_start t k) (starts_along t k).0) (stored_settled grid (e ∷ t) task (round t k) hs (collected t k) (starts t k) h even ends))
 
     go : Change grid t e k → Result
     go (Stays u hs) = at (round t k) (heard t k) (collected t k) (starts t k) (sym u.round) (sym hs) (sym u.collected) (λ i. record { op = sym u.op_start i; round = sym u.round_start i })
-        (holds_grow grid row e t task (round t k) (heard t k) (collected t k) (starts t k) run follows (steady grid row t e k task follows inv (sym u.current ∙ busy)) (inv.sessions k task (sym u.current ∙ busy)))
+        (holds_grow grid row e t task (round t k) (heard t k) (collected t k) (starts t k) run follows (steady grid row t e k task task follows inv (sym u.current ∙ busy) busy) (inv.sessions k task (sym u.current ∙ busy)))
     go (Hearing l task' comes is) =
         let u = hears_unmoved t e k l is in
         let same = one task' comes.busy u.current in
         let P : Task → Type 0 = λ z. Comes t k l z in
         at (round t k) (hear_reply (heard t k) (reply_of l)) (collected t k) (starts t k) (sym u.round) (rw (is, heard)) (sym u.collected) (λ i. record { op = sym u.op_start i; round = sym u.round_start i })
-        (holds_grow grid row e t task (round t k) (hear_reply (heard t k) (reply_of l)) (collected t k) (starts t k) run follows (steady_with grid row t e k l task follows inv (subst P same comes)) (holds_with grid row t k l task run inv (subst P same comes)))
+        (holds_grow grid row e t task (round t k) (hear_reply (heard t k) (reply_of l)) (collected t k) (starts t k) run follows (steady_with grid row t e k l task task follows inv (subst P same comes) busy) (holds_with grid row t k l task run inv (subst P same comes)))
     go (Moving l task' r tag comes message is heard) =
         let same = one task' comes.busy (rw (is, current)) in
         let P : Task → Type 0 = λ z. Comes t k l z in

@@ -13,14 +13,15 @@ use Rattle.gq_tag.specs.declared.Body.TheVariants.{Ask, Copy, Store, Stored}
 use Rattle.gq_tag.proofs.Order.{IsAtMost, at_most_refl, newer_of-right}
 use Rattle.gq_desk.specs.declared.plans.TenantRow.{TenantRow}
 use Rattle.gq_phase.specs.Phase.{Task, Reply, is_collect, round_file, round_body, stored_copy, with_reply, with_decided, in_round, decided_copy}
-use Rattle.gq_model.specs.Trace.{Turn, Own, Serving, Leaping, Losing, Returning, Entry, Trace, Moves, deed, is_loss, lacks, lacks_by, serves, stored_by, brought, copy_of, offered, sent, up}
+use Rattle.gq_model.specs.Trace.{Turn, Own, Serving, Leaping, Losing, Returning, Entry, Trace, Moves, is_loss, lacks, lacks_by, serves, stored_by, brought, copy_of, offered, sent, up}
 use Rattle.gq_model.specs.declared.events.Line.TheVariants.{Deliver}
+use Rattle.gq_model.specs.declared.events.ServerLine.TheVariants.{Bad as BadServer, Down, Up, Lost as ServerLost, Repaired as ServerRepaired}
 use Rattle.gq_model.specs.Told.{Told}
-use Rattle.gq_laws.proofs.Words.{held, current, round, heard, collected, op, delivered}
-use Rattle.gq_laws.proofs.Holding.{Copying, Loses, Gains, Leaves, copying, given_offered, held_given, greatest-push, one_is, keeps_step, had_keeps, held_between_more}
+use Rattle.gq_laws.proofs.Words.{deed_on, held, current, round, heard, collected, op, delivered}
+use Rattle.gq_laws.proofs.Holding.{Copying, Loses, Gains, Leaves, copying, giver, gift, given_offered, held_given, greatest-push, one_is, keeps_step, had_keeps, held_between_more}
 use Rattle.gq_laws.proofs.Runs.{Follows, IsRun, IsKnown, Keeps, Extends, Starts, HeldBetween, round_start, starts}
 use Rattle.gq_laws.proofs.Shapes.{Shape, shape_of, shape_round, only}
-use Rattle.gq_laws.proofs.Acts.{Act, Doing, Requests, Serves, Notes, Turns, Finishes, Resends, Abandons, Jumps, Silent, Comes, act, awaited_kept, delivers_by, going, first_round, back, back_to_ask, back_to_store, message_sent}
+use Rattle.gq_laws.proofs.Acts.{Act, Doing, Requests, Serves, Notes, Turns, Finishes, Resends, Abandons, GivesUp, Jumps, Silent, Comes, act, awaited_kept, delivers_by, going, first_round, back, back_to_ask, back_to_store, message_sent}
 use Rattle.gq_laws.proofs.RoundEnds.{Next, ToStore, ToCollect, Skips, next_of}
 use Rattle.gq_laws.proofs.SessionTurns.{Unmoved, elsewhere_unmoved, hears_unmoved}
 use Rattle.gq_laws.proofs.Found.{contains_at, last_at}
@@ -117,7 +118,7 @@ old_message_sound grid row t e m run follows inv within l = record {
     -- a reply of the operation and round that go on was sent, so that its server's copy is not lost
     kept : (task : Task) → current (e ∷ t) m.session ≡ Some task → m.op ≡ op (e ∷ t) m.session → m.round ≡ round (e ∷ t) m.session → Unmoved (e ∷ t) t m.session → to_server m.body ≡ false → is_loss e.turn m.server m.file ≡ false
     kept task busy its_op its_round u reply =
-        awaited_kept grid row t e m.session m task follows (record { inside = within; its = refl; reply = reply; busy = sym u.current ∙ busy; same_op = its_op ∙ u.op; same_round = its_round ∙ u.round })
+        awaited_kept grid row t e m.session m task task follows (record { inside = within; its = refl; reply = reply; busy = sym u.current ∙ busy; same_op = its_op ∙ u.op; same_round = its_round ∙ u.round }) busy
 
 -- ---- messages of a round
 
@@ -228,8 +229,14 @@ held_lost : (turn : Turn) (message : Option OwnMessage) (said : Told) (new : Lis
 held_lost (Losing server volumes) message said new t s file lost =
     let none : brought (record { turn = Losing server volumes; message = message; told = said; new = new } ∷ t) s file ≡ [] = rw lost in
     ap copy_of none
+held_lost (Serving (ServerLost n)) message said new t s file lost =
+    let none : brought (record { turn = Serving (ServerLost n); message = message; told = said; new = new } ∷ t) s file ≡ [] = rw lost in
+    ap copy_of none
+held_lost (Serving (ServerRepaired n)) message said new t s file lost = absurd (true≢false (sym lost))
+held_lost (Serving (Down n)) message said new t s file lost = absurd (true≢false (sym lost))
+held_lost (Serving (Up n)) message said new t s file lost = absurd (true≢false (sym lost))
+held_lost (Serving BadServer) message said new t s file lost = absurd (true≢false (sym lost))
 held_lost (Own line) message said new t s file lost = absurd (true≢false (sym lost))
-held_lost (Serving line) message said new t s file lost = absurd (true≢false (sym lost))
 held_lost (Leaping k last number) message said new t s file lost = absurd (true≢false (sym lost))
 held_lost (Returning server f mate copy) message said new t s file lost = absurd (true≢false (sym lost))
 
@@ -239,7 +246,7 @@ delivered_sent t (Own (Deliver n)) l is = contains_at (sent t) n l (message_sent
 delivered_sent t _ l is = absurd (let bad : None ≡ Some l = is in cc)
 
 held_step : (grid : Grid) (row : TenantRow) (t : Trace) (e : Entry) → Follows grid row t e → Invariant grid t → (s : ℕ) (file : File) → IsKnown (e ∷ t) file (held (e ∷ t) s file)
-held_step grid row t e follows inv s file = by (copying e.turn s file)
+held_step grid row t e follows inv s file = by (copying e.turn e.told t s file)
   where
     P : StoredCopy → Type 0
     P z = IsKnown (e ∷ t) file z
@@ -262,12 +269,12 @@ held_step grid row t e follows inv s file = by (copying e.turn s file)
         let known : P c = subst Q file_is (known_grows e t l.file c ((inv.messages l within).store_known c body)) in
         subst P (sym is) (pick (held t s file) c old known (is_less (held t s file).tag c.tag) refl)
 
-    by : Copying e.turn s file → P (held (e ∷ t) s file)
+    by : Copying e.turn e.told t s file → P (held (e ∷ t) s file)
     by (Loses lost) = subst P (sym (held_lost e.turn e.message e.told e.new t s file lost)) (inl refl)
     by (Gains g) =
         let seen = given_offered grid row t e s file follows g in
-        let known : P g.copy = known_grows e t file g.copy (inv.offered_known s g.mate file g.copy seen.among) in
-        subst P (sym (held_given e.turn e.message e.told e.new t s file g)) (pick first_copy g.copy (inl refl) known (is_less first_copy.tag g.copy.tag) refl)
+        let known : P (gift g) = known_grows e t file (gift g) (inv.offered_known s (giver g) file (gift g) seen.among) in
+        subst P (sym (held_given e.turn e.message e.told e.new t s file follows.message g)) (pick first_copy (gift g) (inl refl) known (is_less first_copy.tag (gift g).tag) refl)
     by (Leaves none lack left) = subst P (sym (ap copy_of (left (stored_by (serves (up t) (lacks t)) e.message (brought t))))) (go (stored_from t e.message s file))
 
 -- what mates have offered since a loss
@@ -305,7 +312,7 @@ reply_sound grid row t e l run follows inv within asks serving message = go l.bo
     had = not-true (lacks t l.server l.file) (and_parts (not (lacks t l.server l.file)) (up t l.server) serving).0
 
     had_now : lacks (e ∷ t) l.server l.file ≡ false
-    had_now = ap (λ z. lacks_by z (lacks t) l.server l.file) (delivers_by grid row t e.turn e.message l follows.message message).1 ∙ had
+    had_now = ap (λ z. lacks_by z e.told (lacks t) l.server l.file) (delivers_by grid row t e.turn e.message l follows.message message).1 ∙ had
 
     none : is_loss e.turn l.server l.file ≡ false
     none = ap (λ z. is_loss z l.server l.file) (delivers_by grid row t e.turn e.message l follows.message message).1
@@ -389,7 +396,7 @@ new_messages_sound grid row t e run follows inv m within = go (act grid row t e 
     in_new : (ms : List OwnMessage) → e.new ≡ ms → Contains ms m
     in_new ms is = let P : List OwnMessage → Type 0 = λ z. Contains z m in subst P is within
 
-    turned : (k : ℕ) (l : OwnMessage) (task : Task) (r : ℕ) (tag : Option Tag) → Comes t k l task → deed k e ≡ Moves l r tag → Next grid (up t) (with_reply (going t k task) l) r tag e.new → Sound grid (e ∷ t) m
+    turned : (k : ℕ) (l : OwnMessage) (task : Task) (r : ℕ) (tag : Option Tag) → Comes t k l task → deed_on t k e ≡ Moves l r tag → Next grid (up t) (with_reply (going t k task) l) r tag e.new → Sound grid (e ∷ t) m
     turned k l task r tag comes is (ToStore odd ends r_is tag_is new_is) =
         ours k (op t k) r task (collected t k ++ decided_copy (with_reply (going t k task) l) ∷ []) (shape_round grid (up t) (in_round (with_decided (with_reply (going t k task) l)) r) m (in_new _ new_is)) (rw (is, current) comes.busy) (rw (is, op)) (rw (is, round)) (rw (is, collected, comes.busy, odd))
     turned k l task r tag comes is (Skips v f lists odd ends skips r_is tag_is new_is) =
@@ -410,6 +417,7 @@ new_messages_sound grid row t e run follows inv m within = go (act grid row t e 
         let u = elsewhere_unmoved t e k is in
         ours k (op t k) (round t k) task (collected t k) (shape_of grid (going t k task) set m (in_new _ new)) (u.current ∙ busy) u.op u.round u.collected
     by k (Abandons is said new) = none new
+    by k (GivesUp is passive new) = none new
     by k (Jumps last number idle is passive new) = none new
     by k (Silent is passive new) = none new
 

@@ -7,8 +7,8 @@ use Rattle.gq_tag.specs.Tag.{OwnMessage}
 use Rattle.gq_desk.specs.declared.plans.TenantRow.{TenantRow}
 use Rattle.gq_phase.specs.Phase.{Task, Writing, Reading, Listing}
 use Rattle.gq_model.specs.Told.{Told}
-use Rattle.gq_model.specs.Trace.{Turn, Entry, Trace, Deed, Elsewhere, Begins, Hears, Moves, Ends, Leaps, deed}
-use Rattle.gq_laws.proofs.Words.{current, floor}
+use Rattle.gq_model.specs.Trace.{Turn, Entry, Trace, Deed, Elsewhere, Begins, Hears, Moves, Ends, Leaps}
+use Rattle.gq_laws.proofs.Words.{deed_on, current, floor}
 use Rattle.gq_laws.proofs.Runs.{Made, made, made_of, IsRun}
 use Rattle.gq_laws.proofs.Found.{contains_at, push_at}
 use Rattle.gq_laws.proofs.Floors.{floor_grows, new_tag}
@@ -20,19 +20,19 @@ pub record MakesCopy (t : Trace) (e : Entry) (x : Made) : Type 0 where
   pub k : ℕ
   pub l : OwnMessage
   pub r : ℕ
-  pub does : deed k e ≡ Moves l r (Some x.copy.tag)
+  pub does : deed_on t k e ≡ Moves l r (Some x.copy.tag)
   pub busy : current t k ≡ Some (Writing x.file x.copy.bytes)
 
-made_of_cases : (t : Trace) (e : Entry) (k : ℕ) → (made_of (deed k e) (current t k) ≡ []) ⊎ ((x : Made) × MakesCopy t e x × (made_of (deed k e) (current t k) ≡ x ∷ []))
-made_of_cases t e k = go (deed k e) refl (current t k) refl
+made_of_cases : (t : Trace) (e : Entry) (k : ℕ) → (made_of (deed_on t k e) (current t k) ≡ []) ⊎ ((x : Made) × MakesCopy t e x × (made_of (deed_on t k e) (current t k) ≡ x ∷ []))
+made_of_cases t e k = go (deed_on t k e) refl (current t k) refl
   where
     Result : Type 0
-    Result = (made_of (deed k e) (current t k) ≡ []) ⊎ ((x : Made) × MakesCopy t e x × (made_of (deed k e) (current t k) ≡ x ∷ []))
+    Result = (made_of (deed_on t k e) (current t k) ≡ []) ⊎ ((x : Made) × MakesCopy t e x × (made_of (deed_on t k e) (current t k) ≡ x ∷ []))
 
-    none : (d : Deed) (task : Option Task) → deed k e ≡ d → current t k ≡ task → made_of d task ≡ [] → Result
+    none : (d : Deed) (task : Option Task) → deed_on t k e ≡ d → current t k ≡ task → made_of d task ≡ [] → Result
     none d task is busy empty = inl (ap (λ z. made_of z (current t k)) is ∙ ap (made_of d) busy ∙ empty)
 
-    go : (d : Deed) → deed k e ≡ d → (task : Option Task) → current t k ≡ task → Result
+    go : (d : Deed) → deed_on t k e ≡ d → (task : Option Task) → current t k ≡ task → Result
     go (Moves l r (Some tag)) is (Some (Writing file bytes)) busy = inr (
       record { file = file; copy = record { tag = tag; bytes = bytes } },
       record { k = k; l = l; r = r; does = is; busy = busy },
@@ -59,7 +59,7 @@ made_cases_by t turn (Some m) told new = go (made_of_cases t e m.session)
     e : Entry
     e = record { turn = turn; message = Some m; told = told; new = new }
 
-    go : (made_of (deed m.session e) (current t m.session) ≡ []) ⊎ ((x : Made) × MakesCopy t e x × (made_of (deed m.session e) (current t m.session) ≡ x ∷ [])) → MadeBy t e
+    go : (made_of (deed_on t m.session e) (current t m.session) ≡ []) ⊎ ((x : Made) × MakesCopy t e x × (made_of (deed_on t m.session e) (current t m.session) ≡ x ∷ [])) → MadeBy t e
     go (inl none) = inl (ap (λ z. made t ++ z) none ∙ append-nil (made t))
     go (inr (x, makes, is)) = inr (x, makes, ap (λ z. made t ++ z) is)
 

@@ -11,12 +11,12 @@ use Rattle.gq_desk.specs.declared.volumes.VolumeRow.{VolumeRow}
 use Rattle.gq_phase.specs.Phase.{Task, Writing, Reading, Listing, Operation, HeardNext, HeardDone, hear_current, with_reply, is_collect, stored_copy, decided_copy, with_decided}
 use Rattle.gq_phase.specs.declared.Outcome.{Outcome}
 use Rattle.gq_phase.specs.declared.Outcome.TheVariants.{Wrote}
-use Rattle.gq_model.specs.Trace.{files_of, Turn, Own, Trace, Past, Begins, Moves, Ends, deed, up, task_of, volumes}
+use Rattle.gq_model.specs.Trace.{files_of, Turn, Own, Serving, Leaping, Losing, Returning, Entry, Trace, Past, Begins, Moves, Ends, Leaps, deed, up, task_of, volumes}
 use Rattle.gq_model.specs.declared.events.Line.{Line}
 use Rattle.gq_model.specs.declared.events.Line.TheVariants.{Write, Read, List as ListFiles}
 use Rattle.gq_model.specs.Told.{Told, Began}
 use Rattle.gq_model.specs.Lone.{after, said, is_refusal}
-use Rattle.gq_laws.proofs.Words.{op, round, current, collected}
+use Rattle.gq_laws.proofs.Words.{deed_on, op, round, current, collected}
 use Rattle.gq_laws.specs.declared.ops.Kind.TheVariants.{Write as Writes, Read as Reads, Row as Rows}
 use Rattle.gq_laws.specs.declared.ops.Op.{Op}
 use Rattle.gq_laws.specs.Operations.{SessionAnswer, ending, write_tag, end_place, copy_told, row_told, begun_at}
@@ -27,7 +27,45 @@ use Rattle.gq_laws.proofs.RoundEnds.{Next, ToStore, ToCollect, Skips, next_of, I
 use Rattle.gq_laws.proofs.Acts.{Comes, going, act, Turning, turning}
 use Rattle.gq_laws.proofs.Reaching.{Goes, goes_or_not, Reach, Here, Later}
 use Rattle.gq_laws.proofs.Telling.{first_told, tells, tells-cons}
-use Rattle.gq_laws.proofs.SessionTurns.{View, Quiet, Turned, Finished, Started, Stopped, Jumped, view, Tagging}
+use Rattle.gq_laws.proofs.SessionTurns.{View, Quiet, Turned, Finished, Started, Stopped, GivenUp, Jumped, view, Ending, Tagging}
+
+-- ---- a session that has no operation
+
+-- a turn after which it has none, and one before which it has none, that begins none
+still_idle : (grid : Grid) (row : TenantRow) (p : Past) (x : Turn) (k : ℕ) (g : Goes grid row p x) → deed_on p.trace k g.e ≡ Ends → current (after grid row p x).trace k ≡ None
+still_idle grid row p x k g is = ap (λ t. current t k) g.grown ∙ rw (is, current) refl
+
+leapt_idle : (grid : Grid) (row : TenantRow) (p : Past) (x : Turn) (k last number : ℕ) (g : Goes grid row p x) → deed_on p.trace k g.e ≡ Leaps last number → current (after grid row p x).trace k ≡ None
+leapt_idle grid row p x k last number g is = ap (λ t. current t k) g.grown ∙ rw (is, current) refl
+
+-- until its next request nothing ends in it, and no write makes a tag
+idle_ends : (grid : Grid) (row : TenantRow) (es : List Turn) (p : Past) (n k : ℕ) → current p.trace k ≡ None → (ending k (tells grid row p n es) ≡ None) × (write_tag k (tells grid row p n es) ≡ None)
+idle_ends grid row [] p n k idle = (refl, refl)
+idle_ends grid row (x ∷ es) p n k idle = go (idle_ends grid row es (after grid row p x) (n + 1) k) (view grid row p n x k)
+  where
+    rest : List SessionAnswer
+    rest = tells grid row (after grid row p x) (n + 1) es
+
+    Nothing : Type 0
+    Nothing = (ending k rest ≡ None) × (write_tag k rest ≡ None)
+
+    Result : Type 0
+    Result = (ending k (tells grid row p n (x ∷ es)) ≡ None) × (write_tag k (tells grid row p n (x ∷ es)) ≡ None)
+
+    by : Ending (first_told grid row p n x) k (ending k) → Tagging (first_told grid row p n x) k (write_tag k) → Nothing → Result
+    by en tg none = (ap (ending k) (tells-cons grid row p n x es) ∙ en rest ∙ none.0, ap (write_tag k) (tells-cons grid row p n x es) ∙ tg rest ∙ none.1)
+
+    over : Ending (first_told grid row p n x) k (λ rest. None) → Tagging (first_told grid row p n x) k (λ rest. None) → Result
+    over en tg = (ap (ending k) (tells-cons grid row p n x es) ∙ en rest, ap (write_tag k) (tells-cons grid row p n x es) ∙ tg rest)
+
+    go : (current (after grid row p x).trace k ≡ None → Nothing) → View grid row p n x k → Result
+    go ih (Quiet u en tg) = by en tg (ih (u.current ∙ idle))
+    go ih (Turned g l task r tag comes message is heard en tg) = absurd (let bad : None ≡ Some task = sym idle ∙ comes.busy in cc)
+    go ih (Finished g l task out comes is heard en tg) = absurd (let bad : None ≡ Some task = sym idle ∙ comes.busy in cc)
+    go ih (Started g line task first count turn says is does en tg) = over en tg
+    go ih (Stopped g is en tg) = over en tg
+    go ih (GivenUp g is en tg) = by en tg (ih (still_idle grid row p x k g is))
+    go ih (Jumped g last number before is en tg) = by en tg (ih (leapt_idle grid row p x k last number g is))
 
 -- ---- how an operation ends
 
@@ -40,7 +78,7 @@ pub record Ended (grid : Grid) (row : TenantRow) (p : Past) (n : ℕ) (es : List
   pub g : Goes grid row q x
   pub l : OwnMessage
   pub comes : Comes q.trace k l task
-  pub does : deed k g.e ≡ Ends
+  pub does : deed_on q.trace k g.e ≡ Ends
   pub heard : hear_current grid (up q.trace) (with_reply (going q.trace k task) l) ≡ HeardDone outcome
   pub start : op_start q.trace k ≡ op_start p.trace k
 
@@ -68,7 +106,7 @@ ended grid row (x ∷ es) p n k task m outcome busy h = go (λ b e. ended grid r
         let later = ih busy' same in
         record { q = later.q; x = later.x; rest = later.rest; reach = Later later.reach; g = later.g; l = later.l; comes = later.comes; does = later.does; heard = later.heard; start = later.start ∙ start }
 
-    here : (g : Goes grid row p x) (l : OwnMessage) (out : Outcome) → Comes p.trace k l task → deed k g.e ≡ Ends → hear_current grid (up p.trace) (with_reply (going p.trace k task) l) ≡ HeardDone out → n ≡ m → out ≡ outcome → Ended grid row p n (x ∷ es) k task m outcome
+    here : (g : Goes grid row p x) (l : OwnMessage) (out : Outcome) → Comes p.trace k l task → deed_on p.trace k g.e ≡ Ends → hear_current grid (up p.trace) (with_reply (going p.trace k task) l) ≡ HeardDone out → n ≡ m → out ≡ outcome → Ended grid row p n (x ∷ es) k task m outcome
     here g l out comes is heard place same =
         let P : ℕ → Outcome → Type 0 = λ z o. Ended grid row p n (x ∷ es) k task z o in
         subst (λ z. P z outcome) place (subst (λ o. P n o) same (record { q = p; x = x; rest = es; reach = Here; g = g; l = l; comes = comes; does = is; heard = heard; start = refl }))
@@ -88,6 +126,9 @@ ended grid row (x ∷ es) p n k task m outcome busy h = go (λ b e. ended grid r
         here g l out (let P : Task → Type 0 = λ z. Comes p.trace k l z in subst P same comes) is (let P : Task → Type 0 = λ z. hear_current grid (up p.trace) (with_reply (going p.trace k z) l) ≡ HeardDone out in subst P same heard) places out_is
     go ih (Started g line task' first count turn says is does en tg) = absurd (let bad : None ≡ Some (m, outcome) = sym (en (tells grid row p' (n + 1) es)) ∙ h' in cc)
     go ih (Stopped g is en tg) = absurd (let bad : None ≡ Some (m, outcome) = sym (en (tells grid row p' (n + 1) es)) ∙ h' in cc)
+    go ih (GivenUp g is en tg) =
+        let none = idle_ends grid row es p' (n + 1) k (still_idle grid row p x k g is) in
+        absurd (let bad : None ≡ Some (m, outcome) = sym none.0 ∙ sym (en (tells grid row p' (n + 1) es)) ∙ h' in cc)
     go ih (Jumped g last number idle is en tg) = absurd (let bad : None ≡ Some task = sym idle ∙ busy in cc)
 
 -- ---- how a write makes its tag
@@ -103,7 +144,7 @@ pub record Tags (grid : Grid) (row : TenantRow) (p : Past) (n : ℕ) (es : List 
   pub r : ℕ
   pub comes : Comes q.trace k l task
   pub message : g.e.message ≡ Some l
-  pub does : deed k g.e ≡ Moves l r (Some tag)
+  pub does : deed_on q.trace k g.e ≡ Moves l r (Some tag)
   pub heard : hear_current grid (up q.trace) (with_reply (going q.trace k task) l) ≡ HeardNext r (Some tag) g.e.new
   pub start : op_start q.trace k ≡ op_start p.trace k
   pub round : round q.trace k ≡ round p.trace k
@@ -122,7 +163,7 @@ tags grid row (x ∷ es) p n k task tag busy h = go (λ b e. tags grid row es (a
     Result : Type 0
     Result = (m : ℕ) × Tags grid row p n (x ∷ es) k task m tag
 
-    here : (g : Goes grid row p x) (l : OwnMessage) (r : ℕ) (tag' : Option Tag) → Comes p.trace k l task → g.e.message ≡ Some l → deed k g.e ≡ Moves l r tag' → hear_current grid (up p.trace) (with_reply (going p.trace k task) l) ≡ HeardNext r tag' g.e.new → tag' ≡ Some tag → Result
+    here : (g : Goes grid row p x) (l : OwnMessage) (r : ℕ) (tag' : Option Tag) → Comes p.trace k l task → g.e.message ≡ Some l → deed_on p.trace k g.e ≡ Moves l r tag' → hear_current grid (up p.trace) (with_reply (going p.trace k task) l) ≡ HeardNext r tag' g.e.new → tag' ≡ Some tag → Result
     here g l r tag' comes message is heard same =
         (n, record { q = p; x = x; rest = es; reach = Here; g = g; l = l; r = r; comes = comes; message = message; does = is ∙ ap (Moves l r) same; heard = heard ∙ ap (λ z. HeardNext r z g.e.new) same; start = refl; round = refl })
 
@@ -139,6 +180,9 @@ tags grid row (x ∷ es) p n k task tag busy h = go (λ b e. tags grid row es (a
     go ih (Finished g l task' out comes is heard en tg) = absurd (let bad : None ≡ Some tag = sym (tg (tells grid row p' (n + 1) es)) ∙ h' in cc)
     go ih (Started g line task' first count turn says is does en tg) = absurd (let bad : None ≡ Some tag = sym (tg (tells grid row p' (n + 1) es)) ∙ h' in cc)
     go ih (Stopped g is en tg) = absurd (let bad : None ≡ Some tag = sym (tg (tells grid row p' (n + 1) es)) ∙ h' in cc)
+    go ih (GivenUp g is en tg) =
+        let none = idle_ends grid row es p' (n + 1) k (still_idle grid row p x k g is) in
+        absurd (let bad : None ≡ Some tag = sym none.1 ∙ sym (tg (tells grid row p' (n + 1) es)) ∙ h' in cc)
     go ih (Jumped g last number idle is en tg) = absurd (let bad : None ≡ Some task = sym idle ∙ busy in cc)
 
 -- a write's collect round does not end it
@@ -205,6 +249,9 @@ store_ending grid row (x ∷ es) p n k file bytes m outcome busy even h = go (λ
         stored task' (writes task' comes.busy) l out out_is (done_of grid (up p.trace) (with_reply (going p.trace k task') l) out heard)
     go ih (Started g line task' first count turn says is does en tg) = absurd (let bad : None ≡ Some (m, outcome) = sym (en (tells grid row p' (n + 1) es)) ∙ h' in cc)
     go ih (Stopped g is en tg) = absurd (let bad : None ≡ Some (m, outcome) = sym (en (tells grid row p' (n + 1) es)) ∙ h' in cc)
+    go ih (GivenUp g is en tg) =
+        let none = idle_ends grid row es p' (n + 1) k (still_idle grid row p x k g is) in
+        absurd (let bad : None ≡ Some (m, outcome) = sym none.0 ∙ sym (en (tells grid row p' (n + 1) es)) ∙ h' in cc)
     go ih (Jumped g last number idle is en tg) = absurd (let bad : None ≡ Some (Writing file bytes) = sym idle ∙ busy in cc)
 
 -- a write that ends has made its tag, and ends with it
@@ -229,7 +276,7 @@ write_done grid row (x ∷ es) p n k file bytes m outcome busy odd h = go (λ b 
     writes : (task : Task) → current p.trace k ≡ Some task → task ≡ Writing file bytes
     writes task is = let both : Some task ≡ Some (Writing file bytes) = sym is ∙ busy in cc
 
-    turned : (g : Goes grid row p x) (l : OwnMessage) (r : ℕ) (tag : Option Tag) → deed k g.e ≡ Moves l r tag → Tagging (first_told grid row p n x) k (λ rest. tag) → ending k (tells grid row p' (n + 1) es) ≡ Some (m, outcome) →
+    turned : (g : Goes grid row p x) (l : OwnMessage) (r : ℕ) (tag : Option Tag) → deed_on p.trace k g.e ≡ Moves l r tag → Tagging (first_told grid row p n x) k (λ rest. tag) → ending k (tells grid row p' (n + 1) es) ≡ Some (m, outcome) →
         Next grid (up p.trace) (with_reply (going p.trace k (Writing file bytes)) l) r tag g.e.new → Result
     turned g l r tag does tg later (ToCollect v f lists even ends r_is tag_is new_is) = absurd (true≢false (sym odd ∙ even))
     turned g l r tag does tg later (Skips v f lists odd' ends skips r_is tag_is new_is) = absurd (let bad : Writing file bytes ≡ Listing v f = lists in cc)
@@ -251,6 +298,9 @@ write_done grid row (x ∷ es) p n k file bytes m outcome busy odd h = go (λ b 
     go ih (Finished g l task' out comes is heard en tg) = absurd (write_not_done grid (up p.trace) (with_reply (going p.trace k task') l) file bytes out (writes task' comes.busy) odd heard)
     go ih (Started g line task' first count turn says is does en tg) = absurd (let bad : None ≡ Some (m, outcome) = sym (en (tells grid row p' (n + 1) es)) ∙ h' in cc)
     go ih (Stopped g is en tg) = absurd (let bad : None ≡ Some (m, outcome) = sym (en (tells grid row p' (n + 1) es)) ∙ h' in cc)
+    go ih (GivenUp g is en tg) =
+        let none = idle_ends grid row es p' (n + 1) k (still_idle grid row p x k g is) in
+        absurd (let bad : None ≡ Some (m, outcome) = sym none.0 ∙ sym (en (tells grid row p' (n + 1) es)) ∙ h' in cc)
     go ih (Jumped g last number idle is en tg) = absurd (let bad : None ≡ Some (Writing file bytes) = sym idle ∙ busy in cc)
 
 -- ---- how an operation begins
@@ -267,10 +317,21 @@ pub record Begun (grid : Grid) (row : TenantRow) (file : File) (p : Past) (n : �
   pub line : Line
   pub task : Task
   pub turn : x ≡ Own line
-  pub does : deed a.session g.e ≡ Begins line
+  pub does : deed_on p.trace a.session g.e ≡ Begins line
   pub asks : task_of (volumes p.trace) line ≡ Some task
   pub begin : a.begin ≡ n
   pub like : BegunAs file (volumes p.trace) a task (ending a.session rest) (write_tag a.session rest)
+
+-- a line of the tenant gives up no operation
+own_deed : (t : Trace) (k : ℕ) (e : Entry) (line : Line) → e.turn ≡ Own line → deed_on t k e ≡ deed k e
+own_deed t k e line is = go e.turn e.message e.told e.new is
+  where
+    go : (turn : Turn) (message : Option OwnMessage) (told : Told) (new : List OwnMessage) → turn ≡ Own line → deed_on t k (record { turn = turn; message = message; told = told; new = new }) ≡ deed k (record { turn = turn; message = message; told = told; new = new })
+    go (Own l) message told new is = refl
+    go (Serving l) message told new is = absurd (let bad : Serving l ≡ Own line = is in cc)
+    go (Leaping s last number) message told new is = refl
+    go (Losing s volumes) message told new is = refl
+    go (Returning s f mate copy) message told new is = refl
 
 began_goes : (grid : Grid) (row : TenantRow) (p : Past) (x : Turn) (o first count : ℕ) → said grid row p x ≡ Began o first count → Goes grid row p x
 began_goes grid row p x o first count says = go (goes_or_not grid row p x)
@@ -300,7 +361,7 @@ begun_is grid row file p n (Own (Write k v f bytes)) rest a i h = go (said grid 
             let g = began_goes grid row p (Own (Write k v f bytes)) o first count is in
             let same = one_of (record { kind = Writes bytes; session = k; op = o; begin = n; end = end_place (ending k rest); tag = write_tag k rest }) a i (rw (is, e) at h) in
             let P : Op → Type 0 = λ z. Begun grid row file p n (Own (Write k v f bytes)) rest z in
-            subst P same (record { g = g; line = Write k v f bytes; task = Writing (record { volume = v; place = f }) bytes; turn = refl; does = rw (g.turn, eq-eqb k k refl); asks = refl; begin = refl; like = AsWrite bytes (ap (λ z. Writing z bytes) (same_file (record { volume = v; place = f }) file e)) refl refl refl })
+            subst P same (record { g = g; line = Write k v f bytes; task = Writing (record { volume = v; place = f }) bytes; turn = refl; does = own_deed p.trace k g.e (Write k v f bytes) g.turn ∙ rw (g.turn, eq-eqb k k refl) refl; asks = refl; begin = refl; like = AsWrite bytes (ap (λ z. Writing z bytes) (same_file (record { volume = v; place = f }) file e)) refl refl refl })
     go _ is = absurd (let bad : None ≡ Some a = rw is at h in cc)
 begun_is grid row file p n (Own (Read k v f)) rest a i h = go (said grid row p (Own (Read k v f))) refl
   where
@@ -313,7 +374,7 @@ begun_is grid row file p n (Own (Read k v f)) rest a i h = go (said grid row p (
             let g = began_goes grid row p (Own (Read k v f)) o first count is in
             let same = one_of (record { kind = Reads (option_map (λ c. c.bytes) (copy_told (ending k rest))); session = k; op = o; begin = n; end = end_place (ending k rest); tag = option_map (λ c. c.tag) (copy_told (ending k rest)) }) a i (rw (is, e) at h) in
             let P : Op → Type 0 = λ z. Begun grid row file p n (Own (Read k v f)) rest z in
-            subst P same (record { g = g; line = Read k v f; task = Reading (record { volume = v; place = f }); turn = refl; does = rw (g.turn, eq-eqb k k refl); asks = refl; begin = refl; like = AsRead (ap Reading (same_file (record { volume = v; place = f }) file e)) refl refl refl })
+            subst P same (record { g = g; line = Read k v f; task = Reading (record { volume = v; place = f }); turn = refl; does = own_deed p.trace k g.e (Read k v f) g.turn ∙ rw (g.turn, eq-eqb k k refl) refl; asks = refl; begin = refl; like = AsRead (ap Reading (same_file (record { volume = v; place = f }) file e)) refl refl refl })
     go _ is = absurd (let bad : None ≡ Some a = rw is at h in cc)
 begun_is grid row file p n (Own (ListFiles k v)) rest a i h = go (said grid row p (Own (ListFiles k v))) refl
   where
@@ -326,12 +387,12 @@ begun_is grid row file p n (Own (ListFiles k v)) rest a i h = go (said grid row 
             let g = began_goes grid row p (Own (ListFiles k v)) o first count is in
             let same = one_of (record { kind = Rows (option_map (λ r. r.length) (row_told file.place (ending k rest))); session = k; op = o; begin = n; end = end_place (ending k rest); tag = option_map (λ r. r.tag) (row_told file.place (ending k rest)) }) a i (rw (is, e) at h) in
             let P : Op → Type 0 = λ z. Begun grid row file p n (Own (ListFiles k v)) rest z in
-            subst P same (record { g = g; line = ListFiles k v; task = Listing v (files_of (volumes p.trace) v); turn = refl; does = rw (g.turn, eq-eqb k k refl); asks = refl; begin = refl; like = AsRow (ap (λ z. Listing z (files_of (volumes p.trace) z)) (eqb-true v file.volume e)) refl refl refl })
+            subst P same (record { g = g; line = ListFiles k v; task = Listing v (files_of (volumes p.trace) v); turn = refl; does = own_deed p.trace k g.e (ListFiles k v) g.turn ∙ rw (g.turn, eq-eqb k k refl) refl; asks = refl; begin = refl; like = AsRow (ap (λ z. Listing z (files_of (volumes p.trace) z)) (eqb-true v file.volume e)) refl refl refl })
     go _ is = absurd (let bad : None ≡ Some a = rw is at h in cc)
 begun_is grid row file p n x rest a i h = absurd (let bad : None ≡ Some a = h in cc)
 
 -- ---- where a write's next round begins, its round was a collect round
-pub write_goes : (grid : Grid) (row : TenantRow) (p : Past) (x : Turn) (k : ℕ) (file : File) (bytes : List ℕ) (g : Goes grid row p x) (l : OwnMessage) (r : ℕ) (tag : Option Tag) → current p.trace k ≡ Some (Writing file bytes) → deed k g.e ≡ Moves l r tag → is_collect (round p.trace k) ≡ true
+pub write_goes : (grid : Grid) (row : TenantRow) (p : Past) (x : Turn) (k : ℕ) (file : File) (bytes : List ℕ) (g : Goes grid row p x) (l : OwnMessage) (r : ℕ) (tag : Option Tag) → current p.trace k ≡ Some (Writing file bytes) → deed_on p.trace k g.e ≡ Moves l r tag → is_collect (round p.trace k) ≡ true
 write_goes grid row p x k file bytes g l r tag busy does = go (is_collect (round p.trace k)) refl
   where
     t : Turning grid p.trace g.e k r tag

@@ -9,9 +9,9 @@ use Rattle.gq_tag.proofs.Order.{IsAtMost}
 use Rattle.gq_desk.specs.declared.plans.TenantRow.{TenantRow}
 use Rattle.gq_phase.specs.Phase.{Task, Writing}
 use Rattle.gq_phase.specs.Quorums.{ends_store, are_mates}
-use Rattle.gq_model.specs.Trace.{Entry, Trace, deed, Deed, Begins, Moves, is_loss, lacks}
+use Rattle.gq_model.specs.Trace.{Entry, Trace, Deed, Begins, Moves, is_loss, lacks}
 use Rattle.gq_model.specs.Lone.{is_refusal}
-use Rattle.gq_laws.proofs.Words.{delivered, step_on, held, current}
+use Rattle.gq_laws.proofs.Words.{delivered, step_on, deed_on, held, current}
 
 -- ---- runs
 
@@ -33,7 +33,7 @@ IsRun grid row (e ∷ t) = IsRun grid row t × Follows grid row t e
 -- the trace when session k's operation began
 abbrev pub op_start : Trace → ℕ → Trace
 op_start [] k = []
-op_start (e ∷ t) k = after (deed k e) (op_start t k)
+op_start (e ∷ t) k = after (deed_on t k e) (op_start t k)
   where
     after : Deed → Trace → Trace
     after (Begins line) before = t
@@ -42,7 +42,7 @@ op_start (e ∷ t) k = after (deed k e) (op_start t k)
 -- the trace with the entry that began the current round of session k's operation
 abbrev pub round_start : Trace → ℕ → Trace
 round_start [] k = []
-round_start (e ∷ t) k = after (deed k e) (round_start t k)
+round_start (e ∷ t) k = after (deed_on t k e) (round_start t k)
   where
     after : Deed → Trace → Trace
     after (Begins line) before = e ∷ t
@@ -104,7 +104,7 @@ made (e ∷ t) = made t ++ by e.message
   where
     by : Option OwnMessage → List Made
     by None = []
-    by (Some m) = made_of (deed m.session e) (current t m.session)
+    by (Some m) = made_of (deed_on t m.session e) (current t m.session)
 
 -- the first copy, or one that a write of the file made
 abbrev pub IsKnown : Trace → File → StoredCopy → Type 0

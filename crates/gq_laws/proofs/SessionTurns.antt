@@ -9,13 +9,13 @@ use Rattle.gq_desk.specs.declared.plans.TenantRow.{TenantRow}
 use Rattle.gq_phase.specs.Phase.{Task, HeardNext, HeardDone, hear_current, with_reply}
 use Rattle.gq_phase.specs.declared.Outcome.{Outcome}
 use Rattle.gq_model.specs.declared.events.Line.{Line}
-use Rattle.gq_model.specs.Trace.{Turn, Own, Entry, Trace, Past, Elsewhere, Begins, Hears, Moves, Ends, Leaps, deed, sent, up, task_of, volumes}
+use Rattle.gq_model.specs.Trace.{Turn, Own, Entry, Trace, Past, Elsewhere, Begins, Hears, Moves, Ends, Leaps, sent, up, task_of, volumes}
 use Rattle.gq_model.specs.Told.{Told, Began, Replied, Noted, Round, Done, Resent, Abandoned}
 use Rattle.gq_model.specs.Lone.{after, said, is_refusal}
-use Rattle.gq_laws.proofs.Words.{op, round, current, collected}
+use Rattle.gq_laws.proofs.Words.{deed_on, op, round, current, collected}
 use Rattle.gq_laws.specs.Operations.{SessionAnswer, session_of, ending, write_tag}
 use Rattle.gq_laws.proofs.Runs.{op_start, round_start}
-use Rattle.gq_laws.proofs.Acts.{Act, Doing, Requests, Serves, Notes, Turns, Finishes, Resends, Abandons, Jumps, Silent, Comes, IsPassive, act, sessions, going}
+use Rattle.gq_laws.proofs.Acts.{Act, Doing, Requests, Serves, Notes, Turns, Finishes, Resends, Abandons, GivesUp, Jumps, Silent, Comes, IsPassive, aside_stays, act, sessions, going}
 use Rattle.gq_laws.proofs.Reaching.{Goes, goes_or_not}
 use Rattle.gq_laws.proofs.Telling.{first_told, refusal_passive}
 
@@ -87,24 +87,26 @@ Tagging y k f = (rest : List SessionAnswer) → write_tag k (y ∷ rest) ≡ f r
 pub data View (grid : Grid) (row : TenantRow) (p : Past) (n : ℕ) (x : Turn) (k : ℕ) : Type 0 where
   Quiet : Unmoved (after grid row p x).trace p.trace k →
       Ending (first_told grid row p n x) k (ending k) → Tagging (first_told grid row p n x) k (write_tag k) → View grid row p n x k
-  Turned : (g : Goes grid row p x) (l : OwnMessage) (task : Task) (r : ℕ) (tag : Option Tag) → Comes p.trace k l task → g.e.message ≡ Some l → deed k g.e ≡ Moves l r tag → hear_current grid (up p.trace) (with_reply (going p.trace k task) l) ≡ HeardNext r tag g.e.new →
+  Turned : (g : Goes grid row p x) (l : OwnMessage) (task : Task) (r : ℕ) (tag : Option Tag) → Comes p.trace k l task → g.e.message ≡ Some l → deed_on p.trace k g.e ≡ Moves l r tag → hear_current grid (up p.trace) (with_reply (going p.trace k task) l) ≡ HeardNext r tag g.e.new →
       Ending (first_told grid row p n x) k (ending k) → Tagging (first_told grid row p n x) k (λ rest. tag) → View grid row p n x k
-  Finished : (g : Goes grid row p x) (l : OwnMessage) (task : Task) (outcome : Outcome) → Comes p.trace k l task → deed k g.e ≡ Ends → hear_current grid (up p.trace) (with_reply (going p.trace k task) l) ≡ HeardDone outcome →
+  Finished : (g : Goes grid row p x) (l : OwnMessage) (task : Task) (outcome : Outcome) → Comes p.trace k l task → deed_on p.trace k g.e ≡ Ends → hear_current grid (up p.trace) (with_reply (going p.trace k task) l) ≡ HeardDone outcome →
       Ending (first_told grid row p n x) k (λ rest. Some (n, outcome)) → Tagging (first_told grid row p n x) k (λ rest. None) → View grid row p n x k
-  Started : (g : Goes grid row p x) (line : Line) (task : Task) (first count : ℕ) → x ≡ Own line → said grid row p x ≡ Began (op p.trace k + 1) first count → deed k g.e ≡ Begins line → task_of (volumes p.trace) line ≡ Some task →
+  Started : (g : Goes grid row p x) (line : Line) (task : Task) (first count : ℕ) → x ≡ Own line → said grid row p x ≡ Began (op p.trace k + 1) first count → deed_on p.trace k g.e ≡ Begins line → task_of (volumes p.trace) line ≡ Some task →
       Ending (first_told grid row p n x) k (λ rest. None) → Tagging (first_told grid row p n x) k (λ rest. None) → View grid row p n x k
-  Stopped : (g : Goes grid row p x) → deed k g.e ≡ Ends →
+  Stopped : (g : Goes grid row p x) → deed_on p.trace k g.e ≡ Ends →
       Ending (first_told grid row p n x) k (λ rest. None) → Tagging (first_told grid row p n x) k (λ rest. None) → View grid row p n x k
-  Jumped : (g : Goes grid row p x) (last number : ℕ) → current p.trace k ≡ None → deed k g.e ≡ Leaps last number →
+  GivenUp : (g : Goes grid row p x) → deed_on p.trace k g.e ≡ Ends →
+      Ending (first_told grid row p n x) k (ending k) → Tagging (first_told grid row p n x) k (write_tag k) → View grid row p n x k
+  Jumped : (g : Goes grid row p x) (last number : ℕ) → current p.trace k ≡ None → deed_on p.trace k g.e ≡ Leaps last number →
       Ending (first_told grid row p n x) k (ending k) → Tagging (first_told grid row p n x) k (write_tag k) → View grid row p n x k
 
 unmoved_same : (later t : Trace) (k : ℕ) → later ≡ t → Unmoved later t k
 unmoved_same later t k same = record { op = rw same; current = rw same; round = rw same; collected = rw same; op_start = rw same; round_start = rw same }
 
-pub elsewhere_unmoved : (t : Trace) (e : Entry) (k : ℕ) → deed k e ≡ Elsewhere → Unmoved (e ∷ t) t k
+pub elsewhere_unmoved : (t : Trace) (e : Entry) (k : ℕ) → deed_on t k e ≡ Elsewhere → Unmoved (e ∷ t) t k
 elsewhere_unmoved t e k is = record { op = rw (is, op); current = rw (is, current); round = rw (is, round); collected = rw (is, collected); op_start = rw is; round_start = rw is }
 
-pub hears_unmoved : (t : Trace) (e : Entry) (k : ℕ) (l : OwnMessage) → deed k e ≡ Hears l → Unmoved (e ∷ t) t k
+pub hears_unmoved : (t : Trace) (e : Entry) (k : ℕ) (l : OwnMessage) → deed_on t k e ≡ Hears l → Unmoved (e ∷ t) t k
 hears_unmoved t e k l is = record { op = rw (is, op); current = rw (is, current); round = rw (is, round); collected = rw (is, collected); op_start = rw is; round_start = rw is }
 
 unmoved_grown : (later t : Trace) (e : Entry) (k : ℕ) → later ≡ e ∷ t → Unmoved (e ∷ t) t k → Unmoved later t k
@@ -161,6 +163,9 @@ by_what grid row p n x k g about what = go what
     go (Abandons is said_is new) =
         let e : a ≡ Abandoned = sym g.told ∙ said_is in
         Stopped g is (λ rest. (at_abandoned k n x a s rest about e).0) (λ rest. (at_abandoned k n x a s rest about e).1)
+    go (GivesUp is passive new) =
+        let kept : KeepsTag a = keep g.e.told refl (passive_keeps g.e.told passive) in
+        GivenUp g is (λ rest. (keeps_both k n x a s rest about kept).0) (λ rest. (keeps_both k n x a s rest about kept).1)
     go (Jumps last number idle is passive new) =
         let kept : KeepsTag a = keep g.e.told refl (passive_keeps g.e.told passive) in
         Jumped g last number idle is (λ rest. (keeps_both k n x a s rest about kept).0) (λ rest. (keeps_both k n x a s rest about kept).1)
@@ -185,10 +190,16 @@ view grid row p n x k = go (goes_or_not grid row p x)
 
             its : (a.k ≡ k) ⊎ (a.k ≢ k) → View grid row p n x k
             its (inl same) = let P : ℕ → Type 0 = λ z. Doing grid p.trace g.e z in by_what grid row p n x k g (about ∙ same) (subst P same a.what)
-            its (inr ne) = quiet_by grid row p n x k (unmoved_grown (after grid row p x).trace p.trace g.e k g.grown (elsewhere_unmoved p.trace g.e k (a.others k ne))) (λ e. absurd (ne (sym about ∙ e)))
+            its (inr ne) = aside (a.others k ne)
+              where
+                aside : (deed_on p.trace k g.e ≡ Elsewhere) ⊎ (deed_on p.trace k g.e ≡ Ends) → View grid row p n x k
+                aside (inl is) = quiet_by grid row p n x k (unmoved_grown (after grid row p x).trace p.trace g.e k g.grown (elsewhere_unmoved p.trace g.e k is)) (λ e. absurd (ne (sym about ∙ e)))
+                aside (inr is) =
+                    let apart : s ≢ k = λ e. ne (sym about ∙ e) in
+                    GivenUp g is (λ rest. (others_both k n x (said grid row p x) s rest apart).0) (λ rest. (others_both k n x (said grid row p x) s rest apart).1)
 
 -- a turn that moves session k's operation to its next round, with a tag or none
-pub moves_tag : (grid : Grid) (row : TenantRow) (p : Past) (n : ℕ) (x : Turn) (k : ℕ) (g : Goes grid row p x) (l : OwnMessage) (r : ℕ) (tag : Option Tag) → deed k g.e ≡ Moves l r tag → Tagging (first_told grid row p n x) k (λ rest. tag)
+pub moves_tag : (grid : Grid) (row : TenantRow) (p : Past) (n : ℕ) (x : Turn) (k : ℕ) (g : Goes grid row p x) (l : OwnMessage) (r : ℕ) (tag : Option Tag) → deed_on p.trace k g.e ≡ Moves l r tag → Tagging (first_told grid row p n x) k (λ rest. tag)
 moves_tag grid row p n x k g l r tag does = go (act grid row p.trace g.e g.follows)
   where
     s : ℕ
@@ -206,6 +217,7 @@ moves_tag grid row p n x k g l r tag does = go (act grid row p.trace g.e g.follo
     by about (Finishes m task outcome comes is said_is new heard) = absurd (let bad : Ends ≡ Moves l r tag = sym is ∙ does in cc)
     by about (Resends task set first busy is said_is new) = absurd (let bad : Elsewhere ≡ Moves l r tag = sym is ∙ does in cc)
     by about (Abandons is said_is new) = absurd (let bad : Ends ≡ Moves l r tag = sym is ∙ does in cc)
+    by about (GivesUp is passive new) = absurd (let bad : Ends ≡ Moves l r tag = sym is ∙ does in cc)
     by about (Jumps last number idle is passive new) = absurd (let bad : Leaps last number ≡ Moves l r tag = sym is ∙ does in cc)
     by about (Silent is passive new) = absurd (let bad : Elsewhere ≡ Moves l r tag = sym is ∙ does in cc)
 
@@ -217,4 +229,4 @@ moves_tag grid row p n x k g l r tag does = go (act grid row p.trace g.e g.follo
 
         its : (a.k ≡ k) ⊎ (a.k ≢ k) → Tagging (first_told grid row p n x) k (λ rest. tag)
         its (inl same) = let P : ℕ → Type 0 = λ z. Doing grid p.trace g.e z in by (about ∙ same) (subst P same a.what)
-        its (inr ne) = absurd (let bad : Elsewhere ≡ Moves l r tag = sym (a.others k ne) ∙ does in cc)
+        its (inr ne) = absurd (aside_stays (a.others k ne) (λ is. let bad : Elsewhere ≡ Moves l r tag = sym is ∙ does in cc) (λ is. let bad : Ends ≡ Moves l r tag = sym is ∙ does in cc))

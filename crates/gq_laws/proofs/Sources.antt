@@ -8,12 +8,12 @@ use Rattle.gq_tag.specs.Tag.{File}
 use Rattle.gq_desk.specs.declared.plans.TenantRow.{TenantRow}
 use Rattle.gq_desk.specs.declared.volumes.VolumeRow.{VolumeRow}
 use Rattle.gq_phase.specs.Phase.{Writing, Reading, Listing, is_collect, with_reply, decided_copy}
-use Rattle.gq_model.specs.Trace.{files_of, Turn, Own, Entry, Trace, Past, Elsewhere, Begins, deed, up, volumes, task_of}
+use Rattle.gq_model.specs.Trace.{files_of, Turn, Own, Entry, Trace, Past, Elsewhere, Begins, up, volumes, task_of}
 use Rattle.gq_model.specs.declared.events.Line.{Line}
 use Rattle.gq_model.specs.declared.events.Line.TheVariants.{Write, Read, List as ListFiles}
 use Rattle.gq_model.specs.Told.{Told, Began}
 use Rattle.gq_model.specs.Lone.{after, said, is_refusal}
-use Rattle.gq_laws.proofs.Words.{op, current, round, collected}
+use Rattle.gq_laws.proofs.Words.{deed_on, op, current, round, collected}
 use Rattle.gq_laws.specs.declared.ops.Kind.TheVariants.{Write as Writes}
 use Rattle.gq_laws.specs.declared.ops.Op.{Op}
 use Rattle.gq_laws.specs.Operations.{SessionAnswer, ending, write_tag, end_place, begun_at, begun_in, WroteWith}
@@ -23,7 +23,7 @@ use Rattle.gq_laws.proofs.Acts.{going}
 use Rattle.gq_laws.proofs.RoundEnds.{Next, ToStore, ToCollect, Skips, next_of}
 use Rattle.gq_laws.proofs.Reaching.{Goes, goes_or_not, Reach, Here, Later, reach_up}
 use Rattle.gq_laws.proofs.Telling.{first_told, tells, tells-cons}
-use Rattle.gq_laws.proofs.SessionTurns.{View, Quiet, Turned, Finished, Started, Stopped, Jumped, view, moves_tag}
+use Rattle.gq_laws.proofs.SessionTurns.{View, Quiet, Turned, Finished, Started, Stopped, GivenUp, Jumped, view, moves_tag}
 use Rattle.gq_laws.proofs.OperationMoments.{write_goes}
 use Rattle.gq_laws.proofs.Beginnings.{at_later, at_first}
 use Rattle.gq_laws.proofs.Making.{MakesCopy, made_entry}
@@ -66,8 +66,8 @@ begins_own : (k s : ℕ) (b : Bool) (line : Line) → eqb s k ≡ b → (if b th
 begins_own k s true line e h = eqb-true s k e
 begins_own k s false line e h = absurd (let bad : Elsewhere ≡ Begins line = h in cc)
 
-whose : (k s v f : ℕ) (bytes : List ℕ) (e : Entry) (line : Line) → e.turn ≡ Own (Write s v f bytes) → line ≡ Write s v f bytes → deed k e ≡ Begins line → s ≡ k
-whose k s v f bytes e line is line_is does = begins_own k s (eqb s k) (Write s v f bytes) refl (rw (is, line_is) at does)
+whose : (t : Trace) (k s v f : ℕ) (bytes : List ℕ) (e : Entry) (line : Line) → e.turn ≡ Own (Write s v f bytes) → line ≡ Write s v f bytes → deed_on t k e ≡ Begins line → s ≡ k
+whose t k s v f bytes e line is line_is does = begins_own k s (eqb s k) (Write s v f bytes) refl (rw (is, line_is) at does)
 
 -- ---- along the run
 
@@ -113,6 +113,7 @@ source_step grid row p n x es m y low source = go source
         by (ToCollect v f lists even ends r_is tag_is new_is) = true≢false (sym (write_goes grid row p x k y.file y.copy.bytes g l r tag was is) ∙ even)
     going_on k busy odd tagged (Finished g l task out comes is heard en tg) = absurd (let bad : None ≡ Some (Writing y.file y.copy.bytes) = sym (ap (λ t. current t k) g.grown ∙ (rw (is, current))) ∙ busy in cc)
     going_on k busy odd tagged (Jumped g last number idle is en tg) = absurd (let bad : None ≡ Some (Writing y.file y.copy.bytes) = sym (ap (λ t. current t k) g.grown ∙ (rw (is, current))) ∙ busy in cc)
+    going_on k busy odd tagged (GivenUp g is en tg) = absurd (let bad : None ≡ Some (Writing y.file y.copy.bytes) = sym (ap (λ t. current t k) g.grown ∙ (rw (is, current))) ∙ busy in cc)
     going_on k busy odd tagged (Stopped g is en tg) = absurd (let bad : None ≡ Some (Writing y.file y.copy.bytes) = sym (ap (λ t. current t k) g.grown ∙ (rw (is, current))) ∙ busy in cc)
     going_on k busy odd tagged (Started g line task first count turn says is does en tg) = by (write_line (volumes p.trace) line y.file y.copy.bytes asks)
       where
@@ -121,7 +122,7 @@ source_step grid row p n x es m y low source = go source
 
         by : (s : ℕ) × (v : ℕ) × (f : ℕ) × (line ≡ Write s v f y.copy.bytes) × (record { volume = v; place = f } ≡ y.file) → Source grid row p n (x ∷ es) m y
         by (s, v, f, line_is, file_is) =
-            let own : s ≡ k = whose k s v f y.copy.bytes g.e line (g.turn ∙ turn ∙ ap Own line_is) line_is is in
+            let own : s ≡ k = whose p.trace k s v f y.copy.bytes g.e line (g.turn ∙ turn ∙ ap Own line_is) line_is is in
             let w = begun_write grid row y.file p n x ts s v f y.copy.bytes (op p.trace k + 1) first count y.copy.tag (turn ∙ ap Own line_is) says file_is (ap (λ z. write_tag z ts) own ∙ tagged) in
             After 0 w.0 (ap (λ z. slice_get (begun_in y.file z) 0) list ∙ at_first (begun_at y.file (first_told grid row p n x) ts) (begun_in y.file ts) 0 w.0 w.1) w.2 (omega (arith, w.3))
 

@@ -15,7 +15,7 @@ use Rattle.gq_laws.proofs.Words.{op, round}
 use Rattle.gq_laws.specs.Operations.{SessionAnswer, answered_from, session_answers_from, owners, session_of}
 use Rattle.gq_laws.proofs.Shapes.{shape_of, shape_round}
 use Rattle.gq_laws.proofs.RoundEnds.{Next, ToStore, ToCollect, Skips, next_of}
-use Rattle.gq_laws.proofs.Acts.{Doing, Requests, Serves, Notes, Turns, Finishes, Resends, Abandons, Jumps, Silent, IsPassive, act, sessions, going, first_round}
+use Rattle.gq_laws.proofs.Acts.{Doing, Requests, Serves, Notes, Turns, Finishes, Resends, Abandons, GivesUp, Jumps, Silent, IsPassive, act, sessions, going, first_round}
 use Rattle.gq_laws.proofs.Reaching.{Goes, goes_or_not}
 
 -- ---- whose messages they are
@@ -55,6 +55,7 @@ owners_are grid t e k (Finishes l task outcome comes is said new heard) = ap (ow
 owners_are grid t e k (Resends task set first busy is said new) =
     ap (owners k) said ∙ sym (all_of k e.new (λ m within. (shape_of grid (going t k task) set m (let P : List OwnMessage → Type 0 = λ z. Contains z m in subst P new within)).session))
 owners_are grid t e k (Abandons is said new) = ap (owners k) said ∙ ap sessions (sym new)
+owners_are grid t e k (GivesUp is passive new) = passive_owners k e.told passive ∙ ap sessions (sym new)
 owners_are grid t e k (Jumps last number idle is passive new) = passive_owners k e.told passive ∙ ap sessions (sym new)
 owners_are grid t e k (Silent is passive new) = passive_owners k e.told passive ∙ ap sessions (sym new)
 

@@ -5,7 +5,7 @@ use Rattle.gq_tag.specs.declared.StoredCopy.{StoredCopy}
 use Rattle.gq_tag.specs.Tag.{File, OwnMessage}
 use Rattle.gq_desk.specs.declared.plans.TenantRow.{TenantRow}
 use Rattle.gq_phase.specs.Phase.{Task, Reply}
-use Rattle.gq_model.specs.Trace.{Turn, Trace, questions, session, own_message_at, held as held_in}
+use Rattle.gq_model.specs.Trace.{Turn, Entry, Trace, Deed, deed_in, questions, sent, session, own_message_at, held as held_in}
 use Rattle.gq_model.specs.Lone.{Step, step, message_of_turn}
 
 -- how many operations session k began
@@ -35,6 +35,10 @@ floor t k = (session t k).floor
 -- what a server holds of a file
 abbrev pub held : Trace → ℕ → File → StoredCopy
 held t server file = held_in (questions t) server file
+
+-- what an entry does in session k behind the trace
+abbrev pub deed_on : Trace → ℕ → Entry → Deed
+deed_on t k e = deed_in (sent t) k (session t k) e
 
 -- message n, none where it was never sent or is lost
 abbrev pub message_at : Trace → ℕ → Option OwnMessage

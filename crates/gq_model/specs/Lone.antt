@@ -3,10 +3,10 @@
 -- The words, from one line to a whole run: `line_step` is what is told to a line that is not spent, with the messages that
 -- it sends, from the answers to the questions; `step` is the same of a turn, from what is known; `told` is its first part;
 -- `said` is what is told, from the past; `lone` is what is said to all turns in order.
-use Rattle.std.specs.Prelude.{ℕ, ◌+◌, ◌*◌, List, [], ◌∷◌, Bool, true, false, not, ◌==◌, ◌&&◌, nat_lt, nat_le, Option, Some, None, is_some, is_none, unwrap_or, length, fold, if◌then◌else◌}
+use Rattle.std.specs.Prelude.{ℕ, ◌+◌, ◌*◌, List, [], ◌∷◌, Bool, true, false, not, ◌==◌, ◌&&◌, nat_lt, nat_le, Option, Some, None, is_some, is_none, unwrap_or, length, find, fold, if◌then◌else◌}
 use Rattle.std.specs.List.{list_any}
 use Rattle.std.specs.Str.{bytes_eq}
-use Rattle.gq_grid.specs.Grid.{Grid, Servers, Choice, choose, choice_servers}
+use Rattle.gq_grid.specs.Grid.{Grid, Servers, Choice, below, choose, choice_servers}
 use Rattle.gq_tag.specs.declared.StoredCopy.{StoredCopy}
 use Rattle.gq_tag.specs.Tag.{OwnMessage, File, equal_tags, to_server, answer_body}
 use Rattle.gq_desk.specs.Plans.{is_in}
@@ -17,13 +17,13 @@ use Rattle.gq_phase.specs.Quorums.{are_mates}
 use Rattle.gq_model.specs.declared.events.Line.{Line}
 use Rattle.gq_model.specs.declared.events.Line.TheVariants.{Bad, Quorum, NewVolume, Volumes, Write, Read, List as ListFiles, Deliver, Lose, Retry, Abandon}
 use Rattle.gq_model.specs.declared.events.ServerLine.{ServerLine}
-use Rattle.gq_model.specs.declared.events.ServerLine.TheVariants.{Bad as BadServer, Down, Up}
+use Rattle.gq_model.specs.declared.events.ServerLine.TheVariants.{Bad as BadServer, Down, Up, Lost as ServerLost, Repaired as ServerRepaired}
 use Rattle.gq_model.specs.declared.events.Refusal.{Refusal}
 use Rattle.gq_model.specs.declared.events.Refusal.TheVariants.{Spent, Bad as BadLine, NoSession, Busy, Idle, NoVolume, NoFile, TooLong, NoQuorum, NoMessage, Size, Volumes as TooMany, Share}
 use Rattle.gq_model.specs.declared.events.ServerRefusal.{ServerRefusal}
-use Rattle.gq_model.specs.declared.events.ServerRefusal.TheVariants.{Bad as ServerBad, NoServer, Same}
-use Rattle.gq_model.specs.Told.{Told, Chosen, Opened, VolumesAre, Began, Replied, IsDown, Stale, Noted, Round, Done, Lost, Resent, Abandoned, Refused, ServerOk, ServerRefused}
-use Rattle.gq_model.specs.Trace.{Turn, Own, Serving, Leaping, Losing, Returning, Entry, Trace, State, Session, Known, Past, start, asked, is_loss, serves, questions, own_message_at, held, operation, account_of, limit_at, task_of}
+use Rattle.gq_model.specs.declared.events.ServerRefusal.TheVariants.{Bad as ServerBad, NoServer, Lost as IsGone, Same, Last, NoMate}
+use Rattle.gq_model.specs.Told.{Told, Chosen, Opened, VolumesAre, Began, Replied, IsDown, Stale, Noted, Round, Done, Lost, Resent, Abandoned, Refused, ServerOk, Repaired, ServerRefused}
+use Rattle.gq_model.specs.Trace.{Turn, Own, Serving, Leaping, Losing, Returning, Entry, Trace, State, Known, Past, start, asked, is_loss, is_awaited, serves, questions, own_message_at, held, operation, account_of, limit_at, task_of}
 
 -- ---- server lines
 
@@ -32,26 +32,61 @@ abbrev pub is_so : Servers → ℕ → Bool → Bool
 is_so up n true = up n
 is_so up n false = not (up n)
 
--- why such a line is refused
-abbrev pub change_refusal : Grid → Servers → ℕ → Bool → Option ServerRefusal
-change_refusal grid up n comes =
+-- why such a line is refused, where these servers are up and these lost
+abbrev pub change_refusal : Grid → Servers → Servers → ℕ → Bool → Option ServerRefusal
+change_refusal grid up gone n comes =
     if not (nat_lt n (grid.rows * grid.cols)) then Some NoServer
+    else if gone n then Some IsGone
     else if is_so up n comes then Some Same
     else None
 
+-- the least of these servers that can give this one its copies back, itself left out
+abbrev pub mate_among : Grid → Servers → ℕ → Option ℕ
+mate_among grid set n = find (λ mate. set mate && (not (mate == n) && are_mates grid n mate)) (below (grid.rows * grid.cols))
+
+-- the servers that are not in the set
+abbrev pub outside : Servers → Servers
+outside set server = not (set server)
+
+-- why a line is refused by which the server is lost
+abbrev pub loss_refusal : Grid → Servers → ℕ → Option ServerRefusal
+loss_refusal grid gone n =
+    if not (nat_lt n (grid.rows * grid.cols)) then Some NoServer
+    else if gone n then Some Same
+    else if is_none (mate_among grid (outside gone) n) then Some Last
+    else None
+
+-- why a line is refused by which it is repaired
+abbrev pub repair_refusal : Grid → Servers → Servers → ℕ → Option ServerRefusal
+repair_refusal grid up gone n =
+    if not (nat_lt n (grid.rows * grid.cols)) then Some NoServer
+    else if not (gone n) then Some Same
+    else if is_none (mate_among grid up n) then Some NoMate
+    else None
+
 -- why a server line is refused
-abbrev pub server_refusal : Grid → Servers → ServerLine → Option ServerRefusal
-server_refusal grid up BadServer = Some ServerBad
-server_refusal grid up (Down n) = change_refusal grid up n false
-server_refusal grid up (Up n) = change_refusal grid up n true
+abbrev pub server_refusal : Grid → Servers → Servers → ServerLine → Option ServerRefusal
+server_refusal grid up gone BadServer = Some ServerBad
+server_refusal grid up gone (Down n) = change_refusal grid up gone n false
+server_refusal grid up gone (Up n) = change_refusal grid up gone n true
+server_refusal grid up gone (ServerLost n) = loss_refusal grid gone n
+server_refusal grid up gone (ServerRepaired n) = repair_refusal grid up gone n
+
+-- what is told to a server line that is not refused; a repair that is not refused has a mate (`repair_refusal`)
+abbrev pub server_done : Grid → Servers → ServerLine → Told
+server_done grid up (ServerRepaired n) = Repaired (unwrap_or (mate_among grid up n) n)
+server_done grid up (ServerLost n) = ServerOk
+server_done grid up (Down n) = ServerOk
+server_done grid up (Up n) = ServerOk
+server_done grid up BadServer = ServerOk
 
 -- what is told to a server line
-abbrev pub server_told : Grid → Servers → ServerLine → Told
-server_told grid up line = unless (server_refusal grid up line)
+abbrev pub server_told : Grid → Servers → Servers → ServerLine → Told
+server_told grid up gone line = unless (server_refusal grid up gone line)
   where
     unless : Option ServerRefusal → Told
     unless (Some word) = ServerRefused word
-    unless None = ServerOk
+    unless None = server_done grid up line
 
 -- ---- why a session's line is refused
 
@@ -221,10 +256,6 @@ line_told grid row state line = (line_step grid row state line).told
 abbrev pub leap_told : State → ℕ → Told
 leap_told state k = if is_some (state.session k).current then Refused Busy else ServerOk
 
--- the reply is of the session's operation and round
-abbrev pub is_awaited : Session → OwnMessage → Bool
-is_awaited s message = is_some s.current && (message.op == s.op) && (message.round == s.round)
-
 -- an operation that goes on counts on the message, a reply of a server whose copy is gone by the turn
 abbrev pub is_counted : State → Turn → OwnMessage → Bool
 is_counted state turn message = not (to_server message.body) && is_loss turn message.server message.file && is_awaited (state.session message.session) message
@@ -246,7 +277,7 @@ return_told grid state server file mate copy =
 -- what is told and sent to a turn
 abbrev pub step : Grid → TenantRow → Known → Turn → Step
 step grid row known (Own line) = if nat_le row.steps known.lines then quiet (Refused Spent) else line_step grid row known.state line
-step grid row known (Serving line) = quiet (server_told grid known.state.up line)
+step grid row known (Serving line) = quiet (server_told grid known.state.up known.state.gone line)
 step grid row known (Leaping k op number) = quiet (leap_told known.state k)
 step grid row known (Losing s volumes) = quiet (loss_told known.state (Losing s volumes))
 step grid row known (Returning s f mate copy) = quiet (return_told grid known.state s f mate copy)

@@ -1,8 +1,8 @@
 -- An answer of the code as the model tells it.
 use Rattle.gq_grid.specs.Sets.{servers, shown_choice}
 use Rattle.gq_model.specs.declared.events.Answer.{Answer}
-use Rattle.gq_model.specs.declared.events.Answer.TheVariants.{Quorum, Volume, Volumes, Began as HasBegun, Reply, Down, Stale as IsStale, Noted as IsNoted, Round as IsRound, Done as IsDone, Lost as IsLost, Resent as IsResent, Abandoned as IsAbandoned, Refused as IsRefused, ServerOk as IsServerOk, ServerRefused as IsServerRefused, StrayBad as IsStrayBad}
-use Rattle.gq_model.specs.Told.{Told, Chosen, Opened, VolumesAre, Began, Replied, IsDown, Stale, Noted, Round, Done, Lost, Resent, Abandoned, Refused, ServerOk, ServerRefused, StrayBad}
+use Rattle.gq_model.specs.declared.events.Answer.TheVariants.{Quorum, Volume, Volumes, Began as HasBegun, Reply, Down, Stale as IsStale, Noted as IsNoted, Round as IsRound, Done as IsDone, Lost as IsLost, Resent as IsResent, Abandoned as IsAbandoned, Refused as IsRefused, ServerOk as IsServerOk, Repaired as IsRepaired, ServerRefused as IsServerRefused, StrayBad as IsStrayBad}
+use Rattle.gq_model.specs.Told.{Told, Chosen, Opened, VolumesAre, Began, Replied, IsDown, Stale, Noted, Round, Done, Lost, Resent, Abandoned, Refused, ServerOk, Repaired, ServerRefused, StrayBad}
 
 -- a choice names its row and column, and its servers
 abbrev pub shown : Answer → Told
@@ -21,5 +21,6 @@ shown (IsResent first count) = Resent first count
 shown IsAbandoned = Abandoned
 shown (IsRefused refusal) = Refused refusal
 shown IsServerOk = ServerOk
+shown (IsRepaired mate) = Repaired mate
 shown (IsServerRefused refusal) = ServerRefused refusal
 shown IsStrayBad = StrayBad

@@ -30,5 +30,7 @@ pub data Told : Type 0 where
   Abandoned : Told
   Refused : (refusal : Refusal) → Told
   ServerOk : Told
+  -- the server has the copies of this one
+  Repaired : (mate : ℕ) → Told
   ServerRefused : (refusal : ServerRefusal) → Told
   StrayBad : Told

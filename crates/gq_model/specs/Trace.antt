@@ -5,7 +5,8 @@
 -- the answer is after one more entry; in a session an entry does a *deed*, and what is asked of the session goes on by the
 -- deed. `State` has the answers to all questions. `Past` is what was before a turn: the number of lines and the trace;
 -- `Known` is what the next answer depends on: the steps taken and the state.
-use Rattle.std.specs.Prelude.{ℕ, ◌+◌, List, [], ◌∷◌, ◌++◌, Bool, true, false, ◌==◌, ◌||◌, ◌&&◌, not, Option, Some, None, nat_lt, option_map, slice_get, min, max, if◌then◌else◌}
+use Rattle.std.specs.Prelude.{ℕ, ◌+◌, List, [], ◌∷◌, ◌++◌, Bool, true, false, ◌==◌, ◌||◌, ◌&&◌, not, Option, Some, None, is_some, nat_lt, option_map, slice_get, min, max, if◌then◌else◌}
+use Rattle.std.specs.List.{list_any}
 use Rattle.std.specs.Option.{option_and_then}
 use Rattle.gq_grid.specs.Grid.{Servers}
 use Rattle.gq_tag.specs.declared.Tag.{Tag}
@@ -20,8 +21,8 @@ use Rattle.gq_phase.specs.Phase.{Task, Writing, Reading, Listing, Reply, Operati
 use Rattle.gq_model.specs.declared.events.Line.{Line}
 use Rattle.gq_model.specs.declared.events.Line.TheVariants.{NewVolume, Write, Read, List as ListFiles, Deliver, Lose, Abandon}
 use Rattle.gq_model.specs.declared.events.ServerLine.{ServerLine}
-use Rattle.gq_model.specs.declared.events.ServerLine.TheVariants.{Bad as BadServer, Down, Up}
-use Rattle.gq_model.specs.Told.{Told, Noted, Round, Done}
+use Rattle.gq_model.specs.declared.events.ServerLine.TheVariants.{Bad as BadServer, Down, Up, Lost as ServerLost, Repaired as ServerRepaired}
+use Rattle.gq_model.specs.Told.{Told, Noted, Round, Done, Repaired}
 
 -- what a tenant sees of an event: a line of its own, or a server line. No line makes the other three; they are what happens where
 -- servers and sessions are at nodes.
@@ -51,10 +52,12 @@ Trace = List Entry
 
 -- ---- questions to the trace, each with its step: the answer after one more entry, from the answers before
 
--- a server is up until a line by which it goes down; of its lines the last one decides
+-- a server is up until a line by which it goes down or is lost; of its lines the last one decides
 abbrev pub up_by : Turn → Servers → Servers
 up_by (Serving (Down n)) before server = if n == server then false else before server
 up_by (Serving (Up n)) before server = if n == server then true else before server
+up_by (Serving (ServerLost n)) before server = if n == server then false else before server
+up_by (Serving (ServerRepaired n)) before server = if n == server then true else before server
 up_by (Serving BadServer) before server = before server
 up_by (Own line) before server = before server
 up_by (Leaping k op number) before server = before server
@@ -64,6 +67,22 @@ up_by (Returning s f mate copy) before server = before server
 abbrev pub up : Trace → Servers
 up [] = λ server. true
 up (e ∷ t) = up_by e.turn (up t)
+
+-- a server that was lost is gone until it is repaired
+abbrev pub gone_by : Turn → Servers → Servers
+gone_by (Serving (ServerLost n)) before server = if n == server then true else before server
+gone_by (Serving (ServerRepaired n)) before server = if n == server then false else before server
+gone_by (Serving (Down n)) before server = before server
+gone_by (Serving (Up n)) before server = before server
+gone_by (Serving BadServer) before server = before server
+gone_by (Own line) before server = before server
+gone_by (Leaping k op number) before server = before server
+gone_by (Losing s volumes) before server = before server
+gone_by (Returning s f mate copy) before server = before server
+
+abbrev pub gone : Trace → Servers
+gone [] = λ server. false
+gone (e ∷ t) = gone_by e.turn (gone t)
 
 -- the volumes that were opened, in order
 abbrev pub volumes_by : Turn → List VolumeRow → List VolumeRow
@@ -88,25 +107,47 @@ abbrev pub is_lost : Trace → ℕ → Bool
 is_lost [] = λ n. false
 is_lost (e ∷ t) = lost_by e.turn (is_lost t)
 
--- whether by the turn the server's copy of the file is gone
+-- the copy of the file that a server holds to which these came
+abbrev pub copy_of : List StoredCopy → StoredCopy
+copy_of copies = greatest (first_copy ∷ copies)
+
+-- whether by the turn the server's copy of the file is lost
 abbrev pub is_loss : Turn → ℕ → File → Bool
 is_loss (Losing s volumes) server file = s == server && nat_lt file.volume volumes
 is_loss (Returning s f mate copy) server file = false
 is_loss (Own line) server file = false
-is_loss (Serving line) server file = false
+is_loss (Serving (ServerLost n)) server file = n == server
+is_loss (Serving (ServerRepaired n)) server file = false
+is_loss (Serving (Down n)) server file = false
+is_loss (Serving (Up n)) server file = false
+is_loss (Serving BadServer) server file = false
 is_loss (Leaping k op number) server file = false
 
+-- whether server n, of whose repair this is told, is that server, and is given the file: it lacks it, and the mate that is told has it
+abbrev pub is_given : Told → ℕ → (ℕ → File → Bool) → ℕ → File → Bool
+is_given (Repaired mate) n lacking server file = (n == server) && (lacking server file && not (lacking mate file))
+is_given _ n lacking server file = false
+
+-- the copy that it is given, where these came to servers; where no mate is told nothing is given
+abbrev pub given_copy : Told → (ℕ → File → List StoredCopy) → File → StoredCopy
+given_copy (Repaired mate) copies file = copy_of (copies mate file)
+given_copy _ copies file = first_copy
+
 -- whether the server lacks the file: it lost its copy, and was given none again
-abbrev pub lacks_by : Turn → (ℕ → File → Bool) → ℕ → File → Bool
-lacks_by (Losing s volumes) before server file = is_loss (Losing s volumes) server file || before server file
-lacks_by (Returning s f mate copy) before server file = before server file && not ((s == server) && is_file f file)
-lacks_by (Own line) before server file = before server file
-lacks_by (Serving line) before server file = before server file
-lacks_by (Leaping k op number) before server file = before server file
+abbrev pub lacks_by : Turn → Told → (ℕ → File → Bool) → ℕ → File → Bool
+lacks_by (Losing s volumes) told before server file = is_loss (Losing s volumes) server file || before server file
+lacks_by (Returning s f mate copy) told before server file = before server file && not ((s == server) && is_file f file)
+lacks_by (Serving (ServerLost n)) told before server file = n == server || before server file
+lacks_by (Serving (ServerRepaired n)) told before server file = before server file && not (is_given told n before server file)
+lacks_by (Serving (Down n)) told before server file = before server file
+lacks_by (Serving (Up n)) told before server file = before server file
+lacks_by (Serving BadServer) told before server file = before server file
+lacks_by (Own line) told before server file = before server file
+lacks_by (Leaping k op number) told before server file = before server file
 
 abbrev pub lacks : Trace → ℕ → File → Bool
 lacks [] = λ server file. false
-lacks (e ∷ t) = lacks_by e.turn (lacks t)
+lacks (e ∷ t) = lacks_by e.turn e.told (lacks t)
 
 -- a server takes what stores bring it for the file, and answers what is asked of it, where it has the file and is up
 abbrev pub serves : Servers → (ℕ → File → Bool) → ℕ → File → Bool
@@ -121,25 +162,25 @@ stored_by serving (Some message) before server file = by message.body
     by (Store copy) = if (message.server == server) && is_file message.file file && serving server file then before server file ++ copy ∷ [] else before server file
     by _ = before server file
 
--- what a loss and a return leave of them: none, and the copy given
-abbrev pub left_by : Turn → (ℕ → File → List StoredCopy) → ℕ → File → List StoredCopy
-left_by (Losing s volumes) before server file = if is_loss (Losing s volumes) server file then [] else before server file
-left_by (Returning s f mate copy) before server file = if (s == server) && is_file f file then copy ∷ [] else before server file
-left_by (Own line) before server file = before server file
-left_by (Serving line) before server file = before server file
-left_by (Leaping k op number) before server file = before server file
+-- what a loss and a return leave of them, where servers lack these files: none, and the copy given
+abbrev pub left_by : (ℕ → File → Bool) → Turn → Told → (ℕ → File → List StoredCopy) → ℕ → File → List StoredCopy
+left_by lacking (Losing s volumes) told before server file = if is_loss (Losing s volumes) server file then [] else before server file
+left_by lacking (Returning s f mate copy) told before server file = if (s == server) && is_file f file then copy ∷ [] else before server file
+left_by lacking (Serving (ServerLost n)) told before server file = if n == server then [] else before server file
+left_by lacking (Serving (ServerRepaired n)) told before server file = if is_given told n lacking server file then given_copy told before file ∷ [] else before server file
+left_by lacking (Serving (Down n)) told before server file = before server file
+left_by lacking (Serving (Up n)) told before server file = before server file
+left_by lacking (Serving BadServer) told before server file = before server file
+left_by lacking (Own line) told before server file = before server file
+left_by lacking (Leaping k op number) told before server file = before server file
 
--- the copies of the file that came to the server and are not lost, in order
-abbrev pub brought_by : (ℕ → File → Bool) → Turn → Option OwnMessage → (ℕ → File → List StoredCopy) → ℕ → File → List StoredCopy
-brought_by serving turn message before = left_by turn (stored_by serving message before)
+-- the copies of the file that came to the server and are not lost, in order, where these are up and lack these files
+abbrev pub brought_by : Servers → (ℕ → File → Bool) → Turn → Option OwnMessage → Told → (ℕ → File → List StoredCopy) → ℕ → File → List StoredCopy
+brought_by up lacking turn message told before = left_by lacking turn told (stored_by (serves up lacking) message before)
 
 abbrev pub brought : Trace → ℕ → File → List StoredCopy
 brought [] = λ server file. []
-brought (e ∷ t) = brought_by (serves (up t) (lacks t)) e.turn e.message (brought t)
-
--- the copy of the file that a server holds to which these came
-abbrev pub copy_of : List StoredCopy → StoredCopy
-copy_of copies = greatest (first_copy ∷ copies)
+brought (e ∷ t) = brought_by (up t) (lacks t) e.turn e.message e.told (brought t)
 
 -- the copies of the file that the mate has held since the server lost its own, while the mate had the file
 abbrev pub offered_by : Turn → (ℕ → File → Bool) → (ℕ → File → List StoredCopy) → (ℕ → File → ℕ → List StoredCopy) → ℕ → File → ℕ → List StoredCopy
@@ -161,7 +202,7 @@ pub data Deed : Type 0 where
   Hears : (message : OwnMessage) → Deed
   -- a reply ends the round, and another begins, of this tag where it stores
   Moves : (message : OwnMessage) (round : ℕ) (tag : Option Tag) → Deed
-  -- the operation is done or abandoned
+  -- the operation is done, abandoned or given up
   Ends : Deed
   -- the numbers of operations up to this, and those of tags up to that, are passed over; there is no operation
   Leaps : (op number : ℕ) → Deed
@@ -178,7 +219,7 @@ abbrev pub delivered_deed : ℕ → Option OwnMessage → Told → Deed
 delivered_deed k None told = Elsewhere
 delivered_deed k (Some message) told = if not (to_server message.body) && (message.session == k) then heard_deed message told else Elsewhere
 
--- what the entry does in session k
+-- what the entry does in session k, but that an operation is given up which counts on a server that is lost
 abbrev pub deed : ℕ → Entry → Deed
 deed k e = by e.turn
   where
@@ -223,6 +264,23 @@ pub record Session : Type 0 where
 abbrev pub new_session : Session
 new_session = record { op = 0; current = None; round = 1; heard = []; collected = []; floor = 0 }
 
+-- the reply is of the session's operation and round
+abbrev pub is_awaited : Session → OwnMessage → Bool
+is_awaited s message = is_some s.current && (message.op == s.op) && (message.round == s.round)
+
+-- the operation of session k, which stands so, counts on the server: among these messages is a reply of it of the operation and round,
+-- whether it was heard or not
+abbrev pub counts_on : List OwnMessage → ℕ → Session → ℕ → Bool
+counts_on sent k s server = list_any (λ message. not (to_server message.body) && ((message.session == k) && ((server == message.server) && is_awaited s message))) sent
+
+-- what the entry does in session k, which stood so before, where these messages were sent before
+abbrev pub deed_in : List OwnMessage → ℕ → Session → Entry → Deed
+deed_in sent k s e = by e.turn
+  where
+    by : Turn → Deed
+    by (Serving (ServerLost n)) = if counts_on sent k s n then Ends else Elsewhere
+    by _ = deed k e
+
 -- session k's operation in its round
 abbrev pub operation_with : ℕ → Session → Task → Operation
 operation_with k s task =
@@ -252,12 +310,13 @@ session_by volumes k (Leaps op number) s =
 
 abbrev pub session : Trace → ℕ → Session
 session [] = λ k. new_session
-session (e ∷ t) = λ k. session_by (volumes t) k (deed k e) (session t k)
+session (e ∷ t) = λ k. session_by (volumes t) k (deed_in (sent t) k (session t k) e) (session t k)
 
 -- ---- the answers to all questions, on which all that is told depends
 
 pub record State : Type 0 where
   pub up : Servers
+  pub gone : Servers
   pub volumes : List VolumeRow
   pub sent : List OwnMessage
   pub is_lost : ℕ → Bool
@@ -267,19 +326,20 @@ pub record State : Type 0 where
   pub session : ℕ → Session
 
 abbrev pub questions : Trace → State
-questions t = record { up = up t; volumes = volumes t; sent = sent t; is_lost = is_lost t; lacks = lacks t; brought = brought t; offered = offered t; session = session t }
+questions t = record { up = up t; gone = gone t; volumes = volumes t; sent = sent t; is_lost = is_lost t; lacks = lacks t; brought = brought t; offered = offered t; session = session t }
 
 -- the answers after one more entry
 abbrev pub changed : Entry → State → State
 changed e state = record {
   up = up_by e.turn state.up;
+  gone = gone_by e.turn state.gone;
   volumes = volumes_by e.turn state.volumes;
   sent = state.sent ++ e.new;
   is_lost = lost_by e.turn state.is_lost;
-  lacks = lacks_by e.turn state.lacks;
-  brought = brought_by (serves state.up state.lacks) e.turn e.message state.brought;
-  offered = offered_by e.turn (lacks_by e.turn state.lacks) (brought_by (serves state.up state.lacks) e.turn e.message state.brought) state.offered;
-  session = λ k. session_by state.volumes k (deed k e) (state.session k);
+  lacks = lacks_by e.turn e.told state.lacks;
+  brought = brought_by state.up state.lacks e.turn e.message e.told state.brought;
+  offered = offered_by e.turn (lacks_by e.turn e.told state.lacks) (brought_by state.up state.lacks e.turn e.message e.told state.brought) state.offered;
+  session = λ k. session_by state.volumes k (deed_in state.sent k (state.session k) e) (state.session k);
 }
 
 -- message n, none where it was never sent or is lost

@@ -126,6 +126,10 @@ pub enum ServerLine {
     Down { server: u32 },
     /// The server comes back.
     Up { server: u32 },
+    /// The server's disk is lost, with the copies of all files.
+    Lost { server: u32 },
+    /// The server comes back with the copies that another of its column has.
+    Repaired { server: u32 },
 }
 
 /// Why a tenant's line is refused. The causes are tested in this order.
@@ -166,8 +170,14 @@ pub enum ServerRefusal {
     Bad,
     /// The grid has no server of this number.
     NoServer,
+    /// The server is lost: only a repair brings it back.
+    Lost,
     /// The server is so already.
     Same,
+    /// All other servers of its column are lost: this one has the copies that are left there.
+    Last,
+    /// No other server of its column is up that could give its copies.
+    NoMate,
 }
 
 /// What is answered to a line. Messages that are sent are told by the number of the first and how many they are.
@@ -223,6 +233,10 @@ pub enum Answer {
     Refused(Refusal),
     /// The server is as the line says from now on.
     ServerOk,
+    /// The server is up again, and has the copies of this one.
+    Repaired {
+        mate: u32,
+    },
     /// The server line is refused, and changes nothing.
     ServerRefused(ServerRefusal),
     /// A line of nobody.

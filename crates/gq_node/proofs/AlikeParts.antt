@@ -14,8 +14,9 @@ use Rattle.gq_model.specs.declared.events.Line.{Line}
 use Rattle.gq_model.specs.declared.events.Line.TheVariants.{Write, Read, List as ListFiles, Retry, Abandon}
 use Rattle.gq_model.specs.declared.events.Refusal.TheVariants.{NoSession, Idle}
 use Rattle.gq_model.specs.Told.{Refused, Replied}
-use Rattle.gq_model.specs.Trace.{State, Session, Deed, Elsewhere, Begins, Hears, Moves, Ends, Leaps, changed, deed, operation_with, session_by, serves, stored_by, held}
+use Rattle.gq_model.specs.Trace.{State, Session, Deed, Elsewhere, Begins, Hears, Moves, Ends, Leaps, changed, deed, operation_with, session_by, serves, stored_by, held, deed_in}
 use Rattle.gq_model.specs.Lone.{Step, is_refusal, asked_step, hear_step, reply_to, quiet}
+use Rattle.gq_cluster.proofs.Parts.{act_deed}
 use Rattle.gq_cluster.specs.Facts.{OwnFact, Begun, Numbered, Kept, Reserved, none_reserved, reserving, with_reserved, replaced_in}
 use Rattle.gq_cluster.specs.Cluster.{Setting, Part, Act, Asks, Comes, part_of, node_of, step_of, state_after, fact_in, fact_of, part_after, act_entry, aim_of, session_named, IsOfSession, copy_in, state_of}
 use Rattle.gq_laws.proofs.Holding.{greatest-push}
@@ -144,10 +145,15 @@ reserved_alike (Some (Kept file copy)) a b j same = same
 told_fact_alike : (s : Setting) (n : ℕ) (p q : Part) (act : Act) (k : ℕ) → s.home k ≡ n → step_of s p act ≡ step_of s q act → PartAlike s.home n p q → fact_in s p act k ≡ fact_in s q act k
 told_fact_alike s n p q act k here same alike = λ i. reserving k (alike.reserved k here i) (same i).told (floor i)
   where
+    said : (x : Part) → ((state_after s x act).session k).floor ≡ (session_by s.volumes k (deed k (act_entry act (step_of s x act))) (x.session k)).floor
+    said x = ap (λ d. (session_by s.volumes k d (x.session k)).floor) (act_deed [] k (x.session k) act (step_of s x act))
+
     floor : ((state_after s p act).session k).floor ≡ ((state_after s q act).session k).floor
     floor =
-        ap (λ (z : Step). (session_by s.volumes k (deed k (act_entry act z)) (p.session k)).floor) same
+        said p
+        ∙ ap (λ (z : Step). (session_by s.volumes k (deed k (act_entry act z)) (p.session k)).floor) same
         ∙ (deed_alike s.volumes k (deed k (act_entry act (step_of s q act))) (p.session k) (q.session k) (q.session k).current refl (alike.sessions k here)).floor
+        ∙ sym (said q)
 
 fact_alike : (s : Setting) (n : ℕ) (p q : Part) (act : Act) → node_of s.home act ≡ n → step_of s p act ≡ step_of s q act → PartAlike s.home n p q → fact_of s p act ≡ fact_of s q act
 fact_alike s n p q (Asks line aim) here same alike = told_fact_alike s n p q (Asks line aim) (session_named line) here same alike
@@ -184,7 +190,11 @@ part_alike s n p q act its here alike = subst (λ (x : Part). PartAlike s.home n
       copies = λ file. held_alike s n p q act step file (alike.lacks file) (alike.copies file);
       lacks = λ file. lacks_still s n p act step file ∙ alike.lacks file ∙ sym (lacks_still s n q act step file);
       reserved = λ k at. reserved_alike fact p.reserved q.reserved k (alike.reserved k at);
-      sessions = λ k at. deed_alike s.volumes k (deed k (act_entry act step)) (p.session k) (q.session k) (q.session k).current refl (alike.sessions k at);
+      sessions = λ k at.
+          let D : Deed → Deed → Type 0 = λ a b. SessionAlike (session_by s.volumes k a (p.session k)) (session_by s.volumes k b (q.session k)) in
+          let d : Deed = deed k (act_entry act step) in
+          subst (λ a. D a (deed_in [] k (q.session k) (act_entry act step))) (sym (act_deed [] k (p.session k) act step))
+          (subst (λ b. D d b) (sym (act_deed [] k (q.session k) act step)) (deed_alike s.volumes k d (p.session k) (q.session k) (q.session k).current refl (alike.sessions k at)));
     }
 
     by : (b : Bool) → is_refusal step.told ≡ b → PartAlike s.home n (part_by s n act fact step p) (part_by s n act fact step q)

@@ -4,3 +4,4 @@ pub mod Givers
 pub mod Retrying
 pub mod Saying
 pub mod ByQuorums
+pub mod Columns

@@ -382,8 +382,8 @@ impl Operation {
         }
     }
 
-    // Whether the message is of the operation's round, and the operation is not done.
-    fn is_current(&self, message: &MessageView<'_>) -> bool
+    /// Whether the message is of the operation's round, and the operation is not done.
+    pub fn is_current(&self, message: &MessageView<'_>) -> bool
         ensures { result ≡ is_current_as self.now message.now }
     {
         !self.done && message.op == self.who.op && message.round == self.course.round()

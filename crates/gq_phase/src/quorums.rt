@@ -1,9 +1,9 @@
-//! Whom a round asks, and when the servers heard end it: a collect round a full row, a store round a full column.
-//! Nothing else in this crate knows of rows and columns.
+//! Whom a round asks, and when the servers heard end it: a collect round a full row, a store round a full column. And who can
+//! give a server back what it lost: another of its column. Nothing else in this crate knows of rows and columns.
 
-ghost use Rattle.std.specs.Prelude.{◌≡◌, option_map};
+ghost use Rattle.std.specs.Prelude.{◌≡◌, ◌<◌, ◌*◌, option_map};
 ghost use Rattle.gq_grid.specs.Sets.{servers};
-ghost use Rattle.gq_phase.specs.Quorums.{collect_quorum, store_quorum, ends_collect, ends_store};
+ghost use Rattle.gq_phase.specs.Quorums.{collect_quorum, store_quorum, ends_collect, ends_store, are_mates};
 
 use gq_grid::{Grid, ServerSet};
 
@@ -38,4 +38,14 @@ pub fn ends_store(grid: &Grid, heard: ServerSet) -> bool
     ensures { result ≡ ends_store grid.now (servers heard) }
 {
     heard.has_column(grid)
+}
+
+/// Whether a server that has lost its copies can be given them by the other.
+#[tactic(auto, using(crate::proofs::Columns::mates_by_place))]
+pub fn are_mates(grid: &Grid, server: usize, mate: usize) -> bool
+    requires server { server < grid.now.rows * grid.now.cols }
+    requires mate { mate < grid.now.rows * grid.now.cols }
+    ensures { result ≡ are_mates grid.now server mate }
+{
+    server % grid.cols() == mate % grid.cols()
 }

@@ -1,3 +1,4 @@
+pub mod Effects
 pub mod Bars
 pub mod Counts
 pub mod Drawings

@@ -6,12 +6,14 @@ use Rattle.gq_model.specs.Trace.{up}
 use Rattle.gq_model.specs.Events.{past_at}
 use Rattle.gq_laws.specs.declared.ops.Op.{Op}
 use Rattle.gq_laws.specs.Operations.{At, Gives, Legal, Precedes, is_write}
+use Rattle.gq_laws.specs.Tenants.{answers}
 use Rattle.gq_picture.specs.declared.absences.Absence.{Absence}
+use Rattle.gq_picture.specs.declared.absences.Effect.{Effect}
 use Rattle.gq_picture.specs.declared.drawing.Bar.{Bar}
 use Rattle.gq_picture.specs.declared.drawing.Outage.{Outage}
 use Rattle.gq_picture.specs.declared.drawing.Value.{Value}
 use Rattle.gq_picture.specs.declared.drawing.Drawing.{Drawing}
-use Rattle.gq_picture.specs.Absences.{absences, counted_from}
+use Rattle.gq_picture.specs.Absences.{absences, counted_from, effects}
 use Rattle.gq_picture.specs.Drawing.{IsDrawing, is_write_at}
 use Rattle.gq_picture.specs.Register.{written_by}
 
@@ -92,6 +94,10 @@ DrawingsAreTrue = (ops : List Op) (order : List ℕ) (absences : List Absence) (
 
 -- ---- when servers were down
 
+-- what the events of a run do to servers
+abbrev pub all_effects : CheckedPlan → List Event → List Effect
+all_effects plan events = effects events (answers plan events)
+
 -- an absence of the server is told that lasts at the place: it began there or before, and ended behind it, if it did
 pub record IsAbsentAt (absences : List Absence) (server place : ℕ) : Type 0 where
   pub absence : Absence
@@ -105,4 +111,4 @@ pub record IsAbsentAt (absences : List Absence) (server place : ℕ) : Type 0 wh
 abbrev pub AbsencesAreTrue : Type 0
 AbsencesAreTrue = (plan : CheckedPlan) (t server : ℕ) (before after : List Event) (event : Event) → server < plan.grid.rows * plan.grid.cols →
     ((up (past_at plan t (before ++ event ∷ [])).trace server ≡ false)
-    ↔ IsAbsentAt (absences (plan.grid.rows * plan.grid.cols) (counted_from 0 (before ++ event ∷ after)) (before ++ event ∷ after)) server (length before))
+    ↔ IsAbsentAt (absences (plan.grid.rows * plan.grid.cols) (counted_from 0 (all_effects plan (before ++ event ∷ after))) (all_effects plan (before ++ event ∷ after))) server (length before))

@@ -9,5 +9,5 @@ mod drawing;
 pub mod laws;
 mod places;
 
-pub use absences::{Absence, read_absences};
+pub use absences::{Absence, Effect, read_absences, read_effects};
 pub use drawing::{Bar, Drawing, Outage, Value, draw};

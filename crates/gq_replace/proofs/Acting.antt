@@ -16,7 +16,7 @@ use Rattle.gq_model.specs.Trace.{State, Session, Deed, Elsewhere, Begins, Hears,
 use Rattle.gq_model.specs.Lone.{Step, is_refusal, asked_step, hear_step, reply_to}
 use Rattle.gq_cluster.specs.Facts.{OwnFact, Begun, Numbered, Kept, Reserved, none_reserved, reserving, with_reserved, replaced_in}
 use Rattle.gq_cluster.specs.Cluster.{Setting, Cluster, Part, Act, Asks, Comes, everyone, aim_of, act_entry, copy_in, state_of, session_named, IsOfSession, step_of, step_in, fact_in, fact_of, node_of, part_after, parts_after, with_held, after_act}
-use Rattle.gq_cluster.proofs.Parts.{refused_part}
+use Rattle.gq_cluster.proofs.Parts.{act_deed, refused_part}
 
 -- ---- an act in a cluster
 
@@ -96,7 +96,8 @@ pub record SameAct (s : Setting) (p q : Part) (act : Act) : Type 0 where
   pub fact : fact_of s p act ≡ fact_of s q act
 
 fact_same : (s : Setting) (p q : Part) (act : Act) (k : ℕ) → step_of s p act ≡ step_of s q act → Same p q k → fact_in s p act k ≡ fact_in s q act k
-fact_same s p q act k step same = λ i. reserving k (same.reserved i) (step i).told (session_by s.volumes k (deed k (act_entry act (step i))) (same.session i)).floor
+fact_same s p q (Asks line aim) k step same = λ i. reserving k (same.reserved i) (step i).told (session_by s.volumes k (deed k (act_entry (Asks line aim) (step i))) (same.session i)).floor
+fact_same s p q (Comes m aim) k step same = λ i. reserving k (same.reserved i) (step i).told (session_by s.volumes k (deed k (act_entry (Comes m aim) (step i))) (same.session i)).floor
 
 pub asked_act : (s : Setting) (aim : Servers) (p q : Part) (line : Line) → IsOfSession line → Same p q (session_named line) → SameAct s p q (Asks line aim)
 asked_act s aim p q line its same =
@@ -122,7 +123,7 @@ session_after s n p act k = by (is_refusal (step_of s p act).told) refl
   where
     by : (b : Bool) → is_refusal (step_of s p act).told ≡ b → (part_after s n p act).session k ≡ session_then s act k (step_of s p act) (p.session k)
     by true e = rw e refl
-    by false e = rw e refl
+    by false e = rw e (ap (λ d. session_by s.volumes k d (p.session k)) (act_deed [] k (p.session k) act (step_of s p act)))
 
 abbrev reserved_then : Step → Option OwnFact → (ℕ → Reserved) → ℕ → Reserved
 reserved_then step fact reserved k = if is_refusal step.told then reserved k else with_reserved fact reserved k

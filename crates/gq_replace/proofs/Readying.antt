@@ -9,7 +9,7 @@ use Rattle.gq_tag.specs.declared.StoredCopy.{StoredCopy}
 use Rattle.gq_tag.specs.Tag.{File, OwnMessage, to_server}
 use Rattle.gq_desk.specs.Plans.{is_in}
 use Rattle.gq_phase.specs.Phase.{Task}
-use Rattle.gq_model.specs.Lone.{is_awaited}
+use Rattle.gq_model.specs.Trace.{is_awaited}
 use Rattle.gq_cluster.specs.Cluster.{Cluster, Restarts, Loses, NoneCounts, copy_in, is_within, lost_part, forgetting, with_loss, after_step}
 use Rattle.gq_replace.specs.Plans.{Plan, times, place_of, generation, node_at, has_node, is_replaced}
 use Rattle.gq_replace.specs.Fleet.{World, Fleet, Posted, Fetched, plan_of, IsActing, heard_all, with_ready, ends_of_gone}

@@ -18,7 +18,7 @@ use Rattle.gq_model.specs.Told.{Told, Done}
 use Rattle.gq_model.specs.Trace.{Turn, Own, Serving, Past, operation, start, task_of}
 use Rattle.gq_model.specs.Lone.{is_refusal, told_from, said, past_of, first_operation}
 use Rattle.gq_model.specs.Events.{turn_of, own, past_at, answer_to}
-use Rattle.gq_model.proofs.Whole.{past_whole}
+use Rattle.gq_model.proofs.Whole.{past_whole, up_has}
 use Rattle.gq_laws.specs.Tenants.{answers_from}
 use Rattle.gq_laws.specs.Progress.{deliveries_left, IsOutcomeOf, QuorumsUp, state_after, StepsLeft, Completes, TenantCompletes}
 use Rattle.gq_laws.proofs.AllTenants.{past_more}
@@ -41,7 +41,7 @@ use Rattle.gq_script.proofs.Longer.{longer_read, longer_out}
 -- ---- lists of answers
 
 -- there is an answer to each event
-length-answers : (plan : CheckedPlan) (events before : List Event) → length (answers_from plan before events) ≡ length events
+pub length-answers : (plan : CheckedPlan) (events before : List Event) → length (answers_from plan before events) ≡ length events
 length-answers plan [] before = refl
 length-answers plan (event ∷ events) before = let later = length-answers plan events (before ++ event ∷ []) in omega (arith, later)
 
@@ -201,5 +201,5 @@ all_input_requests_complete input plan lines row k line task accepts member aske
     at_place : (t : ℕ) → t < length plan.rows → P (row_at plan t) (own t (map (event_of plan) lines))
     at_place t within its fine up steps =
         let events : List Event = map (event_of plan) lines in
-        let alone : Completes plan.grid (row_at plan t) (past_at plan t events) (begun (row_at plan t) (own t events)) line = all_requests_complete plan.grid (row_at plan t) (own t events) k line task asked.asks its fine up (λ server file is. past_whole plan t events server file) steps in
+        let alone : Completes plan.grid (row_at plan t) (past_at plan t events) (begun (row_at plan t) (own t events)) line = all_requests_complete plan.grid (row_at plan t) (own t events) k line task asked.asks its fine up (up_has (past_at plan t events).trace (past_whole plan t events)) steps in
         behind input plan lines t (begun (row_at plan t) (own t events)) line accepts within (λ row low. asked.fits) (record { alone = alone; told = next_told plan t (line ∷ map Deliver alone.numbers) events ∙ alone.told })

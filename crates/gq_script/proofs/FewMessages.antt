@@ -152,7 +152,7 @@ sent_after t turn s = by (is_refusal s.told) refl
 
 few_after : (grid : Grid) (row : TenantRow) (p : Past) (turn : Turn) → IsSmall grid → IsFew row p → IsFew row (after grid row p turn)
 few_after grid row p (Serving line) small few =
-    let grown = sent_after p.trace (Serving line) (quiet (server_told grid (questions p.trace).up line)) in
+    let grown = sent_after p.trace (Serving line) (quiet (server_told grid (questions p.trace).up (questions p.trace).gone line)) in
     omega (arith, grown, few)
 few_after grid row p (Leaping k op number) small few =
     let grown = sent_after p.trace (Leaping k op number) (quiet (leap_told (questions p.trace) k)) in

@@ -4,7 +4,7 @@ use Rattle.std.specs.Prelude.{codes}
 use Rattle.std.proofs.lemmas.List.{append_cancel_left}
 use Rattle.std.proofs.lemmas.List.Elements.{All-nil, All-cons, All-head, All-tail}
 use Rattle.gq_grid.specs.Grid.{Grid}
-use Rattle.gq_model.specs.Told.{Told, Chosen, Opened, VolumesAre, Began, Replied, IsDown, Stale, Noted, Round, Done, Lost, Resent, Abandoned, Refused, ServerOk, ServerRefused, StrayBad}
+use Rattle.gq_model.specs.Told.{Told, Chosen, Opened, VolumesAre, Began, Replied, IsDown, Stale, Noted, Round, Done, Lost, Resent, Abandoned, Refused, ServerOk, Repaired, ServerRefused, StrayBad}
 use Rattle.gq_model.specs.Lone.{is_refusal}
 use Rattle.gq_text.specs.Words.{Word}
 use Rattle.gq_text.specs.AnswerText.{ended, line_text, told_words}
@@ -33,6 +33,7 @@ not_refused grid name (Resent first count) fine own h = let bad : 115 ≡ 102 = 
 not_refused grid name Abandoned fine own h = let bad : 97 ≡ 114 = byte_is name (told_words grid Abandoned) h.0 h.1 1 in omega (arith, bad)
 not_refused grid name (Refused word) fine own h = let bad : true ≡ false = fine in cc
 not_refused grid name ServerOk fine own h = let bad : 111 ≡ 114 = byte_is name (told_words grid ServerOk) h.0 h.1 1 in omega (arith, bad)
+not_refused grid name (Repaired mate) fine own h = let bad : 111 ≡ 114 = byte_is name (told_words grid (Repaired mate)) h.0 h.1 1 in omega (arith, bad)
 not_refused grid name (ServerRefused word) fine own h = let bad : true ≡ false = fine in cc
 not_refused grid name StrayBad fine own h = let bad : true ≡ false = own in cc
 

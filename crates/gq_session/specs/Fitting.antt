@@ -5,7 +5,7 @@ use Rattle.gq_desk.specs.CheckedPlan.{CheckedPlan, row_at}
 use Rattle.gq_model.specs.declared.events.Line.{Line}
 use Rattle.gq_model.specs.declared.events.Line.TheVariants.{Write, Read, List as ListFiles}
 use Rattle.gq_model.specs.declared.events.ServerLine.{ServerLine}
-use Rattle.gq_model.specs.declared.events.ServerLine.TheVariants.{Bad, Down, Up}
+use Rattle.gq_model.specs.declared.events.ServerLine.TheVariants.{Bad, Down, Up, Lost, Repaired}
 use Rattle.gq_model.specs.Events.{IsRequestOf}
 use Rattle.gq_session.specs.declared.TheConstants.{MOST_REQUESTS}
 use Rattle.gq_session.specs.declared.fitting.SessionId.{SessionId}
@@ -25,6 +25,8 @@ IsRequest line = is_request line ≡ true
 -- a stop or a return of a server of the grid
 abbrev pub is_change : Grid → ServerLine → Bool
 is_change grid Bad = false
+is_change grid (Lost server) = false
+is_change grid (Repaired server) = false
 is_change grid (Down server) = nat_lt server (grid.rows * grid.cols)
 is_change grid (Up server) = nat_lt server (grid.rows * grid.cols)
 

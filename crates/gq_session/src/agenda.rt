@@ -39,7 +39,7 @@ fn change_in(grid: &Grid, line: ServerLine) -> Change
 {
     let _servers = grid.servers();
     match line {
-        ServerLine::Bad => unreachable!(),
+        ServerLine::Bad | ServerLine::Lost { .. } | ServerLine::Repaired { .. } => unreachable!(),
         ServerLine::Down { server } => Change { server, up: false },
         ServerLine::Up { server } => Change { server, up: true },
     }

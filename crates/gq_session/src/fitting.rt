@@ -108,7 +108,7 @@ fn is_change(grid: &Grid, line: ServerLine) -> bool
     ensures { result ≡ is_change grid.now line }
 {
     match line {
-        ServerLine::Bad => false,
+        ServerLine::Bad | ServerLine::Lost { .. } | ServerLine::Repaired { .. } => false,
         ServerLine::Down { server } | ServerLine::Up { server } => {
             (server as usize) < grid.servers()
         }

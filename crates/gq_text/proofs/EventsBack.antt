@@ -16,7 +16,7 @@ use Rattle.gq_model.specs.declared.events.Event.TheVariants.{Tenant, Server, Str
 use Rattle.gq_model.specs.declared.events.Line.{Line}
 use Rattle.gq_model.specs.declared.events.Line.TheVariants.{Bad, Quorum, NewVolume, Volumes, Write, Read, List as ListFiles, Deliver, Lose, Retry, Abandon}
 use Rattle.gq_model.specs.declared.events.ServerLine.{ServerLine}
-use Rattle.gq_model.specs.declared.events.ServerLine.TheVariants.{Bad as ServerBad, Down, Up}
+use Rattle.gq_model.specs.declared.events.ServerLine.TheVariants.{Bad as ServerBad, Down, Up, Lost as ServerLost, Repaired as ServerRepaired}
 use Rattle.gq_text.specs.Words.{Word}
 use Rattle.gq_text.specs.Lines.{lines_of}
 use Rattle.gq_text.specs.Input.{line_of, server_line_of, place_named, tenant_event, event_of, event_of_words, one_number_of, two_numbers_of, three_numbers_of, file_content_of}
@@ -49,6 +49,8 @@ unfolding server_line_of
 server_line_of-words ServerBad fits = refl
 server_line_of-words (Down server) fits = rw (numbers_read_back server fits) refl
 server_line_of-words (Up server) fits = rw (numbers_read_back server fits) refl
+server_line_of-words (ServerLost server) fits = rw (numbers_read_back server fits) refl
+server_line_of-words (ServerRepaired server) fits = rw (numbers_read_back server fits) refl
 
 line_words_plain : (line : Line) → FitsLine line → are_plain (line_words line) ≡ true
 line_words_plain Bad fits = refl
@@ -67,6 +69,8 @@ server_words_plain : (line : ServerLine) → FitsServerLine line → are_plain (
 server_words_plain ServerBad fits = refl
 server_words_plain (Down server) fits = rw (decimal_plain server fits) refl
 server_words_plain (Up server) fits = rw (decimal_plain server fits) refl
+server_words_plain (ServerLost server) fits = rw (decimal_plain server fits) refl
+server_words_plain (ServerRepaired server) fits = rw (decimal_plain server fits) refl
 
 -- ---- the tenant of a name
 

@@ -11,7 +11,7 @@ use Rattle.gq_model.specs.declared.events.Event.TheVariants.{Tenant, Server, Str
 use Rattle.gq_model.specs.declared.events.Line.{Line}
 use Rattle.gq_model.specs.declared.events.Line.TheVariants.{Bad, Quorum, NewVolume, Volumes, Write, Read, List as ListFiles, Deliver, Lose, Retry, Abandon}
 use Rattle.gq_model.specs.declared.events.ServerLine.{ServerLine}
-use Rattle.gq_model.specs.declared.events.ServerLine.TheVariants.{Bad as ServerBad, Down, Up}
+use Rattle.gq_model.specs.declared.events.ServerLine.TheVariants.{Bad as ServerBad, Down, Up, Lost as ServerLost, Repaired as ServerRepaired}
 use Rattle.gq_text.specs.declared.plan_text.TheConstants.{BLOCKS_WITHOUT_ROOM, FILE_BLOCKS_WITHOUT_ROOM}
 use Rattle.gq_text.specs.Words.{Word}
 use Rattle.gq_text.specs.Lines.{lines_of}
@@ -38,6 +38,8 @@ abbrev pub server_line_words : ServerLine → List Word
 server_line_words ServerBad = codes "bad" ∷ []
 server_line_words (Down server) = decimal server ∷ codes "down" ∷ []
 server_line_words (Up server) = decimal server ∷ codes "up" ∷ []
+server_line_words (ServerLost server) = decimal server ∷ codes "lost" ∷ []
+server_line_words (ServerRepaired server) = decimal server ∷ codes "repaired" ∷ []
 
 -- the line of an event; that of nobody is empty
 abbrev pub event_line : CheckedPlan → Event → List ℕ
@@ -116,6 +118,8 @@ abbrev pub FitsServerLine : ServerLine → Type 0
 FitsServerLine ServerBad = Unit {0}
 FitsServerLine (Down server) = IsNumber server
 FitsServerLine (Up server) = IsNumber server
+FitsServerLine (ServerLost server) = IsNumber server
+FitsServerLine (ServerRepaired server) = IsNumber server
 
 -- an event's tenant is in the plan, and its line fits
 abbrev pub Fits : CheckedPlan → Event → Type 0

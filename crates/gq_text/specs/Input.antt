@@ -9,7 +9,7 @@ use Rattle.gq_model.specs.declared.events.Event.TheVariants.{Tenant, Server, Str
 use Rattle.gq_model.specs.declared.events.Line.{Line}
 use Rattle.gq_model.specs.declared.events.Line.TheVariants.{Bad, Quorum, NewVolume, Volumes, Write, Read, List as ListFiles, Deliver, Lose, Retry, Abandon}
 use Rattle.gq_model.specs.declared.events.ServerLine.{ServerLine}
-use Rattle.gq_model.specs.declared.events.ServerLine.TheVariants.{Bad as ServerBad, Down, Up}
+use Rattle.gq_model.specs.declared.events.ServerLine.TheVariants.{Bad as ServerBad, Down, Up, Lost as ServerLost, Repaired as ServerRepaired}
 use Rattle.gq_text.specs.Words.{Word, words_of, words_after, number_of, content_of}
 
 -- the second value, where the first is there
@@ -74,12 +74,14 @@ line_of (verb ∷ words) =
     else if bytes_eq verb (codes "abandon") then line_from (one_number_of words) (λ session. Abandon session)
     else Bad
 
--- which way a server goes
+-- what becomes of a server
 abbrev pub change_of : Option ℕ → Word → ServerLine
 change_of None way = ServerBad
 change_of (Some n) way =
     if bytes_eq way (codes "down") then Down n
     else if bytes_eq way (codes "up") then Up n
+    else if bytes_eq way (codes "lost") then ServerLost n
+    else if bytes_eq way (codes "repaired") then ServerRepaired n
     else ServerBad
 
 -- the server line that has these words after `server`

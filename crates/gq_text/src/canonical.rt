@@ -221,6 +221,16 @@ fn put_server_line(out: &mut Vec<u8>, line: ServerLine) -> Result<(), OutOfMemor
             b"server",
             &[Piece::Number(u64::from(server)), Piece::Text(b"up")],
         ),
+        ServerLine::Lost { server } => put_line(
+            out,
+            b"server",
+            &[Piece::Number(u64::from(server)), Piece::Text(b"lost")],
+        ),
+        ServerLine::Repaired { server } => put_line(
+            out,
+            b"server",
+            &[Piece::Number(u64::from(server)), Piece::Text(b"repaired")],
+        ),
     }
 }
 

@@ -228,6 +228,10 @@ fn server_line(text: &[u8]) -> ServerLine
         ServerLine::Down { server }
     } else if way == b"up".as_slice() {
         ServerLine::Up { server }
+    } else if way == b"lost".as_slice() {
+        ServerLine::Lost { server }
+    } else if way == b"repaired".as_slice() {
+        ServerLine::Repaired { server }
     } else {
         ServerLine::Bad
     }

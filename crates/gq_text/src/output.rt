@@ -54,7 +54,10 @@ fn put_server_refusal(out: &mut Vec<u8>, refusal: ServerRefusal) -> Result<(), O
     match refusal {
         ServerRefusal::Bad => out.grow_by(b" refused bad\n"),
         ServerRefusal::NoServer => out.grow_by(b" refused noserver\n"),
+        ServerRefusal::Lost => out.grow_by(b" refused lost\n"),
         ServerRefusal::Same => out.grow_by(b" refused same\n"),
+        ServerRefusal::Last => out.grow_by(b" refused last\n"),
+        ServerRefusal::NoMate => out.grow_by(b" refused nomate\n"),
     }
 }
 
@@ -293,6 +296,7 @@ fn put_answer(out: &mut Vec<u8>, grid: &Grid, answer: &Answer) -> Result<(), Out
         Answer::Abandoned => out.grow_by(b" abandoned\n"),
         Answer::Refused(refusal) => put_refusal(out, *refusal),
         Answer::ServerOk => out.grow_by(b" ok\n"),
+        Answer::Repaired { .. } => out.grow_by(b" ok\n"),
         Answer::ServerRefused(refusal) => put_server_refusal(out, *refusal),
         Answer::StrayBad => out.grow_by(b" refused bad\n"),
     }

@@ -110,6 +110,8 @@ The input is a plan, and after its line `go` the lines of tenants and servers:
     NAME abandon S                      give the operation of session S up
     server N down                       server N stops
     server N up                         server N returns
+    server N lost                       server N stops, and its disk is lost; operations that count on it are given up
+    server N repaired                   server N, which was lost, returns with the copies of another of its column
 
 A plan with `room BLOCKS` in place of `blocks BLOCKS` has up to 67108864 blocks on each server, and a fifth word in each of its
 lines `tenant`: MOST, the most blocks of a file of that tenant, 1 to 16384, in place of 16.

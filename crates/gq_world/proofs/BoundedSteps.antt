@@ -66,6 +66,7 @@ operation_grown n vs v o h =
       task = task_grown vs v o.task h.task;
       file = let there = h.file in omega arith;
       collects = h.collects;
+      stores = h.stores;
       heard = All-weaker (CopyFits n (room vs u)) (CopyFits n (room (vs ++ v ∷ []) u)) (λ copy fits. wider n (room vs u) (room (vs ++ v ∷ []) u) copy bytes fits) (heard_copies o.heard) h.heard;
       stored = wider n (room vs u) (room (vs ++ v ∷ []) u) (stored_copy o.collected) bytes h.stored;
     }
@@ -138,12 +139,13 @@ again_fits grid row n state k task quorum h low high is =
     let o : Operation = operation_with k (state.session k) task in
     let fits : OperationFits n state.volumes o = (h.sessions k).works task is in
     let set : Servers = λ server. quorum server && not (heard_servers o.heard server) in
-    All-weaker (IsOfRound grid (n + 1) state.volumes o) (λ l. MessageFits grid row (n + 1) state.volumes l × (l.session ≡ k) × IsOfSession (state.session k) l)
+    All-weaker (IsOfRound grid (n + 1) state.volumes o o.round) (λ l. MessageFits grid row (n + 1) state.volumes l × (l.session ≡ k) × IsOfSession (state.session k) l)
     (λ l r. (
-      round_message grid row (n + 1) state.volumes o l low high r,
+      round_message grid row (n + 1) state.volumes o o.round l low high r,
       r.session,
       record {
         begun = let e = r.op in omega arith;
+        round = λ same. let e = r.round_is in omega arith;
         volume = λ also there same. let t : ◌≡◌ {A = Option Task} (Some task) (Some also) = sym is ∙ there in let u : task ≡ also = cc in r.volume ∙ ap volume_of u;
       },
     )) (resent grid o quorum)
@@ -185,7 +187,7 @@ abandoned_bounded grid row n state k h =
         floor = let e = (h.sessions k).floor in omega arith;
         works = λ task is. absurd (cc);
       };
-      keeps = λ l of. record { begun = of.begun; volume = λ task is. absurd (cc) };
+      keeps = λ l of. record { begun = of.begun; round = of.round; volume = λ task is. absurd (cc) };
       these = All-nil (λ l. MessageFits grid row (n + 1) state.volumes l × (l.session ≡ k) × IsOfSession after l);
     })
   where

@@ -15,7 +15,7 @@ use Rattle.gq_tag.specs.declared.Body.TheVariants.{Ask, Copy, Store, Stored}
 use Rattle.gq_tag.specs.Tag.{OwnMessage, greatest, first_copy, is_unexceeded}
 use Rattle.gq_desk.specs.declared.volumes.VolumeRow.{VolumeRow}
 use Rattle.gq_phase.specs.Phase.{Task, Writing, Reading, Listing, Reply, Operation, Heard as Saying, HeardStale, HeardNoted, HeardNext, HeardDone, hear, hear_reply, equal_replies, reply_of, heard_copies, with_reply, with_decided, decided_copy, is_current, is_collect, round_file, round_body, round_quorum, round_messages, messages_to, stored_copy, in_round, begin_store, begin_collect, moved, floor_after, collected_after}
-use Rattle.gq_phase.proofs.Saying.{even_is}
+use Rattle.gq_phase.proofs.Saying.{even_is, odd_is}
 use Rattle.gq_model.specs.Trace.{files_of}
 use Rattle.gq_world.specs.Bounds.{CopyFits, BodyFits, room, volume_of, TaskFits, OperationFits}
 use Rattle.gq_world.proofs.Hearing.{hear_cases}
@@ -90,15 +90,17 @@ decided_fits n volumes o (Writing file bytes) is fits low all =
 
 -- ---- the messages of a round
 
-pub record IsOfRound (grid : Grid) (n : ℕ) (volumes : List VolumeRow) (o : Operation) (message : OwnMessage) : Type 0 where
+-- the message is of the operation, of this round
+pub record IsOfRound (grid : Grid) (n : ℕ) (volumes : List VolumeRow) (o : Operation) (round : ℕ) (message : OwnMessage) : Type 0 where
   pub server : message.server < grid.rows * grid.cols
   pub session : message.session ≡ o.session
   pub op : message.op ≡ o.op
+  pub round_is : message.round ≡ round
   pub volume : message.file.volume ≡ volume_of o.task
   pub file : message.file.place < files_of volumes (volume_of o.task)
   pub body : BodyFits n (room volumes (volume_of o.task)) message.body
 
-below_all : (n : ℕ) → All (λ s. s < n) (below n)
+pub below_all : (n : ℕ) → All (λ s. s < n) (below n)
 below_all n = All-from_get_or (λ s. s < n) (below n) 0 (λ i within. let size = length-range_with_len 0 n in let k : i < n = omega arith in let at = get_or-range_with_len 0 n i 0 k in omega arith)
 
 body_fits : (n size round : ℕ) (collected : List StoredCopy) → CopyFits n size (stored_copy collected) → BodyFits n size (round_body round collected)
@@ -109,26 +111,27 @@ body_fits n size round collected stored = by (is_collect round) refl
     by false is = rw is stored
 
 pub sent_to_fits : (grid : Grid) (n : ℕ) (volumes : List VolumeRow) (o : Operation) (set : Servers) → (round_file o.task o.round).place < files_of volumes (volume_of o.task) → CopyFits n (room volumes (volume_of o.task)) (stored_copy o.collected) →
-    All (IsOfRound grid n volumes o) (messages_to grid o set)
+    All (IsOfRound grid n volumes o o.round) (messages_to grid o set)
 sent_to_fits grid n volumes o set file stored =
     let f : ℕ → OwnMessage = λ server. record { session = o.session; op = o.op; round = o.round; server = server; file = round_file o.task o.round; body = round_body o.round o.collected } in
     let N : ℕ = grid.rows * grid.cols in
-    All-map (IsOfRound grid n volumes o) f (rising grid set)
-    (All-weaker (λ s. s < N) (λ s. IsOfRound grid n volumes o (f s)) (λ s within. record {
+    All-map (IsOfRound grid n volumes o o.round) f (rising grid set)
+    (All-weaker (λ s. s < N) (λ s. IsOfRound grid n volumes o o.round (f s)) (λ s within. record {
       server = within;
       session = refl;
       op = refl;
+      round_is = refl;
       volume = volume_is o.task o.round;
       file = file;
       body = body_fits n (room volumes (volume_of o.task)) o.round o.collected stored;
     }) (rising grid set) (All-filter set (λ s. s < N) (below N) (below_all N)))
 
 pub round_fits : (grid : Grid) (up : Servers) (n : ℕ) (volumes : List VolumeRow) (o : Operation) → (round_file o.task o.round).place < files_of volumes (volume_of o.task) → CopyFits n (room volumes (volume_of o.task)) (stored_copy o.collected) →
-    All (IsOfRound grid n volumes o) (round_messages grid up o)
+    All (IsOfRound grid n volumes o o.round) (round_messages grid up o)
 round_fits grid up n volumes o file stored = by (round_quorum grid up o.round) refl
   where
-    by : (q : Option Servers) → round_quorum grid up o.round ≡ q → All (IsOfRound grid n volumes o) (round_messages grid up o)
-    by None is = rw is (All-nil (IsOfRound grid n volumes o))
+    by : (q : Option Servers) → round_quorum grid up o.round ≡ q → All (IsOfRound grid n volumes o o.round) (round_messages grid up o)
+    by None is = rw is (All-nil (IsOfRound grid n volumes o o.round))
     by (Some set) is = rw is (sent_to_fits grid n volumes o set file stored)
 
 -- ---- what an operation says
@@ -136,7 +139,7 @@ round_fits grid up n volumes o file stored = by (round_quorum grid up o.round) r
 abbrev pub HeardFits : Grid → ℕ → List VolumeRow → Operation → OwnMessage → Saying → Type 0
 HeardFits grid n volumes o message HeardStale = Unit {0}
 HeardFits grid n volumes o message HeardNoted = OperationFits (n + 1) volumes (with_reply o message)
-HeardFits grid n volumes o message (HeardNext round tag messages) = OperationFits (n + 1) volumes (moved o message round tag) × All (IsOfRound grid (n + 1) volumes o) messages
+HeardFits grid n volumes o message (HeardNext round tag messages) = OperationFits (n + 1) volumes (moved o message round tag) × All (IsOfRound grid (n + 1) volumes o round) messages × (o.round < round)
 HeardFits grid n volumes o message (HeardDone outcome) = Unit {0}
 
 floor_fits : (task : Task) (tag : Tag) (n floor : ℕ) → floor ≤ n → tag.number ≤ n + 1 → floor_after task (Some tag) floor ≤ n + 1
@@ -182,20 +185,22 @@ stores_fits grid up n volumes o message fits body odd =
         task = fits.task;
         file = file;
         collects = λ is. absurd (true≢false (sym is ∙ even_is (length copies)));
+        stores = λ even. ap (λ cs. 2 * length cs) (sym after);
         heard = All-nil (CopyFits (n + 1) size);
         stored = subst (λ cs. CopyFits (n + 1) size (stored_copy cs)) (sym after) stored;
       },
-      All-weaker (IsOfRound grid (n + 1) volumes (in_round (with_decided p) (2 * length copies))) (IsOfRound grid (n + 1) volumes o)
-          (λ l h. record { server = h.server; session = h.session; op = h.op; volume = h.volume; file = h.file; body = h.body })
+      All-weaker (IsOfRound grid (n + 1) volumes (in_round (with_decided p) (2 * length copies)) (2 * length copies)) (IsOfRound grid (n + 1) volumes o (2 * length copies))
+          (λ l h. record { server = h.server; session = h.session; op = h.op; round_is = h.round_is; volume = h.volume; file = h.file; body = h.body })
           (round_messages grid up (in_round (with_decided p) (2 * length copies)))
           (round_fits grid up (n + 1) volumes (in_round (with_decided p) (2 * length copies)) file stored),
+      (let before = fits.collects odd in omega arith),
     )
 
 -- the collect round of a listing's next file begins, where these copies were collected
 next_fits : (grid : Grid) (up : Servers) (n : ℕ) (volumes : List VolumeRow) (o : Operation) (message : OwnMessage) (heard : List Reply) (copies : List StoredCopy) (volume files : ℕ) → OperationFits n volumes o → collected_after o message ≡ copies →
-    CopyFits (n + 1) (room volumes (volume_of o.task)) (stored_copy copies) → o.task ≡ Listing volume files → nat_lt (length copies) files ≡ true →
+    CopyFits (n + 1) (room volumes (volume_of o.task)) (stored_copy copies) → o.task ≡ Listing volume files → nat_lt (length copies) files ≡ true → o.round < 2 * length copies + 1 →
     HeardFits grid n volumes o message (begin_collect grid up (record { session = o.session; op = o.op; task = o.task; round = o.round; heard = heard; collected = copies; floor = o.floor }))
-next_fits grid up n volumes o message heard copies volume files fits after stored is more =
+next_fits grid up n volumes o message heard copies volume files fits after stored is more later =
     let p : Operation = record { session = o.session; op = o.op; task = o.task; round = o.round; heard = heard; collected = copies; floor = o.floor } in
     let k : ℕ = length copies in
     let size : ℕ = room volumes (volume_of o.task) in
@@ -211,13 +216,15 @@ next_fits grid up n volumes o message heard copies volume files fits after store
         task = fits.task;
         file = file;
         collects = λ odd. ap (λ cs. 2 * length cs + 1) (sym after);
+        stores = λ is. absurd (true≢false (sym (odd_is k) ∙ is));
         heard = All-nil (CopyFits (n + 1) size);
         stored = subst (λ cs. CopyFits (n + 1) size (stored_copy cs)) (sym after) stored;
       },
-      All-weaker (IsOfRound grid (n + 1) volumes (in_round p (2 * k + 1))) (IsOfRound grid (n + 1) volumes o)
-          (λ l h. record { server = h.server; session = h.session; op = h.op; volume = h.volume; file = h.file; body = h.body })
+      All-weaker (IsOfRound grid (n + 1) volumes (in_round p (2 * k + 1)) (2 * k + 1)) (IsOfRound grid (n + 1) volumes o (2 * k + 1))
+          (λ l h. record { server = h.server; session = h.session; op = h.op; round_is = h.round_is; volume = h.volume; file = h.file; body = h.body })
           (round_messages grid up (in_round p (2 * k + 1)))
           (round_fits grid up (n + 1) volumes (in_round p (2 * k + 1)) file stored),
+      later,
     )
 
 -- after a store round
@@ -226,14 +233,16 @@ collects_fits : (grid : Grid) (up : Servers) (n : ℕ) (volumes : List VolumeRow
 collects_fits grid up n volumes o message volume files fits even is more =
     let size : ℕ = room volumes (volume_of o.task) in
     let after : collected_after o message ≡ o.collected = rw even refl in
-    next_fits grid up n volumes o message (with_reply o message).heard o.collected volume files fits after (fits_more n size (stored_copy o.collected) fits.stored) is more
+    next_fits grid up n volumes o message (with_reply o message).heard o.collected volume files fits after (fits_more n size (stored_copy o.collected) fits.stored) is more (let before = fits.stores even in omega arith)
 
 -- without a store round of the copy that was decided
 skips_fits : (grid : Grid) (up : Servers) (n : ℕ) (volumes : List VolumeRow) (o : Operation) (message : OwnMessage) (volume files : ℕ) → OperationFits n volumes o → BodyFits n (room volumes (volume_of o.task)) message.body → is_collect o.round ≡ true →
     o.task ≡ Listing volume files → nat_lt (length (with_decided (with_reply o message)).collected) files ≡ true → HeardFits grid n volumes o message (begin_collect grid up (with_decided (with_reply o message)))
 skips_fits grid up n volumes o message volume files fits body odd is more =
     let after : collected_after o message ≡ o.collected ++ decided_copy (with_reply o message) ∷ [] = rw odd refl in
-    next_fits grid up n volumes o message (with_reply o message).heard (o.collected ++ decided_copy (with_reply o message) ∷ []) volume files fits after (decided_stored n volumes o message fits body) is more
+    let count = length_push o.collected (decided_copy (with_reply o message)) in
+    let before = fits.collects odd in
+    next_fits grid up n volumes o message (with_reply o message).heard (o.collected ++ decided_copy (with_reply o message) ∷ []) volume files fits after (decided_stored n volumes o message fits body) is more (omega arith)
 
 pub hear_fits : (grid : Grid) (up : Servers) (n : ℕ) (volumes : List VolumeRow) (o : Operation) (message : OwnMessage) → OperationFits n volumes o → (is_current o message ≡ true → BodyFits n (room volumes (volume_of o.task)) message.body) →
     HeardFits grid n volumes o message (hear grid up o message)
@@ -246,6 +255,7 @@ hear_fits grid up n volumes o message fits body =
       task = fits.task;
       file = fits.file;
       collects = fits.collects;
+      stores = fits.stores;
       heard = All-weaker (CopyFits n size) (CopyFits (n + 1) size) (fits_more n size) (heard_copies (hear_reply o.heard (reply_of message))) (heard_fits n size o.heard message fits.heard (body cur));
       stored = fits_more n size (stored_copy o.collected) fits.stored;
     })

@@ -13,7 +13,7 @@ use Rattle.gq_model.specs.declared.events.Refusal.TheVariants.{Spent}
 use Rattle.gq_model.specs.Told.{Told, Refused}
 use Rattle.gq_model.specs.Trace.{Own, State, Known}
 use Rattle.gq_world.specs.Bounds.{IsBounded}
-use Rattle.gq_world.specs.Tables.{Tables, Agrees, IsReady, IsKnown, taken_at, up_in}
+use Rattle.gq_world.specs.Tables.{Tables, Agrees, IsReady, IsKnown, taken_at, up_in, gone_in}
 use Rattle.gq_model.specs.Lone.{Step, quiet, step, line_step}
 use Rattle.gq_world.specs.Machine.{counted, state_after_turn, next, next_seen, acted, Advances, Acts, Tells, TellsLine}
 use Rattle.gq_model.specs.Events.{turn_of}
@@ -27,13 +27,15 @@ taken_own : (w : Tables) (t : ℕ) (known : Known) → t < length w.lines → Ag
 taken_own w t known within agrees = record {
   lines = unwrap_or-slice_get (slice_set w.lines t (taken_at w t + 1)) t 0 ∙ get_or-set_same w.lines t (taken_at w t + 1) 0 within ∙ ap (λ n. n + 1) agrees.lines;
   up = agrees.up;
+  gone = agrees.gone;
   account = agrees.account;
   sent = agrees.sent;
   lost = agrees.lost;
   messages = agrees.messages;
   accounts = agrees.accounts;
   copies = agrees.copies;
-  whole = agrees.whole;
+  lacking = agrees.lacking;
+  down = agrees.down;
   seats = agrees.seats;
 }
 
@@ -41,13 +43,15 @@ taken_other : (w : Tables) (t u : ℕ) (known : Known) → u ≢ t → Agrees w 
 taken_other w t u known other agrees = record {
   lines = unwrap_or-slice_get (slice_set w.lines t (taken_at w t + 1)) u 0 ∙ get_or-set_other w.lines t u (taken_at w t + 1) 0 other ∙ sym (unwrap_or-slice_get w.lines u 0) ∙ agrees.lines;
   up = agrees.up;
+  gone = agrees.gone;
   account = agrees.account;
   sent = agrees.sent;
   lost = agrees.lost;
   messages = agrees.messages;
   accounts = agrees.accounts;
   copies = agrees.copies;
-  whole = agrees.whole;
+  lacking = agrees.lacking;
+  down = agrees.down;
   seats = agrees.seats;
 }
 
@@ -64,21 +68,23 @@ taken_ready w t within few sound = record {
 
 -- ---- one step for all tenants
 
-own_advances : (old new : Tables) (t : ℕ) (line : Line) → new.plan ≡ old.plan → up_in new.plan.grid new.up ≡ up_in old.plan.grid old.up → ((known : Known) → Agrees old t known → Agrees new t (next old.plan.grid (row_at old.plan t) known (Own line))) →
+own_advances : (old new : Tables) (t : ℕ) (line : Line) → new.plan ≡ old.plan → up_in new.plan.grid new.up ≡ up_in old.plan.grid old.up → gone_in new.plan.grid new.kept ≡ gone_in old.plan.grid old.kept →
+    ((known : Known) (most : ℕ) → IsBounded old.plan.grid (row_at old.plan t) most known.state → Agrees old t known → Agrees new t (next old.plan.grid (row_at old.plan t) known (Own line))) →
     ((u : ℕ) → u ≢ t → (known : Known) → Agrees old u known → Agrees new u known) → Advances old (Tenant t line) new
-own_advances old new t line plan servers own others = record {
+own_advances old new t line plan servers gone own others = record {
   plan = plan;
   servers = servers;
+  gone = gone;
   tenants = λ u within. elim (cases_eq t u) [
     | inl same ↦ subst P same (seen (t == t) (eq-eqb t t refl))
-    | inr other ↦ rw (ne_eqb t u other) (others u (λ e. other (sym e)))
+    | inr other ↦ rw (ne_eqb t u other) (λ known most bounded. others u (λ e. other (sym e)) known)
   ];
 }
   where
     P : ℕ → Type 0
-    P u = (known : Known) → Agrees old u known → Agrees new u (next_seen old.plan.grid (row_at old.plan u) known (turn_of u (Tenant t line)))
+    P u = (known : Known) (most : ℕ) → IsBounded old.plan.grid (row_at old.plan u) most known.state → Agrees old u known → Agrees new u (next_seen old.plan.grid (row_at old.plan u) known (turn_of u (Tenant t line)))
 
-    seen : (b : Bool) → b ≡ true → (known : Known) → Agrees old t known → Agrees new t (next_seen old.plan.grid (row_at old.plan t) known (if b then Some (Own line) else None))
+    seen : (b : Bool) → b ≡ true → (known : Known) (most : ℕ) → IsBounded old.plan.grid (row_at old.plan t) most known.state → Agrees old t known → Agrees new t (next_seen old.plan.grid (row_at old.plan t) known (if b then Some (Own line) else None))
     seen b is = rw is own
 
 spent_step : (grid : Grid) (row : TenantRow) (known : Known) (line : Line) → nat_le row.steps known.lines ≡ true → step grid row known (Own line) ≡ quiet (Refused Spent)
@@ -108,17 +114,17 @@ left_known grid row known line left =
     ∙ ap (known_with known.state line (known.lines + 1)) (left_step grid row known line left)
 
 pub spent_advances : (w : Tables) (t : ℕ) (line : Line) → nat_le (row_at w.plan t).steps (taken_at w t) ≡ true → Advances w (Tenant t line) w
-spent_advances w t line spent = own_advances w w t line refl refl
-    (λ known agrees. subst (Agrees w t) (sym (spent_known w.plan.grid (row_at w.plan t) known line (rw agrees.lines at spent))) agrees)
+spent_advances w t line spent = own_advances w w t line refl refl refl
+    (λ known most bounded agrees. subst (Agrees w t) (sym (spent_known w.plan.grid (row_at w.plan t) known line (rw agrees.lines at spent))) agrees)
     (λ u other known agrees. agrees)
 
 pub spent_tells : (w : Tables) (t : ℕ) (line : Line) → nat_le (row_at w.plan t).steps (taken_at w t) ≡ true → Tells w (Tenant t line) (Refused Spent)
 spent_tells w t line spent known agrees = let spent' = rw agrees.lines at spent in sym (ap (λ (s : Step). s.told) (spent_step w.plan.grid (row_at w.plan t) known line spent'))
 
 pub taken_advances : (w new : Tables) (t : ℕ) (line : Line) → t < length w.lines → nat_le (row_at w.plan t).steps (taken_at w t) ≡ false → Acts (taken w t) t line new → Advances w (Tenant t line) new
-taken_advances w new t line within left acts = own_advances w new t line acts.plan acts.servers
-    (λ known agrees. subst (Agrees new t) (sym (left_known w.plan.grid (row_at w.plan t) known line (rw agrees.lines at left)))
-    (acts.own (record known { lines = known.lines + 1 }) (taken_own w t known within agrees)))
+taken_advances w new t line within left acts = own_advances w new t line acts.plan acts.servers acts.gone
+    (λ known most bounded agrees. subst (Agrees new t) (sym (left_known w.plan.grid (row_at w.plan t) known line (rw agrees.lines at left)))
+    (acts.own (record known { lines = known.lines + 1 }) most bounded (taken_own w t known within agrees)))
     (λ u other known agrees. acts.others u other known (taken_other w t u known other agrees))
 
 pub taken_tells : (w : Tables) (t : ℕ) (line : Line) (answer : Told) → t < length w.lines → nat_le (row_at w.plan t).steps (taken_at w t) ≡ false → TellsLine (taken w t) t line answer → Tells w (Tenant t line) answer

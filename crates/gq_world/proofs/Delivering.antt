@@ -1,10 +1,12 @@
 -- A message comes to its session.
-use Rattle.std.proofs.Common.{◌≡◌, ◌≢◌, ◌∙◌, ℕ, ◌+◌, ◌-◌, ◌<◌, ◌≤◌, Bool, false, List, [], ◌∷◌, length, map, refl, sym, ap, subst, Option, Some, None, arith, inl, inr}
-use Rattle.std.specs.Prelude.{slice_set, option_map}
-use Rattle.std.proofs.lemmas.Bool.{cases_eq, ne_eqb, eq-eqb}
+use Rattle.std.proofs.Common.{◌≡◌, ◌≢◌, ◌∙◌, ℕ, ◌+◌, ◌-◌, ◌*◌, ◌<◌, ◌≤◌, Bool, false, List, [], ◌∷◌, ◌++◌, length, map, refl, sym, ap, subst, Option, Some, None, arith, inl, inr, All}
+use Rattle.std.specs.Prelude.{slice_set, option_map, IsSome, ◌==◌}
+use Rattle.std.proofs.lemmas.Bool.{cases_eq, ne_eqb, eq-eqb, eqb-true, and_parts}
+use Rattle.std.proofs.lemmas.List.Elements.{All-nil}
 use Rattle.std.proofs.lemmas.List.{get_or-set_same, get_or-set_other, length-map}
 use Rattle.gq_grid.specs.Grid.{Grid, Servers}
 use Rattle.gq_grid.specs.Sets.{servers}
+use Rattle.gq_grid.specs.declared.ServerSet.{ServerSet}
 use Rattle.gq_tag.specs.declared.StoredCopy.{StoredCopy}
 use Rattle.gq_tag.specs.declared.Body.{Body}
 use Rattle.gq_tag.specs.declared.Body.TheVariants.{Ask, Copy, Store, Stored}
@@ -16,21 +18,24 @@ use Rattle.gq_desk.specs.declared.volumes.VolumeRow.{VolumeRow}
 use Rattle.gq_post.specs.Lanes.{lane_at, message_at}
 use Rattle.gq_phase.specs.declared.Heard.{Heard}
 use Rattle.gq_phase.specs.declared.operation.Operation.{Operation as Code}
-use Rattle.gq_phase.specs.Phase.{Task, Reply, Operation, Heard as Saying, HeardStale, HeardNoted, HeardNext, HeardDone}
+use Rattle.gq_phase.specs.Phase.{Task, Reply, Operation, Heard as Saying, HeardStale, HeardNoted, HeardNext, HeardDone, hear, with_reply, with_decided, in_round, begin_store, begin_collect}
 use Rattle.gq_phase.specs.Standing.{heard_as, messages_of}
 use Rattle.gq_model.specs.declared.events.Line.TheVariants.{Deliver}
 use Rattle.gq_model.specs.Told.{Told}
-use Rattle.gq_model.specs.Trace.{Own, Entry, State, Session, Known, changed, own_message_at, held, operation, operation_with, session_by, heard_deed, serves, stored_by, floor_by}
+use Rattle.gq_model.specs.Trace.{Own, Entry, State, Session, Known, changed, own_message_at, held, operation, operation_with, session_by, heard_deed, serves, stored_by, floor_by, counts_on}
 use Rattle.gq_model.specs.Lone.{Step, heard_step, hear_step, line_step}
 use Rattle.gq_phase.specs.Laws.{SameQuorums}
 use Rattle.gq_world.specs.declared.sessions.Seat.{Seat}
 use Rattle.gq_world.specs.Tables.{Tables, Agrees, SeatAgrees, Sits, seats_at, seat_in}
-use Rattle.gq_world.specs.Seats.{SeatHears, said_by, operation_after, last_of}
+use Rattle.gq_world.specs.Seats.{SeatHears, said_by, operation_after, last_of, answered_after}
 use Rattle.gq_world.specs.Saying.{with_sent, heard_told}
 use Rattle.gq_world.specs.Machine.{Acts, TellsLine, acted, state_after_turn}
-use Rattle.gq_world.proofs.Hearing.{said_by_up}
+use Rattle.gq_world.specs.Bounds.{BodyFits, room, MessageFits, IsOfSession, IsBounded}
+use Rattle.gq_world.proofs.Bounding.{HeardFits, hear_fits}
+use Rattle.gq_world.proofs.Counting.{none_in, counted, more_counted, round_uncounted, next_uncounted, same_counted}
+use Rattle.gq_world.proofs.Hearing.{said_by_up, hear_cases}
 use Rattle.gq_world.proofs.Lanes.{sent_count, sent_messages, new_not_lost, lane_there, quorums_in}
-use Rattle.gq_world.proofs.Ready.{found}
+use Rattle.gq_world.proofs.Ready.{found, all_at, sent_at}
 
 -- ---- what the model says
 
@@ -74,6 +79,44 @@ sent_as first t (HeardNext round tag messages) = refl
 sent_as first t (HeardDone outcome) = refl
 
 -- ---- the session
+
+-- a round that begins is a later one
+abbrev pub RisesTo : Saying → ℕ → Type 0
+RisesTo HeardStale before = Unit {0}
+RisesTo HeardNoted before = Unit {0}
+RisesTo (HeardNext round tag messages) before = before < round
+RisesTo (HeardDone outcome) before = Unit {0}
+
+pub rises : (grid : Grid) (n : ℕ) (volumes : List VolumeRow) (k : ℕ) (message : OwnMessage) (session : Session) (s : Saying) → (session.current ≡ None → s ≡ HeardStale) →
+    ((task : Task) → session.current ≡ Some task → HeardFits grid n volumes (operation_with k session task) message s) → RisesTo s session.round
+rises grid n volumes k message session s none fits = by session.current refl
+  where
+    of : (task : Task) (said : Saying) → HeardFits grid n volumes (operation_with k session task) message said → RisesTo said session.round
+    of task HeardStale h = tt
+    of task HeardNoted h = tt
+    of task (HeardNext round tag messages) h = h.2
+    of task (HeardDone outcome) h = tt
+
+    by : (o : Option Task) → session.current ≡ o → RisesTo s session.round
+    by None is = subst (λ said. RisesTo said session.round) (sym (none is)) tt
+    by (Some task) is = of task s (fits task is)
+
+-- what the session's operation says fits
+pub saying_fits : (grid : Grid) (row : TenantRow) (n : ℕ) (state : State) (number : ℕ) (message : OwnMessage) → IsBounded grid row n state → own_message_at state number ≡ Some message →
+    (task : Task) → (state.session message.session).current ≡ Some task → HeardFits grid n state.volumes (operation_with message.session (state.session message.session) task) message (said_by grid state.up (operation state message.session) message)
+saying_fits grid row n state number message h there task is =
+    let k : ℕ = message.session in
+    let session : Session = state.session k in
+    let s : Saying = said_by grid state.up (operation state k) message in
+    let sent = sent_at state number message there in
+    let fits : MessageFits grid row n state.volumes message = all_at (MessageFits grid row n state.volumes) state.sent number message h.messages sent in
+    let owner : IsOfSession session message = all_at (λ l. IsOfSession (state.session l.session) l) state.sent number message h.owners sent in
+    let o : Operation = operation_with k session task in
+    let own : hear grid state.up o message ≡ s = sym (ap (λ current. said_by grid state.up (option_map (operation_with k session) current) message) is) in
+    subst (HeardFits grid n state.volumes o message) own (hear_fits grid state.up n state.volumes o message ((h.sessions k).works task is) (λ cur.
+    let parts = and_parts (message.op == o.op) (message.round == o.round) cur in
+    let op : message.op ≡ session.op = eqb-true message.op o.op parts.0 in
+    subst (λ v. BodyFits n (room state.volumes v) message.body) (owner.volume task is op) fits.body))
 
 pub heard_op : (volumes : List VolumeRow) (k first : ℕ) (message : OwnMessage) (s : Saying) (session : Session) → (session_by volumes k (heard_deed message (heard_step first s).told) session).op ≡ session.op
 heard_op volumes k first message HeardStale session = refl
@@ -129,30 +172,94 @@ same_held state n first message s server file goes =
 pub says_stale : (grid : Grid) (up : Servers) (k : ℕ) (session : Session) (message : OwnMessage) (s : Saying) → said_by grid up (option_map (operation_with k session) session.current) message ≡ s → session.current ≡ None → s ≡ HeardStale
 says_stale grid up k session message s says none = sym says ∙ ap (λ current. said_by grid up (option_map (operation_with k session) current) message) none
 
-pub seat_after : (grid : Grid) (t n : ℕ) (state : State) (message : OwnMessage) (old new : Seat) (s : Saying) → to_server message.body ≡ false → said_by grid state.up (operation state message.session) message ≡ s →
-    SeatAgrees grid t message.session old state → new.op ≡ old.op →
+-- the messages that it sends don't count
+new_uncounted : (grid : Grid) (up : Servers) (k : ℕ) (session : Session) (first j : ℕ) (of : Session) (message : OwnMessage) (s : Saying) (server : ℕ) → said_by grid up (option_map (operation_with k session) session.current) message ≡ s →
+    All (λ m. counted j of server m ≡ false) (heard_step first s).new
+new_uncounted grid up k session first j of message s server is = subst P is (by session.current)
+  where
+    P : Saying → Type 0
+    P said = All (λ m. counted j of server m ≡ false) (heard_step first said).new
+
+    stores : (p : Operation) → P (begin_store grid up p)
+    stores p = round_uncounted grid up (in_round p (2 * length p.collected)) j of server
+
+    collects : (p : Operation) → P (begin_collect grid up p)
+    collects p = round_uncounted grid up (in_round p (2 * length p.collected + 1)) j of server
+
+    by : (current : Option Task) → P (said_by grid up (option_map (operation_with k session) current) message)
+    by None = All-nil (λ m. counted j of server m ≡ false)
+    by (Some task) = hear_cases P grid up (operation_with k session task) message (All-nil (λ m. counted j of server m ≡ false)) (λ cur. All-nil (λ m. counted j of server m ≡ false))
+        (λ cur odd. stores (with_decided (with_reply (operation_with k session task) message)))
+        (λ volume files cur odd is more. collects (with_decided (with_reply (operation_with k session task) message)))
+        (λ volume files cur even is more. collects (with_reply (operation_with k session task) message))
+        (λ outcome. All-nil (λ m. counted j of server m ≡ false))
+
+-- the servers that it counts on afterwards
+answered_by : (t : ℕ) (state : State) (k : ℕ) (message : OwnMessage) (first server : ℕ) (s : Saying) (old new : ServerSet) → All (λ m. IsOfSession (state.session m.session) m) state.sent → RisesTo s (state.session k).round →
+    servers old server ≡ counts_on state.sent k (state.session k) server → new ≡ answered_after (heard_as t s) old →
+    IsSome (session_by state.volumes k (heard_deed message (heard_step first s).told) (state.session k)).current →
+    servers new server ≡ counts_on state.sent k (session_by state.volumes k (heard_deed message (heard_step first s).told) (state.session k)) server
+answered_by t state k message first server HeardStale old new owners rises before is busy = ap (λ set. servers set server) is ∙ before
+answered_by t state k message first server HeardNoted old new owners rises before is busy =
+    let after : Session = session_by state.volumes k (heard_deed message (heard_step first HeardNoted).told) (state.session k) in
+    ap (λ set. servers set server) is ∙ before ∙ sym (same_counted state.sent k (state.session k) after server refl refl refl)
+answered_by t state k message first server (HeardNext round tag messages) old new owners rises before is busy =
+    let after : Session = session_by state.volumes k (heard_deed message (heard_step first (HeardNext round tag messages)).told) (state.session k) in
+    ap (λ set. servers set server) is ∙ none_in server ∙ sym (next_uncounted state k after server owners refl rises)
+answered_by t state k message first server (HeardDone outcome) old new owners rises before is busy = absurd (cc)
+
+pub seat_after : (grid : Grid) (t n : ℕ) (state : State) (message : OwnMessage) (old new : Seat) (s : Saying) → All (λ m. IsOfSession (state.session m.session) m) state.sent → RisesTo s (state.session message.session).round → to_server message.body ≡ false → said_by grid state.up (operation state message.session) message ≡ s →
+    SeatAgrees grid t message.session old state → new.op ≡ old.op → new.answered ≡ answered_after (heard_as t s) old.answered →
     Sits grid t new.floor new.operation (last_of (state.session message.session).floor (operation state message.session)) (operation_after (operation state message.session) message s) →
     SeatAgrees grid t message.session new (changed (delivery n message (length state.sent) s) state)
-seat_after grid t n state message old new s goes says agrees op sits =
+seat_after grid t n state message old new s owners later goes says agrees op answered sits =
     let k : ℕ = message.session in
     let session : Session = state.session k in
     let first : ℕ = length state.sent in
-    let P : Session → Type 0 = λ after. (new.op ≡ after.op) × Sits grid t new.floor new.operation after.floor (option_map (operation_with k after) after.current) in
-    let both : P (session_by state.volumes k (heard_deed message (heard_step first s).told) session) = (
+    let sent : List OwnMessage = state.sent ++ (heard_step first s).new in
+    let P : Session → Type 0 = λ after. (new.op ≡ after.op) × (IsSome new.operation → (server : ℕ) → servers new.answered server ≡ counts_on sent k after server) × Sits grid t new.floor new.operation after.floor (option_map (operation_with k after) after.current) in
+    let after : Session = session_by state.volumes k (heard_deed message (heard_step first s).told) session in
+    let stands = heard_sits grid t k state.volumes message first session.op session.current session.round session.heard session.collected session.floor s new.floor new.operation
+    (says_stale grid state.up k session message s says) sits in
+    let both : P after = (
       op ∙ agrees.op ∙ sym (heard_op state.volumes k first message s session),
-      heard_sits grid t k state.volumes message first session.op session.current session.round session.heard session.collected session.floor s new.floor new.operation
-          (says_stale grid state.up k session message s says) sits,
+      (λ busy server.
+          let works : IsSome after.current = works_still grid t new.floor after.floor new.operation k after after.current stands busy in
+          let before : servers old.answered server ≡ counts_on state.sent k session server = agrees.answered (worked grid t k state.volumes message first session.op session.current session.round session.heard session.collected session.floor s old.floor session.floor old.operation agrees.sits works) server in
+          answered_by t state k message first server s old.answered new.answered owners later before answered works
+          ∙ sym (more_counted state.sent (heard_step first s).new k after server (new_uncounted grid state.up k session first k after message s server says))),
+      stands,
     ) in
     let now : P ((changed (delivery n message first s) state).session k) = subst P (sym (own_session state n first message s goes)) both in
-    record { op = now.0; sits = now.1 }
+    record { op = now.0; answered = now.1; sits = now.2 }
+  where
+    -- a seat with an operation stands for one
+    works_still : (grid : Grid) (t own last : ℕ) (code : Option Code) (k : ℕ) (s : Session) (current : Option Task) → Sits grid t own code last (option_map (operation_with k s) current) → IsSome code → IsSome current
+    works_still grid t own last None k s current sits busy = absurd (cc)
+    works_still grid t own last (Some code) k s None sits busy = absurd sits
+    works_still grid t own last (Some code) k s (Some task) sits busy = refl
 
-pub seat_stays : (grid : Grid) (t n k : ℕ) (state : State) (message : OwnMessage) (seat : Seat) (s : Saying) → to_server message.body ≡ false → message.session ≢ k → SeatAgrees grid t k seat state →
+    -- which it had before
+    worked : (grid : Grid) (t k : ℕ) (volumes : List VolumeRow) (message : OwnMessage) (first op : ℕ) (current : Option Task) (round : ℕ) (heard : List Reply) (collected : List StoredCopy) (floor : ℕ) (s : Saying) (own last : ℕ) (code : Option Code) →
+        Sits grid t own code last (option_map (operation_with k (session_of op current round heard collected floor)) current) →
+        IsSome (session_by volumes k (heard_deed message (heard_step first s).told) (session_of op current round heard collected floor)).current → IsSome code
+    worked grid t k volumes message first op None round heard collected floor HeardStale own last code sits busy = absurd (cc)
+    worked grid t k volumes message first op None round heard collected floor HeardNoted own last code sits busy = absurd (cc)
+    worked grid t k volumes message first op None round heard collected floor (HeardNext r tag messages) own last code sits busy = absurd (cc)
+    worked grid t k volumes message first op current round heard collected floor (HeardDone outcome) own last code sits busy = absurd (cc)
+    worked grid t k volumes message first op (Some task) round heard collected floor s own last None sits busy = absurd sits
+    worked grid t k volumes message first op (Some task) round heard collected floor s own last (Some code) sits busy = refl
+
+pub seat_stays : (grid : Grid) (t n k : ℕ) (state : State) (message : OwnMessage) (seat : Seat) (s : Saying) → said_by grid state.up (operation state message.session) message ≡ s → to_server message.body ≡ false → message.session ≢ k → SeatAgrees grid t k seat state →
     SeatAgrees grid t k seat (changed (delivery n message (length state.sent) s) state)
-seat_stays grid t n k state message seat s goes other agrees =
+seat_stays grid t n k state message seat s says goes other agrees =
     let first : ℕ = length state.sent in
-    let P : Session → Type 0 = λ after. (seat.op ≡ after.op) × Sits grid t seat.floor seat.operation after.floor (option_map (operation_with k after) after.current) in
-    let now : P ((changed (delivery n message first s) state).session k) = subst P (sym (other_session state n first k message s goes other)) (agrees.op, agrees.sits) in
-    record { op = now.0; sits = now.1 }
+    let sent : List OwnMessage = state.sent ++ (heard_step first s).new in
+    let P : Session → Type 0 = λ after. (seat.op ≡ after.op) × (IsSome seat.operation → (server : ℕ) → servers seat.answered server ≡ counts_on sent k after server) × Sits grid t seat.floor seat.operation after.floor (option_map (operation_with k after) after.current) in
+    let still : IsSome seat.operation → (server : ℕ) → servers seat.answered server ≡ counts_on sent k (state.session k) server = λ busy server.
+    agrees.answered busy server ∙ sym (more_counted state.sent (heard_step first s).new k (state.session k) server (new_uncounted grid state.up message.session (state.session message.session) first k (state.session k) message s server says)) in
+    let now : P ((changed (delivery n message first s) state).session k) = subst P (sym (other_session state n first k message s goes other)) (agrees.op, still, agrees.sits) in
+    record { op = now.0; answered = now.1; sits = now.2 }
 
 -- ---- the tables
 
@@ -198,10 +305,10 @@ heard_tells w t n m seats heard h known agrees =
     ∙ told_as (length known.state.sent) t s
     ∙ sym (ap (λ (step : Step). step.told) (step_is w.plan.grid (row_at w.plan t) known.state n message s f.1 goes refl))
 
-heard_own : (w : Tables) (t n : ℕ) (m : Message) (seats : List Seat) (heard : Heard) (known : Known) (message : OwnMessage) (s : Saying) → HearsAt w t n m seats heard → Agrees w t known → m ≡ message_of t message →
+heard_own : (w : Tables) (t n : ℕ) (m : Message) (seats : List Seat) (heard : Heard) (known : Known) (message : OwnMessage) (s : Saying) → All (λ m. IsOfSession (known.state.session m.session) m) known.state.sent → RisesTo s (known.state.session message.session).round → HearsAt w t n m seats heard → Agrees w t known → m ≡ message_of t message →
     said_by w.plan.grid known.state.up (operation known.state message.session) message ≡ s → heard ≡ heard_as t s →
     Agrees (heard_tables w t seats heard) t (record known { state = changed (delivery n message (length known.state.sent) s) known.state })
-heard_own w t n m seats heard known message s h agrees is said heard_is =
+heard_own w t n m seats heard known message s owners later h agrees is said heard_is =
     let state : State = known.state in
     let new : List OwnMessage = (heard_step (length state.sent) s).new in
     let goes : to_server message.body ≡ false = ap (λ (x : Message). to_server x.body) (sym is) ∙ h.goes in
@@ -210,13 +317,15 @@ heard_own w t n m seats heard known message s h agrees is said heard_is =
     record {
       lines = agrees.lines;
       up = agrees.up;
+      gone = agrees.gone;
       account = agrees.account;
       sent = ap (λ lanes. length (lane_at lanes t)) lanes_is ∙ sent_count w.lanes t state new h.lanes agrees.sent;
       lost = new_not_lost state new agrees.lost;
       messages = λ k. ap (λ lanes. message_at (lane_at lanes t) k) lanes_is ∙ sent_messages w.lanes t state new h.lanes agrees.sent agrees.messages agrees.lost k;
       accounts = agrees.accounts;
       copies = λ server within file. agrees.copies server within file ∙ sym (same_held state n (length state.sent) message s server file goes);
-      whole = agrees.whole;
+      lacking = agrees.lacking;
+      down = agrees.down;
       seats = λ place within.
           let first = h.first in
           let last = h.last in
@@ -236,11 +345,11 @@ heard_own w t n m seats heard known message s h agrees is said heard_is =
                 let sits : S s = subst S (said_by_up w.plan.grid (servers w.up) state.up (operation state message.session) message up ∙ said)
                 (subst T (ap own_message is) (h.hears.sits w.plan.grid t _ (operation state message.session) before.sits)) in
                 subst R (sym at) (subst (λ q. SeatAgrees w.plan.grid t message.session (seat_in seats q) (changed (delivery n message (length state.sent) s) state)) (sym same)
-                (seat_after w.plan.grid t n state message old now s goes said before h.hears.op sits)))
+                (seat_after w.plan.grid t n state message old now s owners later goes said before h.hears.op (h.hears.answered ∙ ap (λ x. answered_after x old.answered) heard_is) sits)))
             | inr other ↦ (
                 let apart : message.session ≢ place + 1 = λ e. other (omega arith) in
                 subst (λ (seat : Seat). SeatAgrees w.plan.grid t (place + 1) seat (changed (delivery n message (length state.sent) s) state)) (sym (h.others place other))
-                (seat_stays w.plan.grid t n (place + 1) state message (seat_in (seats_at w.seats t) place) s goes apart (agrees.seats place within)))
+                (seat_stays w.plan.grid t n (place + 1) state message (seat_in (seats_at w.seats t) place) s said goes apart (agrees.seats place within)))
           ]);
     }
 
@@ -251,26 +360,31 @@ heard_other w t u seats heard known other agrees =
     record {
       lines = agrees.lines;
       up = agrees.up;
+      gone = agrees.gone;
       account = agrees.account;
       sent = ap length lane ∙ agrees.sent;
       lost = agrees.lost;
       messages = λ k. ap (λ l. message_at l k) lane ∙ agrees.messages k;
       accounts = agrees.accounts;
       copies = agrees.copies;
-      whole = agrees.whole;
+      lacking = agrees.lacking;
+      down = agrees.down;
       seats = λ place within. subst (λ all. SeatAgrees w.plan.grid u (place + 1) (seat_in all place) known.state) (sym there) (agrees.seats place within);
     }
 
 pub heard_acts : (w : Tables) (t n : ℕ) (m : Message) (seats : List Seat) (heard : Heard) → HearsAt w t n m seats heard → Acts w t (Deliver n) (heard_tables w t seats heard)
 heard_acts w t n m seats heard h = record {
   plan = refl;
-  own = λ known agrees.
+  own = λ known most bounded agrees.
       let f = found w t n m known agrees h.there in
       let message : OwnMessage = f.0 in
       let goes : to_server message.body ≡ false = ap (λ (x : Message). to_server x.body) (sym f.2) ∙ h.goes in
       let s : Saying = said_by w.plan.grid known.state.up (operation known.state message.session) message in
       subst (Agrees (heard_tables w t seats heard) t) (sym (heard_known w.plan.grid (row_at w.plan t) known n message s f.1 goes refl))
-      (heard_own w t n m seats heard known message s h agrees f.2 refl (says w t n m seats heard known message h agrees f.2));
+      (heard_own w t n m seats heard known message s bounded.owners
+      (rises w.plan.grid most known.state.volumes message.session message (known.state.session message.session) s (says_stale w.plan.grid known.state.up message.session (known.state.session message.session) message s refl) (saying_fits w.plan.grid (row_at w.plan t) most known.state n message bounded f.1))
+      h agrees f.2 refl (says w t n m seats heard known message h agrees f.2));
   others = λ u other known agrees. heard_other w t u seats heard known other agrees;
   servers = refl;
+  gone = refl;
 }

@@ -1,7 +1,6 @@
 -- What is known of a run stays bounded, one step more: one lemma for each line that acts in one session, and the lines.
 use Rattle.std.proofs.Common.{◌≡◌, ◌≢◌, ◌∙◌, ℕ, ◌+◌, ◌<◌, ◌≤◌, false, List, [], ◌++◌, length, refl, sym, ap, subst, Option, Some, None, arith, All, inl, inr}
-use Rattle.std.specs.Prelude.{option_map, ◌==◌}
-use Rattle.std.proofs.lemmas.Bool.{cases_eq, and_parts, eqb-true}
+use Rattle.std.proofs.lemmas.Bool.{cases_eq}
 use Rattle.std.proofs.lemmas.List.Elements.{All-nil, All-append, All-weaker}
 use Rattle.gq_grid.specs.Grid.{Grid}
 use Rattle.gq_tag.specs.declared.StoredCopy.{StoredCopy}
@@ -10,14 +9,14 @@ use Rattle.gq_tag.specs.declared.Body.TheVariants.{Ask, Copy, Store, Stored}
 use Rattle.gq_tag.specs.Tag.{File, OwnMessage, to_server}
 use Rattle.gq_desk.specs.declared.plans.TenantRow.{TenantRow}
 use Rattle.gq_desk.specs.declared.volumes.VolumeRow.{VolumeRow}
-use Rattle.gq_phase.specs.Phase.{Task, Reply, Operation, Heard as Saying, HeardStale, HeardNoted, HeardNext, HeardDone, hear, stored_copy, heard_copies, begun, round_file, round_messages}
+use Rattle.gq_phase.specs.Phase.{Task, Reply, Operation, Heard as Saying, HeardStale, HeardNoted, HeardNext, HeardDone, stored_copy, heard_copies, begun, round_file, round_messages}
 use Rattle.gq_model.specs.Trace.{State, Session, changed, serves, own_message_at, operation, operation_with, session_by, heard_deed, files_of}
 use Rattle.gq_model.specs.Lone.{heard_step}
 use Rattle.gq_world.specs.Bounds.{CopyFits, BodyFits, room, volume_of, TaskFits, OperationFits, SessionFits, MessageFits, IsOfSession, IsBounded}
 use Rattle.gq_world.specs.Seats.{said_by}
 use Rattle.gq_world.proofs.Ready.{all_at, sent_at}
-use Rattle.gq_world.proofs.Bounding.{fits_more, IsOfRound, HeardFits, hear_fits, round_fits}
-use Rattle.gq_world.proofs.Delivering.{delivery, own_session, other_session, same_brought, session_of, says_stale}
+use Rattle.gq_world.proofs.Bounding.{fits_more, IsOfRound, HeardFits, round_fits}
+use Rattle.gq_world.proofs.Delivering.{delivery, own_session, other_session, same_brought, session_of, says_stale, RisesTo, rises, saying_fits}
 
 -- ---- one number more
 
@@ -37,6 +36,7 @@ operation_more n volumes o h = record {
   task = h.task;
   file = h.file;
   collects = h.collects;
+  stores = h.stores;
   heard = All-weaker (CopyFits n (room volumes (volume_of o.task))) (CopyFits (n + 1) (room volumes (volume_of o.task))) (fits_more n (room volumes (volume_of o.task))) (heard_copies o.heard) h.heard;
   stored = fits_more n (room volumes (volume_of o.task)) (stored_copy o.collected) h.stored;
 }
@@ -99,8 +99,8 @@ acts_in grid row n k old new after messages h a =
     }
 
 -- a message of a round of the session's operation fits
-pub round_message : (grid : Grid) (row : TenantRow) (n : ℕ) (volumes : List VolumeRow) (o : Operation) (l : OwnMessage) → 1 ≤ o.session → o.session ≤ row.sessions → IsOfRound grid n volumes o l → MessageFits grid row n volumes l
-round_message grid row n volumes o l first last h = record {
+pub round_message : (grid : Grid) (row : TenantRow) (n : ℕ) (volumes : List VolumeRow) (o : Operation) (round : ℕ) (l : OwnMessage) → 1 ≤ o.session → o.session ≤ row.sessions → IsOfRound grid n volumes o round l → MessageFits grid row n volumes l
+round_message grid row n volumes o round l first last h = record {
   server = h.server;
   first = rw h.session first;
   last = rw h.session last;
@@ -141,11 +141,11 @@ after_fits grid n volumes k first message op (Some task) round heard collected f
 }
 
 -- the session's messages are of it as before
-heard_keeps : (volumes : List VolumeRow) (k first : ℕ) (message : OwnMessage) (s : Saying) (session : Session) (l : OwnMessage) → IsOfSession session l → IsOfSession (session_by volumes k (heard_deed message (heard_step first s).told) session) l
-heard_keeps volumes k first message HeardStale session l is = is
-heard_keeps volumes k first message HeardNoted session l is = record { begun = is.begun; volume = is.volume }
-heard_keeps volumes k first message (HeardNext r tag messages) session l is = record { begun = is.begun; volume = is.volume }
-heard_keeps volumes k first message (HeardDone outcome) session l is = record { begun = is.begun; volume = λ task e. absurd (cc) }
+heard_keeps : (volumes : List VolumeRow) (k first : ℕ) (message : OwnMessage) (s : Saying) (session : Session) → RisesTo s session.round → (l : OwnMessage) → IsOfSession session l → IsOfSession (session_by volumes k (heard_deed message (heard_step first s).told) session) l
+heard_keeps volumes k first message HeardStale session rises l is = is
+heard_keeps volumes k first message HeardNoted session rises l is = record { begun = is.begun; round = is.round; volume = is.volume }
+heard_keeps volumes k first message (HeardNext r tag messages) session rises l is = record { begun = is.begun; round = λ same. let low = is.round same in omega arith; volume = is.volume }
+heard_keeps volumes k first message (HeardDone outcome) session rises l is = record { begun = is.begun; round = is.round; volume = λ task e. absurd (cc) }
 
 these_fit : (grid : Grid) (row : TenantRow) (n : ℕ) (volumes : List VolumeRow) (k first : ℕ) (message : OwnMessage) (op : ℕ) (current : Option Task) (round : ℕ) (heard : List Reply) (collected : List StoredCopy) (floor : ℕ) (s : Saying) →
     1 ≤ k → k ≤ row.sessions → (current ≡ None → s ≡ HeardStale) →
@@ -157,12 +157,13 @@ these_fit grid row n volumes k first message op current round heard collected fl
 these_fit grid row n volumes k first message op None round heard collected floor (HeardNext r tag messages) low high none fits = let e = none refl in absurd (cc)
 these_fit grid row n volumes k first message op (Some task) round heard collected floor (HeardNext r tag messages) low high none fits =
     let o : Operation = operation_with k (session_of op (Some task) round heard collected floor) task in
-    All-weaker (IsOfRound grid (n + 1) volumes o) (λ l. MessageFits grid row (n + 1) volumes l × (l.session ≡ k) × IsOfSession (session_by volumes k (heard_deed message (heard_step first (HeardNext r tag messages)).told) (session_of op (Some task) round heard collected floor)) l)
+    All-weaker (IsOfRound grid (n + 1) volumes o r) (λ l. MessageFits grid row (n + 1) volumes l × (l.session ≡ k) × IsOfSession (session_by volumes k (heard_deed message (heard_step first (HeardNext r tag messages)).told) (session_of op (Some task) round heard collected floor)) l)
     (λ l h. (
-      round_message grid row (n + 1) volumes o l low high h,
+      round_message grid row (n + 1) volumes o r l low high h,
       h.session,
       record {
         begun = let e = h.op in omega arith;
+        round = λ same. let e = h.round_is in omega arith;
         volume = λ also is same. let t : task ≡ also = cc in h.volume ∙ ap volume_of t;
       },
     )) messages (fits task refl).1
@@ -175,17 +176,9 @@ heard_bounded grid row n state number message h there goes =
     let session : Session = state.session k in
     let first : ℕ = length state.sent in
     let s : Saying = said_by grid state.up (operation state k) message in
-    let sent = sent_at state number message there in
-    let fits : MessageFits grid row n state.volumes message = all_at (MessageFits grid row n state.volumes) state.sent number message h.messages sent in
-    let owner : IsOfSession session message = all_at (λ l. IsOfSession (state.session l.session) l) state.sent number message h.owners sent in
+    let fits : MessageFits grid row n state.volumes message = all_at (MessageFits grid row n state.volumes) state.sent number message h.messages (sent_at state number message there) in
     let none : session.current ≡ None → s ≡ HeardStale = says_stale grid state.up k session message s refl in
-    let says : (task : Task) → session.current ≡ Some task → HeardFits grid n state.volumes (operation_with k session task) message s = λ task is.
-    let o : Operation = operation_with k session task in
-    let own : hear grid state.up o message ≡ s = sym (ap (λ current. said_by grid state.up (option_map (operation_with k session) current) message) is) in
-    subst (HeardFits grid n state.volumes o message) own (hear_fits grid state.up n state.volumes o message ((h.sessions k).works task is) (λ cur.
-    let parts = and_parts (message.op == o.op) (message.round == o.round) cur in
-    let op : message.op ≡ session.op = eqb-true message.op o.op parts.0 in
-    subst (λ v. BodyFits n (room state.volumes v) message.body) (owner.volume task is op) fits.body)) in
+    let says : (task : Task) → session.current ≡ Some task → HeardFits grid n state.volumes (operation_with k session task) message s = saying_fits grid row n state number message h there in
     acts_in grid row n k state (changed (delivery number message first s) state) (session_by state.volumes k (heard_deed message (heard_step first s).told) session) (heard_step first s).new h (record {
       volumes = refl;
       sent = refl;
@@ -193,7 +186,7 @@ heard_bounded grid row n state number message h there goes =
       own = own_session state number first message s goes;
       others = λ j other. other_session state number first j message s goes other;
       fits = after_fits grid n state.volumes k first message session.op session.current session.round session.heard session.collected session.floor s (h.sessions k) none says;
-      keeps = heard_keeps state.volumes k first message s session;
+      keeps = heard_keeps state.volumes k first message s session (rises grid n state.volumes k message session s none says);
       these = these_fit grid row n state.volumes k first message session.op session.current session.round session.heard session.collected session.floor s fits.first fits.last none says;
     })
 
@@ -207,6 +200,7 @@ begun_fits n volumes k s task h fits file = record {
   task = fits;
   file = file;
   collects = λ odd. refl;
+  stores = λ even. absurd (cc);
   heard = All-nil (CopyFits (n + 1) (room volumes (volume_of task)));
   stored = record { number = omega arith; long = omega arith };
 }
@@ -236,14 +230,16 @@ begun_bounded grid row n k old new task h low high task_fits file volumes sent b
       };
       keeps = λ l is. record {
         begun = let e = is.begun in omega arith;
+        round = λ same. let low' = is.begun in absurd (omega arith);
         volume = λ also e same. let low' = is.begun in absurd (omega arith);
       };
-      these = All-weaker (IsOfRound grid (n + 1) old.volumes o) (λ l. MessageFits grid row (n + 1) old.volumes l × (l.session ≡ k) × IsOfSession after l)
+      these = All-weaker (IsOfRound grid (n + 1) old.volumes o 1) (λ l. MessageFits grid row (n + 1) old.volumes l × (l.session ≡ k) × IsOfSession after l)
           (λ l r. (
-            round_message grid row (n + 1) old.volumes o l low high r,
+            round_message grid row (n + 1) old.volumes o 1 l low high r,
             r.session,
             record {
               begun = let e = r.op in omega arith;
+              round = λ same. let e = r.round_is in omega arith;
               volume = λ also is same. let t : task ≡ also = cc in r.volume ∙ ap volume_of t;
             },
           )) messages (round_fits grid old.up (n + 1) old.volumes o fits.file fits.stored);

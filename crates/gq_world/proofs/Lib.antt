@@ -3,12 +3,14 @@ pub mod AllLines
 pub mod Bounding
 pub mod Choosing
 pub mod Composing
+pub mod Counting
 pub mod Delivering
 pub mod Hearing
 pub mod Keeping
 pub mod Lanes
 pub mod Listing
 pub mod Losing
+pub mod LossWords
 pub mod BoundedSteps
 pub mod Opening
 pub mod Quiet
@@ -21,3 +23,4 @@ pub mod Soundness
 pub mod Standing
 pub mod Starting
 pub mod Steps
+pub mod Taking

@@ -48,9 +48,10 @@ nothing_tells w t n there known agrees = sym (told_by (own_message_at known.stat
 pub nothing_acts : (w : Tables) (t n : ℕ) → is_some (message_at (lane_at w.lanes t) n) ≡ false → Acts w t (Lose n) w
 nothing_acts w t n there = record {
   plan = refl;
-  own = λ known agrees. subst (Agrees w t) (sym (refused known (told_by (own_message_at known.state n) false (was_there w t n known false agrees there)))) agrees;
+  own = λ known most bounded agrees. subst (Agrees w t) (sym (refused known (told_by (own_message_at known.state n) false (was_there w t n known false agrees there)))) agrees;
   others = λ u other known agrees. agrees;
   servers = refl;
+  gone = refl;
 }
   where
     refused : (known : Known) → lose_told (own_message_at known.state n) ≡ Refused NoMessage → acted w.plan.grid (row_at w.plan t) known (Lose n) ≡ known
@@ -93,38 +94,43 @@ lost_own : (w : Tables) (t n : ℕ) (known : Known) → t < length w.lanes → i
 lost_own w t n known within there agrees = record {
   lines = agrees.lines;
   up = agrees.up;
+  gone = agrees.gone;
   account = agrees.account;
   sent = ap length (get_or-set_same w.lanes t (slice_set (lane_at w.lanes t) n None) [] within) ∙ length-set (lane_at w.lanes t) n None ∙ agrees.sent;
   lost = λ m past. still_none known.state n m there agrees.lost past;
   messages = λ m. ap (λ lane. message_at lane m) (get_or-set_same w.lanes t (slice_set (lane_at w.lanes t) n None) [] within) ∙ lost_own_message (lane_at w.lanes t) known.state n m t (agrees.messages m);
   accounts = agrees.accounts;
   copies = agrees.copies;
-  whole = agrees.whole;
-  seats = λ place inside. let seat = agrees.seats place inside in record { op = seat.op; sits = seat.sits };
+  lacking = agrees.lacking;
+  down = agrees.down;
+  seats = λ place inside. let seat = agrees.seats place inside in record { op = seat.op; answered = seat.answered; sits = seat.sits };
 }
 
 lost_other : (w : Tables) (t u n : ℕ) (known : Known) → u ≢ t → Agrees w u known → Agrees (record w { lanes = lost w.lanes t n }) u known
 lost_other w t u n known other agrees = record {
   lines = agrees.lines;
   up = agrees.up;
+  gone = agrees.gone;
   account = agrees.account;
   sent = ap length (get_or-set_other w.lanes t u (slice_set (lane_at w.lanes t) n None) [] other) ∙ agrees.sent;
   lost = agrees.lost;
   messages = λ m. ap (λ lane. message_at lane m) (get_or-set_other w.lanes t u (slice_set (lane_at w.lanes t) n None) [] other) ∙ agrees.messages m;
   accounts = agrees.accounts;
   copies = agrees.copies;
-  whole = agrees.whole;
+  lacking = agrees.lacking;
+  down = agrees.down;
   seats = agrees.seats;
 }
 
 pub lost_acts : (w : Tables) (t n : ℕ) → t < length w.lanes → is_some (message_at (lane_at w.lanes t) n) ≡ true → Acts w t (Lose n) (record w { lanes = lost w.lanes t n })
 lost_acts w t n within there = record {
   plan = refl;
-  own = λ known agrees.
+  own = λ known most bounded agrees.
       let known_there : is_some (own_message_at known.state n) ≡ true = was_there w t n known true agrees there in
       subst (Agrees (record w { lanes = lost w.lanes t n }) t) (sym (lost_known w t n known (told_by (own_message_at known.state n) true known_there))) (lost_own w t n known within known_there agrees);
   others = λ u other known agrees. lost_other w t u n known other agrees;
   servers = refl;
+  gone = refl;
 }
 
 -- whether there was one to lose or not

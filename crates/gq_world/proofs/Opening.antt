@@ -1,5 +1,5 @@
 -- A volume is opened, with its files at every server.
-use Rattle.std.proofs.Common.{◌≡◌, ◌≢◌, ◌∙◌, ℕ, zero, suc, ◌*◌, ◌<◌, ◌≤◌, List, [], ◌∷◌, length, refl, sym, ap, subst, Option, Some, None, arith, inl, inr, All, get_or, append-nil}
+use Rattle.std.proofs.Common.{◌≡◌, ◌≢◌, ◌∙◌, ℕ, zero, suc, ◌+◌, ◌*◌, ◌<◌, ◌≤◌, List, [], ◌∷◌, length, refl, sym, ap, subst, Option, Some, None, arith, inl, inr, All, get_or, append-nil}
 use Rattle.std.specs.Prelude.{slice_set, option_map, nat_lt, nat_le}
 use Rattle.std.proofs.lemmas.Bool.{cases_Bool}
 use Rattle.std.proofs.lemmas.Bool.Decides.{nat_tests}
@@ -13,7 +13,7 @@ use Rattle.gq_desk.specs.Volumes.{OpenFault, Account, no_account, account_at, wi
 use Rattle.gq_store.specs.Copies.{StoreCopies, store_accounts, tenant_account}
 use Rattle.gq_model.specs.declared.events.Line.TheVariants.{NewVolume}
 use Rattle.gq_model.specs.Told.{Opened}
-use Rattle.gq_model.specs.Trace.{Own, Known, own_message_at}
+use Rattle.gq_model.specs.Trace.{Own, Known, own_message_at, counts_on}
 use Rattle.gq_model.specs.Lone.{quiet, open_told}
 use Rattle.gq_world.specs.Tables.{Tables, Agrees, IsReady, IsShaped, IsOfPlan, no_store, store_at}
 use Rattle.gq_world.specs.Adding.{HasRoomForFiles, IsAdded, IsKept}
@@ -55,6 +55,7 @@ opened_own w t files blocks stores known h agrees =
     record {
       lines = agrees.lines;
       up = agrees.up;
+      gone = agrees.gone;
       account = set_here w.desk t (with_volume v a) h.desk ∙ ap (with_volume v) agrees.account;
       sent = agrees.sent ∙ ap length (sym nothing);
       lost = λ n past'. agrees.lost n (subst (λ l. length l ≤ n) nothing past');
@@ -69,8 +70,9 @@ opened_own w t files blocks stores known h agrees =
       copies = λ s within file.
           let inside : s < length w.stores = let count = h.count in omega arith in
           (h.added s inside).copies (file_of t file) ∙ agrees.copies s within file;
-      whole = agrees.whole;
-      seats = λ place within. let before = agrees.seats place within in record { op = before.op; sits = before.sits };
+      lacking = agrees.lacking;
+      down = agrees.down;
+      seats = λ place within. let before = agrees.seats place within in record { op = before.op; answered = λ busy server. before.answered busy server ∙ ap (λ l. counts_on l (place + 1) (known.state.session (place + 1)) server) (sym nothing); sits = before.sits };
     }
 
 opened_other : (w : Tables) (t u files blocks : ℕ) (stores : List StoreCopies) (known : Known) → u ≢ t → Opens w t files blocks stores → Agrees w u known → Agrees (opened_tables w t files blocks stores) u known
@@ -79,6 +81,7 @@ opened_other w t u files blocks stores known other h agrees =
     record {
       lines = agrees.lines;
       up = agrees.up;
+      gone = agrees.gone;
       account = set_there w.desk t u (with_volume v (account_at w.desk t)) other ∙ agrees.account;
       sent = agrees.sent;
       lost = agrees.lost;
@@ -92,16 +95,18 @@ opened_other w t u files blocks stores known other h agrees =
       copies = λ s within file.
           let inside : s < length w.stores = let count = h.count in omega arith in
           (h.added s inside).copies (file_of u file) ∙ agrees.copies s within file;
-      whole = agrees.whole;
+      lacking = agrees.lacking;
+      down = agrees.down;
       seats = agrees.seats;
     }
 
 pub opened_acts : (w : Tables) (t files blocks : ℕ) (stores : List StoreCopies) → Opens w t files blocks stores → Acts w t (NewVolume files blocks) (opened_tables w t files blocks stores)
 opened_acts w t files blocks stores h = record {
   plan = refl;
-  own = λ known agrees. subst (Agrees (opened_tables w t files blocks stores) t) (sym (opened_known w t files blocks known agrees h.sound)) (opened_own w t files blocks stores known h agrees);
+  own = λ known most bounded agrees. subst (Agrees (opened_tables w t files blocks stores) t) (sym (opened_known w t files blocks known agrees h.sound)) (opened_own w t files blocks stores known h agrees);
   others = λ u other known agrees. opened_other w t u files blocks stores known other h agrees;
   servers = refl;
+  gone = refl;
 }
 
 pub open_tells : (w : Tables) (t files blocks : ℕ) (fault : Option OpenFault) → open_fault (account_at w.desk t) (record { files = files; blocks = blocks }) ≡ fault → TellsLine w t (NewVolume files blocks) (open_told (length (account_at w.desk t).volumes) fault)
@@ -110,7 +115,7 @@ open_tells w t files blocks fault is known agrees = rw (← is, agrees.account) 
 pub refused_acts : (w : Tables) (t files blocks : ℕ) (word : OpenFault) → open_fault (account_at w.desk t) (record { files = files; blocks = blocks }) ≡ Some word → Acts w t (NewVolume files blocks) w
 refused_acts w t files blocks word is = record {
   plan = refl;
-  own = λ known agrees.
+  own = λ known most bounded agrees.
       let v : VolumeRow = record { files = files; blocks = blocks } in
       let same : acted w.plan.grid (row_at w.plan t) known (NewVolume files blocks) ≡ known =
       ap (λ step. record known { state = state_after_turn known.state (Own (NewVolume files blocks)) step }) (open_step w.plan.grid (row_at w.plan t) known v (Some word) (rw agrees.account at is))
@@ -118,6 +123,7 @@ refused_acts w t files blocks word is = record {
       subst (Agrees w t) (sym same) agrees;
   others = λ u other known agrees. agrees;
   servers = refl;
+  gone = refl;
 }
 
 -- ---- the conditions

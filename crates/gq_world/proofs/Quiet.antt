@@ -27,14 +27,16 @@ pub agrees_offered : (w : Tables) (t : ℕ) (known : Known) (offered : ℕ → F
 agrees_offered w t known offered agrees = record {
   lines = agrees.lines;
   up = agrees.up;
+  gone = agrees.gone;
   account = agrees.account;
   sent = agrees.sent;
   lost = agrees.lost;
   messages = agrees.messages;
   accounts = agrees.accounts;
   copies = agrees.copies;
-  whole = agrees.whole;
-  seats = λ place within. let seat = agrees.seats place within in record { op = seat.op; sits = seat.sits };
+  lacking = agrees.lacking;
+  down = agrees.down;
+  seats = λ place within. let seat = agrees.seats place within in record { op = seat.op; answered = seat.answered; sits = seat.sits };
 }
 
 -- nothing more was sent
@@ -66,11 +68,12 @@ volumes_after grid row state = quiet_after state (Own Volumes) (line_step grid r
 quiet_acts : (w : Tables) (t : ℕ) (line : Line) → IsQuiet line → Acts w t line w
 quiet_acts w t line same = record {
   plan = refl;
-  own = λ known agrees.
+  own = λ known most bounded agrees.
       let told : Told = (line_step w.plan.grid (row_at w.plan t) known.state line).told in
       subst (Agrees w t) (ap (λ state. record known { state = state }) (sym (same w.plan.grid (row_at w.plan t) known.state))) (agrees_offered w t known (offered_after known.state told) agrees);
   others = λ u other known agrees. agrees;
   servers = refl;
+  gone = refl;
 }
 
 pub quorum_acts : (w : Tables) (t : ℕ) → Acts w t Quorum w
@@ -87,9 +90,10 @@ bad_acts w t = quiet_acts w t Bad (λ grid row state. refl)
 pub refused_acts : (w : Tables) (t : ℕ) (line : Line) (word : Refusal) → ((known : Known) → Agrees w t known → line_step w.plan.grid (row_at w.plan t) known.state line ≡ quiet (Refused word)) → Acts w t line w
 refused_acts w t line word refuses = record {
   plan = refl;
-  own = λ known agrees. subst (Agrees w t) (ap (λ step. record known { state = state_after_turn known.state (Own line) step }) (sym (refuses known agrees))) agrees;
+  own = λ known most bounded agrees. subst (Agrees w t) (ap (λ step. record known { state = state_after_turn known.state (Own line) step }) (sym (refuses known agrees))) agrees;
   others = λ u other known agrees. agrees;
   servers = refl;
+  gone = refl;
 }
 
 pub refused_tells : (w : Tables) (t : ℕ) (line : Line) (word : Refusal) → ((known : Known) → Agrees w t known → line_step w.plan.grid (row_at w.plan t) known.state line ≡ quiet (Refused word)) → TellsLine w t line (Refused word)

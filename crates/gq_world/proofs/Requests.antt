@@ -1,5 +1,5 @@
 -- A request of a session: why it is refused, and how its operation begins.
-use Rattle.std.proofs.Common.{◌≡◌, ◌≢◌, ◌∙◌, ℕ, ◌+◌, ◌-◌, ◌<◌, ◌≤◌, Bool, true, false, List, [], ◌∷◌, ◌++◌, length, map, refl, sym, ap, subst, Option, Some, None, arith, inl, inr}
+use Rattle.std.proofs.Common.{◌≡◌, ◌≢◌, ◌∙◌, ℕ, ◌+◌, ◌-◌, ◌<◌, ◌≤◌, Bool, true, false, List, [], ◌∷◌, ◌++◌, length, map, refl, sym, ap, subst, Option, Some, None, arith, inl, inr, All}
 use Rattle.std.specs.Prelude.{slice_set, slice_get, slice_index_or, option_map, not, nat_lt, nat_le, is_some, is_none, unwrap_or, ◌==◌, if◌then◌else◌}
 use Rattle.std.specs.Option.{option_and_then}
 use Rattle.std.proofs.Math.Path.{fun_ext}
@@ -7,7 +7,7 @@ use Rattle.std.proofs.lemmas.Bool.{cases_eq, cases_Bool, ne_eqb, eq-eqb, and_par
 use Rattle.std.proofs.lemmas.Bool.Decides.{nat_tests}
 use Rattle.std.proofs.lemmas.List.{get_or_default, get_or-set_same, get_or-set_other, length-map}
 use Rattle.gq_grid.specs.Grid.{Grid, Servers}
-use Rattle.gq_grid.specs.Sets.{servers}
+use Rattle.gq_grid.specs.Sets.{servers, no_set}
 use Rattle.gq_grid.specs.declared.ServerSet.{ServerSet}
 use Rattle.gq_tag.specs.declared.Message.{Message}
 use Rattle.gq_tag.specs.Tag.{OwnMessage, message_of}
@@ -25,7 +25,7 @@ use Rattle.gq_model.specs.declared.events.Refusal.TheVariants.{Busy, NoVolume, N
 use Rattle.gq_model.specs.declared.events.Line.{Line}
 use Rattle.gq_model.specs.declared.events.Line.TheVariants.{Write, Read, List as ListFiles}
 use Rattle.gq_model.specs.Told.{Began, Refused}
-use Rattle.gq_model.specs.Trace.{Own, Elsewhere, Begins as BeginsDeed, State, Session, Known, changed, operation_with, session_by, task_of, files_of, account_of}
+use Rattle.gq_model.specs.Trace.{Own, Elsewhere, Begins as BeginsDeed, State, Session, Known, changed, operation_with, session_by, task_of, files_of, account_of, counts_on}
 use Rattle.gq_model.specs.Lone.{Step, Cause, first_cause, session_causes, no_session, busy, no_quorum, quiet, unless, begin_step, line_step, entry_of, first_operation}
 use Rattle.gq_phase.specs.Laws.{SameQuorums}
 use Rattle.gq_phase.proofs.ByQuorums.{round_messages_up}
@@ -33,6 +33,8 @@ use Rattle.gq_world.specs.declared.sessions.Seat.{Seat}
 use Rattle.gq_world.specs.Tables.{Tables, Agrees, SeatAgrees, Sits, IsReady, IsShaped, seats_at, seat_in, no_seat}
 use Rattle.gq_world.specs.Asking.{volume_causes, file_causes, write_causes, busy_seat, begun_tables}
 use Rattle.gq_world.specs.Machine.{Acts, TellsLine, acted, state_after_turn}
+use Rattle.gq_world.specs.Bounds.{IsOfSession}
+use Rattle.gq_world.proofs.Counting.{none_in, more_counted, round_uncounted, begun_uncounted}
 use Rattle.gq_world.proofs.Quiet.{offered_on}
 use Rattle.gq_world.proofs.Lanes.{sent_count, sent_messages, new_not_lost, lane_there, quorums_in}
 
@@ -232,9 +234,10 @@ refused_tells w t line word refuses known agrees = sym (ap (λ (s : Step). s.tol
 pub refused_acts : (w : Tables) (t : ℕ) (line : Line) (word : Refusal) → Refuses w t line word → Acts w t line w
 refused_acts w t line word refuses = record {
   plan = refl;
-  own = λ known agrees. subst (Agrees w t) (sym (ap (λ s. record known { state = state_after_turn known.state (Own line) s }) (refuses known agrees))) agrees;
+  own = λ known most bounded agrees. subst (Agrees w t) (sym (ap (λ s. record known { state = state_after_turn known.state (Own line) s }) (refuses known agrees))) agrees;
   others = λ u other known agrees. agrees;
   servers = refl;
+  gone = refl;
 }
 
 pub early : (w : Tables) (t k : ℕ) (task : Task) (line : Line) (causes : List Cause) (word : Refusal) → IsRequest w t k task line causes → first_cause causes ≡ Some word → Refuses w t line word
@@ -321,9 +324,9 @@ begun_tells w t k task line causes code messages r h known agrees =
     ∙ ap (Began ((known.state.session k).op + 1) (length known.state.sent)) count
     ∙ sym (ap (λ (step : Step). step.told) (begins_so w t k task line causes known r agrees h.asked h.quorum))
 
-begun_own : (w : Tables) (t k : ℕ) (task : Task) (line : Line) (causes : List Cause) (code : Code) (messages : List Message) (known : Known) → IsRequest w t k task line causes → IsBegun w t k task causes code messages → Agrees w t known →
+begun_own : (w : Tables) (t k : ℕ) (task : Task) (line : Line) (causes : List Cause) (code : Code) (messages : List Message) (known : Known) → All (λ m. IsOfSession (known.state.session m.session) m) known.state.sent → IsRequest w t k task line causes → IsBegun w t k task causes code messages → Agrees w t known →
     Agrees (begun_tables w t (k - 1) code messages) t (record known { state = begun_state known.state k task (first_messages w.plan.grid known.state k task) })
-begun_own w t k task line causes code messages known r h agrees =
+begun_own w t k task line causes code messages known owners r h agrees =
     let state : State = known.state in
     let new : List OwnMessage = first_messages w.plan.grid state k task in
     let after : State = begun_state state k task new in
@@ -336,13 +339,15 @@ begun_own w t k task line causes code messages known r h agrees =
     record {
       lines = agrees.lines;
       up = agrees.up;
+      gone = agrees.gone;
       account = agrees.account;
       sent = ap (λ lanes. length (lane_at lanes t)) lanes_is ∙ sent_count w.lanes t state new h.lanes agrees.sent;
       lost = new_not_lost state new agrees.lost;
       messages = λ m. ap (λ lanes. message_at (lane_at lanes t) m) lanes_is ∙ sent_messages w.lanes t state new h.lanes agrees.sent agrees.messages agrees.lost m;
       accounts = agrees.accounts;
       copies = agrees.copies;
-      whole = agrees.whole;
+      lacking = agrees.lacking;
+      down = agrees.down;
       seats = λ place within.
           let Q : List Seat → Type 0 = λ all. SeatAgrees w.plan.grid t (place + 1) (seat_in all place) after in
           let low = s.0 in
@@ -352,7 +357,13 @@ begun_own w t k task line causes code messages known r h agrees =
                 let P : Session → Type 0 = λ x. (old.op + 1 ≡ x.op) × Sits w.plan.grid t old.floor (Some code) x.floor (option_map (operation_with k x) x.current) in
                 let now : P (after.session k) = subst P (sym (own_begins state k task new))
                 (ap (λ op. op + 1) seat.op, subst (StandsFor w.plan.grid t code) (first_is w t k task known agrees s) h.stands) in
-                let agreed : SeatAgrees w.plan.grid t k (busy_seat old code) after = record { op = now.0; sits = now.1 } in
+                let begins : Session = begun_session (state.session k) task in
+                let counts : (server : ℕ) → servers no_set server ≡ counts_on after.sent k (after.session k) server = λ server.
+                none_in server
+                ∙ sym (begun_uncounted state k begins server owners refl)
+                ∙ sym (more_counted state.sent new k begins server (round_uncounted w.plan.grid state.up (first_operation state k task) k begins server))
+                ∙ ap (λ x. counts_on after.sent k x server) (sym (own_begins state k task new)) in
+                let agreed : SeatAgrees w.plan.grid t k (busy_seat old code) after = record { op = now.0; answered = λ busy server. counts server; sits = now.1 } in
                 let put : seat_in seats (k - 1) ≡ busy_seat old code = get_or-set_same (seats_at w.seats t) (k - 1) (busy_seat old code) _ h.places in
                 subst (λ j. SeatAgrees w.plan.grid t j (seat_in seats place) after) at
                 (subst (λ q. SeatAgrees w.plan.grid t k (seat_in seats q) after) (sym same)
@@ -364,7 +375,15 @@ begun_own w t k task line causes code messages known r h agrees =
                 let there : Seat = seat_in (seats_at w.seats t) place in
                 let P : Session → Type 0 = λ x. (there.op ≡ x.op) × Sits w.plan.grid t there.floor there.operation x.floor (option_map (operation_with (place + 1) x) x.current) in
                 let now : P (after.session (place + 1)) = subst P (sym (other_stays state k (place + 1) task new apart)) (before.op, before.sits) in
-                let agreed : SeatAgrees w.plan.grid t (place + 1) there after = record { op = now.0; sits = now.1 } in
+                let stays = other_stays state k (place + 1) task new apart in
+                let agreed : SeatAgrees w.plan.grid t (place + 1) there after = record {
+                  op = now.0;
+                  answered = λ busy server.
+                      before.answered busy server
+                      ∙ sym (more_counted state.sent new (place + 1) (state.session (place + 1)) server (round_uncounted w.plan.grid state.up (first_operation state k task) (place + 1) (state.session (place + 1)) server))
+                      ∙ ap (λ x. counts_on after.sent (place + 1) x server) (sym stays);
+                  sits = now.1;
+                } in
                 subst (λ (x : Seat). SeatAgrees w.plan.grid t (place + 1) x after) (sym kept) agreed)
           ]);
     }
@@ -376,22 +395,25 @@ begun_other w t u place code messages known other agrees =
     record {
       lines = agrees.lines;
       up = agrees.up;
+      gone = agrees.gone;
       account = agrees.account;
       sent = ap length lane ∙ agrees.sent;
       lost = agrees.lost;
       messages = λ m. ap (λ l. message_at l m) lane ∙ agrees.messages m;
       accounts = agrees.accounts;
       copies = agrees.copies;
-      whole = agrees.whole;
+      lacking = agrees.lacking;
+      down = agrees.down;
       seats = λ p within. subst (λ all. SeatAgrees w.plan.grid u (p + 1) (seat_in all p) known.state) (sym there) (agrees.seats p within);
     }
 
 pub begun_acts : (w : Tables) (t k : ℕ) (task : Task) (line : Line) (causes : List Cause) (code : Code) (messages : List Message) → IsRequest w t k task line causes → IsBegun w t k task causes code messages → Acts w t line (begun_tables w t (k - 1) code messages)
 begun_acts w t k task line causes code messages r h = record {
   plan = refl;
-  own = λ known agrees. subst (Agrees (begun_tables w t (k - 1) code messages) t) (sym (begun_known w t k task line causes known r agrees h.asked h.quorum)) (begun_own w t k task line causes code messages known r h agrees);
+  own = λ known most bounded agrees. subst (Agrees (begun_tables w t (k - 1) code messages) t) (sym (begun_known w t k task line causes known r agrees h.asked h.quorum)) (begun_own w t k task line causes code messages known bounded.owners r h agrees);
   others = λ u other known agrees. begun_other w t u (k - 1) code messages known other agrees;
   servers = refl;
+  gone = refl;
 }
 
 -- ---- the conditions

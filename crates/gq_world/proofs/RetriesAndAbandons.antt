@@ -1,5 +1,5 @@
 -- A session sends its round's message once more, or gives its operation up.
-use Rattle.std.proofs.Common.{◌≡◌, ◌≢◌, ◌∙◌, ℕ, ◌+◌, ◌-◌, ◌*◌, ◌<◌, ◌≤◌, Bool, true, false, List, [], ◌∷◌, ◌++◌, length, map, refl, sym, ap, subst, Option, Some, None, arith, inl, inr, append-nil}
+use Rattle.std.proofs.Common.{◌≡◌, ◌≢◌, ◌∙◌, ℕ, ◌+◌, ◌-◌, ◌*◌, ◌<◌, ◌≤◌, Bool, true, false, ◌&&◌, List, [], ◌∷◌, ◌++◌, length, map, refl, sym, ap, subst, Option, Some, None, arith, inl, inr, append-nil, All}
 use Rattle.std.specs.Prelude.{slice_set, option_map, not, is_none, if◌then◌else◌}
 use Rattle.std.proofs.lemmas.Bool.{cases_eq, cases_Bool, ne_eqb, eq-eqb}
 use Rattle.std.proofs.lemmas.List.{get_or-set_same, get_or-set_other, length-map}
@@ -12,14 +12,14 @@ use Rattle.gq_desk.specs.Plans.{is_in}
 use Rattle.gq_post.specs.Lanes.{lane_at, message_at}
 use Rattle.gq_phase.specs.declared.operation.Operation.{Operation as Code}
 use Rattle.gq_phase.specs.declared.ResendRefused.TheVariants.{NoQuorum as NoneUp}
-use Rattle.gq_phase.specs.Phase.{Task, Operation, is_collect, round_quorum, resent}
+use Rattle.gq_phase.specs.Phase.{Task, Operation, is_collect, round_quorum, resent, heard_servers}
 use Rattle.gq_phase.specs.Standing.{StandsFor, ResendsAs, RefusesAs, last_number}
 use Rattle.gq_phase.specs.Laws.{SameQuorums}
 use Rattle.gq_model.specs.declared.events.Refusal.{Refusal}
 use Rattle.gq_model.specs.declared.events.Refusal.TheVariants.{NoSession, Idle, NoQuorum}
 use Rattle.gq_model.specs.declared.events.Line.TheVariants.{Retry, Abandon}
 use Rattle.gq_model.specs.Told.{Resent, Abandoned, Refused}
-use Rattle.gq_model.specs.Trace.{Own, State, Session, Known, operation, operation_with, session_by, deed}
+use Rattle.gq_model.specs.Trace.{Own, State, Session, Known, operation, operation_with, session_by, deed, counts_on}
 use Rattle.gq_model.specs.Lone.{Step, Cause, first_cause, session_causes, idle, no_quorum, quiet, line_step, retry_step}
 use Rattle.gq_world.specs.declared.sessions.Seat.{Seat}
 use Rattle.gq_world.specs.Tables.{Tables, Agrees, SeatAgrees, Sits, IsReady, seats_at, seat_in}
@@ -27,6 +27,7 @@ use Rattle.gq_world.specs.Asking.{idle_causes, rested_seat, rested_tables}
 use Rattle.gq_world.specs.Saying.{with_sent}
 use Rattle.gq_world.specs.Seats.{IsAtWork, SeatResends, SeatRefuses}
 use Rattle.gq_world.specs.Machine.{Acts, TellsLine, acted, state_after_turn}
+use Rattle.gq_world.proofs.Counting.{counted, more_counted, messages_uncounted}
 use Rattle.gq_world.proofs.Hearing.{length-rising}
 use Rattle.gq_world.proofs.Quiet.{offered_on}
 use Rattle.gq_world.proofs.Lanes.{sent_count, sent_messages, new_not_lost, lane_there, quorums_in}
@@ -90,7 +91,7 @@ at_work w t k is =
 -- ---- what the seat stands for
 
 -- the operation of a seat that has one
-its_operation : (grid : Grid) (t own last : ℕ) (code : Code) (k : ℕ) (s : Session) (current : Option Task) → Sits grid t own (Some code) last (option_map (operation_with k s) current) → (task : Task) × (current ≡ Some task) × StandsFor grid t code (operation_with k s task)
+pub its_operation : (grid : Grid) (t own last : ℕ) (code : Code) (k : ℕ) (s : Session) (current : Option Task) → Sits grid t own (Some code) last (option_map (operation_with k s) current) → (task : Task) × (current ≡ Some task) × StandsFor grid t code (operation_with k s task)
 its_operation grid t own last code k s None sits = absurd sits
 its_operation grid t own last code k s (Some task) sits = (task, refl, sits)
 
@@ -109,7 +110,7 @@ works w t k r is =
 
 -- ---- it gives its operation up
 
-rests_at : (grid : Grid) (t own last : ℕ) (code : Option Code) (k : ℕ) (s : Session) (current : Option Task) → last ≡ s.floor → Sits grid t own code last (option_map (operation_with k s) current) → last_number own code ≡ s.floor
+pub rests_at : (grid : Grid) (t own last : ℕ) (code : Option Code) (k : ℕ) (s : Session) (current : Option Task) → last ≡ s.floor → Sits grid t own code last (option_map (operation_with k s) current) → last_number own code ≡ s.floor
 rests_at grid t own last None k s None same sits = sits ∙ same
 rests_at grid t own last None k s (Some task) same sits = absurd sits
 rests_at grid t own last (Some code) k s None same sits = absurd sits
@@ -156,13 +157,15 @@ abandon_own w t k known tenants places asked agrees =
     record {
       lines = agrees.lines;
       up = agrees.up;
+      gone = agrees.gone;
       account = agrees.account;
       sent = agrees.sent;
       lost = agrees.lost;
       messages = agrees.messages;
       accounts = agrees.accounts;
       copies = agrees.copies;
-      whole = agrees.whole;
+      lacking = agrees.lacking;
+      down = agrees.down;
       seats = λ place within.
           let Q : List Seat → Type 0 = λ all. SeatAgrees w.plan.grid t (place + 1) (seat_in all place) new in
           subst Q (sym here) (elim (cases_eq place (k - 1)) [
@@ -170,7 +173,7 @@ abandon_own w t k known tenants places asked agrees =
                 let at : k ≡ place + 1 = omega arith in
                 let last = rests_at w.plan.grid t old.floor (state.session k).floor old.operation k (state.session k) (state.session k).current refl seat.sits in
                 let now : Has w.plan.grid t k (rested_seat old) (new.session k) = subst (Has w.plan.grid t k (rested_seat old)) (sym (rested state k)) (seat.op, last) in
-                let agreed : SeatAgrees w.plan.grid t k (rested_seat old) new = record { op = now.0; sits = now.1 } in
+                let agreed : SeatAgrees w.plan.grid t k (rested_seat old) new = record { op = now.0; answered = λ busy. absurd (cc); sits = now.1 } in
                 let put : seat_in seats (k - 1) ≡ rested_seat old = get_or-set_same (seats_at w.seats t) (k - 1) (rested_seat old) _ places in
                 subst (λ j. SeatAgrees w.plan.grid t j (seat_in seats place) new) at
                 (subst (λ q. SeatAgrees w.plan.grid t k (seat_in seats q) new) (sym same)
@@ -181,7 +184,11 @@ abandon_own w t k known tenants places asked agrees =
                 let before = agrees.seats place within in
                 let there : Seat = seat_in (seats_at w.seats t) place in
                 let now : Has w.plan.grid t (place + 1) there (new.session (place + 1)) = subst (Has w.plan.grid t (place + 1) there) (sym (stays state k (place + 1) apart)) (before.op, before.sits) in
-                let agreed : SeatAgrees w.plan.grid t (place + 1) there new = record { op = now.0; sits = now.1 } in
+                let agreed : SeatAgrees w.plan.grid t (place + 1) there new = record {
+                  op = now.0;
+                  answered = λ busy server. before.answered busy server ∙ ap (λ x. counts_on state.sent (place + 1) x server) (sym (stays state k (place + 1) apart));
+                  sits = now.1;
+                } in
                 subst (λ (x : Seat). SeatAgrees w.plan.grid t (place + 1) x new) (sym kept) agreed)
           ]);
     }
@@ -192,22 +199,25 @@ abandon_other w t u place known other agrees =
     record {
       lines = agrees.lines;
       up = agrees.up;
+      gone = agrees.gone;
       account = agrees.account;
       sent = agrees.sent;
       lost = agrees.lost;
       messages = agrees.messages;
       accounts = agrees.accounts;
       copies = agrees.copies;
-      whole = agrees.whole;
+      lacking = agrees.lacking;
+      down = agrees.down;
       seats = λ p within. subst (λ all. SeatAgrees w.plan.grid u (p + 1) (seat_in all p) known.state) (sym there) (agrees.seats p within);
     }
 
 pub abandon_acts : (w : Tables) (t k : ℕ) → t < length w.seats → k - 1 < length (seats_at w.seats t) → first_cause (idle_causes w t k) ≡ None → Acts w t (Abandon k) (rested_tables w t (k - 1))
 abandon_acts w t k tenants places asked = record {
   plan = refl;
-  own = λ known agrees. subst (Agrees (rested_tables w t (k - 1)) t) (sym (abandon_known w t k known asked agrees)) (abandon_own w t k known tenants places asked agrees);
+  own = λ known most bounded agrees. subst (Agrees (rested_tables w t (k - 1)) t) (sym (abandon_known w t k known asked agrees)) (abandon_own w t k known tenants places asked agrees);
   others = λ u other known agrees. abandon_other w t u (k - 1) known other agrees;
   servers = refl;
+  gone = refl;
 }
 
 -- ---- it sends its round's message once more
@@ -266,6 +276,7 @@ record Again (w : Tables) (t k : ℕ) (known : Known) (messages : List Message) 
   pub step : line_step w.plan.grid (row_at w.plan t) known.state (Retry k) ≡ record { told = Resent (length known.state.sent) (length new); new = new }
   pub are : messages ≡ map (message_of t) new
   pub few : length new ≤ w.plan.grid.rows * w.plan.grid.cols
+  pub uncounted : (j : ℕ) (s : Session) (server : ℕ) → All (λ m. counted j s server m ≡ false) new
 
 sends_again : (grid : Grid) (state : State) (o : Operation) (quorum : Servers) → round_quorum grid state.up o.round ≡ Some quorum → retry_step grid state (Some o) ≡ record { told = Resent (length state.sent) (length (resent grid o quorum)); new = resent grid o quorum }
 sends_again grid state o quorum is = rw is refl
@@ -293,6 +304,7 @@ again w t k messages known h agrees =
       step = goes w t k known causes ∙ ap (retry_step w.plan.grid known.state) is ∙ sends_again w.plan.grid known.state o quorum there;
       are = out.2;
       few = few_resent w.plan.grid o quorum;
+      uncounted = λ j x server. messages_uncounted w.plan.grid o (λ one. quorum one && not (heard_servers o.heard one)) j x server;
     }
   where
     by : Option Code → Type 0
@@ -317,14 +329,22 @@ again_own w t k messages known h agrees =
     subst (Agrees (record w { lanes = with_sent w.lanes t messages }) t) (sym (ap (λ step. record known { state = state_after_turn state (Own (Retry k)) step }) a.step)) (record {
       lines = agrees.lines;
       up = agrees.up;
+      gone = agrees.gone;
       account = agrees.account;
       sent = ap (λ lanes. length (lane_at lanes t)) lanes_is ∙ sent_count w.lanes t state a.new h.lanes agrees.sent;
       lost = new_not_lost state a.new agrees.lost;
       messages = λ m. ap (λ lanes. message_at (lane_at lanes t) m) lanes_is ∙ sent_messages w.lanes t state a.new h.lanes agrees.sent agrees.messages agrees.lost m;
       accounts = agrees.accounts;
       copies = agrees.copies;
-      whole = agrees.whole;
-      seats = λ place within. let seat = agrees.seats place within in record { op = seat.op; sits = seat.sits };
+      lacking = agrees.lacking;
+      down = agrees.down;
+      seats = λ place within.
+          let seat = agrees.seats place within in
+          record {
+            op = seat.op;
+            answered = λ busy server. seat.answered busy server ∙ sym (more_counted state.sent a.new (place + 1) (state.session (place + 1)) server (a.uncounted (place + 1) (state.session (place + 1)) server));
+            sits = seat.sits;
+          };
     })
 
 again_other : (w : Tables) (t u : ℕ) (messages : List Message) (known : Known) → u ≢ t → Agrees w u known → Agrees (record w { lanes = with_sent w.lanes t messages }) u known
@@ -333,20 +353,23 @@ again_other w t u messages known other agrees =
     record {
       lines = agrees.lines;
       up = agrees.up;
+      gone = agrees.gone;
       account = agrees.account;
       sent = ap length lane ∙ agrees.sent;
       lost = agrees.lost;
       messages = λ m. ap (λ l. message_at l m) lane ∙ agrees.messages m;
       accounts = agrees.accounts;
       copies = agrees.copies;
-      whole = agrees.whole;
+      lacking = agrees.lacking;
+      down = agrees.down;
       seats = agrees.seats;
     }
 
 pub again_acts : (w : Tables) (t k : ℕ) (messages : List Message) → Resends w t k messages → Acts w t (Retry k) (record w { lanes = with_sent w.lanes t messages })
 again_acts w t k messages h = record {
   plan = refl;
-  own = λ known agrees. again_own w t k messages known h agrees;
+  own = λ known most bounded agrees. again_own w t k messages known h agrees;
   others = λ u other known agrees. again_other w t u messages known other agrees;
   servers = refl;
+  gone = refl;
 }

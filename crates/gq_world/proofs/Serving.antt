@@ -1,11 +1,12 @@
 -- A message comes to its server.
-use Rattle.std.proofs.Common.{◌≡◌, ◌≢◌, ◌∙◌, ℕ, ◌+◌, ◌*◌, ◌<◌, ◌≤◌, Bool, true, false, ◌&&◌, List, [], ◌∷◌, ◌++◌, length, map, refl, sym, ap, subst, Option, Some, None, arith, inl, inr, append-nil}
-use Rattle.std.specs.Prelude.{IsSome, slice_set, slice_get, option_map, unwrap_or, nat_lt, ◌==◌, if◌then◌else◌, fold}
+use Rattle.std.proofs.Common.{◌≡◌, ◌≢◌, ◌∙◌, ℕ, ◌+◌, ◌-◌, ◌*◌, ◌<◌, ◌≤◌, Bool, true, false, ◌&&◌, ◌||◌, not, List, [], ◌∷◌, ◌++◌, length, map, refl, sym, ap, subst, Option, Some, None, arith, inl, inr, append-nil}
+use Rattle.std.specs.Prelude.{IsSome, is_some, slice_set, slice_get, option_map, unwrap_or, nat_lt, ◌==◌, if◌then◌else◌, fold}
 use Rattle.std.specs.Option.{option_and_then}
 use Rattle.std.proofs.lemmas.Bool.{cases_eq, cases_Bool, ne_eqb, eq-eqb, eqb-true, and_from}
 use Rattle.std.proofs.lemmas.Bool.Decides.{nat_tests}
 use Rattle.std.proofs.lemmas.List.{get_or-set_same, get_or-set_other}
 use Rattle.gq_grid.specs.Grid.{Grid, Servers}
+use Rattle.gq_grid.proofs.Same.{or-false}
 use Rattle.gq_grid.specs.Sets.{servers}
 use Rattle.gq_grid.specs.declared.ServerSet.{ServerSet}
 use Rattle.gq_tag.specs.declared.StoredCopy.{StoredCopy}
@@ -13,7 +14,7 @@ use Rattle.gq_tag.specs.declared.FileId.{FileId}
 use Rattle.gq_tag.specs.declared.Body.{Body}
 use Rattle.gq_tag.specs.declared.Body.TheVariants.{Ask, Copy, Store, Stored}
 use Rattle.gq_tag.specs.declared.Message.{Message}
-use Rattle.gq_tag.specs.Tag.{File, is_file, OwnMessage, message_of, file_of, to_server, greatest, latest, first_copy, newer_of}
+use Rattle.gq_tag.specs.Tag.{File, is_file, OwnMessage, message_of, file_of, to_server, greatest, latest, first_copy, newer_of, answer_body}
 use Rattle.gq_tag.proofs.Greatest.{latest-append, latest-cons}
 use Rattle.gq_desk.specs.CheckedPlan.{row_at}
 use Rattle.gq_desk.specs.declared.plans.TenantRow.{TenantRow}
@@ -24,29 +25,40 @@ use Rattle.gq_store.specs.Copies.{StoreCopies, store_accounts, copy_at, file_lim
 use Rattle.gq_store.specs.Serving.{server_reply, held_after, serve_fault, fault_in}
 use Rattle.gq_model.specs.declared.events.Line.TheVariants.{Deliver}
 use Rattle.gq_model.specs.Told.{Replied, IsDown}
-use Rattle.gq_model.specs.Trace.{Own, Entry, State, Session, Known, changed, own_message_at, held, operation_with, serves, stored_by, account_of}
+use Rattle.gq_model.specs.Trace.{Own, Entry, State, Session, Known, changed, own_message_at, held, operation_with, serves, stored_by, account_of, operation, counts_on, is_awaited}
 use Rattle.gq_model.specs.Lone.{Step, quiet, reply_to, line_step}
 use Rattle.gq_laws.proofs.OperationMoments.{same_file}
 use Rattle.gq_world.specs.declared.sessions.Seat.{Seat}
 use Rattle.gq_world.specs.Bounds.{room, BodyFits, IsThere}
 use Rattle.gq_world.specs.Tables.{Tables, Agrees, SeatAgrees, Sits, IsReady, store_at, no_store, seats_at, seat_in, up_in}
+use Rattle.gq_phase.specs.declared.operation.Operation.{Operation as Code}
+use Rattle.gq_phase.specs.Standing.{is_current_as}
+use Rattle.gq_phase.specs.Course.{round_of}
 use Rattle.gq_world.specs.Saying.{with_sent}
+use Rattle.gq_world.specs.Seats.{SeatAnswers, is_of}
+use Rattle.gq_world.proofs.Counting.{counted, one_counted, not_own}
+use Rattle.gq_world.proofs.RetriesAndAbandons.{its_operation}
 use Rattle.gq_world.specs.Machine.{Acts, TellsLine, acted, state_after_turn}
 use Rattle.gq_world.proofs.Lanes.{sent_count, sent_messages, new_not_lost, lane_there}
 use Rattle.gq_world.proofs.Ready.{found, message_fits}
 
 -- ---- the server is up or not
 
-up_here : (grid : Grid) (set : ServerSet) (s : ℕ) → s < grid.rows * grid.cols → up_in grid set s ≡ servers set s
+pub up_here : (grid : Grid) (set : ServerSet) (s : ℕ) → s < grid.rows * grid.cols → up_in grid set s ≡ servers set s
 up_here grid set s within = by (nat_lt s (grid.rows * grid.cols)) (grind (arith, nat_tests))
   where
     by : (b : Bool) → b ≡ true → (if b then servers set s else true) ≡ servers set s
     by b is = rw is refl
 
--- no server lacks a file, so it serves it where it is up
+-- a server serves a file where it is up: it has the file then
+serves_is : (up gone lacking : Bool) → lacking ≡ gone → (gone ≡ true → up ≡ false) → (not lacking && up) ≡ up
+serves_is up true lacking same down = rw (same, down refl) refl
+serves_is up false lacking same down = rw same refl
+
 serves_up : (w : Tables) (t server : ℕ) (is : Bool) (known : Known) (message : OwnMessage) → Agrees w t known → server ≡ message.server → server < w.plan.grid.rows * w.plan.grid.cols → servers w.up server ≡ is → serves known.state.up known.state.lacks message.server message.file ≡ is
 serves_up w t server is known message agrees same within up =
-    rw (agrees.whole message.server message.file) (ap known.state.up (sym same) ∙ ap (λ (up : Servers). up server) (sym agrees.up) ∙ up_here w.plan.grid w.up server within ∙ up)
+    serves_is (known.state.up message.server) (known.state.gone message.server) (known.state.lacks message.server message.file) (agrees.lacking message.server message.file) (agrees.down message.server)
+    ∙ ap known.state.up (sym same) ∙ ap (λ (up : Servers). up server) (sym agrees.up) ∙ up_here w.plan.grid w.up server within ∙ up
 
 -- ---- what the model says
 
@@ -105,7 +117,7 @@ held_there takes session op round server file (Store copy) before s f other = rw
 
 -- ---- what the store did
 
-pub record Serves (w : Tables) (t n : ℕ) (m reply : Message) (store : StoreCopies) : Type 0 where
+pub record Serves (w : Tables) (t n : ℕ) (m reply : Message) (store : StoreCopies) (seats : List Seat) : Type 0 where
   pub there : message_at (lane_at w.lanes t) n ≡ Some m
   pub goes : to_server m.body ≡ true
   pub up : servers w.up m.server ≡ true
@@ -116,9 +128,14 @@ pub record Serves (w : Tables) (t n : ℕ) (m reply : Message) (store : StoreCop
   pub held : copy_at store m.file ≡ held_after (copy_at (store_at w.stores m.server) m.file) m.body
   pub others : (other : FileId) → other ≢ m.file → copy_at store other ≡ copy_at (store_at w.stores m.server) other
   pub accounts : store_accounts store ≡ store_accounts (store_at w.stores m.server)
+  pub tenants : t < length w.seats
+  pub first : 1 ≤ m.session
+  pub last : m.session ≤ (row_at w.plan t).sessions
+  pub answers : SeatAnswers (seat_in (seats_at w.seats t) (m.session - 1)) (seat_in seats (m.session - 1)) m
+  pub stays : (place : ℕ) → place ≢ m.session - 1 → seat_in seats place ≡ seat_in (seats_at w.seats t) place
 
-abbrev pub served_tables : Tables → ℕ → Message → Message → StoreCopies → Tables
-served_tables w t m reply store = record w { stores = slice_set w.stores m.server store; lanes = with_sent w.lanes t (reply ∷ []) }
+abbrev pub served_tables : Tables → ℕ → Message → Message → StoreCopies → List Seat → Tables
+served_tables w t m reply store seats = record w { stores = slice_set w.stores m.server store; lanes = with_sent w.lanes t (reply ∷ []); seats = slice_set w.seats t seats }
 
 reply_as : (t : ℕ) (copy : StoredCopy) (message : OwnMessage) → to_server message.body ≡ true → server_reply copy (message_of t message) ≡ message_of t (reply_to copy message)
 reply_as t copy message goes = refl
@@ -142,10 +159,10 @@ other_file t a b differs same =
     let e = sym is ∙ differs in
     cc
 
-copies_here : (w : Tables) (t n : ℕ) (m reply : Message) (store : StoreCopies) (known : Known) (message : OwnMessage) → Serves w t n m reply store → Agrees w t known → m ≡ message_of t message → serves known.state.up known.state.lacks message.server message.file ≡ true →
+copies_here : (w : Tables) (t n : ℕ) (m reply : Message) (store : StoreCopies) (seats : List Seat) (known : Known) (message : OwnMessage) → Serves w t n m reply store seats → Agrees w t known → m ≡ message_of t message → serves known.state.up known.state.lacks message.server message.file ≡ true →
     (s : ℕ) → s < w.plan.grid.rows * w.plan.grid.cols → (file : File) →
     copy_at (store_at (slice_set w.stores m.server store) s) (file_of t file) ≡ held (changed (serving n message (length known.state.sent) (held known.state message.server message.file)) known.state) s file
-copies_here w t n m reply store known message h agrees is up s within file =
+copies_here w t n m reply store seats known message h agrees is up s within file =
     let server : m.server ≡ message.server = ap (λ (x : Message). x.server) is in
     let file_is : m.file ≡ file_of t message.file = ap (λ (x : Message). x.file) is in
     let body : m.body ≡ message.body = ap (λ (x : Message). x.body) is in
@@ -189,15 +206,80 @@ copies_here w t n m reply store known message h agrees is up s within file =
 pub no_deed : (state : State) (n first k : ℕ) (message : OwnMessage) (copy : StoredCopy) → to_server message.body ≡ true → (changed (serving n message first copy) state).session k ≡ state.session k
 no_deed state n first k message copy goes = rw goes refl
 
-seat_same : (grid : Grid) (t k : ℕ) (seat : Seat) (old new : State) → new.session k ≡ old.session k → SeatAgrees grid t k seat old → SeatAgrees grid t k seat new
-seat_same grid t k seat old new same agrees =
-    let P : Session → Type 0 = λ after. (seat.op ≡ after.op) × Sits grid t seat.floor seat.operation after.floor (option_map (operation_with k after) after.current) in
-    let now : P (new.session k) = subst P (sym same) (agrees.op, agrees.sits) in
-    record { op = now.0; sits = now.1 }
+pub seat_same : (grid : Grid) (t k : ℕ) (seat : Seat) (old new : State) → new.session k ≡ old.session k → ((server : ℕ) → counts_on new.sent k (old.session k) server ≡ counts_on old.sent k (old.session k) server) → SeatAgrees grid t k seat old → SeatAgrees grid t k seat new
+seat_same grid t k seat old new same counts agrees =
+    let P : Session → Type 0 = λ after. (seat.op ≡ after.op) × (IsSome seat.operation → (server : ℕ) → servers seat.answered server ≡ counts_on new.sent k after server) × Sits grid t seat.floor seat.operation after.floor (option_map (operation_with k after) after.current) in
+    let now : P (new.session k) = subst P (sym same) (agrees.op, (λ busy server. agrees.answered busy server ∙ sym (counts server)), agrees.sits) in
+    record { op = now.0; answered = now.1; sits = now.2 }
 
-served_own : (w : Tables) (t n : ℕ) (m reply : Message) (store : StoreCopies) (known : Known) (message : OwnMessage) → Serves w t n m reply store → Agrees w t known → m ≡ message_of t message → serves known.state.up known.state.lacks message.server message.file ≡ true →
-    Agrees (served_tables w t m reply store) t (record known { state = changed (serving n message (length known.state.sent) (held known.state message.server message.file)) known.state })
-served_own w t n m reply store known message h agrees is up =
+-- the seat of the message's session, from which a server sends a reply; and another one
+seat_answers : (grid : Grid) (t : ℕ) (seat now : Seat) (m : Message) (old new : State) (message : OwnMessage) (copy : StoredCopy) → to_server message.body ≡ true → m ≡ message_of t message → SeatAnswers seat now m →
+    new.sent ≡ old.sent ++ reply_to copy message ∷ [] → new.session message.session ≡ old.session message.session → SeatAgrees grid t message.session seat old → SeatAgrees grid t message.session now new
+seat_answers grid t seat now m old new message copy goes is answers sent same agrees =
+    let k : ℕ = message.session in
+    let s : Session = old.session k in
+    let C : Option Code → Type 0 = λ code. Sits grid t seat.floor code s.floor (option_map (operation_with k s) s.current) in
+    let one : (code : Code) → seat.operation ≡ Some code → (server : ℕ) → servers now.answered server ≡ counts_on new.sent k s server = λ code here server.
+    let o = its_operation grid t seat.floor s.floor code k s s.current (subst C here agrees.sits) in
+    answers.answered server
+    ∙ ap (λ b. b || (is_of seat.operation m && (m.server == server))) (agrees.answered (rw here refl) server)
+    ∙ ap (λ b. counts_on old.sent k s server || b) (
+    ap (λ code. is_of code m && (m.server == server)) here
+    ∙ ap (λ (l : Message). is_current_as code l && (l.server == server)) is
+    ∙ counted_so code s message copy server goes o.2.going o.2.op o.2.round (ap is_some o.1))
+    ∙ sym (one_counted old.sent (reply_to copy message) k s server)
+    ∙ ap (λ l. counts_on l k s server) (sym sent) in
+    let P : Session → Type 0 = λ after. (seat.op ≡ after.op) × (IsSome seat.operation → (server : ℕ) → servers now.answered server ≡ counts_on new.sent k after server) × Sits grid t seat.floor seat.operation after.floor (option_map (operation_with k after) after.current) in
+    let all : P (new.session k) = subst P (sym same) (agrees.op, (λ busy server. let c = some_of seat.operation busy in one c.0 c.1 server), agrees.sits) in
+    record {
+      op = answers.op ∙ all.0;
+      answered = λ busy server. all.1 (subst (λ o. IsSome o) answers.operation busy) server;
+      sits = subst (λ floor. Sits grid t floor now.operation (new.session k).floor (operation new k)) (sym answers.floor) (subst (λ code. Sits grid t seat.floor code (new.session k).floor (operation new k)) (sym answers.operation) all.2);
+    }
+  where
+    some_of : (o : Option Code) → IsSome o → (code : Code) × (o ≡ Some code)
+    some_of None busy = absurd (cc)
+    some_of (Some code) busy = (code, refl)
+
+    reply_body : (copy : StoredCopy) (body : Body) → to_server body ≡ true → to_server (answer_body copy body) ≡ false
+    reply_body copy Ask is = refl
+    reply_body copy (Store other) is = refl
+    reply_body copy (Copy other) is = absurd (cc)
+    reply_body copy Stored is = absurd (cc)
+
+    turn_eq : (a b : ℕ) → (a == b) ≡ (b == a)
+    turn_eq a b = elim (cases_eq a b) [
+      | inl same ↦ (eq-eqb a b same ∙ sym (eq-eqb b a (sym same)))
+      | inr other ↦ (ne_eqb a b other ∙ sym (ne_eqb b a (λ e. other (sym e))))
+    ]
+
+    always : (a : Bool) → (a && true) ≡ a
+    always true = refl
+    always false = refl
+
+    never : (a : Bool) → (a && false) ≡ false
+    never true = refl
+    never false = refl
+
+    turned : (a b c d : Bool) → c ≡ d → ((a && b) && c) ≡ (d && (a && b))
+    turned a b c true same = rw same (always (a && b))
+    turned a b c false same = rw same (never (a && b))
+
+    counted_so : (code : Code) (s : Session) (message : OwnMessage) (copy : StoredCopy) (server : ℕ) → to_server message.body ≡ true → code.done ≡ false → code.who.op ≡ s.op → round_of code.course ≡ s.round → is_some s.current ≡ true →
+        (is_current_as code (message_of t message) && (message.server == server)) ≡ counted message.session s server (reply_to copy message)
+    counted_so code s message copy server goes going op round busy =
+        rw (going, op, round, busy, reply_body copy message.body goes, eq-eqb message.session message.session refl) (turned (message.op == s.op) (message.round == s.round) (message.server == server) (server == message.server) (turn_eq message.server server))
+
+seat_apart : (grid : Grid) (t k : ℕ) (seat : Seat) (old new : State) (message : OwnMessage) (copy : StoredCopy) → new.sent ≡ old.sent ++ reply_to copy message ∷ [] → new.session k ≡ old.session k → message.session ≢ k → SeatAgrees grid t k seat old → SeatAgrees grid t k seat new
+seat_apart grid t k seat old new message copy sent same other agrees = seat_same grid t k seat old new same (λ server.
+    ap (λ l. counts_on l k (old.session k) server) sent
+    ∙ one_counted old.sent (reply_to copy message) k (old.session k) server
+    ∙ ap (λ b. counts_on old.sent k (old.session k) server || b) (not_own (not (to_server (reply_to copy message).body)) (message.session == k) ((server == message.server) && is_awaited (old.session k) (reply_to copy message)) (ne_eqb message.session k other))
+    ∙ or-false (counts_on old.sent k (old.session k) server)) agrees
+
+served_own : (w : Tables) (t n : ℕ) (m reply : Message) (store : StoreCopies) (seats : List Seat) (known : Known) (message : OwnMessage) → Serves w t n m reply store seats → Agrees w t known → m ≡ message_of t message → serves known.state.up known.state.lacks message.server message.file ≡ true →
+    Agrees (served_tables w t m reply store seats) t (record known { state = changed (serving n message (length known.state.sent) (held known.state message.server message.file)) known.state })
+served_own w t n m reply store seats known message h agrees is up =
     let state : State = known.state in
     let copy : StoredCopy = held state message.server message.file in
     let new : List OwnMessage = reply_to copy message ∷ [] in
@@ -210,25 +292,44 @@ served_own w t n m reply store known message h agrees is up =
     record {
       lines = agrees.lines;
       up = agrees.up;
+      gone = agrees.gone;
       account = agrees.account;
       sent = ap (λ lanes. length (lane_at lanes t)) lanes_is ∙ sent_count w.lanes t state new h.lanes agrees.sent;
       lost = new_not_lost state new agrees.lost;
       messages = λ k. ap (λ lanes. message_at (lane_at lanes t) k) lanes_is ∙ sent_messages w.lanes t state new h.lanes agrees.sent agrees.messages agrees.lost k;
       accounts = λ s within. account_stays w t m store s h.stores h.accounts (agrees.accounts s within);
-      copies = copies_here w t n m reply store known message h agrees is up;
-      whole = agrees.whole;
+      copies = copies_here w t n m reply store seats known message h agrees is up;
+      lacking = agrees.lacking;
+      down = agrees.down;
       seats = λ place within.
-          let before = agrees.seats place within in
-          let session : (changed (serving n message (length state.sent) copy) state).session (place + 1) ≡ state.session (place + 1) = no_deed state n (length state.sent) (place + 1) message copy goes in
-          seat_same w.plan.grid t (place + 1) (seat_in (seats_at w.seats t) place) state (changed (serving n message (length state.sent) copy) state) session before;
+          let after : State = changed (serving n message (length state.sent) copy) state in
+          let first = h.first in
+          let session : m.session ≡ message.session = ap (λ (x : Message). x.session) is in
+          let same : (k : ℕ) → after.session k ≡ state.session k = λ k. no_deed state n (length state.sent) k message copy goes in
+          let here : seats_at (slice_set w.seats t seats) t ≡ seats = get_or-set_same w.seats t seats [] h.tenants in
+          subst (λ all. SeatAgrees w.plan.grid t (place + 1) (seat_in all place) after) (sym here) (elim (cases_eq place (m.session - 1)) [
+            | inl at ↦ (
+                let k : place + 1 ≡ message.session = omega arith in
+                let old : Seat = seat_in (seats_at w.seats t) (m.session - 1) in
+                let before : SeatAgrees w.plan.grid t message.session old state =
+                subst (λ j. SeatAgrees w.plan.grid t j old state) k (subst (λ q. SeatAgrees w.plan.grid t (place + 1) (seat_in (seats_at w.seats t) q) state) at (agrees.seats place within)) in
+                subst (λ j. SeatAgrees w.plan.grid t j (seat_in seats place) after) (sym k)
+                (subst (λ q. SeatAgrees w.plan.grid t message.session (seat_in seats q) after) (sym at)
+                (seat_answers w.plan.grid t old (seat_in seats (m.session - 1)) m state after message copy goes is h.answers refl (same message.session) before)))
+            | inr other ↦ (
+                let apart : message.session ≢ place + 1 = λ e. other (omega arith) in
+                subst (λ (seat : Seat). SeatAgrees w.plan.grid t (place + 1) seat after) (sym (h.stays place other))
+                (seat_apart w.plan.grid t (place + 1) (seat_in (seats_at w.seats t) place) state after message copy refl (same (place + 1)) apart (agrees.seats place within)))
+          ]);
     }
 
-served_other : (w : Tables) (t u n : ℕ) (m reply : Message) (store : StoreCopies) (known : Known) → u ≢ t → m.file.tenant ≡ t → Serves w t n m reply store → Agrees w u known → Agrees (served_tables w t m reply store) u known
-served_other w t u n m reply store known other tenant h agrees =
+served_other : (w : Tables) (t u n : ℕ) (m reply : Message) (store : StoreCopies) (seats : List Seat) (known : Known) → u ≢ t → m.file.tenant ≡ t → Serves w t n m reply store seats → Agrees w u known → Agrees (served_tables w t m reply store seats) u known
+served_other w t u n m reply store seats known other tenant h agrees =
     let lane : lane_at (with_sent w.lanes t (reply ∷ [])) u ≡ lane_at w.lanes u = lane_there w.lanes t u (reply ∷ []) other in
     record {
       lines = agrees.lines;
       up = agrees.up;
+      gone = agrees.gone;
       account = agrees.account;
       sent = ap length lane ∙ agrees.sent;
       lost = agrees.lost;
@@ -241,12 +342,13 @@ served_other w t u n m reply store known other tenant h agrees =
             let apart : file_of u file ≢ m.file = λ e. other (ap (λ (x : FileId). x.tenant) e ∙ tenant) in
             ap (λ (x : StoreCopies). copy_at x (file_of u file)) here ∙ h.others (file_of u file) apart ∙ ap (λ x. copy_at (store_at w.stores x) (file_of u file)) (sym at) ∙ agrees.copies s within file)
       ];
-      whole = agrees.whole;
-      seats = agrees.seats;
+      lacking = agrees.lacking;
+      down = agrees.down;
+      seats = λ place within. subst (λ all. SeatAgrees w.plan.grid u (place + 1) (seat_in all place) known.state) (sym (get_or-set_other w.seats t u seats [] other)) (agrees.seats place within);
     }
 
-pub served_tells : (w : Tables) (t n : ℕ) (m reply : Message) (store : StoreCopies) → Serves w t n m reply store → TellsLine w t (Deliver n) (Replied (length (lane_at w.lanes t)))
-served_tells w t n m reply store h known agrees =
+pub served_tells : (w : Tables) (t n : ℕ) (m reply : Message) (store : StoreCopies) (seats : List Seat) → Serves w t n m reply store seats → TellsLine w t (Deliver n) (Replied (length (lane_at w.lanes t)))
+served_tells w t n m reply store seats h known agrees =
     let f = found w t n m known agrees h.there in
     let message : OwnMessage = f.0 in
     let goes : to_server message.body ≡ true = ap (λ (x : Message). to_server x.body) (sym f.2) ∙ h.goes in
@@ -254,22 +356,23 @@ served_tells w t n m reply store h known agrees =
     let up : serves known.state.up known.state.lacks message.server message.file ≡ true = serves_up w t m.server true known message agrees server h.server h.up in
     ap Replied agrees.sent ∙ sym (ap (λ (step : Step). step.told) (serve_is w.plan.grid (row_at w.plan t) known.state n message f.1 goes up))
 
-pub served_acts : (w : Tables) (t n : ℕ) (m reply : Message) (store : StoreCopies) → IsReady w t → Serves w t n m reply store → Acts w t (Deliver n) (served_tables w t m reply store)
-served_acts w t n m reply store ready h = record {
+pub served_acts : (w : Tables) (t n : ℕ) (m reply : Message) (store : StoreCopies) (seats : List Seat) → IsReady w t → Serves w t n m reply store seats → Acts w t (Deliver n) (served_tables w t m reply store seats)
+served_acts w t n m reply store seats ready h = record {
   plan = refl;
-  own = λ known agrees.
+  own = λ known most bounded agrees.
       let f = found w t n m known agrees h.there in
       let message : OwnMessage = f.0 in
       let goes : to_server message.body ≡ true = ap (λ (x : Message). to_server x.body) (sym f.2) ∙ h.goes in
       let server : m.server ≡ message.server = ap (λ (x : Message). x.server) f.2 in
       let up : serves known.state.up known.state.lacks message.server message.file ≡ true = serves_up w t m.server true known message agrees server h.server h.up in
-      subst (Agrees (served_tables w t m reply store) t) (sym (served_known w.plan.grid (row_at w.plan t) known n message f.1 goes up))
-      (served_own w t n m reply store known message h agrees f.2 up);
+      subst (Agrees (served_tables w t m reply store seats) t) (sym (served_known w.plan.grid (row_at w.plan t) known n message f.1 goes up))
+      (served_own w t n m reply store seats known message h agrees f.2 up);
   others = λ u other known agrees.
       let f = found w t n m ready.known ready.agrees h.there in
       let tenant : m.file.tenant ≡ t = ap (λ (x : Message). x.file.tenant) f.2 in
-      served_other w t u n m reply store known other tenant h agrees;
+      served_other w t u n m reply store seats known other tenant h agrees;
   servers = refl;
+  gone = refl;
 }
 
 -- ---- the server is down
@@ -312,6 +415,7 @@ down_own w t n known message agrees goes down =
     record {
       lines = agrees.lines;
       up = agrees.up;
+      gone = agrees.gone;
       account = agrees.account;
       sent = agrees.sent ∙ ap length (sym nothing);
       lost = λ k past. agrees.lost k (subst (λ (l : List OwnMessage). length l ≤ k) nothing past);
@@ -319,9 +423,10 @@ down_own w t n known message agrees goes down =
       accounts = agrees.accounts;
       copies = λ s within file. agrees.copies s within file
           ∙ sym (ap (λ copies. greatest (first_copy ∷ copies)) (nothing_brought (serves state.up state.lacks) message.session message.op message.round message.server message.file message.body state.brought s file down));
-      whole = agrees.whole;
+      lacking = agrees.lacking;
+      down = agrees.down;
       seats = λ place within. seat_same w.plan.grid t (place + 1) (seat_in (seats_at w.seats t) place) state (changed (record { turn = Own (Deliver n); message = Some message; told = IsDown; new = [] }) state)
-          (down_deed state n (place + 1) message goes) (agrees.seats place within);
+          (down_deed state n (place + 1) message goes) (λ server. ap (λ l. counts_on l (place + 1) (state.session (place + 1)) server) nothing) (agrees.seats place within);
     }
   where
     down_deed : (state : State) (n k : ℕ) (message : OwnMessage) → to_server message.body ≡ true → (changed (record { turn = Own (Deliver n); message = Some message; told = IsDown; new = [] }) state).session k ≡ state.session k
@@ -330,7 +435,7 @@ down_own w t n known message agrees goes down =
 pub down_acts : (w : Tables) (t n : ℕ) (m : Message) → IsDownAt w t n m → Acts w t (Deliver n) w
 down_acts w t n m h = record {
   plan = refl;
-  own = λ known agrees.
+  own = λ known most bounded agrees.
       let f = found w t n m known agrees h.there in
       let message : OwnMessage = f.0 in
       let goes : to_server message.body ≡ true = ap (λ (x : Message). to_server x.body) (sym f.2) ∙ h.goes in
@@ -339,6 +444,7 @@ down_acts w t n m h = record {
       subst (Agrees w t) (sym (down_known w.plan.grid (row_at w.plan t) known n message f.1 goes down)) (down_own w t n known message agrees goes down);
   others = λ u other known agrees. agrees;
   servers = refl;
+  gone = refl;
 }
 
 -- ---- it is never refused

@@ -1,17 +1,19 @@
 -- What a session's seat stands for after a message.
-use Rattle.std.proofs.Common.{◌≡◌, ◌∙◌, ℕ, Option, Some, None, refl}
+use Rattle.std.proofs.Common.{◌≡◌, ◌∙◌, ℕ, Option, Some, None, List, refl}
 use Rattle.gq_grid.specs.Grid.{Grid, Servers}
+use Rattle.gq_grid.specs.declared.ServerSet.{ServerSet}
+use Rattle.gq_tag.specs.declared.Tag.{Tag}
 use Rattle.gq_tag.specs.declared.Message.{Message}
 use Rattle.gq_tag.specs.Tag.{OwnMessage, own_message}
 use Rattle.gq_phase.specs.declared.Outcome.{Outcome}
 use Rattle.gq_phase.specs.declared.Heard.{Heard}
-use Rattle.gq_phase.specs.declared.Heard.TheVariants.{Stale, Done}
+use Rattle.gq_phase.specs.declared.Heard.TheVariants.{Stale, Noted, Next, Done}
 use Rattle.gq_phase.specs.declared.operation.Operation.{Operation as Code}
 use Rattle.gq_phase.specs.Phase.{Operation, Heard as Saying, HeardStale, HeardNoted, HeardNext, HeardDone, hear}
 use Rattle.gq_phase.specs.Standing.{StandsAfter, HearsAs, heard_as, floor_of}
 use Rattle.gq_world.specs.Tables.{Sits}
 use Rattle.gq_world.specs.declared.sessions.Seat.{Seat}
-use Rattle.gq_world.specs.Seats.{said_by, operation_after, last_of, SeatHears}
+use Rattle.gq_world.specs.Seats.{said_by, operation_after, last_of, answered_after, SeatHears}
 
 -- what the value says is what the operation says
 pub seat_says : (old new : Code) (floor : ℕ) (up : Servers) (m : Message) (heard : Heard) → HearsAs old new up m heard →
@@ -61,17 +63,19 @@ empty_stays floor up m grid t last (Some o) sits = absurd sits
 -- ---- the seat
 
 pub seat_hears : (old : Seat) (code new : Code) (up : Servers) (m : Message) (heard : Heard) → old.operation ≡ Some code → HearsAs code new up m heard → ((x : Outcome) → heard ≡ Done x → ⊥) →
-    SeatHears old (record { op = old.op; floor = old.floor; operation = Some new }) up m heard
+    SeatHears old (record { op = old.op; floor = old.floor; operation = Some new; answered = answered_after heard old.answered }) up m heard
 seat_hears old code new up m heard is hears not = record {
   op = refl;
+  answered = refl;
   says = λ grid t last o sits. seat_says code new old.floor up m heard hears grid t last o (rw is at sits);
   sits = λ grid t last o sits. seat_goes_on code new old.floor up m heard hears not grid t last o (rw is at sits);
 }
 
 pub seat_ends : (old : Seat) (code new : Code) (floor : ℕ) (up : Servers) (m : Message) (outcome : Outcome) → old.operation ≡ Some code → HearsAs code new up m (Done outcome) → floor ≡ floor_of new →
-    SeatHears old (record { op = old.op; floor = floor; operation = None }) up m (Done outcome)
+    SeatHears old (record { op = old.op; floor = floor; operation = None; answered = old.answered }) up m (Done outcome)
 seat_ends old code new floor up m outcome is hears own = record {
   op = refl;
+  answered = refl;
   says = λ grid t last o sits. seat_says code new old.floor up m (Done outcome) hears grid t last o (rw is at sits);
   sits = λ grid t last o sits. seat_rests code new old.floor floor up m outcome hears own grid t last o (rw is at sits);
 }
@@ -79,6 +83,14 @@ seat_ends old code new floor up m outcome is hears own = record {
 pub seat_is_empty : (old : Seat) (up : Servers) (m : Message) → old.operation ≡ None → SeatHears old old up m Stale
 seat_is_empty old up m is = record {
   op = refl;
+  answered = refl;
   says = λ grid t last o sits. empty_says old.floor up m grid t last o (rw is at sits);
   sits = λ grid t last o sits. rw is (empty_stays old.floor up m grid t last o (rw is at sits));
 }
+
+-- a reply that begins no round leaves who sent replies
+pub answered_still : (heard : Heard) (answered : ServerSet) → ((round : ℕ) (tag : Option Tag) (messages : List Message) → heard ≡ Next round tag messages → ⊥) → answered_after heard answered ≡ answered
+answered_still Stale answered not = refl
+answered_still Noted answered not = refl
+answered_still (Next round tag messages) answered not = absurd (not round tag messages refl)
+answered_still (Done outcome) answered not = refl

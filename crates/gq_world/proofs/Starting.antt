@@ -3,7 +3,7 @@ use Rattle.std.proofs.Common.{◌≡◌, ◌∙◌, ℕ, zero, suc, ◌+◌, ◌
 use Rattle.std.proofs.Math.Path.{fun_ext}
 use Rattle.std.specs.Prelude.{min, nat_lt, slice_get, unwrap_or}
 use Rattle.std.specs.Option.{option_map}
-use Rattle.std.proofs.lemmas.Bool.{cases_Bool}
+use Rattle.std.proofs.lemmas.Bool.{cases_Bool, true≢false}
 use Rattle.std.proofs.lemmas.Option.{unwrap_or-slice_get, slice_get-map}
 use Rattle.std.proofs.lemmas.List.{get_or-replicate, length-map, length-replicate}
 use Rattle.std.proofs.lemmas.List.Elements.{All-replicate}
@@ -15,12 +15,12 @@ use Rattle.gq_tag.specs.Tag.{File, file_of, first_copy}
 use Rattle.gq_desk.specs.declared.limits.TheConstants.{MOST_SESSIONS}
 use Rattle.gq_desk.specs.declared.plans.TenantRow.{TenantRow}
 use Rattle.gq_desk.specs.CheckedPlan.{CheckedPlan, nobody, row_at}
-use Rattle.gq_desk.specs.Volumes.{Account, no_account, account_at, new_account}
+use Rattle.gq_desk.specs.Volumes.{no_account, account_at, new_account}
 use Rattle.gq_post.specs.Lanes.{lane_at, message_at}
 use Rattle.gq_store.specs.Copies.{StoreCopies, VolumeCopies, copies_account, store_accounts, new_tenant, empty_store, tenant_in, volume_copy, copy_at, empty_volume}
 use Rattle.gq_model.specs.Trace.{questions}
 use Rattle.gq_world.specs.declared.sessions.Seat.{Seat}
-use Rattle.gq_world.specs.Tables.{Tables, Agrees, Stands, SeatAgrees, IsOfPlan, IsShaped, up_in, store_at, no_store, seats_at, seat_in, no_seat}
+use Rattle.gq_world.specs.Tables.{Tables, Agrees, Stands, SeatAgrees, IsOfPlan, IsShaped, up_in, gone_in, store_at, no_store, seats_at, seat_in, no_seat}
 use Rattle.gq_world.specs.Whole.{AllSound, FewSessions, IsFirst}
 use Rattle.gq_world.proofs.Steps.{start_bounded}
 
@@ -29,6 +29,13 @@ all_up grid set is = fun_ext (λ s. by s (cases_Bool (nat_lt s (grid.rows * grid
   where
     by : (s : ℕ) → (nat_lt s (grid.rows * grid.cols) ≡ true) ⊎ (nat_lt s (grid.rows * grid.cols) ≡ false) → up_in grid set s ≡ true
     by s (inl within) = rw within (ap (λ (f : Servers). f s) is ∙ within)
+    by s (inr outside) = rw outside refl
+
+none_gone : (grid : Grid) (set : ServerSet) → servers set ≡ all_servers grid → gone_in grid set ≡ (λ server. false)
+none_gone grid set is = fun_ext (λ s. by s (cases_Bool (nat_lt s (grid.rows * grid.cols))))
+  where
+    by : (s : ℕ) → (nat_lt s (grid.rows * grid.cols) ≡ true) ⊎ (nat_lt s (grid.rows * grid.cols) ≡ false) → gone_in grid set s ≡ false
+    by s (inl within) = let here : servers set s ≡ true = ap (λ (f : Servers). f s) is ∙ within in rw (within, here) refl
     by s (inr outside) = rw outside refl
 
 fresh_at : (rows : List TenantRow) (t : ℕ) → account_at (map new_account rows) t ≡ new_account (unwrap_or (slice_get rows t) nobody)
@@ -97,17 +104,19 @@ agrees_first : (w : Tables) (t : ℕ) → IsFirst w.plan w → t < length w.plan
 agrees_first w t first within = record {
   lines = ap (λ lines. unwrap_or (slice_get lines t) 0) first.lines ∙ unwrap_or-slice_get (replicate (length w.plan.rows) 0) t 0 ∙ get_or-replicate (length w.plan.rows) t 0 0 within;
   up = all_up w.plan.grid w.up first.up;
+  gone = none_gone w.plan.grid w.kept first.kept;
   account = ap (λ desk. account_at desk t) first.desk ∙ fresh_at w.plan.rows t;
   sent = ap (λ lanes. length (lane_at lanes t)) first.lanes ∙ ap length (no_lane (length w.plan.rows) t);
   lost = λ n past. refl;
   messages = λ n. ap (λ lanes. message_at (lane_at lanes t) n) first.lanes ∙ ap (λ lane. message_at lane n) (no_lane (length w.plan.rows) t);
   accounts = λ s inside. ap (λ (store : StoreCopies). account_at (store_accounts store) t) (store_first w.plan w s first inside) ∙ ap (λ accounts. account_at accounts t) (accounts_first w.plan.rows ∙ sym first.desk);
   copies = λ s inside file. ap (λ (store : StoreCopies). copy_at store (file_of t file)) (store_first w.plan w s first inside) ∙ copy_first w.plan t file;
-  whole = λ s file. refl;
+  lacking = λ s file. refl;
+  down = λ s is. absurd (true≢false (sym is));
   seats = λ place inside.
       let are : seats_at w.seats t ≡ replicate (row_at w.plan t).sessions no_seat = ap (λ all. seats_at all t) first.seats ∙ seats_are w.plan.rows t within in
       let is : seat_in (seats_at w.seats t) place ≡ no_seat = ap (λ (seats : List Seat). seat_in seats place) are ∙ get_or-replicate (row_at w.plan t).sessions place no_seat no_seat inside in
-      subst (λ (seat : Seat). SeatAgrees w.plan.grid t (place + 1) seat (questions [])) (sym is) (record { op = refl; sits = refl });
+      subst (λ (seat : Seat). SeatAgrees w.plan.grid t (place + 1) seat (questions [])) (sym is) (record { op = refl; answered = λ busy. absurd (cc); sits = refl });
 }
 
 pub first_sound : (plan : CheckedPlan) (w : Tables) → IsFirst plan w → AllSound w
@@ -126,6 +135,7 @@ first_stands plan w first =
     record {
       tenants = λ t within. subst (λ n. Agrees w t (record { lines = n; state = questions [] })) (none_taken (row_at w.plan t).steps) (agrees_first w t f within);
       servers = all_up w.plan.grid w.up f.up;
+      gone = none_gone w.plan.grid w.kept f.kept;
     }
   where
     none_taken : (steps : ℕ) → 0 ≡ min steps 0

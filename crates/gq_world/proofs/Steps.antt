@@ -28,16 +28,24 @@ use Rattle.gq_world.proofs.Serving.{serving, served_known, down_known, no_deed}
 
 -- ---- a step that leaves all questions but the messages' loss as they were
 
+-- the same volumes and messages, copies that fit, and sessions that do and have their messages still
+pub kept_bounded : (grid : Grid) (row : TenantRow) (n : ℕ) (old new : State) → IsBounded grid row n old → new.volumes ≡ old.volumes → new.sent ≡ old.sent → ((server : ℕ) (file : File) → All (CopyFits n (room old.volumes file.volume)) (new.brought server file)) →
+    ((k : ℕ) → SessionFits n old.volumes k (new.session k)) → ((k : ℕ) (l : OwnMessage) → IsOfSession (old.session k) l → IsOfSession (new.session k) l) → IsBounded grid row n new
+kept_bounded grid row n old new h volumes sent brought sessions keeps = record {
+  messages = subst (λ vs. All (MessageFits grid row n vs) new.sent) (sym volumes) (subst (All (MessageFits grid row n old.volumes)) (sym sent) h.messages);
+  owners = subst (All (λ l. IsOfSession (new.session l.session) l)) (sym sent) (All-weaker (λ l. IsOfSession (old.session l.session) l) (λ l. IsOfSession (new.session l.session) l) (λ l is. keeps l.session l is) old.sent h.owners);
+  brought = λ server file. subst (λ vs. All (CopyFits n (room vs file.volume)) (new.brought server file)) (sym volumes) (brought server file);
+  sessions = λ k. subst (λ vs. SessionFits n vs k (new.session k)) (sym volumes) (sessions k);
+  sized = rw volumes h.sized;
+}
+
 -- the same answers to what a bound asks
 pub same_bounded : (grid : Grid) (row : TenantRow) (n : ℕ) (old new : State) → IsBounded grid row n old → new.volumes ≡ old.volumes → new.sent ≡ old.sent → ((server : ℕ) (file : File) → new.brought server file ≡ old.brought server file) →
     ((k : ℕ) → new.session k ≡ old.session k) → IsBounded grid row n new
-same_bounded grid row n old new h volumes sent brought session = record {
-  messages = subst (λ vs. All (MessageFits grid row n vs) new.sent) (sym volumes) (subst (All (MessageFits grid row n old.volumes)) (sym sent) h.messages);
-  owners = subst (All (λ l. IsOfSession (new.session l.session) l)) (sym sent) (All-weaker (λ l. IsOfSession (old.session l.session) l) (λ l. IsOfSession (new.session l.session) l) (λ l is. subst (λ s. IsOfSession s l) (sym (session l.session)) is) old.sent h.owners);
-  brought = λ server file. subst (λ vs. All (CopyFits n (room vs file.volume)) (new.brought server file)) (sym volumes) (subst (All (CopyFits n (room old.volumes file.volume))) (sym (brought server file)) (h.brought server file));
-  sessions = λ k. subst (λ vs. SessionFits n vs k (new.session k)) (sym volumes) (subst (SessionFits n old.volumes k) (sym (session k)) (h.sessions k));
-  sized = rw volumes h.sized;
-}
+same_bounded grid row n old new h volumes sent brought session = kept_bounded grid row n old new h volumes sent
+    (λ server file. subst (All (CopyFits n (room old.volumes file.volume))) (sym (brought server file)) (h.brought server file))
+    (λ k. subst (SessionFits n old.volumes k) (sym (session k)) (h.sessions k))
+    (λ k l is. subst (λ s. IsOfSession s l) (sym (session k)) is)
 
 -- ---- a delivery to a server
 
@@ -47,7 +55,7 @@ body_answer n size copy (Copy other) fits = fits
 body_answer n size copy (Store other) fits = tt
 body_answer n size copy Stored fits = fits
 
-held_fits : (n size : ℕ) (copies : List StoredCopy) → All (CopyFits n size) copies → CopyFits n size (greatest (first_copy ∷ copies))
+pub held_fits : (n size : ℕ) (copies : List StoredCopy) → All (CopyFits n size) copies → CopyFits n size (greatest (first_copy ∷ copies))
 held_fits n size copies all = greatest_fits n size (first_copy ∷ copies) (All-cons (CopyFits n size) first_copy copies (first_fits n size) all)
 
 brought_fits : (n : ℕ) (volumes : List VolumeRow) (takes : ℕ → File → Bool) (session op round server : ℕ) (file : File) (body : Body) (before : ℕ → File → List StoredCopy) (s : ℕ) (f : File) →
@@ -92,7 +100,7 @@ served_bounded grid row n state number message h there goes =
       }) (All-nil (MessageFits grid row n state.volumes)));
       owners = All-append O state.sent (answer ∷ [])
           (All-weaker (λ l. IsOfSession (state.session l.session) l) O (λ l is. subst (λ s. IsOfSession s l) (sym (no_deed state number (length state.sent) l.session message copy goes)) is) state.sent h.owners)
-          (All-cons O answer [] (subst (λ s. IsOfSession s answer) (sym (no_deed state number (length state.sent) message.session message copy goes)) (record { begun = owner.begun; volume = owner.volume })) (All-nil O));
+          (All-cons O answer [] (subst (λ s. IsOfSession s answer) (sym (no_deed state number (length state.sent) message.session message copy goes)) (record { begun = owner.begun; round = owner.round; volume = owner.volume })) (All-nil O));
       brought = λ server file. brought_fits n state.volumes (serves state.up state.lacks) message.session message.op message.round message.server message.file message.body state.brought server file fits.body (h.brought server file) (file_volume message.file file);
       sessions = λ k. subst (SessionFits n state.volumes k) (sym (no_deed state number (length state.sent) k message copy goes)) (h.sessions k);
       sized = h.sized;

@@ -1,5 +1,6 @@
 -- Why the tables refuse a request, and what they are once it began.
 use Rattle.std.specs.Prelude.{ℕ, ◌+◌, ◌-◌, List, [], ◌∷◌, ◌++◌, Option, Some, None, not, nat_lt, is_some, is_none, unwrap_or, length, slice_set}
+use Rattle.gq_grid.specs.Sets.{no_set}
 use Rattle.gq_tag.specs.declared.Message.{Message}
 use Rattle.gq_tag.specs.Tag.{file_of}
 use Rattle.gq_desk.specs.CheckedPlan.{row_at}
@@ -39,11 +40,11 @@ idle_causes w t k =
 
 -- the seat with one operation more
 abbrev pub busy_seat : Seat → Code → Seat
-busy_seat seat code = record { op = seat.op + 1; floor = seat.floor; operation = Some code }
+busy_seat seat code = record { op = seat.op + 1; floor = seat.floor; operation = Some code; answered = no_set }
 
 -- the seat without its operation, whose last number it keeps
 abbrev pub rested_seat : Seat → Seat
-rested_seat seat = record { op = seat.op; floor = last_number seat.floor seat.operation; operation = None }
+rested_seat seat = record { op = seat.op; floor = last_number seat.floor seat.operation; operation = None; answered = seat.answered }
 
 -- the tables in which the session at the place has given its operation up
 abbrev pub rested_tables : Tables → ℕ → ℕ → Tables

@@ -1,6 +1,6 @@
 -- What holds of all that is known of a tenant's run: its numbers are at most the steps taken, and its messages are ones that
 -- their servers and sessions can take. These are questions to the model alone; no table is named.
-use Rattle.std.specs.Prelude.{◌≡◌, ℕ, ◌+◌, ◌*◌, ◌<◌, ◌≤◌, List, true, Option, Some, None, All, length, slice_get}
+use Rattle.std.specs.Prelude.{◌≡◌, ℕ, ◌+◌, ◌*◌, ◌<◌, ◌≤◌, List, true, false, Option, Some, None, All, length, slice_get}
 use Rattle.std.specs.List.{list_all}
 use Rattle.gq_grid.specs.Grid.{Grid}
 use Rattle.gq_pool.specs.declared.TheConstants.{BLOCK_BYTES}
@@ -58,6 +58,7 @@ pub record OperationFits (n : ℕ) (volumes : List VolumeRow) (o : Operation) : 
   pub task : TaskFits volumes o.task
   pub file : (round_file o.task o.round).place < files_of volumes (volume_of o.task)
   pub collects : is_collect o.round ≡ true → o.round ≡ 2 * length o.collected + 1
+  pub stores : is_collect o.round ≡ false → o.round ≡ 2 * length o.collected
   pub heard : All (CopyFits n (room volumes (volume_of o.task))) (heard_copies o.heard)
   pub stored : CopyFits n (room volumes (volume_of o.task)) (stored_copy o.collected)
 
@@ -76,9 +77,11 @@ pub record MessageFits (grid : Grid) (row : TenantRow) (n : ℕ) (volumes : List
   pub file : IsThere volumes message.file
   pub body : BodyFits n (room volumes message.file.volume) message.body
 
--- the message is of an operation that its session began; where that is the one that it has, of a file of its volume
+-- the message is of an operation that its session began, where that is its last one of a round that began, and where it has it of a
+-- file of its volume
 pub record IsOfSession (s : Session) (message : OwnMessage) : Type 0 where
   pub begun : message.op ≤ s.op
+  pub round : message.op ≡ s.op → message.round ≤ s.round
   pub volume : (task : Task) → s.current ≡ Some task → message.op ≡ s.op → message.file.volume ≡ volume_of task
 
 -- ---- all of it

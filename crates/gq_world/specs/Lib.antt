@@ -1,6 +1,7 @@
 pub mod Adding
 pub mod Asking
 pub mod Bounds
+pub mod Losses
 pub mod Machine
 pub mod Response
 pub mod Running

@@ -1,15 +1,19 @@
 -- What a message does in the session that it comes to, whatever is known of the session.
-use Rattle.std.specs.Prelude.{◌≡◌, ℕ, ◌<◌, List, Option, Some, None}
+use Rattle.std.specs.Prelude.{◌≡◌, ℕ, ◌<◌, ◌&&◌, ◌||◌, ◌==◌, Bool, List, false, Option, Some, None, is_some, if◌then◌else◌}
 use Rattle.gq_grid.specs.Grid.{Grid, Servers}
 use Rattle.gq_tag.specs.declared.Message.{Message}
 use Rattle.gq_tag.specs.Tag.{OwnMessage, own_message}
+use Rattle.gq_grid.specs.Sets.{no_set, servers}
+use Rattle.gq_grid.specs.declared.ServerSet.{ServerSet}
 use Rattle.gq_phase.specs.declared.Heard.{Heard}
+use Rattle.gq_phase.specs.declared.Heard.TheVariants.{Stale, Noted, Next, Done}
 use Rattle.gq_phase.specs.declared.ResendRefused.{ResendRefused}
 use Rattle.gq_phase.specs.declared.operation.Operation.{Operation as Code}
 use Rattle.gq_phase.specs.Phase.{Operation, Heard as Saying, HeardStale, HeardNoted, HeardNext, HeardDone, hear, with_reply, moved}
-use Rattle.gq_phase.specs.Standing.{heard_as, floor_of, IsGoing, ResendsAs, RefusesAs}
+use Rattle.gq_phase.specs.Standing.{heard_as, floor_of, IsGoing, ResendsAs, RefusesAs, is_current_as}
 use Rattle.gq_world.specs.declared.sessions.Seat.{Seat}
 use Rattle.gq_world.specs.Tables.{Sits}
+use Rattle.gq_world.specs.Asking.{rested_seat}
 
 -- what a session with this operation, or with none, says to the message
 abbrev pub said_by : Grid → Servers → Option Operation → OwnMessage → Saying
@@ -29,9 +33,17 @@ abbrev pub last_of : ℕ → Option Operation → ℕ
 last_of last None = last
 last_of last (Some o) = o.floor
 
+-- the servers that sent replies of the operation and round: none once another round begins
+abbrev pub answered_after : Heard → ServerSet → ServerSet
+answered_after (Next round tag messages) answered = no_set
+answered_after Stale answered = answered
+answered_after Noted answered = answered
+answered_after (Done outcome) answered = answered
+
 -- whatever operation the seat stands for, this is what it says, and the seat stands for it afterwards
 pub record SeatHears (old new : Seat) (up : Servers) (message : Message) (heard : Heard) : Type 0 where
   pub op : new.op ≡ old.op
+  pub answered : new.answered ≡ answered_after heard old.answered
   pub says : (grid : Grid) (t last : ℕ) (o : Option Operation) → Sits grid t old.floor old.operation last o → heard ≡ heard_as t (said_by grid up o (own_message message))
   pub sits : (grid : Grid) (t last : ℕ) (o : Option Operation) → Sits grid t old.floor old.operation last o →
       Sits grid t new.floor new.operation (last_of last o) (operation_after o (own_message message) (said_by grid up o (own_message message)))
@@ -61,3 +73,23 @@ SeatRefuses seat up fault = by seat.operation
 abbrev pub FloorIsBelow : Option Code → Type 0
 FloorIsBelow None = Unit {0}
 FloorIsBelow (Some code) = floor_of code < 18446744073709551615
+
+-- the message is of the round of the session's operation
+abbrev pub is_of : Option Code → Message → Bool
+is_of None message = false
+is_of (Some code) message = is_current_as code message
+
+-- a server sends a reply to the message: it is one that sent replies, where the message is of the operation's round
+pub record SeatAnswers (old new : Seat) (message : Message) : Type 0 where
+  pub op : new.op ≡ old.op
+  pub floor : new.floor ≡ old.floor
+  pub operation : new.operation ≡ old.operation
+  pub answered : (server : ℕ) → servers new.answered server ≡ (servers old.answered server || (is_of old.operation message && message.server == server))
+
+-- the session's operation counts on the server
+abbrev pub seat_counts_on : Seat → ℕ → Bool
+seat_counts_on seat server = is_some seat.operation && servers seat.answered server
+
+-- it is given up where it does, for the server is lost
+abbrev pub left_seat : ℕ → Seat → Seat
+left_seat server seat = if seat_counts_on seat server then rested_seat seat else seat

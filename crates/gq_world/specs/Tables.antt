@@ -1,7 +1,7 @@
 -- What a contract sees of the tables of all tenants, and what a tenant's part of them answers to the questions.
-use Rattle.std.specs.Prelude.{◌≡◌, ℕ, ◌+◌, ◌*◌, ◌<◌, ◌≤◌, List, [], true, false, Option, Some, None, All, nat_lt, length, slice_get, unwrap_or, slice_index_or, option_map, if◌then◌else◌}
+use Rattle.std.specs.Prelude.{◌≡◌, ℕ, ◌+◌, ◌*◌, ◌<◌, ◌≤◌, List, [], true, false, not, ◌&&◌, Option, Some, None, IsSome, All, nat_lt, length, slice_get, unwrap_or, slice_index_or, option_map, if◌then◌else◌}
 use Rattle.gq_grid.specs.Grid.{Grid, Servers}
-use Rattle.gq_grid.specs.Sets.{servers}
+use Rattle.gq_grid.specs.Sets.{no_set, servers}
 use Rattle.gq_grid.specs.declared.ServerSet.{ServerSet}
 use Rattle.gq_grid.specs.declared.TheConstants.{MOST_SERVERS}
 use Rattle.gq_tag.specs.Tag.{File, file_of, message_of}
@@ -14,16 +14,17 @@ use Rattle.gq_phase.specs.Standing.{StandsFor}
 use Rattle.gq_phase.specs.declared.operation.Operation.{Operation as Code}
 use Rattle.gq_store.specs.Copies.{StoreCopies, store_accounts, copy_at}
 use Rattle.gq_model.specs.declared.events.Event.{Event}
-use Rattle.gq_model.specs.Trace.{State, Known, asked, account_of, own_message_at, held, operation, up as up_of}
+use Rattle.gq_model.specs.Trace.{State, Known, asked, account_of, own_message_at, held, operation, counts_on, up as up_of, gone as gone_of}
 use Rattle.gq_model.specs.Events.{past_at, server_past}
 use Rattle.gq_world.specs.declared.sessions.Seat.{Seat}
 use Rattle.gq_world.specs.Bounds.{IsBounded}
 
--- the plan, the servers that are up, how many steps of each tenant are taken, the tenants' volumes and messages, the
+-- the plan, the servers that are up, those that are not lost, how many steps of each tenant are taken, the tenants' volumes and messages, the
 -- servers' copies, and the tenants' sessions
 pub record Tables : Type 0 where
   pub plan : CheckedPlan
   pub up : ServerSet
+  pub kept : ServerSet
   pub lines : List ℕ
   pub desk : List Account
   pub lanes : List Lane
@@ -33,6 +34,10 @@ pub record Tables : Type 0 where
 -- the servers of the grid that are in the set, and every number that is no server
 abbrev pub up_in : Grid → ServerSet → Servers
 up_in grid set server = if nat_lt server (grid.rows * grid.cols) then servers set server else true
+
+-- the servers of the grid that are lost, where these are not
+abbrev pub gone_in : Grid → ServerSet → Servers
+gone_in grid kept server = nat_lt server (grid.rows * grid.cols) && not (servers kept server)
 
 -- how many steps of the tenant at place t are taken
 abbrev pub taken_at : Tables → ℕ → ℕ
@@ -46,7 +51,7 @@ abbrev pub store_at : List StoreCopies → ℕ → StoreCopies
 store_at stores server = slice_index_or stores server no_store
 
 abbrev pub no_seat : Seat
-no_seat = record { op = 0; floor = 0; operation = None }
+no_seat = record { op = 0; floor = 0; operation = None; answered = no_set }
 
 -- the sessions of the tenant at place t, and the one at a place of them, which is the session of one more
 abbrev pub seats_at : List (List Seat) → ℕ → List Seat
@@ -64,27 +69,32 @@ Sits grid t floor None last (Some o) = ⊥
 Sits grid t floor (Some code) last None = ⊥
 Sits grid t floor (Some code) last (Some o) = StandsFor grid t code o
 
+-- and while it has one, the servers that sent a reply of its operation and round
 pub record SeatAgrees (grid : Grid) (t k : ℕ) (seat : Seat) (state : State) : Type 0 where
   pub op : seat.op ≡ (state.session k).op
+  pub answered : IsSome seat.operation → (server : ℕ) → servers seat.answered server ≡ counts_on state.sent k (state.session k) server
   pub sits : Sits grid t seat.floor seat.operation (state.session k).floor (operation state k)
 
--- the tables have for the tenant at place t what is known of its run; the tables know no loss, and no server lacks a file
+-- the tables have for the tenant at place t what is known of its run; a server lacks a file exactly where it is lost, and is down then
 pub record Agrees (w : Tables) (t : ℕ) (known : Known) : Type 0 where
   pub lines : taken_at w t ≡ known.lines
   pub up : up_in w.plan.grid w.up ≡ known.state.up
+  pub gone : gone_in w.plan.grid w.kept ≡ known.state.gone
   pub account : account_at w.desk t ≡ account_of (row_at w.plan t) known.state
   pub sent : length (lane_at w.lanes t) ≡ length known.state.sent
   pub lost : (n : ℕ) → length known.state.sent ≤ n → known.state.is_lost n ≡ false
   pub messages : (n : ℕ) → message_at (lane_at w.lanes t) n ≡ option_map (message_of t) (own_message_at known.state n)
   pub accounts : (s : ℕ) → s < w.plan.grid.rows * w.plan.grid.cols → account_at (store_accounts (store_at w.stores s)) t ≡ account_at w.desk t
   pub copies : (s : ℕ) → s < w.plan.grid.rows * w.plan.grid.cols → (file : File) → copy_at (store_at w.stores s) (file_of t file) ≡ held known.state s file
-  pub whole : (s : ℕ) (file : File) → known.state.lacks s file ≡ false
+  pub lacking : (s : ℕ) (file : File) → known.state.lacks s file ≡ known.state.gone s
+  pub down : (s : ℕ) → known.state.gone s ≡ true → known.state.up s ≡ false
   pub seats : (place : ℕ) → place < (row_at w.plan t).sessions → SeatAgrees w.plan.grid t (place + 1) (seat_in (seats_at w.seats t) place) known.state
 
 -- the tables have what the events leave: for each tenant those that it sees, and for the servers the server lines
 pub record Stands (w : Tables) (events : List Event) : Type 0 where
   pub tenants : (t : ℕ) → t < length w.plan.rows → Agrees w t (asked (row_at w.plan t) (past_at w.plan t events))
   pub servers : up_in w.plan.grid w.up ≡ up_of (server_past w.plan events).trace
+  pub gone : gone_in w.plan.grid w.kept ≡ gone_of (server_past w.plan events).trace
 
 -- ---- the invariant
 

@@ -25,6 +25,7 @@ FewSessions plan = (t : ℕ) → t < length plan.rows → (row_at plan t).sessio
 pub record IsFirst (plan : CheckedPlan) (w : Tables) : Type 0 where
   pub plan_is : w.plan ≡ plan
   pub up : servers w.up ≡ all_servers plan.grid
+  pub kept : servers w.kept ≡ all_servers plan.grid
   pub lines : w.lines ≡ replicate (length plan.rows) 0
   pub desk : w.desk ≡ map new_account plan.rows
   pub lanes : w.lanes ≡ replicate (length plan.rows) []

@@ -2,6 +2,7 @@
 #![tactic(auto)]
 
 mod chooser;
+mod mates;
 mod new_files;
 mod replies;
 mod sending;

@@ -5,6 +5,8 @@ ghost use Rattle.gq_grid.specs.Grid.{Servers};
 ghost use Rattle.gq_grid.specs.Sets.{servers};
 ghost use Rattle.gq_grid.specs.declared.TheConstants.{MOST_SERVERS};
 ghost use Rattle.gq_phase.specs.Best.{copied_number};
+ghost use Rattle.gq_world.specs.Tables.{seats_at, seat_in};
+ghost use Rattle.gq_world.specs.Seats.{left_seat};
 
 use gq_grid::ServerSet;
 use gq_memory::{OutOfMemory, room_for};
@@ -13,12 +15,14 @@ use gq_tag::MessageView;
 use std::alloc::Global;
 use std::marker::Model;
 
-/// A session: how many operations it began, its operation if it has one, and its own last number while it has none.
+/// A session: how many operations it began, its operation if it has one, the servers that sent replies of this operation and
+/// its round, heard or not, and its own last number while it has none.
 #[derive(Drop)]
 pub(crate) struct Seat {
     pub(crate) op: u32,
     pub(crate) floor: u64,
     pub(crate) operation: Option<Operation>,
+    pub(crate) answered: ServerSet,
 }
 
 /// The sessions of a tenant. Session `k` has place `k - 1`.
@@ -37,13 +41,13 @@ impl Model for Seats {
 }
 
 impl Seats {
-    ghost use Rattle.gq_world.specs.Tables.{seat_in};
+    ghost use Rattle.gq_world.specs.Tables.{seat_in, no_seat};
     ghost use Rattle.gq_world.specs.Asking.{busy_seat, rested_seat};
-    ghost use Rattle.gq_world.specs.Seats.{SeatHears, SeatResends, SeatRefuses, IsAtWork, FloorIsBelow};
+    ghost use Rattle.gq_world.specs.Seats.{SeatHears, SeatAnswers, SeatResends, SeatRefuses, IsAtWork, FloorIsBelow, left_seat};
 
     // So many sessions that began nothing.
     pub(crate) fn new(alloc: Global, sessions: u32) -> Result<Seats, OutOfMemory>
-        ensures { IfOk result (λ seats. seats ≡ replicate sessions (record { op = 0; floor = 0; operation = None })) }
+        ensures { IfOk result (λ seats. seats ≡ replicate sessions no_seat) }
     {
         let mut items = room_for(alloc, sessions as usize)?;
         for _ in 0..sessions {
@@ -51,6 +55,7 @@ impl Seats {
                 op: 0,
                 floor: 0,
                 operation: None,
+                answered: ServerSet::empty(),
             });
         }
         Ok(Seats { items })
@@ -66,7 +71,35 @@ impl Seats {
         let seat = &mut self.items[place];
         seat.op += 1;
         seat.operation = Some(operation);
+        seat.answered = ServerSet::empty();
         seat.op
+    }
+
+    // A server sends a reply to this message of a session.
+    #[inline(always)]
+    pub(crate) fn answers(&mut self, message: &MessageView<'_>)
+        requires first { 1 ≤ message.now.session }
+        requires last { message.now.session ≤ length self.old }
+        requires server { message.now.server < MOST_SERVERS }
+        ensures answers { SeatAnswers (seat_in self.old (message.now.session - 1)) (seat_in self.new (message.now.session - 1)) message.now }
+        ensures others { (place : ℕ) → place ≢ message.now.session - 1 → seat_in self.new place ≡ seat_in self.old place }
+        ensures count { length self.new ≡ length self.old }
+    {
+        let seat = &mut self.items[message.session as usize - 1];
+        seat.answers(message);
+    }
+
+    // The server is lost: each session that counts on it gives its operation up.
+    pub(crate) fn give_up(&mut self, server: usize)
+        requires { server < MOST_SERVERS }
+        ensures left { (place : ℕ) → seat_in self.new place ≡ left_seat server (seat_in self.old place) }
+        ensures count { length self.new ≡ length self.old }
+    {
+        for place in 0..self.items.len() {
+            if self.items[place].counts_on(server) {
+                self.abandon(place);
+            }
+        }
     }
 
     // The session at the place sends its round's message once more, where the servers of `up` are up.
@@ -133,7 +166,20 @@ impl Seats {
 }
 
 impl Seat {
-    ghost use Rattle.gq_world.specs.Seats.{SeatHears, FloorIsBelow};
+    ghost use Rattle.gq_world.specs.Seats.{SeatHears, SeatAnswers, FloorIsBelow, seat_counts_on};
+
+    // A server sends a reply to this message of the session.
+    #[inline(always)]
+    fn answers(&mut self, message: &MessageView<'_>)
+        requires { message.now.server < MOST_SERVERS }
+        ensures { SeatAnswers self.old self.new message.now }
+    {
+        if let Some(operation) = &self.operation
+            && operation.is_current(message)
+        {
+            self.answered.insert(message.server as usize);
+        }
+    }
 
     // Notes a reply of the session's round that does not end it, and answers whether the message is one.
     #[inline(always)]
@@ -167,8 +213,28 @@ impl Seat {
                 self.rest(floor);
                 Ok(Heard::Done(outcome))
             }
+            Heard::Next {
+                round,
+                tag,
+                messages,
+            } => {
+                self.answered = ServerSet::empty();
+                Ok(Heard::Next {
+                    round,
+                    tag,
+                    messages,
+                })
+            }
             heard => Ok(heard),
         }
+    }
+
+    // Whether the session's operation counts on the server.
+    fn counts_on(&self, server: usize) -> bool
+        requires { server < MOST_SERVERS }
+        ensures { result ≡ seat_counts_on self.now server }
+    {
+        self.operation.is_some() && self.answered.has(server)
     }
 
     // The session has no operation any more, and this is its own last number.
@@ -177,5 +243,17 @@ impl Seat {
     {
         self.floor = floor;
         self.operation = None;
+    }
+}
+
+/// A server is lost: in each session of each tenant that counts on it the operation is given up.
+pub(crate) fn give_up_everywhere(seats: &mut Vec<Seats>, server: usize)
+    requires { server < MOST_SERVERS }
+    ensures left { (t place : ℕ) → seat_in (seats_at seats.new.items t) place ≡ left_seat server (seat_in (seats_at seats.old.items t) place) }
+    ensures count { length seats.new.items ≡ length seats.old.items }
+    ensures places { (t : ℕ) → length (seats_at seats.new.items t) ≡ length (seats_at seats.old.items t) }
+{
+    for tenant in 0..seats.len() {
+        seats[tenant].give_up(server);
     }
 }

@@ -1,13 +1,13 @@
 //! The tables of all tenants, and what a line does to them.
 
-ghost use Rattle.std.specs.Prelude.{◌≡◌, ◌<◌, ◌≤◌, ◌+◌, ◌*◌, length, map, replicate, not, nat_le, slice_set, true, false, IfOk, IfNone, OnOk};
+ghost use Rattle.std.specs.Prelude.{◌≡◌, ◌<◌, ◌≤◌, ◌+◌, ◌*◌, length, map, replicate, not, nat_le, slice_set, true, false, Some, IfOk, IfErr, IfNone, OnOk};
 ghost use Rattle.gq_grid.specs.Grid.{choose};
 ghost use Rattle.gq_grid.specs.declared.TheConstants.{MOST_SERVERS};
 ghost use Rattle.gq_desk.specs.CheckedPlan.{row_at};
 ghost use Rattle.gq_model.specs.declared.events.Event.{Event};
 ghost use Rattle.gq_model.specs.declared.events.Line.{Line};
 ghost use Rattle.gq_model.specs.Events.{IsIn};
-ghost use Rattle.gq_model.specs.Lone.{choice_told, change_refusal, first_cause};
+ghost use Rattle.gq_model.specs.Lone.{choice_told, change_refusal, loss_refusal, repair_refusal, first_cause};
 ghost use Rattle.gq_model.specs.Shown.{shown};
 ghost use Rattle.gq_model.specs.Told.{Began};
 ghost use Rattle.gq_post.specs.Lanes.{lane_at, message_at};
@@ -16,10 +16,11 @@ ghost use Rattle.gq_world.specs.Tables.{no_seat};
 ghost use Rattle.gq_world.specs.Whole.{FewSessions};
 
 use crate::chooser::Chooser;
+use crate::mates::{mate_among, take_copies};
 use crate::new_files::add_everywhere;
 use crate::replies::{answer, serve};
 use crate::sending::answer_heard;
-use crate::sessions::Seats;
+use crate::sessions::{Seats, give_up_everywhere};
 use bytes::Bytes;
 use gq_desk::{Desk, OpenRefused, Plan, VolumeRows};
 use gq_grid::ServerSet;
@@ -39,6 +40,8 @@ pub(crate) struct Core {
     alloc: Global,
     plan: Plan,
     up: Chooser,
+    // the servers that are not lost
+    kept: ServerSet,
     // how many steps of each tenant are taken
     lines: Vec<u32>,
     desk: Desk,
@@ -57,9 +60,9 @@ impl Model for Core {
 
     ghost Value = { Tables };
 
-    ghost view = { λ w. record { plan = w.plan; up = w.up.up; lines = w.lines.items; desk = w.desk; lanes = w.post; stores = w.stores.items; seats = w.seats.items } };
+    ghost view = { λ w. record { plan = w.plan; up = w.up.up; kept = w.kept; lines = w.lines.items; desk = w.desk; lanes = w.post; stores = w.stores.items; seats = w.seats.items } };
 
-    ghost invariant = { λ w. (w.up.grid ≡ w.plan.grid) × IsShaped (record { plan = w.plan; up = w.up.up; lines = w.lines.items; desk = w.desk; lanes = w.post; stores = w.stores.items; seats = w.seats.items }) };
+    ghost invariant = { λ w. (w.up.grid ≡ w.plan.grid) × IsShaped (record { plan = w.plan; up = w.up.up; kept = w.kept; lines = w.lines.items; desk = w.desk; lanes = w.post; stores = w.stores.items; seats = w.seats.items }) };
 }
 
 // A store for each server of the plan.
@@ -88,7 +91,8 @@ fn new_seats(alloc: Global, plan: &Plan) -> Result<Vec<Seats>, OutOfMemory>
 }
 
 impl Core {
-    ghost use Rattle.gq_world.specs.Tables.{IsReady, seats_at, seat_in, store_at, taken_at, up_in};
+    ghost use Rattle.gq_world.specs.Tables.{IsReady, seats_at, seat_in, store_at, taken_at, up_in, gone_in};
+    ghost use Rattle.gq_world.specs.Losses.{Loses, Repairs, HasMate};
     ghost use Rattle.gq_world.specs.Whole.{AllSound, IsFirst};
     ghost use Rattle.gq_world.specs.Asking.{volume_causes, file_causes, write_causes, idle_causes, begun_tables};
     ghost use Rattle.gq_world.specs.Machine.{Advances, Acts, Tells, TellsLine};
@@ -103,10 +107,12 @@ impl Core {
         let stores = new_stores(alloc, &plan)?;
         let seats = new_seats(alloc, &plan)?;
         let up = Chooser::new(*plan.grid());
+        let kept = ServerSet::all(plan.grid());
         Ok(Core {
             alloc,
             plan,
             up,
+            kept,
             lines,
             desk,
             post,
@@ -122,6 +128,7 @@ impl Core {
             alloc: _,
             plan,
             up,
+            kept: _,
             lines,
             desk,
             post,
@@ -608,6 +615,8 @@ impl Core {
             return Ok(Answer::Down);
         }
         let file = message.file;
+        let answering = &mut self.seats[tenant as usize];
+        answering.answers(&message);
         let store = &mut self.stores[server];
         let response = serve(store, &mut self.content, &message)?;
         let number = answer(
@@ -626,13 +635,15 @@ impl Core {
 
     // Why a line is refused by which the server comes up, or goes down where `up` is false.
     fn refusal(&self, server: u32, up: bool) -> Option<ServerRefusal>
-        ensures word { result ≡ change_refusal self.now.plan.grid (up_in self.now.plan.grid self.now.up) server up }
+        ensures word { result ≡ change_refusal self.now.plan.grid (up_in self.now.plan.grid self.now.up) (gone_in self.now.plan.grid self.now.kept) server up }
         ensures inside { IfNone result (server < self.now.plan.grid.rows * self.now.plan.grid.cols) }
         ensures bound { self.now.plan.grid.rows * self.now.plan.grid.cols ≤ MOST_SERVERS }
     {
         let servers = self.plan.grid().servers();
         if server as usize >= servers {
             Some(ServerRefusal::NoServer)
+        } else if !self.kept.has(server as usize) {
+            Some(ServerRefusal::Lost)
         } else if self.up.has(server as usize) == up {
             Some(ServerRefusal::Same)
         } else {
@@ -640,9 +651,70 @@ impl Core {
         }
     }
 
+    // Why a line is refused by which the server is lost.
+    fn loss_refusal(&self, server: u32) -> Option<ServerRefusal>
+        ensures word { result ≡ loss_refusal self.now.plan.grid (gone_in self.now.plan.grid self.now.kept) server }
+        ensures inside { IfNone result (server < self.now.plan.grid.rows * self.now.plan.grid.cols) }
+        ensures bound { self.now.plan.grid.rows * self.now.plan.grid.cols ≤ MOST_SERVERS }
+    {
+        let grid = self.plan.grid();
+        if server as usize >= grid.servers() {
+            Some(ServerRefusal::NoServer)
+        } else if !self.kept.has(server as usize) {
+            Some(ServerRefusal::Same)
+        } else {
+            match mate_among(grid, self.kept, server as usize) {
+                None => Some(ServerRefusal::Last),
+                Some(_) => None,
+            }
+        }
+    }
+
+    // The mate that gives a server its copies which is repaired, or why the line is refused.
+    fn mate(&self, server: u32) -> Result<usize, ServerRefusal>
+        ensures word { IfErr result (λ word. Some word ≡ repair_refusal self.now.plan.grid (up_in self.now.plan.grid self.now.up) (gone_in self.now.plan.grid self.now.kept) server) }
+        ensures mate { IfOk result (λ mate. HasMate self.now server mate) }
+        ensures bound { self.now.plan.grid.rows * self.now.plan.grid.cols ≤ MOST_SERVERS }
+    {
+        let grid = self.plan.grid();
+        if server as usize >= grid.servers() {
+            Err(ServerRefusal::NoServer)
+        } else if self.kept.has(server as usize) {
+            Err(ServerRefusal::Same)
+        } else {
+            match mate_among(grid, self.up.servers(), server as usize) {
+                None => Err(ServerRefusal::NoMate),
+                Some(mate) => Ok(mate),
+            }
+        }
+    }
+
+    // The server is lost, with its copies; operations that count on it are given up.
+    fn lose_server(&mut self, server: usize)
+        requires { server < self.old.plan.grid.rows * self.old.plan.grid.cols }
+        ensures { Loses self.old server self.new }
+    {
+        give_up_everywhere(&mut self.seats, server);
+        self.stores[server].lose();
+        self.up.remove(server);
+        self.kept.remove(server);
+    }
+
+    // The server is up again, and has the copies of the mate.
+    fn repair(&mut self, server: usize, mate: usize)
+        requires sound { AllSound self.old }
+        requires mate { HasMate self.old server mate }
+        ensures { Repairs self.old server mate self.new }
+    {
+        take_copies(&mut self.stores, server, mate);
+        self.up.insert(server);
+        self.kept.insert(server);
+    }
+
     // A server line.
     #[inline(always)]
     fn server_line(&mut self, line: &ServerLine) -> Answer
+        requires { AllSound self.old }
         ensures answer { Tells self.old (Event.Server line.now) (shown result) }
         ensures advances { Advances self.old (Event.Server line.now) self.new }
     {
@@ -660,6 +732,20 @@ impl Core {
                 None => {
                     self.up.insert(*server as usize);
                     Answer::ServerOk
+                }
+            },
+            ServerLine::Lost { server } => match self.loss_refusal(*server) {
+                Some(word) => Answer::ServerRefused(word),
+                None => {
+                    self.lose_server(*server as usize);
+                    Answer::ServerOk
+                }
+            },
+            ServerLine::Repaired { server } => match self.mate(*server) {
+                Err(word) => Answer::ServerRefused(word),
+                Ok(mate) => {
+                    self.repair(*server as usize, mate);
+                    Answer::Repaired { mate: mate as u32 }
                 }
             },
         }

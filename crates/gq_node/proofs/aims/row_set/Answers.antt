@@ -6,7 +6,7 @@ use Rattle.gq_grid.proofs.Same.{with_more}
 use Rattle.gq_node.proofs.aims.row_set.Goals as goal
 
 pub loop-col-init : goal.loop-col-init
-loop-col-init c = c.empty-set.ensures
+loop-col-init c = c.empty-set.ensures.none
 
 pub loop-col-preserved : goal.loop-col-preserved
 loop-col-preserved c =

@@ -3,4 +3,4 @@ use Rattle.gq_picture.proofs.Absent.{Back}
 use Rattle.gq_picture.proofs.absences.read_absences.Given as goal
 
 abbrev pub invariant-loop-i : goal.invariant-loop-i
-invariant-loop-i l = Back l.servers l.places l.events l.i l.returns.items l.all.items
+invariant-loop-i l = Back l.servers l.places l.effects l.i l.returns.items l.all.items

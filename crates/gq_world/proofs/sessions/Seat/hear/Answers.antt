@@ -1,12 +1,13 @@
 -- The seat stands for what the message leaves of the operation.
-use Rattle.std.proofs.Common.{sym, subst}
+use Rattle.std.proofs.Common.{Some, sym, subst}
 use Rattle.gq_grid.specs.Sets.{servers}
+use Rattle.gq_grid.specs.declared.ServerSet.{ServerSet}
 use Rattle.gq_phase.specs.declared.Heard.{Heard}
-use Rattle.gq_phase.specs.declared.Heard.TheVariants.{Done}
+use Rattle.gq_phase.specs.declared.Heard.TheVariants.{Next, Done}
 use Rattle.gq_phase.specs.Standing.{HearsAs}
 use Rattle.gq_world.specs.declared.sessions.Seat.{Seat}
 use Rattle.gq_world.specs.Seats.{SeatHears}
-use Rattle.gq_world.proofs.Sitting.{seat_hears, seat_ends}
+use Rattle.gq_world.proofs.Sitting.{seat_hears, seat_ends, answered_still}
 use Rattle.gq_world.proofs.sessions.Seat.hear.Goals as goal
 
 pub returns-in-Done : goal.returns-in-Done
@@ -18,8 +19,21 @@ returns-in-Done c =
           c.in-Some.is (subst P c.in-Done.is c.in_ok-heard.ensures.hears) c.floor-floor.ensures);
     }
 
+pub returns-in-Next : goal.returns-in-Next
+returns-in-Next c =
+    let P : Heard → Type 0 = λ heard. HearsAs c.in-Some.operation c.hear_view.new.self (servers c.args.up) c.args.message.now heard in
+    let heard : Heard = Next c.in-Next.round c.in-Next.tag c.in-Next.messages in
+    let A : ServerSet → Type 0 = λ set. SeatHears c.args.self.now (record { op = c.args.self.now.op; floor = c.args.self.now.floor; operation = Some c.hear_view.new.self; answered = set }) (servers c.args.up) c.args.message.now heard in
+    record {
+      hears = subst A (sym c.empty-self.ensures.value) (seat_hears c.args.self.now c.in-Some.operation c.hear_view.new.self (servers c.args.up) c.args.message.now heard
+          c.in-Some.is (subst P c.in-Next.is c.in_ok-heard.ensures.hears) (λ x e. cc));
+    }
+
 pub returns-in_default-heard : goal.returns-in_default-heard
-returns-in_default-heard c = record {
-  hears = seat_hears c.args.self.now c.in-Some.operation c.hear_view.new.self (servers c.args.up) c.args.message.now c.in_ok-heard.heard
-      c.in-Some.is c.in_ok-heard.ensures.hears c.in_default-heard.not-Done;
-}
+returns-in_default-heard c =
+    let heard : Heard = c.in_ok-heard.heard in
+    let A : ServerSet → Type 0 = λ set. SeatHears c.args.self.now (record { op = c.args.self.now.op; floor = c.args.self.now.floor; operation = Some c.hear_view.new.self; answered = set }) (servers c.args.up) c.args.message.now heard in
+    record {
+      hears = subst A (answered_still heard c.args.self.now.answered c.in_default-heard.not-Next) (seat_hears c.args.self.now c.in-Some.operation c.hear_view.new.self (servers c.args.up) c.args.message.now heard
+          c.in-Some.is c.in_ok-heard.ensures.hears c.in_default-heard.not-Done);
+    }

@@ -12,7 +12,7 @@ use Rattle.gq_world.proofs.sessions.Seat.notes.Goals as goal
 pub returns-in-Some-clause-hears : goal.returns-in-Some-clause-hears
 returns-in-Some-clause-hears c =
     let old : Seat = c.args.self.now in
-    let new : Seat = record { op = old.op; floor = old.floor; operation = Some c.notes.new.self } in
+    let new : Seat = record { op = old.op; floor = old.floor; operation = Some c.notes.new.self; answered = old.answered } in
     let P : Bool → Type 0 = λ noted. noted ≡ true → (up : Servers) → HearsAs c.in-Some.operation c.notes.new.self up c.args.message.now Noted in
     let Q : Bool → Type 0 = λ noted. noted ≡ true → (up : Servers) → SeatHears old new up c.args.message.now Noted in
     IfOk-weaker c.notes.result P Q (λ noted hears is up. seat_hears old c.in-Some.operation c.notes.new.self up c.args.message.now Noted c.in-Some.is (hears is up) (λ x e. cc)) c.notes.ensures.hears
@@ -21,5 +21,5 @@ pub returns-in-Some-clause-stays : goal.returns-in-Some-clause-stays
 returns-in-Some-clause-stays c =
     let old : Seat = c.args.self.now in
     let P : Bool → Type 0 = λ noted. noted ≡ false → c.notes.new.self ≡ c.in-Some.operation in
-    let Q : Bool → Type 0 = λ noted. noted ≡ false → record { op = old.op; floor = old.floor; operation = Some c.notes.new.self } ≡ old in
+    let Q : Bool → Type 0 = λ noted. noted ≡ false → record { op = old.op; floor = old.floor; operation = Some c.notes.new.self; answered = old.answered } ≡ old in
     IfOk-weaker c.notes.result P Q (λ noted same is. ap (λ o. record old { operation = o }) (ap Some (same is) ∙ sym c.in-Some.is)) c.notes.ensures.stays

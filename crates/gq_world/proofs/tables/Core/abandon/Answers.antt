@@ -43,6 +43,6 @@ returns-clause-acts c =
     c.index_mut.ensures.value ∙ get_or_default c.self.inside.seats.items t _ _ (rw seats_now tenants) ∙ ap (λ all. seats_at all t) seats_now in
     let new : List Seat = slice_set (seats_at w.seats t) (k - 1) (rested_seat (seat_in (seats_at w.seats t) (k - 1))) in
     let new_is : c.abandon.new.self ≡ new = c.abandon.ensures ∙ ap (λ (all : List Seat). slice_set all (k - 1) (rested_seat (seat_in all (k - 1)))) seats_is in
-    let V : List Seat → Tables = λ seats. record { plan = c.self.inside.plan; up = c.self.inside.up.up; lines = c.self.inside.lines.items; desk = c.self.inside.desk; lanes = c.self.inside.post; stores = c.self.inside.stores.items; seats = slice_set c.self.inside.seats.items t seats } in
+    let V : List Seat → Tables = λ seats. record { plan = c.self.inside.plan; up = c.self.inside.up.up; kept = c.self.inside.kept; lines = c.self.inside.lines.items; desk = c.self.inside.desk; lanes = c.self.inside.post; stores = c.self.inside.stores.items; seats = slice_set c.self.inside.seats.items t seats } in
     let now : rested_tables w t (k - 1) ≡ V c.abandon.new.self = ap (λ (x : Tables). record x { seats = slice_set x.seats t new }) (sym c.self.view_is) ∙ ap V (sym new_is) in
     subst (Acts w t (Abandon k)) now (abandon_acts w t k tenants places asked)

@@ -22,7 +22,7 @@ use Rattle.gq_phase.specs.Standing.{messages_of}
 use Rattle.gq_world.specs.Saying.{with_sent, heard_told}
 use Rattle.gq_world.specs.Response.{body_in}
 use Rattle.gq_desk.specs.Volumes.{limit_of}
-use Rattle.gq_world.specs.Seats.{SeatHears, FloorIsBelow}
+use Rattle.gq_world.specs.Seats.{SeatHears, SeatAnswers, FloorIsBelow}
 use Rattle.gq_world.specs.Machine.{Acts, TellsLine}
 use Rattle.gq_world.proofs.Ready.{server_below, number_below, seat_floor_below, session_within, message_fits}
 use Rattle.gq_world.proofs.Delivering.{HearsAt, heard_tells, heard_acts}
@@ -105,7 +105,7 @@ returns-then-not-to_server-clause-acts c =
       others = λ place other. c.hear.ensures.others place other ∙ ap (λ seats. seat_in seats place) seats_is;
     } in
     let now = ap (λ (x : Tables). record x { lanes = with_sent x.lanes t (messages_of heard); seats = slice_set x.seats t c.hear.new.self }) (sym c.self.view_is) in
-    let V : List Lane → Tables = λ lanes. record { plan = c.self.inside.plan; up = c.self.inside.up.up; lines = c.self.inside.lines.items; desk = c.self.inside.desk; lanes = lanes; stores = c.self.inside.stores.items; seats = slice_set c.self.inside.seats.items t c.hear.new.self } in
+    let V : List Lane → Tables = λ lanes. record { plan = c.self.inside.plan; up = c.self.inside.up.up; kept = c.self.inside.kept; lines = c.self.inside.lines.items; desk = c.self.inside.desk; lanes = lanes; stores = c.self.inside.stores.items; seats = slice_set c.self.inside.seats.items t c.hear.new.self } in
     on_ok_weaker {P = c.answer_heard.new.post ≡ with_sent c.self.inside.post t (messages_of heard)} {Q = Acts w t (Deliver n) (V c.answer_heard.new.post)} c.answer_heard.result
     (λ sent. subst (Acts w t (Deliver n)) (now ∙ ap V (sym sent)) (heard_acts w t n m c.hear.new.self heard at))
     c.answer_heard.ensures.sent
@@ -237,7 +237,12 @@ returns-clause-answer c =
     c.index_mut-store.ensures.value ∙ get_or_default c.self.inside.stores.items c.message.inside.server _ _ (rw (stores_now, server) stores) ∙ ap (λ all. store_at all c.message.inside.server) stores_now ∙ ap (store_at w.stores) server in
     let lanes : t < length w.lanes = rw shaped.lanes c.requires.tenant in
     let reply : Message = record m { body = body_in c.as_slice.result.now c.in_ok-response.response } in
-    let at : Serves w t n m reply c.answer.new.store = record {
+    let tenants : t < length w.seats = rw shaped.tenants c.requires.tenant in
+    let seats_now : c.self.inside.seats.items ≡ w.seats = ap (λ (x : Tables). x.seats) c.self.view_is in
+    let seats_was : c.index_mut-answering.result.now ≡ seats_at w.seats t =
+    c.index_mut-answering.ensures.value ∙ get_or_default c.self.inside.seats.items t _ _ (rw seats_now tenants) ∙ ap (λ all. seats_at all t) seats_now in
+    let A : List Seat → Type 0 = λ seats. SeatAnswers (seat_in seats (m.session - 1)) (seat_in c.answers.new.self (m.session - 1)) m in
+    let at : Serves w t n m reply c.answer.new.store c.answers.new.self = record {
       there = there;
       goes = sym c.to_server.ensures ∙ c.if-not-to_server.false;
       up = ap (λ (x : Tables). servers x.up m.server) (sym c.self.view_is) ∙ ap (servers c.self.inside.up.up) (sym server) ∙ sym c.has.ensures ∙ c.if-not-has.false;
@@ -248,9 +253,14 @@ returns-clause-answer c =
       held = ap (λ (store : StoreCopies). copy_at store m.file) c.answer.ensures.store ∙ c.in_ok-response.ensures.held ∙ ap (λ (store : StoreCopies). held_after (copy_at store m.file) m.body) store_is;
       others = λ other apart. ap (λ (store : StoreCopies). copy_at store other) c.answer.ensures.store ∙ c.in_ok-response.ensures.others other apart ∙ ap (λ (store : StoreCopies). copy_at store other) store_is;
       accounts = ap store_accounts c.answer.ensures.store ∙ c.in_ok-response.ensures.accounts ∙ ap store_accounts store_is;
+      tenants = tenants;
+      first = fits.first;
+      last = fits.last;
+      answers = subst A seats_was c.answers.ensures.answers;
+      stays = λ place other. c.answers.ensures.others place other ∙ ap (λ seats. seat_in seats place) seats_was;
     } in
     let number : c.in_ok-number.number ≡ length (lane_at w.lanes t) = c.in_ok-number.ensures.number ∙ ap (λ (x : Tables). length (lane_at x.lanes t)) c.self.view_is in
-    subst (λ k. TellsLine w t (Deliver n) (Replied k)) (sym number) (served_tells w t n m reply c.answer.new.store at)
+    subst (λ k. TellsLine w t (Deliver n) (Replied k)) (sym number) (served_tells w t n m reply c.answer.new.store c.answers.new.self at)
 
 pub returns-clause-acts : goal.returns-clause-acts
 returns-clause-acts c =
@@ -270,7 +280,12 @@ returns-clause-acts c =
     c.index_mut-store.ensures.value ∙ get_or_default c.self.inside.stores.items c.message.inside.server _ _ (rw (stores_now, server) stores) ∙ ap (λ all. store_at all c.message.inside.server) stores_now ∙ ap (store_at w.stores) server in
     let lanes : t < length w.lanes = rw shaped.lanes c.requires.tenant in
     let reply : Message = record m { body = body_in c.as_slice.result.now c.in_ok-response.response } in
-    let at : Serves w t n m reply c.answer.new.store = record {
+    let tenants : t < length w.seats = rw shaped.tenants c.requires.tenant in
+    let seats_now : c.self.inside.seats.items ≡ w.seats = ap (λ (x : Tables). x.seats) c.self.view_is in
+    let seats_was : c.index_mut-answering.result.now ≡ seats_at w.seats t =
+    c.index_mut-answering.ensures.value ∙ get_or_default c.self.inside.seats.items t _ _ (rw seats_now tenants) ∙ ap (λ all. seats_at all t) seats_now in
+    let A : List Seat → Type 0 = λ seats. SeatAnswers (seat_in seats (m.session - 1)) (seat_in c.answers.new.self (m.session - 1)) m in
+    let at : Serves w t n m reply c.answer.new.store c.answers.new.self = record {
       there = there;
       goes = sym c.to_server.ensures ∙ c.if-not-to_server.false;
       up = ap (λ (x : Tables). servers x.up m.server) (sym c.self.view_is) ∙ ap (servers c.self.inside.up.up) (sym server) ∙ sym c.has.ensures ∙ c.if-not-has.false;
@@ -281,11 +296,16 @@ returns-clause-acts c =
       held = ap (λ (store : StoreCopies). copy_at store m.file) c.answer.ensures.store ∙ c.in_ok-response.ensures.held ∙ ap (λ (store : StoreCopies). held_after (copy_at store m.file) m.body) store_is;
       others = λ other apart. ap (λ (store : StoreCopies). copy_at store other) c.answer.ensures.store ∙ c.in_ok-response.ensures.others other apart ∙ ap (λ (store : StoreCopies). copy_at store other) store_is;
       accounts = ap store_accounts c.answer.ensures.store ∙ c.in_ok-response.ensures.accounts ∙ ap store_accounts store_is;
+      tenants = tenants;
+      first = fits.first;
+      last = fits.last;
+      answers = subst A seats_was c.answers.ensures.answers;
+      stays = λ place other. c.answers.ensures.others place other ∙ ap (λ seats. seat_in seats place) seats_was;
     } in
     let asked : message_at (lane_at c.self.inside.post t) c.from-2.result ≡ Some m = ap (message_at (lane_at c.self.inside.post t)) (c.from-2.ensures ∙ sym c.from.ensures) ∙ sym c.in-Some.ensures in
-    let now = ap (λ (x : Tables). record x { stores = slice_set x.stores m.server c.answer.new.store; lanes = with_sent x.lanes t (reply ∷ []) }) (sym c.self.view_is) in
-    let V : List Lane → ℕ → Tables = λ lanes place. record { plan = c.self.inside.plan; up = c.self.inside.up.up; lines = c.self.inside.lines.items; desk = c.self.inside.desk; lanes = lanes; stores = slice_set c.self.inside.stores.items place c.answer.new.store; seats = c.self.inside.seats.items } in
-    subst (Acts w t (Deliver n)) (now ∙ ap (λ lanes. V lanes m.server) (sym (c.in_ok-number.ensures.sent m asked)) ∙ ap (V c.answer.new.post) (sym server)) (served_acts w t n m reply c.answer.new.store r at)
+    let now = ap (λ (x : Tables). record x { stores = slice_set x.stores m.server c.answer.new.store; lanes = with_sent x.lanes t (reply ∷ []); seats = slice_set x.seats t c.answers.new.self }) (sym c.self.view_is) in
+    let V : List Lane → ℕ → Tables = λ lanes place. record { plan = c.self.inside.plan; up = c.self.inside.up.up; kept = c.self.inside.kept; lines = c.self.inside.lines.items; desk = c.self.inside.desk; lanes = lanes; stores = slice_set c.self.inside.stores.items place c.answer.new.store; seats = slice_set c.self.inside.seats.items t c.answers.new.self } in
+    subst (Acts w t (Deliver n)) (now ∙ ap (λ lanes. V lanes m.server) (sym (c.in_ok-number.ensures.sent m asked)) ∙ ap (V c.answer.new.post) (sym server)) (served_acts w t n m reply c.answer.new.store c.answers.new.self r at)
 
 pub hear-requires-clause-first : goal.hear-requires-clause-first
 hear-requires-clause-first c =
@@ -498,7 +518,55 @@ returns-then-noted-clause-acts c =
       hears = hears;
       others = λ place other. c.notes.ensures.others place other ∙ ap (λ seats. seat_in seats place) seats_was;
     } in
-    let V : List Lane → Tables = λ lanes. record { plan = c.self.inside.plan; up = c.self.inside.up.up; lines = c.self.inside.lines.items; desk = c.self.inside.desk; lanes = lanes; stores = c.self.inside.stores.items; seats = slice_set c.self.inside.seats.items t c.notes.new.self } in
+    let V : List Lane → Tables = λ lanes. record { plan = c.self.inside.plan; up = c.self.inside.up.up; kept = c.self.inside.kept; lines = c.self.inside.lines.items; desk = c.self.inside.desk; lanes = lanes; stores = c.self.inside.stores.items; seats = slice_set c.self.inside.seats.items t c.notes.new.self } in
     let now = ap (λ (x : Tables). record x { lanes = with_sent x.lanes t []; seats = slice_set x.seats t c.notes.new.self }) (sym c.self.view_is) in
     let none : with_sent c.self.inside.post t [] ≡ c.self.inside.post = ap (slice_set c.self.inside.post t) (append-nil (lane_at c.self.inside.post t)) ∙ set-get_or c.self.inside.post t [] in
     subst (Acts w t (Deliver n)) (now ∙ ap V none) (heard_acts w t n m c.notes.new.self Noted at)
+
+pub answers-requires-clause-first : goal.answers-requires-clause-first
+answers-requires-clause-first c =
+    let w : Tables = c.args.self.now in
+    let t : ℕ = c.args.tenant in
+    let n : ℕ = c.args.number in
+    let m : Message = c.in-Some.message in
+    let r : IsReady w t = c.requires.ready in
+    let shaped : IsShaped w = subst IsShaped c.self.view_is c.self.invariant.1 in
+    let there : message_at (lane_at w.lanes t) n ≡ Some m =
+    sym (c.in-Some.ensures ∙ ap (λ k. message_at (lane_at c.self.inside.post t) k) c.from.ensures ∙ ap (λ (x : Tables). message_at (lane_at x.lanes t) n) c.self.view_is) in
+    let tenants : t < length w.seats = rw shaped.tenants c.requires.tenant in
+    let seats_now : c.self.inside.seats.items ≡ w.seats = ap (λ (x : Tables). x.seats) c.self.view_is in
+    let seats_was : c.index_mut-answering.result.now ≡ seats_at w.seats t =
+    c.index_mut-answering.ensures.value ∙ get_or_default c.self.inside.seats.items t _ _ (rw seats_now tenants) ∙ ap (λ all. seats_at all t) seats_now in
+    (session_within w t n m c.requires.tenant r shaped there).0
+
+pub answers-requires-clause-last : goal.answers-requires-clause-last
+answers-requires-clause-last c =
+    let w : Tables = c.args.self.now in
+    let t : ℕ = c.args.tenant in
+    let n : ℕ = c.args.number in
+    let m : Message = c.in-Some.message in
+    let r : IsReady w t = c.requires.ready in
+    let shaped : IsShaped w = subst IsShaped c.self.view_is c.self.invariant.1 in
+    let there : message_at (lane_at w.lanes t) n ≡ Some m =
+    sym (c.in-Some.ensures ∙ ap (λ k. message_at (lane_at c.self.inside.post t) k) c.from.ensures ∙ ap (λ (x : Tables). message_at (lane_at x.lanes t) n) c.self.view_is) in
+    let tenants : t < length w.seats = rw shaped.tenants c.requires.tenant in
+    let seats_now : c.self.inside.seats.items ≡ w.seats = ap (λ (x : Tables). x.seats) c.self.view_is in
+    let seats_was : c.index_mut-answering.result.now ≡ seats_at w.seats t =
+    c.index_mut-answering.ensures.value ∙ get_or_default c.self.inside.seats.items t _ _ (rw seats_now tenants) ∙ ap (λ all. seats_at all t) seats_now in
+    subst (λ (seats : List Seat). m.session ≤ length seats) (sym seats_was) (session_within w t n m c.requires.tenant r shaped there).1
+
+pub answers-requires-clause-server : goal.answers-requires-clause-server
+answers-requires-clause-server c =
+    let w : Tables = c.args.self.now in
+    let t : ℕ = c.args.tenant in
+    let n : ℕ = c.args.number in
+    let m : Message = c.in-Some.message in
+    let r : IsReady w t = c.requires.ready in
+    let shaped : IsShaped w = subst IsShaped c.self.view_is c.self.invariant.1 in
+    let there : message_at (lane_at w.lanes t) n ≡ Some m =
+    sym (c.in-Some.ensures ∙ ap (λ k. message_at (lane_at c.self.inside.post t) k) c.from.ensures ∙ ap (λ (x : Tables). message_at (lane_at x.lanes t) n) c.self.view_is) in
+    let tenants : t < length w.seats = rw shaped.tenants c.requires.tenant in
+    let seats_now : c.self.inside.seats.items ≡ w.seats = ap (λ (x : Tables). x.seats) c.self.view_is in
+    let seats_was : c.index_mut-answering.result.now ≡ seats_at w.seats t =
+    c.index_mut-answering.ensures.value ∙ get_or_default c.self.inside.seats.items t _ _ (rw seats_now tenants) ∙ ap (λ all. seats_at all t) seats_now in
+    server_below w t n m r shaped there

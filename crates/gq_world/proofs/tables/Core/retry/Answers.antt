@@ -74,7 +74,7 @@ returns-in_ok-sent-in-Ok-clause-acts c =
     let S : List Seat → ServerSet → Type 0 = λ all set. SeatResends (seat_in all (k - 1)) (servers set) c.in-Ok.messages in
     let sends : S (seats_at w.seats t) w.up = subst (S (seats_at w.seats t)) up (subst (λ all. S all c.servers.result) seats_is c.in-Ok.ensures.ok) in
     let at : Resends w t k c.in-Ok.messages = record { lanes = lanes; asked = sym c.in_default.ensures; sends = sends } in
-    let V : List Lane → List (List Seat) → Tables = λ lanes seats. record { plan = c.self.inside.plan; up = c.self.inside.up.up; lines = c.self.inside.lines.items; desk = c.self.inside.desk; lanes = lanes; stores = c.self.inside.stores.items; seats = seats } in
+    let V : List Lane → List (List Seat) → Tables = λ lanes seats. record { plan = c.self.inside.plan; up = c.self.inside.up.up; kept = c.self.inside.kept; lines = c.self.inside.lines.items; desk = c.self.inside.desk; lanes = lanes; stores = c.self.inside.stores.items; seats = seats } in
     let kept : slice_set c.self.inside.seats.items t c.resend.new.self ≡ c.self.inside.seats.items =
     ap (slice_set c.self.inside.seats.items t) (c.resend.ensures.same ∙ seats_is ∙ ap (λ all. seats_at all t) (sym seats_now)) ∙ set-get_or c.self.inside.seats.items t [] in
     let now : record w { lanes = with_sent w.lanes t c.in-Ok.messages } ≡ V c.send_all.new.self (slice_set c.self.inside.seats.items t c.resend.new.self) =
@@ -112,7 +112,7 @@ returns-in-Err-NoQuorum-clause-acts c =
     let S : List Seat → ServerSet → Type 0 = λ all set. SeatRefuses (seat_in all (k - 1)) (servers set) NoneUp in
     let fault : SeatRefuses (seat_in c.index_mut.result.now (k - 1)) (servers c.servers.result) NoneUp = subst (SeatRefuses (seat_in c.index_mut.result.now (k - 1)) (servers c.servers.result)) c.in-Err-NoQuorum.field-0-is c.in-Err-NoQuorum.ensures.err in
     let refused : S (seats_at w.seats t) w.up = subst (S (seats_at w.seats t)) up (subst (λ all. S all c.servers.result) seats_is fault) in
-    let V : List (List Seat) → Tables = λ seats. record { plan = c.self.inside.plan; up = c.self.inside.up.up; lines = c.self.inside.lines.items; desk = c.self.inside.desk; lanes = c.self.inside.post; stores = c.self.inside.stores.items; seats = seats } in
+    let V : List (List Seat) → Tables = λ seats. record { plan = c.self.inside.plan; up = c.self.inside.up.up; kept = c.self.inside.kept; lines = c.self.inside.lines.items; desk = c.self.inside.desk; lanes = c.self.inside.post; stores = c.self.inside.stores.items; seats = seats } in
     let kept : slice_set c.self.inside.seats.items t c.resend.new.self ≡ c.self.inside.seats.items =
     ap (slice_set c.self.inside.seats.items t) (c.resend.ensures.same ∙ seats_is ∙ ap (λ all. seats_at all t) (sym seats_now)) ∙ set-get_or c.self.inside.seats.items t [] in
     let now : w ≡ V (slice_set c.self.inside.seats.items t c.resend.new.self) = sym c.self.view_is ∙ ap V (sym kept) in
