@@ -14,11 +14,11 @@ import paho.mqtt.client as mqtt
 
 HERE = os.path.dirname(os.path.realpath(__file__))
 sys.path[:0] = [os.path.join(HERE, "..", "..", "examples", "nodes"), HERE]
-from tenant import AGAIN
+from tenant import AGAIN, MOST_LOST, PLACES, Nodes
 
 KEEPALIVE = 5  # seconds without a word from the broker
 FIRST_WAIT, LONGEST_WAIT = 0.1, 5  # seconds from one attempt at a connection to the next
-NODES = 64  # of the largest grid
+FIRST = 4  # places whose nodes are asked each time
 NOT_READY = 3  # what a broker answers that can't let anybody in yet
 
 
@@ -138,26 +138,30 @@ class Tenant:
         self.name, self.sessions, self.resent = name, {}, 0
         self.connection = Connection(broker, name, password_file, ca_file, self.hear)
         self.has = None  # the words of `plan`, as numbers: nodes, home of session 1, sessions, share, blocks; and the volumes
+        self.nodes = Nodes()
         self.draw = random.SystemRandom()
 
     def hear(self, line):
         words = line.split(b" ")
         if words[0] == b"plan" and len(words) > 5:
-            self.has = [int(word) for word in words[1:6]], [word.decode() for word in words[6:]]
+            self.has = [int(word) for word in words[1:6]], [word.decode() for word in words[6:] if b"." in word]
+            self.nodes.hear(line)
         number = words[1 if words[0] == b"gone" else 2] if len(words) > 2 else b""
         session = self.sessions.get(number)
         if session:
             session.hear(line)
 
     def ask_what_it_has(self, until):
-        node, due = 0, 0
+        turn, due = 0, 0
         while self.has is None:
             now = time.monotonic()
             self.check_time(until, "nobody has answered what the tenant has")
             if self.connection.is_here and now >= due:
-                for place in range(4):
-                    self.connection.send((node + place) % NODES, b"plan")
-                node, due = (node + 4) % NODES, now + AGAIN / 2
+                # (the nodes at the first places, and by turns all others of a first grid, and those that may stand at the first places since)
+                for place in range(FIRST):
+                    for node in {place, place + turn * FIRST % PLACES, place + turn % (MOST_LOST + 1) * PLACES}:
+                        self.connection.send(node, b"plan")
+                turn, due = turn + 1, now + AGAIN / 2
             self.connection.turn(0.05)
         return self.has
 
@@ -169,7 +173,7 @@ class Tenant:
 
     def home(self, session):
         (nodes, first, _, _, _), _ = self.has
-        return (first + session - 1) % nodes
+        return self.nodes.standing[(first + session - 1) % nodes]
 
     def add(self, session):
         self.sessions[session.session] = session
@@ -179,10 +183,13 @@ class Tenant:
         """Sends what is due, and takes on what has come."""
         if self.connection.is_here:
             now = time.monotonic()
-            for session in self.sessions.values():
+            for number, session in list(self.sessions.items()):
                 again = session.going is not None and session.going.due > 0
-                for line in session.due(now):
+                lines = self.nodes.due(session, now)
+                for line in lines:
                     node, _, body = line.split(b" ", 2)
                     self.connection.send(int(node), body)
-                    self.resent += again
+                self.resent += again and bool(lines)
+                if number != session.session:  # (its home was lost, and another node knows it by another number)
+                    self.sessions[session.session] = self.sessions.pop(number)
         self.connection.turn(seconds)

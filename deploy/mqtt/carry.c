@@ -51,7 +51,7 @@ struct queues {
 
 static const char *me, *host, *password_file, *ca_file, *certificate, *key;
 static int port;
-static char prefix[sizeof "gridfs/NN/"];        /* of topics of lines to the node */
+static char prefix[sizeof "gridfs/NNN/"];        /* of topics of lines to the node */
 static double tick_time;
 static size_t own, longest = LONGEST;           /* own: how long the number is */
 static size_t bound = 1 << 20, rate = 8 << 20;  /* most bytes that wait for or from one name; a tenant's in a second */
@@ -117,7 +117,7 @@ static bool is_name(const char *text, size_t length) {
     size_t letters = 0, digits = 0;
     while (letters < length && text[letters] >= 'a' && text[letters] <= 'z') letters++;
     while (digits < length && text[digits] >= '0' && text[digits] <= '9') digits++;
-    if (digits) return digits == length && (length == 1 || (length == 2 && *text != '0'));
+    if (digits) return digits == length && (length == 1 || (length <= 3 && *text != '0'));
     return letters && letters == length && length <= NAME;
 }
 

@@ -10,7 +10,7 @@ import time
 HERE = os.path.dirname(os.path.realpath(__file__))
 sys.path.insert(0, os.path.join(HERE, "..", "..", "examples", "nodes"))
 from carrier import journal_of
-from tenant import homes
+from tenant import PLACES, nodes_of
 
 os.environ["PATH"] += ":/usr/sbin"  # (where Debian has mosquitto and nginx, and no user but root looks)
 PATIENCE = 15  # seconds that a process has to end, or to be ready
@@ -57,7 +57,7 @@ class Grid:
         self.folder, self.program, self.carry, self.tls = folder, program, carry, tls
         self.port, self.inner = port or free_ports(), free_ports()
         self.plan, self.broker_folder = os.path.join(folder, "plan"), os.path.join(folder, "broker")
-        self.processes, self.count = {}, 0
+        self.processes, self.nodes, self.count, self.words = {}, [], 0, ()
 
     def log(self, name):
         return open(os.path.join(self.folder, f"log.{name}"), "ab")
@@ -69,7 +69,8 @@ class Grid:
     def set_up(self, *words):
         """Makes the broker's folder from the plan, or makes it again."""
         with open(self.plan, encoding="latin1") as file:
-            self.count, _ = homes(file.read())
+            self.nodes = nodes_of(file.read())
+        self.count, self.words = len(self.nodes), words
         words += ("--tls", self.tls, "--port", str(self.port), "--inner", str(self.inner))
         words += () if self.tls == "none" else ("--test-authority",)
         words += ("--user", "root") if os.getuid() == 0 else ()
@@ -102,16 +103,45 @@ class Grid:
         node = [self.program, "node", str(number), "--plan", self.plan, "--journal", journal]
         self.run(number, [self.carry, *self.words_for(number), "--plan", self.plan, str(number), "--", *node] + ["--new"] * is_new)
 
-    def start(self):
-        """Starts the broker and all nodes, and waits until each is connected."""
+    def start(self, new=None):
+        """Starts the broker and all nodes, of which one may begin in the place of one that was lost, and waits until each is connected."""
         begun = os.path.join(self.folder, "begun")
         self.start_broker()
         self.start_front()
-        for number in range(self.count):
-            self.start_node(number, not os.path.exists(begun) and not os.path.exists(journal_of(self.folder, number)))
-        self.wait_until_connected(range(self.count), 1)
+        for number in self.nodes:
+            is_first = not os.path.exists(begun) or number == new
+            self.start_node(number, is_first and not os.path.exists(journal_of(self.folder, number)))
+        self.wait_until_connected(self.nodes)
         with open(begun, "w", encoding="ascii"):
             pass
+
+    def note_loss(self, number):
+        """Writes into the plan, and into the broker's folder, that a node was lost. The one that stands in its place."""
+        with open(self.plan, "r+", encoding="latin1") as file:
+            text = file.read()
+            file.write("\n" * (not text.endswith("\n")) + f"replace {number % PLACES}\n")
+        self.set_up(*self.words)
+        return number + PLACES
+
+    def lose(self, number):
+        """Ends a node, and removes its journal."""
+        self.kill_node(number)
+        os.unlink(journal_of(self.folder, number))
+        del self.processes[number]
+
+    def replace(self, number):
+        """Puts a new node in the place of one that was lost: the broker hears of it, and the others start again, one after another. Its number."""
+        new = self.note_loss(number)
+        self.processes["broker"].send_signal(signal.SIGHUP)
+        for other in self.nodes:
+            if other != new:
+                times = self.told(other).count("connected to")
+                self.kill_node(other)
+                self.start_node(other)
+                self.wait_until_connected([other], times + 1)
+        self.start_node(new, True)
+        self.wait_until_connected([new])
+        return new
 
     def wait_until_connected(self, numbers, times=1):
         until = time.monotonic() + PATIENCE

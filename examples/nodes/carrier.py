@@ -10,6 +10,8 @@ import select
 import subprocess
 import time
 
+from tenant import PLACES
+
 READ = 65_536  # bytes of one read; a line may take several
 MOST_WAITING = 1 << 22  # bytes that may wait for one node, or some of the longest lines
 PATIENCE = 5  # seconds that a node has to end by itself
@@ -44,14 +46,13 @@ class Node:
     """The process of a node, what waits to be written to it, and the beginning of a line that was read of it."""
 
     def __init__(self, program, number, plan, journal):
-        self.words = [program, "node", str(number), "--plan", plan, "--journal", journal]
-        self.number, self.journal = number, journal
+        self.program, self.number, self.plan, self.journal = program, number, plan, journal
         self.child, self.is_ready = None, False
         self.waiting, self.begun = bytearray(), Lines()
 
     def start(self, is_new=False, **more):
         """Starts the process, whose standard error is ours. A signal from the terminal does not reach it."""
-        words = self.words + ["--new"] * is_new
+        words = [self.program, "node", str(self.number), "--plan", self.plan, "--journal", self.journal] + ["--new"] * is_new
         self.child = subprocess.Popen(words, stdin=subprocess.PIPE, stdout=subprocess.PIPE, bufsize=0, start_new_session=True, **more)
         for pipe in (self.child.stdin, self.child.stdout):
             os.set_blocking(pipe.fileno(), False)
@@ -95,8 +96,8 @@ class Node:
 
 
 class Carrier:
-    """Carries lines between nodes and tenants. `hear` is called with each line to a tenant, `fall` with a node that has ended, and its
-    status."""
+    """Carries lines between tenants and nodes, of which one stands at each place. `hear` is called with each line to a tenant, `fall` with a
+    node that has ended, and its status."""
 
     def __init__(self, nodes, hear, fall, tick):
         self.nodes, self.hear, self.fall = nodes, hear, fall
@@ -109,6 +110,12 @@ class Carrier:
         """Some lines of so many bytes may wait for a node, and ticks come this often."""
         self.most_waiting, self.tick = max(MOST_WAITING, 16 * longest), tick
 
+    def node(self, number):
+        """The node of this number; None where another stands in its place, or there is none."""
+        place = number % PLACES
+        node = self.nodes[place] if place < len(self.nodes) else None
+        return node if node and node.number == number else None
+
     def kill(self, node):
         """Ends the node's process by the signal that none can delay (kill -9). What it wrote and was not read is lost."""
         node.child.kill()
@@ -117,7 +124,7 @@ class Carrier:
     def send(self, line):
         """Takes a line, without LF, to the node that it names, if that is up and reads."""
         to = line.split(b" ", 1)[0]
-        node = self.nodes[int(to)] if to.isdigit() and int(to) < len(self.nodes) else None
+        node = self.node(int(to)) if to.isdigit() else None
         if node and node.child and len(node.waiting) + len(line) < self.most_waiting:
             node.waiting += line + b"\n"
             self.carried += 1

@@ -1,10 +1,12 @@
-"""What `examples/grid try` shows: nodes are killed (kill -9) amid writes and start again, and all that was acknowledged is there."""
+"""What `examples/grid try` shows: nodes are killed (kill -9) amid writes and start again, one is lost with its journal and replaced, and all that
+was acknowledged is there."""
 
 import time
 
 FILES = 16
 NAME, SESSIONS = "ann", 4
 DEAD = 1  # the node that is killed alone
+LOST = 2  # the node whose journal is lost
 LONGEST = 30  # seconds that the others have
 
 
@@ -120,6 +122,11 @@ def show(grid):
     trial.note(f"kill -9 of {', '.join(trial.kill(node.number) for node in grid.carrier.nodes)}")
     for node in grid.carrier.nodes:
         grid.start_node(node)
+    trial.say(f"The journal of node {LOST} is lost, and a new node takes its place:")
+    grid.lose(LOST)
+    number = grid.replace(LOST).number
+    grid.wait_for_files(number)
+    trial.note(f"node {number} was given all files by the other node of its column")
     trial.say(f"{NAME} reads the files:")
     trial.read_all()
     if trial.wrong:

@@ -79,7 +79,7 @@ def words(checked):
     broker, password, rest = ["--broker", "localhost:1"], ["--password-file", "secret"], ["0", "--", "cat"]
     good = broker + password
     bad = [[], ["--broken"], good, good + ["0"], good + ["0", "--"], good + ["0", "cat", "x"]]
-    bad += [good + [number, "--", "cat"] for number in ("100", "ann", "00", "-1", "")]
+    bad += [good + [number, "--", "cat"] for number in ("1000", "ann", "00", "067", "-1", "")]
     bad += [["--broker", place] + password + rest for place in ("localhost", ":1", "x:65536", "x:0", "x:1x")]
     bad += [good + ["--tick", word] + rest for word in ("0", "nan", "x")] + [good + ["--longest", word] + rest for word in ("100", "5000x")]
     bad += [good + ["--key", "k"] + rest, good + ["--certificate", "c"] + rest, broker + rest, good + ["--user", "ann"] + rest]
@@ -115,7 +115,7 @@ def into(checked):
     broker = checked.broker()
     carry = checked.carry(broker.port, node(COPY), *NO_TICKS)
     checked.held(wait_for(lambda: broker.subscribed), "connects and subscribes")
-    tail = b"/ /Ann /ann/x /007 /100 /abcdefghijklmnopq /+ /\xc3\xa9 /0".split(b" ")
+    tail = b"/ /Ann /ann/x /007 /1000 /abcdefghijklmnopq /+ /\xc3\xa9 /0".split(b" ")
     topics = [b"gridfs/0" + each for each in [b"", *tail]]
     for topic in [*topics, b"gridfs/0/ann ", b"gridfs/1/ann", b"other/0/ann", b"gridfs/00/ann", b"gridfs//ann", b"/0/ann", b"ann"]:
         broker.tells(topic, b"wrong")
@@ -124,19 +124,20 @@ def into(checked):
     for body in bodies:
         broker.tells(b"gridfs/0/ann", body)
     broker.tells(b"gridfs/0/7", b"from 7")
+    broker.tells(b"gridfs/0/131", b"from 131")
     broker.tells(b"gridfs/0/abcdefghijklmnop", b"from p")
     whole = [b"a\0b\r", b"\r", b"one", b"two", b"three", b"four", LONG, b"end " + b"\0" * 60, b" spaces  "]
     wanted = [b"0 ann " + each for each in whole]
     wait_for(lambda: any(b"from p" in line for line in got()))
-    checked.held(sorted(got()) == sorted([*wanted, b"0 7 from 7", b"0 abcdefghijklmnop from p", b""]), "lines are whole, and others nothing")
+    checked.held(sorted(got()) == sorted([*wanted, b"0 7 from 7", b"0 131 from 131", b"0 abcdefghijklmnop from p", b""]), "lines are whole, and others nothing")
     checked.held([line for line in got() if line.startswith(b"0 ann")] == wanted, "in their order")
-    checked.held(carry.stop() == 0 and carry.counts()["long"] == 2 and carry.counts()["in"] == 11, f"status 0, and counts: {carry.counts()}")
+    checked.held(carry.stop() == 0 and carry.counts()["long"] == 2 and carry.counts()["in"] == 12, f"status 0, and counts: {carry.counts()}")
 
 
 @check
 def out_of(checked):
     broker, long = checked.broker(), b"1 0 " + b"x" * (LONGEST - 4)
-    forged = b"1 1 x|ann bob x|Ann 0 x|1 0|1 0 |1||1  0 x| 1 0 x|100 0 x|007 0 x|abcdefghijklmnopq 0 x|1 00 x|+ 0 x|gridfs/1 0 x|server/+ 0 x"
+    forged = b"1 1 x|ann bob x|Ann 0 x|1 0|1 0 |1||1  0 x| 1 0 x|1000 0 x|007 0 x|abcdefghijklmnopq 0 x|1 00 x|+ 0 x|gridfs/1 0 x|server/+ 0 x"
     text = b" ?\n1 0 one\nann 0 two\n1 0 three\n0 0 self\n" + forged.replace(b"|", b"\n") + b"\n" + long + b"\n" + long + b"y\n"
     text += b"1 0 " + b"z" * 200_000 + b"\n" + (b"1 0 evil " * 9_000 + b"\n") * 40
     text += b"1 0 nul\0cr\r\n1 0 store 5 1 ab ?\nann 0 four\n1 0 torn"
@@ -482,7 +483,7 @@ def random_bytes(checked):
     text = b"".join(draw.choice([*parts, b"z" * draw.choice((1, 50, 4_090, 5_000))]) for _ in range(60_000))
     with open("out", "wb") as out:
         out.write(text)
-    form, wanted = re.compile(rb"([a-z]{1,16}|[0-9]|[1-9][0-9]) 0 (.+)", re.S), {}
+    form, wanted = re.compile(rb"([a-z]{1,16}|[0-9]|[1-9][0-9]{1,2}) 0 (.+)", re.S), {}
     for line in text.split(b"\n")[:-1]:
         right = form.fullmatch(line) if len(line) <= LONGEST else None
         if right:

@@ -7,9 +7,10 @@ import socket
 import subprocess
 import time
 
-from isolation import write_plan
+from isolation import context_of, password, write_plan
 from mqtt_grid import Grid
-from peers import DEPLOY, wait_for
+from peers import DEPLOY, Speaker, wait_for
+from storms import BOUND, is_linearizable, joined, lines_of
 
 CLIENT = os.path.join(DEPLOY, "client")
 DONE, MEND, WORDS, SILENT, GONE, REFUSED = 0, 1, 2, 3, 4, 5
@@ -58,7 +59,7 @@ class Clients:
         status, told, _ = self.run("ann", "list", "0")
         self.held("list", (status, told.splitlines()[3:6]), (DONE, [b"3 128 1.1", b"4 0 2.1", b"5 2 1.2"]))
         status, told, _ = self.run("--json", "bob", "plan", name="bob")
-        has = {"nodes": 4, "home": 0, "sessions": 16, "share": 256, "most": 16, "volumes": [{"files": 64, "blocks": 2}]}
+        has = {"nodes": 4, "home": 0, "sessions": 16, "share": 256, "most": 16, "new_nodes": [], "volumes": [{"files": 64, "blocks": 2}]}
         self.held("plan", (status, json.loads(told)), (DONE, has))
 
     def refuses(self):
@@ -234,6 +235,48 @@ def tried(program, carry):
     finally:
         clients.grid.end()
     return clients.tried, clients.wrong
+
+
+def lost(program, carry):
+    """A node is lost with its journal while a load runs, and a new one takes its place: what was acknowledged is there, also where the other
+    node of its column is down then; and the broker takes the one that was lost for nobody."""
+    clients = Clients(program, carry)
+    grid = clients.grid
+    try:
+        grid.start()
+        os.mkdir("history")
+        words = clients.words("--sessions", "8", "--seconds", "8", "--history", "history", "ann", "bench")
+        load = subprocess.Popen(words, stdout=subprocess.DEVNULL, stderr=subprocess.PIPE)
+        clients.held("bob writes", clients.run("--numbers", "numbers", "--session", "4", "bob", "write", "0", "5", "mine", name="bob"), (DONE, b"", ""))
+        time.sleep(1)
+        grid.lose(3)
+        new = grid.replace(3)
+        clients.held("the new node has all files", wait_for(lambda: f"gridfs: node {new}: has all files" in grid.told(new), 20), True)
+        _, told = load.communicate(timeout=60)
+        clients.held("the load goes on at the new node", (load.returncode, told), (DONE, b""))
+        seen = clients.run("--numbers", "numbers", "--session", "4", "bob", "read", "0", "5", name="bob")
+        clients.held("bob's session, whose home was lost, is at another", seen, (DONE, b"mine", ""))
+        status, told, _ = clients.run("--json", "bob", "plan", name="bob")
+        clients.held("its number", json.loads(told)["new_nodes"], [new])
+        clients.held("old node 3 is let in", is_let_in(grid, 3), False)
+        grid.kill_node(1)
+        words = ["--sessions", "1", "--seconds", "3", "--writes", "0", "--history", "history", "ann", "bench"]  # (session 1, whose home is up)
+        os.rename("history", "before")
+        os.mkdir("history")
+        clients.held("all is read while its mate is down", clients.run(*words)[0], DONE)
+        for file in os.listdir("before"):
+            history = joined(lines_of(f"before/{file}"), lines_of(f"history/{file}"))
+            clients.held(f"the history of {file}", is_linearizable(history, BOUND), True)
+    finally:
+        grid.end()
+    return clients.tried, clients.wrong
+
+
+def is_let_in(grid, number):
+    """Whether the broker lets a node in."""
+    node = Speaker(grid.port, str(number), password(grid, number), context=context_of(grid))
+    node.end()
+    return node.is_let_in
 
 
 def grown(program, carry):

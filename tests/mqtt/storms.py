@@ -1,5 +1,5 @@
 """Loads of all tenants over a broker while nodes, carriers and the broker are killed (kill -9) or stand still, the broker is away for
-two seconds, and lines and messages of no shape come. Each history is judged, and what was acknowledged last is read."""
+two seconds, a node is lost with its journal and replaced by a new one, and lines and messages of no shape come. Each history is judged, and what was acknowledged last is read."""
 
 import os
 import random
@@ -11,7 +11,7 @@ import time
 
 from isolation import speaker
 from mqtt_grid import Grid, journal_of
-from peers import DEPLOY
+from peers import DEPLOY, wait_for
 
 HERE = os.path.dirname(os.path.abspath(__file__))
 sys.path.insert(0, os.path.join(HERE, "..", "linearizable"))
@@ -22,13 +22,15 @@ NAMES, FILES, SESSIONS = ["ann", "bob", "cid", "dan"], 64, 4
 SECONDS, AWAY = 20, 2
 FEW = 4  # seconds of a storm over nodes that forget
 NODES = 4
-# What a storm does, as often as it is named. `away`: no broker for two seconds; `still`: something does not run for a while.
-DEEDS = ["node"] * 6 + ["carrier"] * 3 + ["broker", "away"] + ["still"] * 3
+# What a storm does, as often as it is named. `away`: no broker for two seconds; `still`: something does not run for a while; `disk`: a node's
+# journal is lost, where all others have all files.
+DEEDS = ["node"] * 6 + ["carrier"] * 3 + ["broker", "away", "disk"] + ["still"] * 3
 WORDS = ["read", "write", "list", "abandon", "0", "1", "4294967296", "\0", "done", "ask", "-", "ab" * 700]
 TOPICS = ["gridfs/ann/eve", "gridfs/0/1", "gridfs/0", "other", "gridfs/0/ann"]
 # What no node and no carrier may say.
 FAULTS = ["damaged", "Sanitizer", "runtime error", "another node"]
-FIRST = ["node", "carrier", "away"]  # that each storm has
+FIRST = ["node", "carrier", "away", "disk"]  # that each storm has; one over nodes that forget has no lost disk
+FETCHED = 10  # seconds in which a new node has all files
 STILL = [0.3, 1, 3, 7]  # seconds; a connection is given up after 5
 FAR = 1_000_000  # numbers of processes that no load comes to
 ENDS_ALONE = 60  # seconds that a load may take longer, for want of answers
@@ -69,13 +71,20 @@ class Storm:
 
     def look_after(self):
         """Starts again what has ended by itself, as a unit of systemd would."""
-        for number in range(NODES):
+        for number in self.grid.nodes:
             if self.grid.processes[number].poll() is not None:
                 self.begin_again(number)
 
+    def lose_disk(self, number):
+        if all(wait_for(lambda new=new: f"node {new}: has all files" in self.grid.told(new), FETCHED) for new in self.grid.nodes if new >= NODES):
+            self.grid.lose(number)
+            self.grid.replace(number)
+
     def strike(self):
-        deed, number = self.draw.choice(DEEDS), self.draw.randrange(NODES)
+        deed, number = self.draw.choice(DEEDS), self.draw.choice(self.grid.nodes)
         deed = next((each for each in FIRST if each not in self.kills), deed)
+        if deed == "disk" and self.forgets:
+            deed = "node"
         self.kills[deed] = self.kills.get(deed, 0) + 1
         if deed in ("broker", "away"):
             self.grid.kill("broker")
@@ -87,6 +96,8 @@ class Storm:
                 os.kill(victim, signal.SIGSTOP)
                 time.sleep(self.draw.choice(STILL))
                 os.kill(victim, signal.SIGCONT)
+        elif deed == "disk":
+            self.lose_disk(number)
         else:
             if deed == "node":
                 self.grid.kill_node(number)
@@ -126,9 +137,9 @@ class Storm:
 
     def read_at_the_end(self):
         """All nodes are killed and start again, and each file is read."""
-        for number in range(NODES):
+        for number in self.grid.nodes:
             self.grid.kill_node(number)
-        for number in range(NODES):
+        for number in self.grid.nodes:
             self.begin_again(number)
         last = [self.load(name, f"last.{name}", sessions=16, seconds=3, writes=0) for name in NAMES]
         self.loads += last
@@ -153,7 +164,7 @@ class Storm:
                     refused += 1
         if done < 200 or not self.kills:
             wrong.append(f"{done} operations and {self.kills} are too few to show anything")
-        for number in range(NODES):
+        for number in {*range(NODES), *self.grid.nodes}:
             lines = self.grid.told(number).splitlines()
             wrong += [f"node {number} says: {line}" for line in lines if any(fault in line for fault in FAULTS)]
         told = f"{done} operations, {histories} histories, {given_up} given up, " + ", ".join(f"{deed} {count}" for deed, count in sorted(self.kills.items()))

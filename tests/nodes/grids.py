@@ -2,6 +2,7 @@
 
 import hashlib
 import os
+import re
 import signal
 import subprocess
 import sys
@@ -21,6 +22,28 @@ ANSWERS = [
     "ann done read 4 2 tag 2 1 ff",
     "bob plan 4 0 2 16 16 8.2",
 ]
+# A node's journal is lost, and a new node takes its place; so twice at one place, and then at the place of its mate.
+LOSSES = (
+    "ann write 4 0 0 6869\nwait\nlose 3\nann read 4 0 0\nann read 1 0 0\nreplace 3\nwait 67\nwait\nann write 4 0 1 aa\nwait\n"
+    + "lose 67\nreplace 67\nwait 131\nlose 1\nreplace 1\nwait 65\nann read 4 0 1\nann read 3 0 0\nbob plan\nwait\nlose 131\n"
+)
+LOST = [  # (operations without their numbers, which hang on when a node starts again)
+    "ann done write 4 tag 1 4",
+    "node 3 is lost: it is down, and its journal is gone",
+    "ann done read 1 tag 1 4 6869",
+    "node 67 stands in the place of node 3",
+    "ann done read 20 tag 1 4 6869",
+    "ann done write 20 tag 1 20",
+    "node 67 is lost: it is down, and its journal is gone",
+    "node 131 stands in the place of node 67",
+    "node 1 is lost: it is down, and its journal is gone",
+    "node 65 stands in the place of node 1",
+    "ann done read 36 tag 1 20 aa",
+    "ann done read 3 tag 1 4 6869",
+    "bob plan 4 0 2 16 16 8.2 65 131",
+    "node 131 is lost: it is down, and its journal is gone",
+]
+LOST_AGAIN = "grid: node 131 is down: its journal is gone (`replace 131` puts a new node in its place)"
 # Lines that are refused, and what is told of each.
 BAD = {
     "ann write 1 0 0": "no request (the line `help` tells the forms)",
@@ -30,6 +53,10 @@ BAD = {
     "zed plan": "the plan has no tenant zed",
     "kill 4": "there are nodes 0 to 3",
     "start 2": "node 2 is up",
+    "replace 2": "node 2 is up",
+    "lose 67": "there are nodes 0 to 3",
+    "replace 4": "there are nodes 0 to 3",
+    "wait 1": "node 1 is not new",
     "ann write 1 0 0 " + "aa" * 2000: "longer than 4000 bytes",
 }
 # A plan with room, and lines which no pipe takes whole, two of them of 2 MiB: four sessions send them at once, and a node is killed meanwhile.
@@ -75,6 +102,27 @@ class Grids:
         self.held("a second start in the folder", (status, words[:3], words[-1:]), (0, ["ann", "done", "read"], ["6869"]))
         status, answers, told = self.run(folder, given="".join(f"{line}\n" for line in BAD))
         self.held("bad lines", (status, answers, told[1:]), (1, "", [f"grid: line {at}: {text}" for at, text in enumerate(BAD.values(), 1)]))
+
+    def replaces(self, folder):
+        """Nodes are lost, and others take their places: all files are there. A grid whose node was lost starts without it."""
+        status, answers, told = self.run("--plan", PLAN, folder + ".losses", given=LOSSES)
+        answers = re.sub(r"(done \w+ \d+) \d+", r"\1", answers)
+        self.held("nodes that are lost and replaced", (status, sorted(answers.splitlines()), told[1:]), (0, sorted(LOST), []))
+        lines = "nodes\nann read 4 0 1\nreplace 131\nwait 195\nann read 1 0 0\nwait\nlose 65\nlose 195\nreplace 65\n"
+        status, answers, told = self.run(folder + ".losses", given=lines)
+        answers = [line.split(",")[0] for line in answers.splitlines()]
+        wanted = ["node 0 is up", "node 65 is up", "node 2 is up", "node 131 is down", "node 195 stands in the place of node 131"]
+        self.held("a start without a node that was lost", (status, answers[:5], told[0]), (0, wanted, LOST_AGAIN))
+        self.held("reads behind it", sorted(answer.split()[-1] for answer in answers if "done read" in answer), ["6869", "aa"])
+        vain = ["node 65 is lost: it is down", "node 195 is lost: it is down", "node 129 stands in the place of node 65"]
+        waits = ["node 129 gets its files once node 195 has started too", "no other node of its column has all files: what they lack is lost"]
+        self.held("a column that is lost", answers[-5:], vain + waits)
+        with open(folder + ".row", "w", encoding="ascii") as out:
+            out.write("grid 1 2\nblocks 4\ntenant ann 4 2 1\ngo\nann open 4 1\n")
+        status, _, told = self.run("--plan", folder + ".row", folder + ".one", given="lose 0\nreplace 0\n")
+        fault = "grid: line 2: no node 64 may be put in the place of node 0: gridfs: the plan: line 6: replace"
+        self.held("a grid of one row", (status, told[1:]), (1, [fault]))
+        self.held("and starts again without its node", self.run(folder + ".one", given="ann plan\n")[:2], (0, "ann plan 2 0 2 4 16 4.1\n"))
 
     def takes_large_lines(self, folder):
         with open(folder + ".plan", "w", encoding="ascii") as out:
@@ -123,6 +171,7 @@ def tell_grid(program):
     with room() as folder:
         folder = os.path.join(folder, "grid")
         grids.takes_lines(folder)
+        grids.replaces(folder)
         grids.takes_large_lines(folder)
         grids.refuses(folder)
         for number in (signal.SIGINT, signal.SIGTERM, signal.SIGKILL):

@@ -152,6 +152,7 @@ class Storm:
     """A grid in a storm, from its first start on."""
 
     client, process, most, lines_of_a_step, longest_batch, calls = Client, Stepped, MOST, BATCH, LONGEST_BATCH, CALLS
+    silence = SILENCE
 
     def __init__(self, program, folder, seed, weather, library=None):
         self.program, self.folder, self.weather, self.library = program, folder, weather, library
@@ -185,6 +186,10 @@ class Storm:
 
     # ---- nodes
 
+    def standing(self):
+        """The numbers of the nodes that there are."""
+        return range(self.count)
+
     def grow(self):
         """From now on each node that starts has the later plan."""
         self.plan, volumes = self.later
@@ -205,18 +210,21 @@ class Storm:
         return os.path.join(self.folder, f"journal{number}")
 
     def start(self, number):
-        """Starts a node, whose disk may stop at some call."""
+        """Starts a node."""
         self.numbers.start(number, self.journal(number))
         words = words_of(self.program, number, "plan", self.journal(number), not os.path.exists(self.journal(number)))
-        environment = None
-        if self.library:
-            how = {}
-            if self.weather.stops and self.draw.random() < 0.7:
-                how["STOP"] = f"{1 + int(self.draw.expovariate(1 / self.calls))}{self.draw.choice(['', '/', '+', '+'])}"
-            if self.weather.lies:
-                how["LIES"] = 1
-            environment = disk(self.library, **how)
-        self.lives[number].append(Life(self.process(words, number, self.folder, environment), self.plan))
+        self.lives[number].append(Life(self.process(words, number, self.folder, self.environment()), self.plan))
+
+    def environment(self):
+        """That of a node, whose disk may stop at some call."""
+        if not self.library:
+            return None
+        how = {}
+        if self.weather.stops and self.draw.random() < 0.7:
+            how["STOP"] = f"{1 + int(self.draw.expovariate(1 / self.calls))}{self.draw.choice(['', '/', '+', '+'])}"
+        if self.weather.lies:
+            how["LIES"] = 1
+        return disk(self.library, **how)
 
     def alive(self, number):
         lives = self.lives[number]
@@ -336,12 +344,12 @@ class Storm:
             self.deliver()
             if self.weather.nonsense and draw.random() < self.weather.nonsense:
                 self.send(self.nonsense())
-            self.step([number for number in range(self.count) if draw.random() < 0.6])
+            self.step([number for number in self.standing() if draw.random() < 0.6])
 
     def deliver(self):
         """What clients send now, and a line to a tenant that was late."""
         for client in self.clients.values():
-            for line in client.sender.due(self.turn * TURN):
+            for line in self.due(client):
                 self.send(line)
         if self.stale and self.draw.random() < 0.05:
             line = self.stale.pop(self.draw.randrange(len(self.stale)))
@@ -349,16 +357,22 @@ class Storm:
             for client in self.by_name.get(name, []):
                 client.sender.hear(body)
 
+    def due(self, client):
+        return client.sender.due(self.turn * TURN)
+
     # ---- the end
 
     def settle(self):
         """Kills all nodes and starts them again; then nothing is lost any more, and each session is answered. Then each file is read."""
-        for number in range(self.count):
+        for number in self.standing():
             if self.alive(number):
                 self.kill(number)
         self.weather = CALM
         self.add_clients()
         self.answer_all()
+        self.read_all()
+
+    def read_all(self):
         for name, volumes in self.volumes.items():
             clients = self.by_name[name.encode()]
             for volume, (files, _) in enumerate(volumes):
@@ -366,18 +380,22 @@ class Storm:
                     self.answer_all()
                     self.draw.choice(clients).begin("read", volume, [file])
         self.answer_all()
-        for lives in self.lives:
-            lives[-1].stepped.kill()
-            lives[-1].stepped = None
+
+    def end(self):
+        """Kills each node that is still there."""
+        for number in self.standing():
+            if self.alive(number):
+                self.alive(number).stepped.kill()
+                self.alive(number).stepped = None
 
     def answer_all(self):
-        until = self.turn + SILENCE
+        until = self.turn + self.silence
         while any(client.sender.going or client.sender.waiting for client in self.clients.values()):
             self.turn += 1
             if self.turn > until:
-                raise Wrong(f"not answered in {SILENCE} turns: {[key for key, client in self.clients.items() if client.sender.going]}")
+                raise Wrong(f"not answered in {self.silence} turns: {[key for key, client in self.clients.items() if client.sender.going]}")
             self.deliver()
-            self.step(range(self.count))
+            self.step(self.standing())
 
     def see_tag(self, name, volume, file, number, session, content):
         """A tag of a file has one content, whoever tells it: no session uses a number twice."""
@@ -407,7 +425,5 @@ def stormed(program, folder, seed, lines, weather, library=None, kind=Storm):
         storm.blow(lines)
         storm.settle()
     finally:
-        for lives in storm.lives:
-            if lives and lives[-1].stepped:
-                lives[-1].stepped.kill()
+        storm.end()
     return storm

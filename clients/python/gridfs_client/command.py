@@ -251,8 +251,10 @@ def plan(opened: Opened, args: argparse.Namespace) -> None:
     told = opened.sessions.told
     value = {"nodes": told.nodes, "home": told.home, "sessions": told.sessions, "share": told.share, "most": told.most}
     volumes = [{"files": files, "blocks": blocks} for files, blocks in told.volumes]
-    words = " ".join(f"{files}x{blocks}" for files, blocks in told.volumes)
-    tell(args, value | {"volumes": volumes}, "\n".join(f"{key}: {each}" for key, each in (value | {"volumes": words}).items()))
+    words = {"volumes": " ".join(f"{files}x{blocks}" for files, blocks in told.volumes)}
+    words |= {"new nodes": " ".join(map(str, told.new_nodes))} if told.new_nodes else {}
+    value_told = value | {"volumes": volumes, "new_nodes": list(told.new_nodes)}
+    tell(args, value_told, "\n".join(f"{key}: {each}" for key, each in (value | words).items()))
 
 
 # The command

@@ -15,7 +15,7 @@ use Rattle.gq_model.specs.Trace.{serves, stored_by}
 use Rattle.gq_model.specs.Lone.{is_refusal, reply_to, quiet}
 use Rattle.gq_laws.proofs.Holding.{greatest-push}
 use Rattle.gq_laws.proofs.OperationMoments.{same_file}
-use Rattle.gq_cluster.specs.Facts.{OwnFact, Begun, Numbered, Kept, Reserved, reserving, with_reserved, replaced_in}
+use Rattle.gq_cluster.specs.Facts.{OwnFact, Begun, Numbered, Kept, Had, Reserved, reserving, with_reserved, replaced_in}
 use Rattle.gq_cluster.specs.Cluster.{Setting, Part, Act, Asks, Comes, aim_of, node_of, session_named, copy_in, step_of, state_after, fact_in, fact_of, part_after, Cluster, NodeStep, Acts, Restarts, Loses, Returns, leapt_part, new_cluster, after_act, after_acts, after_step, acts_of, behind_acts}
 use Rattle.gq_cluster.specs.Keeping.{kept_of, with_fact, AllActsKeep, IsKept, fact_at, facts_of, facts_at, AllFactsSuffice}
 use Rattle.gq_cluster.proofs.OneAct.{brings_nothing}
@@ -52,6 +52,7 @@ fact_keeps old new fact reserved copies = (λ i. record { copy = λ f. copies f 
       floor = λ j. floor (eqb k j) (record (old.reserved j) { floor = last }) (old.reserved j) i;
     }
     by (Some (Kept file copy)) = refl
+    by (Some (Had file copy)) = refl
 
 -- a fact of numbers leaves the copies
 numbers_copies : (part : Part) (k : ℕ) (fact : Option OwnFact) → IsOfNumbers k fact → (f : File) → (with_fact (kept_of part) fact).copy f ≡ copy_in part f
@@ -59,6 +60,7 @@ numbers_copies part k None its f = refl
 numbers_copies part k (Some (Begun j op)) its f = refl
 numbers_copies part k (Some (Numbered j number)) its f = refl
 numbers_copies part k (Some (Kept file copy)) its f = absurd its
+numbers_copies part k (Some (Had file copy)) its f = absurd its
 
 -- a refusal gives none
 refused_none : (k : ℕ) (reserved : Reserved) (told : Told) (floor : ℕ) → is_refusal told ≡ true → reserving k reserved told floor ≡ None

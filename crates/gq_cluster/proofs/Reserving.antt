@@ -16,7 +16,7 @@ use Rattle.gq_model.specs.Told.{Told, Began, Noted, Round, Done}
 use Rattle.gq_model.specs.Trace.{State, Session, Deed, Elsewhere, Begins, Hears, Moves, Ends, Leaps, deed, heard_deed, session_by}
 use Rattle.gq_model.specs.Lone.{Step, first_cause, session_causes, session_step, is_refusal, unless}
 use Rattle.gq_laws.proofs.Acts.{no_cause}
-use Rattle.gq_cluster.specs.Facts.{OwnFact, Begun, Numbered, Kept, Reserved, greatest_op, greatest_number, last_of_run, reserving, reserved_by, with_reserved, replaced_in}
+use Rattle.gq_cluster.specs.Facts.{OwnFact, Begun, Numbered, Kept, Had, Reserved, greatest_op, greatest_number, last_of_run, reserving, reserved_by, with_reserved, replaced_in}
 use Rattle.gq_cluster.specs.Cluster.{Setting, Part, Act, Asks, Comes, Cluster, NodeStep, Acts, Restarts, Loses, Returns, lost_part, given_part, state_of, part_of, copy_in, step_of, act_entry, fact_in, fact_of, state_after, part_after, node_of, new_cluster, leapt_part, after_act, after_acts, after_step, acts_of, behind_acts}
 use Rattle.gq_cluster.specs.Keeping.{IsReserved, AllUsedReserved}
 
@@ -28,6 +28,7 @@ IsOfNumbers k None = ⊤
 IsOfNumbers k (Some (Begun j op)) = j ≡ k
 IsOfNumbers k (Some (Numbered j number)) = j ≡ k
 IsOfNumbers k (Some (Kept file copy)) = ⊥
+IsOfNumbers k (Some (Had file copy)) = ⊥
 
 pub reserves_numbers : (k : ℕ) (reserved : Reserved) (told : Told) (floor : ℕ) → IsOfNumbers k (reserving k reserved told floor)
 reserves_numbers k reserved (Began op first count) floor = by (nat_le op reserved.op)
@@ -48,12 +49,14 @@ own_reserved None k reserved its = refl
 own_reserved (Some (Begun j op)) k reserved its = rw (eq-eqb j k its) refl
 own_reserved (Some (Numbered j number)) k reserved its = rw (eq-eqb j k its) refl
 own_reserved (Some (Kept file copy)) k reserved its = absurd its
+own_reserved (Some (Had file copy)) k reserved its = absurd its
 
 other_reserved : (fact : Option OwnFact) (k j : ℕ) (reserved : ℕ → Reserved) → IsOfNumbers k fact → k ≢ j → with_reserved fact reserved j ≡ reserved j
 other_reserved None k j reserved its ne = refl
 other_reserved (Some (Begun x op)) k j reserved its ne = rw (ne_eqb x j (λ same. ne (sym its ∙ same))) refl
 other_reserved (Some (Numbered x number)) k j reserved its ne = rw (ne_eqb x j (λ same. ne (sym its ∙ same))) refl
 other_reserved (Some (Kept file copy)) k j reserved its ne = absurd its
+other_reserved (Some (Had file copy)) k j reserved its ne = absurd its
 
 -- what is reserved for any session behind a fact of numbers of session k
 pub reserved_is : (fact : Option OwnFact) (k j : ℕ) (reserved : ℕ → Reserved) → IsOfNumbers k fact → with_reserved fact reserved j ≡ (if eqb k j then reserved_by fact (reserved k) else reserved j)

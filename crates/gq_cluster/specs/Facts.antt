@@ -19,6 +19,8 @@ pub data OwnFact : Type 0 where
   Numbered : (session number : ℕ) → OwnFact
   -- a store replaced the copy of the file
   Kept : (file : File) (copy : StoredCopy) → OwnFact
+  -- the server was given this copy of the file, which it lacked
+  Had : (file : File) (copy : StoredCopy) → OwnFact
 
 -- ---- numbers
 

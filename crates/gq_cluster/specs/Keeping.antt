@@ -1,9 +1,9 @@
 -- What a node must not forget of its part, and that an act changes it by one fact at most.
 use Rattle.std.specs.Prelude.{◌≡◌, ℕ, ◌≤◌, List, [], ◌∷◌, ◌++◌, ◌==◌, Option, Some, None, All, ⊤, fold, if◌then◌else◌}
 use Rattle.gq_tag.specs.declared.StoredCopy.{StoredCopy}
-use Rattle.gq_tag.specs.Tag.{File, is_file}
+use Rattle.gq_tag.specs.Tag.{File, is_file, first_copy, newer_of}
 use Rattle.gq_cluster.specs.Cluster.{Setting, Part, Act, Cluster, NodeStep, Loses, Returns, new_part, copy_in, node_of, fact_of, part_after, new_cluster, after_act, after_step, acts_of, cluster_after}
-use Rattle.gq_cluster.specs.Facts.{OwnFact, Begun, Numbered, Kept}
+use Rattle.gq_cluster.specs.Facts.{OwnFact, Begun, Numbered, Kept, Had}
 
 -- what is kept of a part: of each file the copy; of each session the last numbers that are reserved, of its operations and of its tags
 pub record KeptPart : Type 0 where
@@ -20,6 +20,7 @@ with_fact kept None = kept
 with_fact kept (Some (Begun k op)) = record kept { op = λ j. if k == j then op else kept.op j }
 with_fact kept (Some (Numbered k number)) = record kept { floor = λ j. if k == j then number else kept.floor j }
 with_fact kept (Some (Kept file copy)) = record kept { copy = λ f. if is_file file f then copy else kept.copy f }
+with_fact kept (Some (Had file copy)) = record kept { copy = λ f. if is_file file f then newer_of first_copy copy else kept.copy f }
 
 -- whatever a node has, an act changes what is kept of it by the act's fact, and by nothing else
 abbrev pub AllActsKeep : Type 0

@@ -2,7 +2,7 @@
 use Rattle.std.specs.Prelude.{◌≡◌, ◌<◌, ◌^◌, length, true, Some}
 use Rattle.gq_desk.specs.CheckedPlan.{CheckedPlan}
 use Rattle.gq_text.specs.Canonical.{IsPlan, IsNumber}
-use Rattle.gq_cluster.specs.Facts.{OwnFact, Begun, Numbered, Kept}
+use Rattle.gq_cluster.specs.Facts.{OwnFact, Begun, Numbered, Kept, Had}
 use Rattle.gq_node.specs.declared.output.Fact.{Fact}
 use Rattle.gq_node.specs.Recalling.{tenant_of, own_fact}
 use Rattle.gq_wire.specs.Laws.{FitsCopy}
@@ -14,6 +14,7 @@ abbrev pub FitsOwn : OwnFact → Type 0
 FitsOwn (Begun session op) = (session < 256) × IsNumber op
 FitsOwn (Numbered session number) = (session < 256) × (number < 2 ^ 64)
 FitsOwn (Kept file copy) = IsNumber file.volume × IsNumber file.place × FitsCopy copy
+FitsOwn (Had file copy) = IsNumber file.volume × IsNumber file.place × FitsCopy copy
 
 -- the fact is of a tenant of the plan, and its numbers fit
 pub record FitsFact (plan : CheckedPlan) (fact : Fact) : Type 0 where

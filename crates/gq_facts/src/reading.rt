@@ -1,15 +1,17 @@
 //! Facts as they are read.
 
 ghost use Rattle.std.specs.Prelude.{◌≡◌, ◌<◌, length, option_map, IfOk, IfSome};
+ghost use Rattle.gq_tag.specs.Tag.{file_of};
 ghost use Rattle.gq_text.specs.Words.{words_after};
+ghost use Rattle.gq_cluster.specs.Facts.{Kept, Had};
 ghost use Rattle.gq_node.specs.Recalling.{tenant_of};
 ghost use Rattle.gq_node.specs.Tables.{fact_of};
-ghost use Rattle.gq_facts.specs.Facts.{begun_by, numbered_by, session_fact_by, kept_by, own_fact_by, fact_by, fact_of_line};
+ghost use Rattle.gq_facts.specs.Facts.{begun_by, numbered_by, session_fact_by, file_copy_by, copy_fact_by, own_fact_by, fact_by, fact_of_line};
 
 use gq_desk::Plan;
 use gq_memory::OutOfMemory;
 use gq_node::Fact;
-use gq_tag::FileId;
+use gq_tag::{FileId, StoredCopy};
 use gq_text::{first_word, is_end, next_word};
 use gq_wire::{read_copy, take_byte, take_long, take_number};
 use std::alloc::Global;
@@ -57,9 +59,13 @@ fn session_fact(verb: &[u8], tenant: u8, session: u8, text: &[u8]) -> Option<Fac
     }
 }
 
-// The copy that a file has.
-fn kept(alloc: Global, tenant: u8, text: &[u8]) -> Result<Option<Fact>, OutOfMemory>
-    ensures { IfOk result (λ fact. fact ≡ option_map (fact_of tenant) (kept_by (words_after text.now))) }
+// A file of the tenant, and its copy.
+fn take_copy(
+    alloc: Global,
+    tenant: u8,
+    text: &[u8],
+) -> Result<Option<(FileId, StoredCopy)>, OutOfMemory>
+    ensures { IfOk result (λ read. read ≡ option_map (λ x. (file_of tenant x.0, x.1)) (file_copy_by (words_after text.now))) }
 {
     let Some((volume, rest)) = take_number(text) else {
         return Ok(None);
@@ -68,14 +74,34 @@ fn kept(alloc: Global, tenant: u8, text: &[u8]) -> Result<Option<Fact>, OutOfMem
         return Ok(None);
     };
     match read_copy(alloc, rest)? {
-        Some(copy) => Ok(Some(Fact::Kept {
-            file: FileId {
+        Some(copy) => Ok(Some((
+            FileId {
                 tenant,
                 volume,
                 file,
             },
             copy,
-        })),
+        ))),
+        None => Ok(None),
+    }
+}
+
+// The copy that a file has.
+fn kept(alloc: Global, tenant: u8, text: &[u8]) -> Result<Option<Fact>, OutOfMemory>
+    ensures { IfOk result (λ fact. fact ≡ option_map (fact_of tenant) (copy_fact_by (λ file copy. Kept file copy) (words_after text.now))) }
+{
+    match take_copy(alloc, tenant, text)? {
+        Some((file, copy)) => Ok(Some(Fact::Kept { file, copy })),
+        None => Ok(None),
+    }
+}
+
+// The copy that the server was given of a file.
+fn had(alloc: Global, tenant: u8, text: &[u8]) -> Result<Option<Fact>, OutOfMemory>
+    ensures { IfOk result (λ fact. fact ≡ option_map (fact_of tenant) (copy_fact_by (λ file copy. Had file copy) (words_after text.now))) }
+{
+    match take_copy(alloc, tenant, text)? {
+        Some((file, copy)) => Ok(Some(Fact::Had { file, copy })),
         None => Ok(None),
     }
 }
@@ -91,6 +117,9 @@ fn own_fact(
 {
     if verb == b"kept".as_slice() {
         return kept(alloc, tenant, text);
+    }
+    if verb == b"had".as_slice() {
+        return had(alloc, tenant, text);
     }
     match take_byte(text) {
         Some((session, rest)) => Ok(session_fact(verb, tenant, session, rest)),

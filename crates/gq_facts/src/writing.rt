@@ -1,10 +1,11 @@
 //! Facts as they are written.
 
-ghost use Rattle.std.specs.Prelude.{◌≡◌, ◌<◌, ◌++◌, length, OnOk, OnErr};
+ghost use Rattle.std.specs.Prelude.{◌≡◌, ◌<◌, ◌++◌, [], length, OnOk, OnErr};
+ghost use Rattle.gq_text.specs.AnswerText.{line_text};
 ghost use Rattle.gq_text.specs.Pieces.{Extends};
 ghost use Rattle.gq_node.specs.declared.output.Fact.TheVariants.{Kept};
 ghost use Rattle.gq_node.specs.Recalling.{tenant_of};
-ghost use Rattle.gq_facts.specs.Facts.{fact_text};
+ghost use Rattle.gq_facts.specs.Facts.{fact_words, fact_text};
 
 use gq_desk::Plan;
 use gq_memory::{GrowCopies, OutOfMemory};
@@ -12,18 +13,17 @@ use gq_node::Fact;
 use gq_tag::{FileId, StoredCopy};
 use gq_text::{Piece, put_words};
 
-// Appends the line of the copy that a file has.
-fn put_kept<'x>(
+// Appends what stands behind the verb in the line of a file and its copy.
+fn put_copy<'x>(
     out: &mut Vec<u8>,
     plan: &'x Plan,
     file: FileId,
     copy: &'x StoredCopy,
 ) -> Result<(), OutOfMemory>
     requires { file.tenant < length plan.now.rows }
-    ensures ok { OnOk result (out.new.items ≡ out.old.items ++ fact_text plan.now (Kept file copy.now)) }
+    ensures ok { OnOk result (out.new.items ≡ out.old.items ++ line_text [] (fact_words plan.now (Kept file copy.now))) }
     ensures err { OnErr result (Extends out.old.items out.new.items) }
 {
-    out.grow_by(b"kept")?;
     put_words(
         out,
         &[
@@ -74,6 +74,13 @@ pub fn put_fact(out: &mut Vec<u8>, plan: &Plan, fact: &Fact) -> Result<(), OutOf
                 ],
             )
         }
-        Fact::Kept { file, copy } => put_kept(out, plan, *file, copy),
+        Fact::Kept { file, copy } => {
+            out.grow_by(b"kept")?;
+            put_copy(out, plan, *file, copy)
+        }
+        Fact::Had { file, copy } => {
+            out.grow_by(b"had")?;
+            put_copy(out, plan, *file, copy)
+        }
     }
 }

@@ -40,23 +40,23 @@ anew_sealed recalls readable blank rests machine before text plan seen synced ne
     sealed_of (whole_lines plan ∷ batches_for n.lines) seen synced next (a ∙ sym b) (b ∙ anew_is plan text n.lines p is) (anew_fit plan text n.lines p is short small (open_facts n.lines n.facts))
     (number ∙ ap (number_after 2) is ∙ next_is 2 n.lines ∙ (let e : 2 + length (batches_for n.lines) ≡ 1 + length (whole_lines plan ∷ batches_for n.lines) = omega arith in e))
 
-pub anew_restarts : {M : Type 0} (recalls : M → List ℕ → M → Type 0) (readable : M → List ℕ → Bool) (blank rests : M → M → Type 0) (machine : M) (before text plan journal : List ℕ) → Needs recalls readable blank rests machine before text → before ≡ [] → IsPlan plan → length plan < 2 ^ 64 → length text < 2 ^ 64 →
+pub anew_restarts : {M : Type 0} (recalls : M → List ℕ → M → Type 0) (readable : M → List ℕ → Bool) (blank : List Line → M → M → Type 0) (rests : M → M → Type 0) (machine : M) (before text plan journal : List ℕ) → Needs recalls readable (blank (whole_lines plan)) rests machine before text → before ≡ [] → IsPlan plan → length plan < 2 ^ 64 → length text < 2 ^ 64 →
     journal ≡ new_text plan text → Restarts recalls readable blank rests (whole_lines plan) machine journal
 anew_restarts recalls readable blank rests machine before text plan journal n none p short small is =
-    let text_is = needed_text recalls readable blank rests machine before text n none in
+    let text_is = needed_text recalls readable (blank (whole_lines plan)) rests machine before text n none in
     restarts_of recalls readable blank rests (whole_lines plan) machine (whole_lines plan ∷ batches_for n.lines) journal
-    (subst (Stands recalls readable blank rests machine) (sym (facts_then (whole_lines plan) (batches_for n.lines) p.plan ∙ facts_in-for n.lines n.facts)) n.stands)
+    (subst (Stands recalls readable (blank (whole_lines plan)) rests machine) (sym (facts_then (whole_lines plan) (batches_for n.lines) p.plan ∙ facts_in-for n.lines n.facts)) n.stands)
     p.plan
     (last_then (whole_lines plan) (batches_for n.lines) p.plan ∙ last_plan-for (whole_lines plan) n.lines n.facts)
     (found_whole (whole_lines plan ∷ batches_for n.lines) journal (anew_fit plan text n.lines p text_is short small (open_facts n.lines n.facts)) (is ∙ anew_is plan text n.lines p text_is))
 
 -- while a journal is written anew, the old one is left or the new one
-pub anew_left : {M : Type 0} (recalls : M → List ℕ → M → Type 0) (readable : M → List ℕ → Bool) (blank rests : M → M → Type 0) (machine : M) (before text plan synced seen left : List ℕ) → Needs recalls readable blank rests machine before text → before ≡ [] → IsPlan plan → length plan < 2 ^ 64 → length text < 2 ^ 64 →
+pub anew_left : {M : Type 0} (recalls : M → List ℕ → M → Type 0) (readable : M → List ℕ → Bool) (blank : List Line → M → M → Type 0) (rests : M → M → Type 0) (machine : M) (before text plan synced seen left : List ℕ) → Needs recalls readable (blank (whole_lines plan)) rests machine before text → before ≡ [] → IsPlan plan → length plan < 2 ^ 64 → length text < 2 ^ 64 →
     LeavesReplacing synced seen (new_text plan text) left → Leaves synced seen left ⊎ Restarts recalls readable blank rests (whole_lines plan) machine left
 anew_left recalls readable blank rests machine before text plan synced seen left n none p short small l =
     ⊎_elim (λ old. inl old) (λ new. inr (anew_restarts recalls readable blank rests machine before text plan left n none p short small new)) l
 
-pub due_left : {M : Type 0} (recalls : M → List ℕ → M → Type 0) (readable : M → List ℕ → Bool) (blank rests : M → M → Type 0) (machine : M) (before text plan synced seen left : List ℕ) (number : ℕ) → Needs recalls readable blank rests machine before text → before ≡ [] → IsPlan plan → length plan < 2 ^ 64 → length text < 2 ^ 64 →
+pub due_left : {M : Type 0} (recalls : M → List ℕ → M → Type 0) (readable : M → List ℕ → Bool) (blank : List Line → M → M → Type 0) (rests : M → M → Type 0) (machine : M) (before text plan synced seen left : List ℕ) (number : ℕ) → Needs recalls readable (blank (whole_lines plan)) rests machine before text → before ≡ [] → IsPlan plan → length plan < 2 ^ 64 → length text < 2 ^ 64 →
     AllSealed seen synced number → Restarts recalls readable blank rests (whole_lines plan) machine synced → LeavesReplacing synced seen (new_text plan text) left → Restarts recalls readable blank rests (whole_lines plan) machine left
 due_left recalls readable blank rests machine before text plan synced seen left number n none p short small s r l =
     ⊎_elim (λ old. restarts_found recalls readable blank rests (whole_lines plan) machine synced left r (sealed_left seen synced number left s old))

@@ -1,5 +1,5 @@
 -- What a start makes of the journal that it read.
-use Rattle.std.proofs.Common.{◌≡◌, ◌⊎◌, ℕ, ◌+◌, ◌^◌, ◌<◌, List, [], ◌∷◌, ◌++◌, length, take, drop, Bool, true, false, Option, Some, None, refl, sym, ap, ◌∙◌, subst, arith, append-nil, inl, inr, ⊎_elim}
+use Rattle.std.proofs.Common.{◌≡◌, ℕ, ◌+◌, ◌^◌, ◌<◌, List, [], ◌∷◌, ◌++◌, length, take, drop, Bool, true, false, Option, Some, None, refl, sym, ap, ◌∙◌, subst, arith, append-nil, inl, inr, ⊎_elim}
 use Rattle.std.specs.Prelude.{◌&&◌, if◌then◌else◌, MatchOption}
 use Rattle.std.specs.Str.{bytes_eq}
 use Rattle.std.proofs.lemmas.List.{length-take-le, take-append-drop}
@@ -7,12 +7,12 @@ use Rattle.std.proofs.lemmas.Slice.Eq.{bytes_eq-Decides}
 use Rattle.gq_journal.specs.Batches.{Line, lines_text, whole_lines, batches_of, journal_text, has_right_batch, are_batch_lines}
 use Rattle.gq_journal.specs.Laws.{FitBatches}
 use Rattle.gq_journal.proofs.Lines.{lines_then, open_ones}
-use Rattle.gq_keeper.specs.Plans.{IsPlan, is_plan, facts_in, last_plan, begins_with_plan, new_plan, goes_on_from, is_of}
+use Rattle.gq_keeper.specs.Plans.{IsPlan, is_plan, facts_in, first_plan, last_plan, begins_with_plan, new_plan, goes_on_from, is_of}
 use Rattle.gq_keeper.specs.Starting.{facts_read, EndsAt, behind}
 use Rattle.gq_keeper.specs.Crashes.{Leaves, LeavesSyncing}
 use Rattle.gq_keeper.specs.Restarting.{Stands, Restarts, ReadsAs}
 use Rattle.gq_keeper.specs.Durable.{AllSealed, kept_text, number_after}
-use Rattle.gq_keeper.proofs.Planning.{batches_for, facts_in-append, last_plan-append, begins_append, plan_batch_facts, plan_batch_last}
+use Rattle.gq_keeper.proofs.Planning.{batches_for, facts_in-append, first_plan-append, last_plan-append, begins_append, plan_batch_facts, plan_batch_last}
 use Rattle.gq_keeper.proofs.Journals.{sealed_of, grown_is, grown_fit, grown_sealed, kept_is, fit_for}
 use Rattle.gq_keeper.proofs.Crashing.{Found, found_whole, leaves_all, leaves_for, leaves_cut}
 use Rattle.gq_keeper.proofs.Restarts.{restarts_of}
@@ -124,36 +124,23 @@ begun_fit seen_old plan last seen synced at number next b =
 same_facts : (bs : List (List Line)) (plan last : List ℕ) → IsPlan plan → facts_in (bs ++ batches_for (added plan last)) ≡ facts_in bs
 same_facts bs plan last p = facts_in-append bs (batches_for (added plan last)) ∙ ap (λ x. facts_in bs ++ x) (added_facts plan last p) ∙ append-nil (facts_in bs)
 
-pub begun_restarts : {M : Type 0} (recalls : M → List ℕ → M → Type 0) (readable : M → List ℕ → Bool) (blank rests : M → M → Type 0) (machine : M) (seen_old plan last seen synced : List ℕ) (at number next : ℕ) → Begins seen_old plan last seen synced at number next →
-    Stands recalls readable blank rests machine (facts_read seen_old) → Restarts recalls readable blank rests (whole_lines plan) machine synced
+pub begun_restarts : {M : Type 0} (recalls : M → List ℕ → M → Type 0) (readable : M → List ℕ → Bool) (blank : List Line → M → M → Type 0) (rests : M → M → Type 0) (machine : M) (seen_old plan last seen synced : List ℕ) (at number next : ℕ) → Begins seen_old plan last seen synced at number next →
+    Stands recalls readable (blank (first_plan (batches_of seen_old))) rests machine (facts_read seen_old) → Restarts recalls readable blank rests (whole_lines plan) machine synced
 begun_restarts recalls readable blank rests machine seen_old plan last seen synced at number next b s =
     restarts_of recalls readable blank rests (whole_lines plan) machine (batches_of seen_old ++ batches_for (added plan last)) synced
-    (subst (Stands recalls readable blank rests machine) (sym (same_facts (batches_of seen_old) plan last b.is_plan)) s)
+    (subst (λ p. Stands recalls readable (blank p) rests machine (facts_in (batches_of seen_old ++ batches_for (added plan last)))) (sym (first_plan-append (batches_of seen_old) (batches_for (added plan last)) b.begins))
+    (subst (Stands recalls readable (blank (first_plan (batches_of seen_old))) rests machine) (sym (same_facts (batches_of seen_old) plan last b.is_plan)) s))
     (begins_append (batches_of seen_old) (batches_for (added plan last)) b.begins)
     (last_plan-append [] (batches_of seen_old) (batches_for (added plan last)) ∙ added_last plan last (last_plan [] (batches_of seen_old)) b.is_plan (last_open [] 1 (batches_of seen_old) refl b.ends.fit) b.last_is)
     (found_whole (batches_of seen_old ++ batches_for (added plan last)) synced (begun_fit seen_old plan last seen synced at number next b) (begun_is seen_old plan last seen synced at number next b))
 
 -- ---- what a crash leaves meanwhile
 
--- what it left before the start, or a journal that is read as that one
-abbrev pub Unharmed : List Line → List ℕ → List ℕ → List ℕ → Type 0
-Unharmed own synced seen left = Leaves synced seen left ⊎ ReadsAs own seen left
-
-reads_itself : (own : List Line) (seen left : List ℕ) → left ≡ seen → ReadsAs own seen left
-reads_itself own seen left is = record {
-  facts = ap facts_read is;
-  begins = ap (λ t. begins_with_plan (batches_of t)) is;
-  last = inl (ap (λ t. last_plan [] (batches_of t)) is);
-  mends = ap (λ t. has_right_batch (behind t)) is;
-}
-
-pub read_left : (own : List Line) (synced seen left : List ℕ) → LeavesSyncing synced seen left → Unharmed own synced seen left
-read_left own synced seen left l = ⊎_elim (λ old. inl old) (λ new. inr (reads_itself own seen left (leaves_all seen left new))) l
-
 found_reads : (own : List Line) (seen text left : List ℕ) (at number : ℕ) → text ≡ seen → EndsAt text at number → has_right_batch (drop at text) ≡ false → Found (batches_of text) left → ReadsAs own seen left
 found_reads own seen text left at number is e none f = record {
   facts = ap facts_in f.read ∙ ap facts_read is;
   begins = ap begins_with_plan f.read ∙ ap (λ t. begins_with_plan (batches_of t)) is;
+  first = ap first_plan f.read ∙ ap (λ t. first_plan (batches_of t)) is;
   last = inl (ap (last_plan []) f.read ∙ ap (λ t. last_plan [] (batches_of t)) is);
   mends = f.mends ∙ sym (ap has_right_batch (behind_is text at number e) ∙ none) ∙ ap (λ t. has_right_batch (behind t)) is;
 }
@@ -163,20 +150,21 @@ added_reads : (own : List Line) (seen text plan last left : List ℕ) (at number
 added_reads own seen text plan last left at number is e none owns p begins last_is f = record {
   facts = ap facts_in f.read ∙ same_facts (batches_of text) plan last p ∙ ap facts_read is;
   begins = ap begins_with_plan f.read ∙ begins_append (batches_of text) (batches_for (added plan last)) begins ∙ sym begins ∙ ap (λ t. begins_with_plan (batches_of t)) is;
+  first = ap first_plan f.read ∙ first_plan-append (batches_of text) (batches_for (added plan last)) begins ∙ ap (λ t. first_plan (batches_of t)) is;
   last = inr (ap (last_plan []) f.read ∙ last_plan-append [] (batches_of text) (batches_for (added plan last))
       ∙ added_last plan last (last_plan [] (batches_of text)) p (last_open [] 1 (batches_of text) refl e.fit) last_is ∙ sym owns);
   mends = f.mends ∙ sym (ap has_right_batch (behind_is text at number e) ∙ none) ∙ ap (λ t. has_right_batch (behind t)) is;
 }
 
-pub cut_left : (own : List Line) (synced seen text left : List ℕ) (at number : ℕ) → text ≡ seen → EndsAt text at number → number < 2 ^ 64 → has_right_batch (drop at text) ≡ false → Leaves (take at text) text left → Unharmed own synced seen left
-cut_left own synced seen text left at number is e fits none l =
-    inr (found_reads own seen text left at number is e none
-    (leaves_cut (batches_of text) text left at e.fit (subst (λ n. n < 2 ^ 64) e.next fits) e.front (sym (take-append-drop at text)) none l))
+pub cut_left : (own : List Line) (seen text left : List ℕ) (at number : ℕ) → text ≡ seen → EndsAt text at number → number < 2 ^ 64 → has_right_batch (drop at text) ≡ false → Leaves (take at text) text left → ReadsAs own seen left
+cut_left own seen text left at number is e fits none l =
+    found_reads own seen text left at number is e none
+    (leaves_cut (batches_of text) text left at e.fit (subst (λ n. n < 2 ^ 64) e.next fits) e.front (sym (take-append-drop at text)) none l)
 
-pub plan_left : (own : List Line) (synced seen text now plan last left : List ℕ) (at number : ℕ) → text ≡ seen → EndsAt text at number → has_right_batch (drop at text) ≡ false → own ≡ whole_lines plan → IsPlan plan →
+pub plan_left : (own : List Line) (seen text now plan last left : List ℕ) (at number : ℕ) → text ≡ seen → EndsAt text at number → has_right_batch (drop at text) ≡ false → own ≡ whole_lines plan → IsPlan plan →
     begins_with_plan (batches_of text) ≡ true → last ≡ lines_text (last_plan [] (batches_of text)) → number < 2 ^ 64 → length plan < 2 ^ 64 → now ≡ take at text →
-    LeavesSyncing now (now ++ kept_text number (new_plan plan last)) left → Unharmed own synced seen left
-plan_left own synced seen text now plan last left at number is e none owns p begins last_is fits short here l = inr (⊎_elim part whole l)
+    LeavesSyncing now (now ++ kept_text number (new_plan plan last)) left → ReadsAs own seen left
+plan_left own seen text now plan last left at number is e none owns p begins last_is fits short here l = ⊎_elim part whole l
   where
     added_fit : FitBatches (1 + length (batches_of text)) (batches_for (added plan last))
     added_fit = subst (λ n. FitBatches n (batches_for (added plan last))) e.next (fit_for number (added plan last) fits (subst (λ x. length x < 2 ^ 64) (added_text plan last p) (short_new plan last short)) (added_open plan last p))

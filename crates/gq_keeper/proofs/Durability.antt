@@ -20,7 +20,7 @@ took_all longest steps first last text rest facts told t none =
 pub took_behind : {M : Type 0} (longest : ℕ) (steps : M → List ℕ → List (List ℕ) → List ℕ → M → Type 0) (first last : M) (text rest facts told : List ℕ) (t : Took longest steps first text rest [] facts [] told last) → short_lines longest rest ≡ [] → (more : List ℕ) → short_lines longest (text ++ more) ≡ short_lines longest text ++ short_lines longest (rest ++ more)
 took_behind longest steps first last text rest facts told t none more = t.took more ∙ ap (λ ls. ls ++ short_lines longest (rest ++ more)) (took_all longest steps first last text rest facts told t none)
 
-pub turn_durable : {M : Type 0} (longest : ℕ) (steps : M → List ℕ → List (List ℕ) → List ℕ → M → Type 0) (recalls : M → List ℕ → M → Type 0) (readable : M → List ℕ → Bool) (blank rests : M → M → Type 0) → Owes steps recalls readable blank rests →
+pub turn_durable : {M : Type 0} (longest : ℕ) (steps : M → List ℕ → List (List ℕ) → List ℕ → M → Type 0) (recalls : M → List ℕ → M → Type 0) (readable : M → List ℕ → Bool) (blank : List Line → M → M → Type 0) (rests : M → M → Type 0) → Owes steps recalls readable blank rests →
     (plan : List Line) (first last : M) (seen synced : List ℕ) (number : ℕ) (base text rest facts told : List ℕ) → AllSealed seen synced number → Restarts recalls readable blank rests plan first synced →
     Took longest steps first text rest [] facts [] told last → short_lines longest rest ≡ [] → number < 2 ^ 64 → length facts < 2 ^ 64 →
     Durable steps recalls readable blank rests first last plan (short_lines longest text) base (synced ++ kept_text number facts) (base ++ told)
@@ -35,11 +35,11 @@ turn_durable longest steps recalls readable blank rests owes plan first last see
       (grown_is seen synced number (facts_of t.dids) facts s t.facts));
 }
 
-pub durable_none : {M : Type 0} (steps : M → List ℕ → List (List ℕ) → List ℕ → M → Type 0) (recalls : M → List ℕ → M → Type 0) (readable : M → List ℕ → Bool) (blank rests : M → M → Type 0) (machine : M) (plan : List Line) (base synced : List ℕ) →
+pub durable_none : {M : Type 0} (steps : M → List ℕ → List (List ℕ) → List ℕ → M → Type 0) (recalls : M → List ℕ → M → Type 0) (readable : M → List ℕ → Bool) (blank : List Line → M → M → Type 0) (rests : M → M → Type 0) (machine : M) (plan : List Line) (base synced : List ℕ) →
     Restarts recalls readable blank rests plan machine synced → Durable steps recalls readable blank rests machine machine plan [] base synced base
 durable_none steps recalls readable blank rests machine plan base synced r = record { dids = []; runs = refl; took = refl; told = sym (append-nil base); restarts = r }
 
-pub durable_then : {M : Type 0} (steps : M → List ℕ → List (List ℕ) → List ℕ → M → Type 0) (recalls : M → List ℕ → M → Type 0) (readable : M → List ℕ → Bool) (blank rests : M → M → Type 0) (a b c : M) (plan l1 l2 : List Line) (base s1 o1 s2 o2 : List ℕ) →
+pub durable_then : {M : Type 0} (steps : M → List ℕ → List (List ℕ) → List ℕ → M → Type 0) (recalls : M → List ℕ → M → Type 0) (readable : M → List ℕ → Bool) (blank : List Line → M → M → Type 0) (rests : M → M → Type 0) (a b c : M) (plan l1 l2 : List Line) (base s1 o1 s2 o2 : List ℕ) →
     Durable steps recalls readable blank rests a b plan l1 base s1 o1 → Durable steps recalls readable blank rests b c plan l2 o1 s2 o2 → Durable steps recalls readable blank rests a c plan (l1 ++ l2) base s2 o2
 durable_then steps recalls readable blank rests a b c plan l1 l2 base s1 o1 s2 o2 x y = record {
   dids = x.dids ++ y.dids;
@@ -50,6 +50,6 @@ durable_then steps recalls readable blank rests a b c plan l1 l2 base s1 o1 s2 o
 }
 
 -- a journal that is written anew
-pub durable_renewed : {M : Type 0} (steps : M → List ℕ → List (List ℕ) → List ℕ → M → Type 0) (recalls : M → List ℕ → M → Type 0) (readable : M → List ℕ → Bool) (blank rests : M → M → Type 0) (first last : M) (plan lines : List Line) (base synced shown new : List ℕ) →
+pub durable_renewed : {M : Type 0} (steps : M → List ℕ → List (List ℕ) → List ℕ → M → Type 0) (recalls : M → List ℕ → M → Type 0) (readable : M → List ℕ → Bool) (blank : List Line → M → M → Type 0) (rests : M → M → Type 0) (first last : M) (plan lines : List Line) (base synced shown new : List ℕ) →
     Durable steps recalls readable blank rests first last plan lines base synced shown → Restarts recalls readable blank rests plan last new → Durable steps recalls readable blank rests first last plan lines base new shown
 durable_renewed steps recalls readable blank rests first last plan lines base synced shown new d r = record { dids = d.dids; runs = d.runs; took = d.took; told = d.told; restarts = r }

@@ -17,6 +17,11 @@ pub recalls_append : {M : Type 0} (recalls : M → List ℕ → M → Type 0) (a
 recalls_append recalls a b c [] ks x y = subst (λ m. RecallsAll recalls m ks c) (sym x) y
 recalls_append recalls a b c (l ∷ ls) ks x y = (x.0, x.1, recalls_append recalls x.0 b c ls ks x.2 y)
 
+-- what each line keeps lines keep
+pub recalls_keep : {M : Type 0} (recalls : M → List ℕ → M → Type 0) (P : M → Type 0) → ((old : M) (line : List ℕ) (new : M) → recalls old line new → P old → P new) → (first last : M) (lines : List Line) → RecallsAll recalls first lines last → P first → P last
+recalls_keep recalls P keeps first last [] all is = subst P all is
+recalls_keep recalls P keeps first last (line ∷ lines) all is = recalls_keep recalls P keeps all.0 last lines all.2 (keeps first line all.0 all.1 is)
+
 -- ---- what is readable
 
 -- what is readable doesn't change with lines that were read

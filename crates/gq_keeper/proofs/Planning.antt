@@ -5,7 +5,7 @@ use Rattle.std.proofs.lemmas.Bool.{and_parts}
 use Rattle.std.proofs.lemmas.List.Folds.{list_all-append}
 use Rattle.gq_journal.specs.Batches.{Line, is_batch_line, are_batch_lines}
 use Rattle.gq_journal.proofs.Lines.{not-true}
-use Rattle.gq_keeper.specs.Plans.{is_head, is_plan, are_facts, facts_in, last_plan, begins_with_plan}
+use Rattle.gq_keeper.specs.Plans.{is_head, is_plan, are_facts, facts_in, first_plan, last_plan, begins_with_plan}
 
 pub facts_in-append : (a b : List (List Line)) → facts_in (a ++ b) ≡ facts_in a ++ facts_in b
 facts_in-append [] b = refl
@@ -18,6 +18,11 @@ last_plan-append p (x ∷ a) b = last_plan-append (if is_plan x then x else p) a
 pub begins_append : (a b : List (List Line)) → begins_with_plan a ≡ true → begins_with_plan (a ++ b) ≡ true
 begins_append [] b begins = cc
 begins_append (x ∷ a) b begins = begins
+
+-- more batches don't change with which plan a journal begins
+pub first_plan-append : (a b : List (List Line)) → begins_with_plan a ≡ true → first_plan (a ++ b) ≡ first_plan a
+first_plan-append [] b begins = cc
+first_plan-append (x ∷ a) b begins = refl
 
 -- ---- a batch of facts
 

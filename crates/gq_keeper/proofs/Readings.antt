@@ -16,7 +16,7 @@ use Rattle.gq_keeper.proofs.Restarts.{restarts_found, sealed_left}
 use Rattle.gq_keeper.proofs.Durability.{durable_none, durable_then, durable_renewed}
 
 -- this was taken of the input, its lines were served, and what is held is the end that goes on
-pub record Served {M : Type 0} (longest : ℕ) (steps : M → List ℕ → List (List ℕ) → List ℕ → M → Type 0) (recalls : M → List ℕ → M → Type 0) (readable : M → List ℕ → Bool) (blank rests : M → M → Type 0) (first now : M) (plan : List Line) (base synced shown : List ℕ) (before after : Option (List ℕ)) (held : List ℕ) : Type 0 where
+pub record Served {M : Type 0} (longest : ℕ) (steps : M → List ℕ → List (List ℕ) → List ℕ → M → Type 0) (recalls : M → List ℕ → M → Type 0) (readable : M → List ℕ → Bool) (blank : List Line → M → M → Type 0) (rests : M → M → Type 0) (first now : M) (plan : List Line) (base synced shown : List ℕ) (before after : Option (List ℕ)) (held : List ℕ) : Type 0 where
   pub taken : List ℕ
   pub input : Consumes before after taken
   pub durable : Durable steps recalls readable blank rests first now plan (short_lines longest taken) (base ++ first_text) synced shown
@@ -38,7 +38,7 @@ consumes_all None b xs ys x end = tt
 consumes_all (Some a) None xs ys x end = absurd x
 consumes_all (Some a) (Some b) xs ys x end = x ∙ ap (λ t. xs ++ t) end ∙ append-nil xs
 
-pub served_none : {M : Type 0} (longest : ℕ) (steps : M → List ℕ → List (List ℕ) → List ℕ → M → Type 0) (recalls : M → List ℕ → M → Type 0) (readable : M → List ℕ → Bool) (blank rests : M → M → Type 0) (machine : M) (plan : List Line) (base synced shown : List ℕ) (known : Option (List ℕ)) (held : List ℕ) →
+pub served_none : {M : Type 0} (longest : ℕ) (steps : M → List ℕ → List (List ℕ) → List ℕ → M → Type 0) (recalls : M → List ℕ → M → Type 0) (readable : M → List ℕ → Bool) (blank : List Line → M → M → Type 0) (rests : M → M → Type 0) (machine : M) (plan : List Line) (base synced shown : List ℕ) (known : Option (List ℕ)) (held : List ℕ) →
     Restarts recalls readable blank rests plan machine synced → shown ≡ base ++ first_text → held ≡ [] → Served longest steps recalls readable blank rests machine machine plan base synced shown known known held
 served_none longest steps recalls readable blank rests machine plan base synced shown known held r is none = record {
   taken = [];
@@ -52,7 +52,7 @@ pub no_short : (longest : ℕ) (text : List ℕ) → whole_lines text ≡ [] →
 no_short longest text none = rw none refl
 
 -- one read more
-pub served_more : {M : Type 0} (longest : ℕ) (steps : M → List ℕ → List (List ℕ) → List ℕ → M → Type 0) (recalls : M → List ℕ → M → Type 0) (readable : M → List ℕ → Bool) (blank rests : M → M → Type 0) (first now next : M) (plan : List Line) (base synced shown synced_turn shown_next synced_next : List ℕ) (before after later : Option (List ℕ)) (held block text rest kept : List ℕ) →
+pub served_more : {M : Type 0} (longest : ℕ) (steps : M → List ℕ → List (List ℕ) → List ℕ → M → Type 0) (recalls : M → List ℕ → M → Type 0) (readable : M → List ℕ → Bool) (blank : List Line → M → M → Type 0) (rests : M → M → Type 0) (first now next : M) (plan : List Line) (base synced shown synced_turn shown_next synced_next : List ℕ) (before after later : Option (List ℕ)) (held block text rest kept : List ℕ) →
     Served longest steps recalls readable blank rests first now plan base synced shown before after held → Consumes after later block → text ≡ held ++ block →
     Durable steps recalls readable blank rests now next plan (short_lines longest text) shown synced_turn shown_next → Restarts recalls readable blank rests plan next synced_next →
     ((more : List ℕ) → short_lines longest (text ++ more) ≡ short_lines longest text ++ short_lines longest (rest ++ more)) → whole_lines kept ≡ [] → ((more : List ℕ) → short_lines longest (kept ++ more) ≡ short_lines longest (rest ++ more)) →
@@ -77,7 +77,7 @@ served_more longest steps recalls readable blank rests first now next plan base 
     lines = ap (short_lines longest) (sym (append-nil (s.taken ++ block))) ∙ step [] ∙ ap (λ t. short_lines longest s.taken ++ short_lines longest t) (append-nil text)
 
 -- one read more in which no line ends
-pub served_longer : {M : Type 0} (longest : ℕ) (steps : M → List ℕ → List (List ℕ) → List ℕ → M → Type 0) (recalls : M → List ℕ → M → Type 0) (readable : M → List ℕ → Bool) (blank rests : M → M → Type 0) (first now : M) (plan : List Line) (base synced shown : List ℕ) (before after later : Option (List ℕ)) (held block kept : List ℕ) →
+pub served_longer : {M : Type 0} (longest : ℕ) (steps : M → List ℕ → List (List ℕ) → List ℕ → M → Type 0) (recalls : M → List ℕ → M → Type 0) (readable : M → List ℕ → Bool) (blank : List Line → M → M → Type 0) (rests : M → M → Type 0) (first now : M) (plan : List Line) (base synced shown : List ℕ) (before after later : Option (List ℕ)) (held block kept : List ℕ) →
     Served longest steps recalls readable blank rests first now plan base synced shown before after held → Consumes after later block → whole_lines block ≡ [] →
     whole_lines kept ≡ [] → ((more : List ℕ) → short_lines longest (kept ++ more) ≡ short_lines longest ((held ++ block) ++ more)) →
     Served longest steps recalls readable blank rests first now plan base synced shown before later kept
@@ -91,16 +91,16 @@ served_longer longest steps recalls readable blank rests first now plan base syn
 
 -- ---- what a crash leaves
 
-pub as_one : {M : Type 0} (steps : M → List ℕ → List (List ℕ) → List ℕ → M → Type 0) (recalls : M → List ℕ → M → Type 0) (readable : M → List ℕ → Bool) (blank rests : M → M → Type 0) (plan : List Line) (first now : M) (dids : List Did) (left : List ℕ) → Runs steps first dids now → Restarts recalls readable blank rests plan now left → RestartsAsOne steps recalls readable blank rests plan first left
+pub as_one : {M : Type 0} (steps : M → List ℕ → List (List ℕ) → List ℕ → M → Type 0) (recalls : M → List ℕ → M → Type 0) (readable : M → List ℕ → Bool) (blank : List Line → M → M → Type 0) (rests : M → M → Type 0) (plan : List Line) (first now : M) (dids : List Did) (left : List ℕ) → Runs steps first dids now → Restarts recalls readable blank rests plan now left → RestartsAsOne steps recalls readable blank rests plan first left
 as_one steps recalls readable blank rests plan first now dids left runs r = (now, dids, runs, r)
 
-pub of_turn : {M : Type 0} (steps : M → List ℕ → List (List ℕ) → List ℕ → M → Type 0) (recalls : M → List ℕ → M → Type 0) (readable : M → List ℕ → Bool) (blank rests : M → M → Type 0) (plan own : List Line) (first now next : M) (dids : List Did) (left : List ℕ) → Runs steps first dids now → own ≡ plan → RestartsAsEither steps recalls readable blank rests own now next left → RestartsAsOne steps recalls readable blank rests plan first left
+pub of_turn : {M : Type 0} (steps : M → List ℕ → List (List ℕ) → List ℕ → M → Type 0) (recalls : M → List ℕ → M → Type 0) (readable : M → List ℕ → Bool) (blank : List Line → M → M → Type 0) (rests : M → M → Type 0) (plan own : List Line) (first now next : M) (dids : List Did) (left : List ℕ) → Runs steps first dids now → own ≡ plan → RestartsAsEither steps recalls readable blank rests own now next left → RestartsAsOne steps recalls readable blank rests plan first left
 of_turn steps recalls readable blank rests plan own first now next dids left runs same e =
     ⊎_elim (λ old. as_one steps recalls readable blank rests plan first now dids left runs (subst (λ p. Restarts recalls readable blank rests p now left) same old))
     (λ new. as_one steps recalls readable blank rests plan first next (dids ++ new.0) left (runs_append steps first now next dids new.0 runs new.1) (subst (λ p. Restarts recalls readable blank rests p next left) same new.2)) e
 
 -- at any instant since the beginning
-pub at_any : {M : Type 0} (steps : M → List ℕ → List (List ℕ) → List ℕ → M → Type 0) (recalls : M → List ℕ → M → Type 0) (readable : M → List ℕ → Bool) (blank rests : M → M → Type 0) (plan : List Line) (first : M) (before now : ℕ) (past since : ℕ → List ℕ → Type 0) (seen synced : List ℕ) (number : ℕ) →
+pub at_any : {M : Type 0} (steps : M → List ℕ → List (List ℕ) → List ℕ → M → Type 0) (recalls : M → List ℕ → M → Type 0) (readable : M → List ℕ → Bool) (blank : List Line → M → M → Type 0) (rests : M → M → Type 0) (plan : List Line) (first : M) (before now : ℕ) (past since : ℕ → List ℕ → Type 0) (seen synced : List ℕ) (number : ℕ) →
     AllSealed seen synced number → Restarts recalls readable blank rests plan first synced → ((left : List ℕ) → past before left → Leaves synced seen left) → Elapses before now past since (RestartsAsOne steps recalls readable blank rests plan first) →
     (left : List ℕ) → since before left → RestartsAsOne steps recalls readable blank rests plan first left
 at_any steps recalls readable blank rests plan first before now past since seen synced number s r only e left may =

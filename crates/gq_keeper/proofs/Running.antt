@@ -24,6 +24,12 @@ told_append ds es = flat_map-append (λ (did : Did). did.told) ds es
 pub text_append : (a b : List Line) → lines_text (a ++ b) ≡ lines_text a ++ lines_text b
 text_append a b = flat_map-append ended_line a b
 
+-- what each step keeps steps keep
+pub runs_keep : {M : Type 0} (steps : M → List ℕ → List (List ℕ) → List ℕ → M → Type 0) (P : M → Type 0) → ((old : M) (line : List ℕ) (facts : List (List ℕ)) (told : List ℕ) (new : M) → steps old line facts told new → P old → P new) →
+    (first last : M) (dids : List Did) → Runs steps first dids last → P first → P last
+runs_keep steps P keeps first last [] runs is = subst P runs is
+runs_keep steps P keeps first last (did ∷ dids) runs is = runs_keep steps P keeps runs.0 last dids runs.2 (keeps first did.line did.facts did.told runs.0 runs.1 is)
+
 -- ---- lines that are taken, and lines that are too long
 
 kept : (longest : ℕ) (line : Line) (lines : List Line) → is_short longest line ≡ true → filter (is_short longest) (line ∷ lines) ≡ line ∷ filter (is_short longest) lines

@@ -14,9 +14,9 @@ pub record AllSealed (seen synced : List ℕ) (number : ℕ) : Type 0 where
 
 -- The machine took these lines, by steps from the first one to the last. Shown are `base`, which was there before, and what the steps told.
 -- A start from what is synced reads the last machine, at rest: its operations gone, and the numbers passed over that facts reserve. `steps`,
--- `recalls`, `readable`, `blank` and `rests` are the machine's own words for a step, for a line that a start reads, for whether it reads one, for a
--- machine never started and for one at rest; `plan` is the lines of the journal's last plan.
-pub record Durable {M : Type 0} (steps : M → List ℕ → List (List ℕ) → List ℕ → M → Type 0) (recalls : M → List ℕ → M → Type 0) (readable : M → List ℕ → Bool) (blank rests : M → M → Type 0) (first last : M) (plan lines : List Line) (base synced shown : List ℕ) : Type 0 where
+-- `recalls`, `readable`, `blank` and `rests` are the machine's own words for a step, for a line that a start reads, for whether it reads one, for
+-- what a start from a journal with a first plan begins with and for one at rest; `plan` is the lines of the journal's last plan.
+pub record Durable {M : Type 0} (steps : M → List ℕ → List (List ℕ) → List ℕ → M → Type 0) (recalls : M → List ℕ → M → Type 0) (readable : M → List ℕ → Bool) (blank : List Line → M → M → Type 0) (rests : M → M → Type 0) (first last : M) (plan lines : List Line) (base synced shown : List ℕ) : Type 0 where
   pub dids : List Did
   pub runs : Runs steps first dids last
   pub took : lines_of dids ≡ lines

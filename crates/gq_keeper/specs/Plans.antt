@@ -32,6 +32,11 @@ abbrev pub last_plan : List Line → List (List Line) → List Line
 last_plan before [] = before
 last_plan before (batch ∷ batches) = last_plan (if is_plan batch then batch else before) batches
 
+-- the lines of the first batch, none where there is no batch: where the journal begins with a plan, the lines of this plan
+abbrev pub first_plan : List (List Line) → List Line
+first_plan [] = []
+first_plan (batch ∷ batches) = batch
+
 -- the first batch is one of a plan
 abbrev pub begins_with_plan : List (List Line) → Bool
 begins_with_plan [] = false

@@ -44,7 +44,7 @@ pub trait Log {
 
 /// The file as a start sees it.
 pub trait Disk: Log {
-    /// All that was written, once it and the file's name are made sure of.
+    /// All that was written, once it and the file's name are made sure of. A second read may be a fault: the text isn't held twice.
     fn read(&mut self, alloc: Global) -> Result<Vec<u8>, Fault>
         ensures bytes { IfOk result (λ bytes. bytes.items ≡ Self.seen self.old) }
         ensures seen { Self.seen self.new ≡ Self.seen self.old }

@@ -57,31 +57,40 @@ pub trait Machine {
 /// A machine that a start makes again. Of what it was the start leaves what the facts say: what was going on is gone, and numbers that
 /// a fact reserves are passed over, used or not.
 pub trait Lasting: Machine {
-    /// A start that makes this machine begins with that one.
-    ghost blank: { Self → Self → Type 0 };
+    /// A start that makes this machine, from a journal that begins with this plan, begins with that one.
+    ghost blank: { List (List ℕ) → Self → Self → Type 0 };
+
+    /// The machine is of this plan, of these lines.
+    ghost is_of: { List (List ℕ) → Self → Type 0 };
 
     /// That machine is this one at rest.
     ghost rests: { Self → Self → Type 0 };
 
-    /// Appends the lines of the facts that a start needs.
+    /// Appends the lines of the facts that a start needs, from a journal that begins with a plan of which the machine is.
     fn put_needed(&self, facts: &mut Vec<u8>) -> Result<(), Fault>
-        ensures { OnOk result (Needs Self.recalls Self.readable blank rests self.now facts.old.items facts.new.items) };
+        ensures { (plan : List (List ℕ)) → is_of plan self.now → OnOk result (Needs Self.recalls Self.readable (blank plan) rests self.now facts.old.items facts.new.items) };
 
     /// The facts of a step are lines of facts.
     ghost gives_facts: { (old : Self) (line : List ℕ) (facts : List (List ℕ)) (told : List ℕ) (new : Self) → Self.steps old line facts told new → are_facts facts ≡ true };
 
     /// A start reads the facts of a step.
-    ghost gives_readable: { (old : Self) (line : List ℕ) (facts : List (List ℕ)) (told : List ℕ) (new other : Self) → Self.steps old line facts told new → blank old other → list_all (Self.readable other) facts ≡ true };
+    ghost gives_readable: { (plan : List (List ℕ)) (old : Self) (line : List ℕ) (facts : List (List ℕ)) (told : List ℕ) (new other : Self) → Self.steps old line facts told new → blank plan old other → list_all (Self.readable other) facts ≡ true };
 
     /// A step doesn't change with what a start begins.
-    ghost keeps_blank: { (old : Self) (line : List ℕ) (facts : List (List ℕ)) (told : List ℕ) (new other : Self) → Self.steps old line facts told new → blank new other → blank old other };
+    ghost keeps_blank: { (plan : List (List ℕ)) (old : Self) (line : List ℕ) (facts : List (List ℕ)) (told : List ℕ) (new other : Self) → Self.steps old line facts told new → blank plan new other → blank plan old other };
+
+    /// A step doesn't change of which plan the machine is.
+    ghost keeps_plan: { (plan : List (List ℕ)) (old : Self) (line : List ℕ) (facts : List (List ℕ)) (told : List ℕ) (new : Self) → Self.steps old line facts told new → is_of plan old → is_of plan new };
+
+    /// Nor does a line that was read.
+    ghost recalls_plan: { (plan : List (List ℕ)) (old : Self) (line : List ℕ) (new : Self) → Self.recalls old line new → is_of plan old → is_of plan new };
 
     /// Reading the facts of a step makes of the machine before it, at rest, the machine behind it, at rest.
     ghost keeps_rest: { (old : Self) (line : List ℕ) (facts : List (List ℕ)) (told : List ℕ) (new before after : Self) → Self.steps old line facts told new → rests old before → RecallsAll Self.recalls before facts after → rests new after };
 
     /// What a start read another start reads.
-    ghost reads_again: { (first last new : Self) (lines : List (List ℕ)) → blank first first → RecallsAll Self.recalls first lines last → blank last new → list_all (Self.readable new) lines ≡ true };
+    ghost reads_again: { (plan : List (List ℕ)) (first last new : Self) (lines : List (List ℕ)) → blank plan first first → RecallsAll Self.recalls first lines last → blank plan last new → list_all (Self.readable new) lines ≡ true };
 
     /// A machine that a start made is one at rest: another start with the same facts makes it again.
-    ghost starts_again: { (first last new again : Self) (lines : List (List ℕ)) → blank first first → RecallsAll Self.recalls first lines last → blank last new → RecallsAll Self.recalls new lines again → rests last again };
+    ghost starts_again: { (plan : List (List ℕ)) (first last new again : Self) (lines : List (List ℕ)) → blank plan first first → RecallsAll Self.recalls first lines last → blank plan last new → RecallsAll Self.recalls new lines again → rests last again };
 }

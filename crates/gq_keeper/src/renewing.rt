@@ -69,6 +69,7 @@ pub fn renew<M: Lasting, D: Disk>(
     disk: &mut D,
 ) -> Result<u64, Fault>
     requires plan { IsPlan plan.now }
+    requires of_plan { M.is_of (whole_lines plan.now) machine.now }
     ensures sealed { IfOk result (λ next. AllSealed (D.seen disk.new) (D.synced disk.new) next) }
     ensures restarts { OnOk result (Restarts M.recalls M.readable M.blank M.rests (whole_lines plan.now) machine.now (D.synced disk.new)) }
     ensures crash { Elapses (D.instant disk.old) (D.instant disk.new) (D.left_since disk.old) (D.left_since disk.new)
@@ -92,6 +93,7 @@ pub(crate) fn renew_if_due<M: Lasting, D: Disk>(
 ) -> Result<(), Fault>
     requires sealed { AllSealed (D.seen disk.old) (D.synced disk.old) number.old }
     requires plan { IsPlan plan.now }
+    requires of_plan { M.is_of (whole_lines plan.now) machine.now }
     requires restarts { Restarts M.recalls M.readable M.blank M.rests (whole_lines plan.now) machine.now (D.synced disk.old) }
     ensures sealed { OnOk result (AllSealed (D.seen disk.new) (D.synced disk.new) number.new) }
     ensures restarts { OnOk result (Restarts M.recalls M.readable M.blank M.rests (whole_lines plan.now) machine.now (D.synced disk.new)) }

@@ -141,11 +141,19 @@ fn read_some<R: Read>(input: &mut R, block: &mut [u8]) -> Result<usize, Fault>
     Err(Fault::Read)
 }
 
+/// Who sees the machine each time lines of the input were taken: their facts are synced by then, and what they told was shown. It changes
+/// nothing of the machine, and nothing is promised of it.
+pub trait Watch<M> {
+    /// The machine took lines, or passed them over because they are longer than lines may be.
+    fn took(&mut self, machine: &M);
+}
+
 /// Takes the lines of the input to its end, but for those that are longer, of which no more is held than shows it. At
 /// each write to the output, `O.allows` is all that is known of what may be shown; the premise `may` says that it is
 /// allowed where it is durable: what is shown is what steps told, and a start from what is synced reads the machine
-/// that they left. Whenever it is killed, a start reads a machine that steps left.
-pub fn serve<M: Lasting, R: Read, D: Disk, O: Output>(
+/// that they left. Whenever it is killed, a start reads a machine that steps left. `watch` sees the machine behind each
+/// write but the first, which greets: before the journal is written anew, if that is due.
+pub fn serve<M: Lasting, R: Read, D: Disk, O: Output, W: Watch<M>>(
     alloc: Global,
     longest: usize,
     machine: &mut M,
@@ -153,10 +161,12 @@ pub fn serve<M: Lasting, R: Read, D: Disk, O: Output>(
     input: &mut R,
     disk: &mut D,
     out: &mut O,
+    watch: &mut W,
     first: u64,
 ) -> Result<(), Fault>
     requires sealed { AllSealed (D.seen disk.old) (D.synced disk.old) first }
     requires plan { IsPlan plan.now }
+    requires of_plan { M.is_of (whole_lines plan.now) machine.old }
     requires restarts { Restarts M.recalls M.readable M.blank M.rests (whole_lines plan.now) machine.old (D.synced disk.old) }
     requires may { (last : M) (lines : List Line) (synced shown : List ℕ) → Durable M.steps M.recalls M.readable M.blank M.rests machine.old last (whole_lines plan.now) lines (O.shown out.old ++ first_text) synced shown → O.allows synced shown }
     ensures durable { OnOk result ((taken : List ℕ) × IfSome (R.remaining input.old) (λ all. all ≡ taken)
@@ -188,6 +198,7 @@ pub fn serve<M: Lasting, R: Read, D: Disk, O: Output>(
             &mut number,
             held.as_slice(),
         )?;
+        watch.took(machine);
         held = kept_end(alloc, longest, rest)?;
         renew_if_due(alloc, machine, plan, disk, &mut number, &mut due)?;
     }

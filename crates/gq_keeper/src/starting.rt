@@ -3,7 +3,7 @@
 ghost use Rattle.std.specs.Prelude.{◌≡◌, ◌⊎◌, ◌+◌, ◌≤◌, ◌++◌, ◌∷◌, ◌&&◌, ℕ, List, [], true, false, length, take, drop, IfOk, IfErr, OnOk, MatchOption, if◌then◌else◌};
 ghost use Rattle.std.specs.List.{list_all};
 ghost use Rattle.gq_journal.specs.Batches.{whole_lines, lines_text, batches_of, has_right_batch};
-ghost use Rattle.gq_keeper.specs.Plans.{IsPlan, is_plan, facts_in, last_plan, begins_with_plan, goes_on_from, is_of, new_plan};
+ghost use Rattle.gq_keeper.specs.Plans.{IsPlan, is_plan, facts_in, first_plan, last_plan, begins_with_plan, goes_on_from, is_of, new_plan};
 ghost use Rattle.gq_keeper.specs.Crashes.{Leaves, LeavesSyncing, Elapses};
 ghost use Rattle.gq_keeper.specs.Durable.{AllSealed, kept_text, number_after};
 ghost use Rattle.gq_keeper.specs.Starting.{facts_read, RecallsAll, RefusesLines, EndsAt, behind, IsDamaged};
@@ -132,22 +132,42 @@ fn reads_facts<M: Machine>(alloc: Global, machine: &mut M, text: &[u8]) -> Resul
     }
 }
 
-/// Reads the journal of earlier runs, once it is made sure of: the lines of the facts of all its right batches, in order. A wrong
-/// end is cut off. The plan is appended as a batch where it isn't the last one. Where a right batch is anywhere behind a wrong one
-/// it is told that the journal is damaged, and where; and it is told where the journal is of another node or of a plan from which
-/// this one doesn't go on, or where the machine doesn't read one of its lines: the journal stays as it was. Whenever it is killed,
-/// another start reads the same.
+/// The text of the plan with which the journal of this text begins (`Disk::read` gives it): the machine with which a start begins hangs
+/// on it. Where the journal begins with facts it is their text, and where no right batch is at its front it is empty: no start
+/// reads such a journal.
+pub fn first_plan(alloc: Global, journal: &[u8]) -> Result<&[u8], OutOfMemory>
+    ensures lines { IfOk result (λ plan. whole_lines plan.now ≡ first_plan (batches_of journal.now)) }
+    ensures text { IfOk result (λ plan. plan.now ≡ lines_text (first_plan (batches_of journal.now))) }
+{
+    match first_batch(alloc, journal, 1)? {
+        Some((body, _)) => Ok(body),
+        None => Ok(&journal[..0]),
+    }
+}
+
+/// Reads the journal of earlier runs: the lines of the facts of all its right batches, in order. A wrong end is cut off. The plan is
+/// appended as a batch where it isn't the last one. Where a right batch is anywhere behind a wrong one it is told that the journal is
+/// damaged, and where; and it is told where the journal is of another node or of a plan from which this one doesn't go on, or where
+/// the machine doesn't read one of its lines: the journal stays as it was. Whenever it is killed, another start reads the same.
+///
+/// The caller first reads the journal by `Disk::read`, which makes sure of it, and gives its text here as `journal`. It then makes the
+/// machine: one with which a start begins from a journal that begins with the plan that `first_plan` finds in this text (`blank`).
 pub fn start<M: Lasting, D: Disk, P: Plan>(
     alloc: Global,
     machine: &mut M,
     disk: &mut D,
     plan: &P,
+    journal: &[u8],
 ) -> Result<Started, Fault>
-    requires blank { M.blank machine.old machine.old }
+    requires read { journal.now ≡ D.seen disk.old }
+    requires synced { D.synced disk.old ≡ D.seen disk.old }
+    requires blank { M.blank (first_plan (batches_of (D.seen disk.old))) machine.old machine.old }
     requires plan { IsPlan (P.text plan.now) }
+    requires of_plan { M.is_of (whole_lines (P.text plan.now)) machine.old }
     ensures sealed { IfOk result (λ found. ForReady found (λ reading. AllSealed (D.seen disk.new) (D.synced disk.new) reading.number)) }
     ensures restarts { IfOk result (λ found. ForReady found (λ reading. Restarts M.recalls M.readable M.blank M.rests (whole_lines (P.text plan.now)) machine.new (D.synced disk.new))) }
     ensures recalled { IfOk result (λ found. ForReady found (λ reading. RecallsAll M.recalls machine.old (facts_read (D.seen disk.old)) machine.new)) }
+    ensures of_plan { IfOk result (λ found. ForReady found (λ reading. M.is_of (whole_lines (P.text plan.now)) machine.new)) }
     ensures goes_on { IfOk result (λ found. ForReady found (λ reading. is_of (P.goes_on plan.now) (P.text plan.now) (batches_of (D.seen disk.old)) ≡ true)) }
     ensures cut { IfOk result (λ found. ForReady found (λ reading. MatchOption reading.cut (behind (D.seen disk.old) ≡ []) (λ at. behind (D.seen disk.old) ≡ drop at (D.seen disk.old)))) }
     ensures none { IfOk result (λ found. ForReady found (λ reading. has_right_batch (behind (D.seen disk.old)) ≡ false)) }
@@ -155,21 +175,19 @@ pub fn start<M: Lasting, D: Disk, P: Plan>(
     ensures another { IfOk result (λ found. ForAnother found ((is_of (P.goes_on plan.now) (P.text plan.now) (batches_of (D.seen disk.old)) ≡ false) × (D.seen disk.new ≡ D.seen disk.old))) }
     ensures strange { IfOk result (λ found. ForStrange found ((list_all (M.readable machine.old) (facts_read (D.seen disk.old)) ≡ false) × (D.seen disk.new ≡ D.seen disk.old))) }
     ensures crash { Elapses (D.instant disk.old) (D.instant disk.new) (D.left_since disk.old) (D.left_since disk.new)
-        (λ left. Leaves (D.synced disk.old) (D.seen disk.old) left ⊎ ReadsAs (whole_lines (P.text plan.now)) (D.seen disk.old) left) }
+        (ReadsAs (whole_lines (P.text plan.now)) (D.seen disk.old)) }
 {
-    let journal = disk.read(alloc)?;
-    let text = journal.as_slice();
-    let found = find(alloc, text)?;
-    if has_right_behind(alloc, text, found.at)? {
+    let found = find(alloc, journal)?;
+    if has_right_behind(alloc, journal, found.at)? {
         return Ok(Started::Damaged(found.at));
     }
     if !is_of(plan, found.begins, found.last)? {
         return Ok(Started::Another);
     }
-    if !reads_facts(alloc, machine, text)? {
+    if !reads_facts(alloc, machine, journal)? {
         return Ok(Started::Strange);
     }
-    let cut = mend(disk, text, found.at)?;
+    let cut = mend(disk, journal, found.at)?;
     let number = append_plan(alloc, disk, plan.text(), found.last, found.number)?;
     Ok(Started::Ready(Recovered { number, cut }))
 }

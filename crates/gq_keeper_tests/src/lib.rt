@@ -7,11 +7,13 @@ mod living;
 mod register;
 mod shown;
 mod terms;
+mod turns;
 
-pub use living::{LONGEST, Lived, begin, live};
+pub use living::{LONGEST, Lived, begin, live, read_and_start};
 pub use register::Register;
 pub use shown::Shown;
 pub use terms::Terms;
+pub use turns::Turns;
 
 #[cfg(test)]
 mod facts;

@@ -112,7 +112,9 @@ impl Machine for Register {
 impl Lasting for Register {
     ghost use Rattle.gq_keeper_tests.specs.Registers.{gives_facts, gives_readable, keeps_rest, reads_again, starts_again};
 
-    ghost blank = { λ machine first. first ≡ [] };
+    ghost blank = { λ plan machine first. first ≡ [] };
+
+    ghost is_of = { λ plan machine. Unit {0} };
 
     ghost rests = { λ machine again. again ≡ machine };
 
@@ -122,13 +124,17 @@ impl Lasting for Register {
 
     ghost gives_facts = { gives_facts };
 
-    ghost gives_readable = { λ old line facts told new other step begins. gives_readable old line facts told new step };
+    ghost gives_readable = { λ plan old line facts told new other step begins. gives_readable old line facts told new step };
 
-    ghost keeps_blank = { λ old line facts told new other step begins. begins };
+    ghost keeps_blank = { λ plan old line facts told new other step begins. begins };
+
+    ghost keeps_plan = { λ plan old line facts told new step is. is };
+
+    ghost recalls_plan = { λ plan old line new recalled is. is };
 
     ghost keeps_rest = { keeps_rest };
 
-    ghost reads_again = { λ first last new lines begins recalled again. reads_again first last lines recalled };
+    ghost reads_again = { λ plan first last new lines begins recalled again. reads_again first last lines recalled };
 
-    ghost starts_again = { starts_again };
+    ghost starts_again = { λ plan. starts_again };
 }

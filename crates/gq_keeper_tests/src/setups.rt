@@ -1,8 +1,8 @@
 //! Setups read, written, and compared, by hand.
 
 use gq_keeper::Plan;
-use gq_memory::slice_copied;
-use gq_setup::{NodePlan, Opening, Setup, read_setup};
+use gq_memory::{GrowCopies, slice_copied};
+use gq_setup::{NodePlan, Opening, Setup, read_node_plan, read_setup};
 use std::alloc::Global;
 use std::process::Abort;
 
@@ -12,12 +12,19 @@ const TEXT: &[u8] =
 const NODE_TEXT: &[u8] =
     b"node 3 of 2 by 2\ngrid 2 2\nblocks 16\ntenant ann 6 2 10\ntenant bob 4 1 10\ngo\nann open 2 1\nbob open 1 2\nann open 1 1\n";
 
+// with losses among the openings, and a tenant named as they begin
+const LOSSES: &[u8] =
+    b"grid 2 2\nblocks 16\ntenant replace 6 1 10\ngo\nreplace 3\nreplace open 2 1\nreplace 0\nreplace open 1 1\nreplace 3\n";
+
+const NODE_LOSSES: &[u8] =
+    b"node 131 of 2 by 2\ngrid 2 2\nblocks 16\ntenant replace 6 1 10\ngo\nreplace open 2 1\nreplace open 1 1\nreplace 3\nreplace 0\nreplace 3\n";
+
 fn setup(rt: &impl Abort, alloc: Global, text: &[u8]) -> Setup {
     read_setup(alloc, text).ok().expect(rt, "a setup")
 }
 
-fn node_plan(rt: &impl Abort, alloc: Global, text: &[u8]) -> NodePlan {
-    let made = NodePlan::new(alloc, 3, setup(rt, alloc, text)).ok();
+fn node_plan(rt: &impl Abort, alloc: Global, number: u16, text: &[u8]) -> NodePlan {
+    let made = NodePlan::new(alloc, number, setup(rt, alloc, text)).ok();
     made.expect(rt, "memory").expect(rt, "a text for a journal")
 }
 
@@ -36,10 +43,81 @@ fn reads_and_writes_a_setup(rt: HostRuntime) {
         };
         assert!(rt; *opening == wanted);
     }
-    assert!(rt; node_plan(&rt, alloc, TEXT).text() == NODE_TEXT);
+    assert!(rt; node_plan(&rt, alloc, 3, TEXT).text() == NODE_TEXT);
     // the last line may lack its newline
-    let plan = node_plan(&rt, alloc, &TEXT[..TEXT.len() - 1]);
+    let plan = node_plan(&rt, alloc, 3, &TEXT[..TEXT.len() - 1]);
     assert!(rt; plan.text() == NODE_TEXT);
+}
+
+#[test]
+fn reads_and_writes_losses(rt: HostRuntime) {
+    let alloc = rt.alloc();
+    let read = setup(&rt, alloc, LOSSES);
+    assert!(rt; read.lost().places() == [3u8, 0, 3].as_slice());
+    assert!(rt; read.openings().len() == 2);
+    assert!(rt; read.volumes(0) == 2);
+    let plan = node_plan(&rt, alloc, 131, LOSSES);
+    assert!(rt; plan.text() == NODE_LOSSES);
+    for (number, there) in [
+        (131, true),
+        (64, true),
+        (1, true),
+        (2, true),
+        (3, false),
+        (67, false),
+        (195, false),
+        (0, false),
+        (128, false),
+        (4, false),
+        (68, false),
+        (65, false),
+        (u32::MAX, false),
+    ] {
+        assert!(rt; read.has_node(number) == there, "{number}");
+    }
+}
+
+#[test]
+fn reads_a_plan_of_a_journal(rt: HostRuntime) {
+    let alloc = rt.alloc();
+    let read = read_node_plan(alloc, NODE_LOSSES).ok();
+    let read = read.expect(&rt, "memory").expect(&rt, "a setup");
+    assert!(rt; read.lost().places() == [3u8, 0, 3].as_slice());
+    assert!(rt; read.volumes(0) == 2);
+    let none = read_node_plan(alloc, TEXT).ok().expect(&rt, "memory");
+    assert!(rt; none.is_none());
+}
+
+// The plan of one tenant with so many losses at each of the first places, in turn.
+fn text_of_losses(rt: &impl Abort, alloc: Global, times: u32, places: u32) -> Vec<u8> {
+    let mut text = slice_copied(alloc, b"grid 8 8\nblocks 4\ntenant ann 4 1 1\ngo\n")
+        .ok()
+        .expect(rt, "memory");
+    for _ in 0..times {
+        for place in 0..places {
+            let line = format!(in alloc; "replace {place}\n").ok();
+            let line = line.expect(rt, "memory");
+            text.grow_by(line.as_bytes()).ok().expect(rt, "memory");
+        }
+    }
+    text
+}
+
+#[test]
+fn tells_too_many_losses(rt: HostRuntime) {
+    let alloc = rt.alloc();
+    // at one place 14 nodes may be lost
+    let text = text_of_losses(&rt, alloc, 14, 1);
+    assert!(rt; setup(&rt, alloc, text.as_slice()).has_node(896));
+    let text = text_of_losses(&rt, alloc, 15, 1);
+    assert!(rt; fault_of(&rt, alloc, text.as_slice()).as_slice() == b"line 19: replace".as_slice());
+    // and 255 in all
+    let text = text_of_losses(&rt, alloc, 5, 51);
+    assert!(rt; setup(&rt, alloc, text.as_slice()).lost().places().len() == 255);
+    let text = text_of_losses(&rt, alloc, 4, 64);
+    assert!(rt;
+        fault_of(&rt, alloc, text.as_slice()).as_slice() == b"line 260: replace".as_slice()
+    );
 }
 
 // What is told of a text that is no setup.
@@ -81,6 +159,40 @@ fn tells_the_first_line_at_fault(rt: HostRuntime) {
             b"grid 2 2\nblocks 4\ntenant ann 4 1 1\ngo\nann open 0 2\n",
             b"line 5: open",
         ),
+        // no number, none of the grid, one row
+        (
+            b"grid 2 2\nblocks 4\ntenant ann 4 1 1\ngo\nreplace one\n",
+            b"line 5: replace",
+        ),
+        (
+            b"grid 2 2\nblocks 4\ntenant ann 4 1 1\ngo\nann open 1 1\nreplace 01\n",
+            b"line 6: replace",
+        ),
+        (
+            b"grid 2 2\nblocks 4\ntenant ann 4 1 1\ngo\nreplace 3\nreplace 4\n",
+            b"line 6: replace",
+        ),
+        (
+            b"grid 1 4\nblocks 4\ntenant ann 4 1 1\ngo\nreplace 0\n",
+            b"line 5: replace",
+        ),
+        // no line of two words
+        (
+            b"grid 2 2\nblocks 4\ntenant ann 4 1 1\ngo\nreplace\n",
+            b"line 5: live",
+        ),
+        (
+            b"grid 2 2\nblocks 4\ntenant ann 4 1 1\ngo\nreplace 1 \n",
+            b"line 5: live",
+        ),
+        (
+            b"grid 2 2\nblocks 4\ntenant replace 4 1 1\ngo\nreplace 1 1\n",
+            b"line 5: live",
+        ),
+        (
+            b"grid 2 2\nblocks 4\ntenant replace 4 1 1\ngo\nreplace volumes\n",
+            b"line 5: replace",
+        ),
     ] {
         let line = fault_of(&rt, alloc, text);
         assert!(rt; line.as_slice() == told, "{told:?}");
@@ -90,7 +202,7 @@ fn tells_the_first_line_at_fault(rt: HostRuntime) {
 #[test]
 fn goes_on_where_no_home_and_no_volume_moves(rt: HostRuntime) {
     let alloc = rt.alloc();
-    let plan = node_plan(&rt, alloc, TEXT);
+    let plan = node_plan(&rt, alloc, 3, TEXT);
     // each of these is the text of the journal's last plan
     for (last, goes) in [
         (
@@ -149,4 +261,36 @@ fn goes_on_where_no_home_and_no_volume_moves(rt: HostRuntime) {
     }
     let own = matches!(plan.goes_on(NODE_TEXT), Ok(true));
     assert!(rt; own);
+}
+
+#[test]
+fn goes_on_with_more_losses(rt: HostRuntime) {
+    let alloc = rt.alloc();
+    let plan = node_plan(&rt, alloc, 131, LOSSES);
+    for (last, goes) in [
+        (
+            b"x\ngrid 2 2\nblocks 16\ntenant replace 6 1 10\ngo\nreplace open 2 1\n".as_slice(),
+            true,
+        ),
+        (
+            b"x\ngrid 2 2\nblocks 16\ntenant replace 6 1 10\ngo\nreplace 3\nreplace 0\n",
+            true,
+        ),
+        // other losses, another order, one more
+        (
+            b"x\ngrid 2 2\nblocks 16\ntenant replace 6 1 10\ngo\nreplace 2\n",
+            false,
+        ),
+        (
+            b"x\ngrid 2 2\nblocks 16\ntenant replace 6 1 10\ngo\nreplace 0\nreplace 3\n",
+            false,
+        ),
+        (
+            b"x\ngrid 2 2\nblocks 16\ntenant replace 6 1 10\ngo\nreplace 3\nreplace 0\nreplace 3\nreplace 3\n",
+            false,
+        ),
+    ] {
+        let told = plan.goes_on(last);
+        assert!(rt; matches!(&told, Ok(told) if *told == goes), "{last:?}");
+    }
 }

@@ -2,8 +2,8 @@
 
 ghost use Rattle.std.specs.Prelude.{◌≡◌};
 
-use crate::{LONGEST, Lived, Register, Shown, Terms, begin, live};
-use gq_keeper::{Fault, MemoryDisk};
+use crate::{LONGEST, Lived, Register, Shown, Terms, Turns, begin, live};
+use gq_keeper::{Fault, MemoryDisk, first_plan};
 use gq_memory::{GrowCopies, slice_copied};
 use std::alloc::Global;
 use std::io;
@@ -53,6 +53,7 @@ struct Stopped {
     journal: MemoryDisk,
     shown: Shown,
     register: Register,
+    turns: Turns,
 }
 
 impl Stopped {
@@ -89,6 +90,7 @@ fn run(
     let mut journal = MemoryDisk::new(copied(rt, alloc, left), calls);
     let mut shown = Shown::new(alloc, shows);
     let mut register = Register::new(alloc);
+    let mut turns = Turns { all: 0, holding: 0 };
     let mut input = Source { text, each };
     let lived = live(
         alloc,
@@ -97,12 +99,14 @@ fn run(
         &plan,
         &mut input,
         &mut shown,
+        &mut turns,
     );
     Stopped {
         lived,
         journal,
         shown,
         register,
+        turns,
     }
 }
 
@@ -208,6 +212,55 @@ fn shows_nothing_behind_a_failed_write(rt: HostRuntime) {
         let shown = stopped.shown.bytes();
         assert!(rt; shown.len() == if shows > 0 { 3 + told } else { 0 });
         starts_again(&rt, alloc, stopped.journal.bytes(), &LINES[..told]);
+        // and nobody is told of lines of which nothing was shown
+        assert!(rt; stopped.turns.all == told / 6);
+    }
+}
+
+#[test]
+fn tells_the_watcher_of_each_turn(rt: HostRuntime) {
+    let alloc = rt.alloc();
+    // two reads to a line: one that ends no line is no turn
+    let took = run(&rt, alloc, FIRST, LINES, PLAN, 3, MANY, MANY);
+    assert!(rt; (took.turns.all, took.turns.holding) == (6, 6));
+    // several lines of one read are one turn, those without facts too
+    let took = run(
+        &rt,
+        alloc,
+        FIRST,
+        b"node x\nput a\nput b\n",
+        PLAN,
+        7,
+        MANY,
+        MANY,
+    );
+    assert!(rt; (took.turns.all, took.turns.holding) == (3, 2));
+    let took = whole(&rt, alloc, FIRST, LINES);
+    assert!(rt; (took.turns.all, took.turns.holding) == (1, 1));
+    let took = whole(&rt, alloc, FIRST, b"put a");
+    assert!(rt; took.turns.all == 0);
+}
+
+#[test]
+fn finds_the_first_plan(rt: HostRuntime) {
+    let alloc = rt.alloc();
+    let grown = joined(&rt, alloc, &[FIRST, SECOND, LONGER_THIRD]);
+    let torn = joined(&rt, alloc, &[FIRST, b"put"]);
+    let facts = b"put a\nsync 1 6 8317e0b9939e9f2d\n";
+    for (journal, plan) in [
+        (FIRST, PLAN),
+        (grown.as_slice(), PLAN),
+        // what is behind the first batch counts nothing
+        (torn.as_slice(), PLAN),
+        // no right batch is at the front
+        (&FIRST[..FIRST.len() - 1], b"".as_slice()),
+        (SECOND, b""),
+        (b"", b""),
+        // a journal of facts
+        (facts, b"put a\n"),
+    ] {
+        let found = first_plan(alloc, journal).ok().expect(&rt, "memory");
+        assert!(rt; found == plan, "{journal:?}");
     }
 }
 

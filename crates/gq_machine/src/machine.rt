@@ -1,29 +1,32 @@
 //! The machine of a node.
 
-ghost use Rattle.std.specs.Prelude.{◌≡◌, ◌<◌, ◌≤◌, ◌++◌, [], ◌∷◌, false, length, OnOk, IfSome, All};
+ghost use Rattle.std.specs.Prelude.{◌≡◌, ◌<◌, ◌++◌, [], ◌∷◌, false, length, OnOk, IfSome, All};
 ghost use Rattle.std.specs.List.{flat_map};
 ghost use Rattle.std.specs.Option.{option_to_list};
-ghost use Rattle.gq_tag.specs.Tag.{own_message};
+ghost use Rattle.gq_tag.specs.Tag.{own_message, file_place};
 ghost use Rattle.gq_desk.specs.CheckedPlan.{row_at};
 ghost use Rattle.gq_journal.specs.Batches.{lines_text};
-ghost use Rattle.gq_node.specs.Inputs.{Asked, AskedPlan, Brought, Ticked};
+ghost use Rattle.gq_node.specs.Inputs.{Asked, AskedPlan, Brought, Ticked, Looked, Fetching, Fetched as WasFetched};
+ghost use Rattle.gq_node.specs.Joining.{hears_joined};
 ghost use Rattle.gq_node.specs.Recalling.{tenant_of};
-ghost use Rattle.gq_node.specs.Tables.{AllStand};
+ghost use Rattle.gq_node.specs.Sites.{session_at};
+ghost use Rattle.gq_node.specs.Tables.{AllStand, LeadsAll};
+ghost use Rattle.gq_wire.specs.declared.incoming.Incoming.TheVariants.{Tick};
 ghost use Rattle.gq_wire.specs.Incoming.{FitsPlan};
 ghost use Rattle.gq_facts.specs.Facts.{fact_text};
 ghost use Rattle.gq_facts.specs.Laws.{FitsFact};
-ghost use Rattle.gq_parts.specs.Inputs.{inputs_of, ticks_of};
-ghost use Rattle.gq_parts.specs.Texts.{answer_text, sent_line, step_text};
-ghost use Rattle.gq_parts.specs.Steps.{fact_lines, HasAddress, Appended, TookOf, TookAll};
+ghost use Rattle.gq_parts.specs.Inputs.{session_ticks, ticks_of};
+ghost use Rattle.gq_parts.specs.Texts.{answer_text, sent_line, parcel_text, step_text, joins_text, joined_text};
+ghost use Rattle.gq_parts.specs.Steps.{AskedToJoin, fact_lines, HasAddress, IsOfPlan, Appended, TookOf, TookAll, TookIncoming, some_lacks};
 
 use crate::ranges::{fact_fits, plan_is_sound};
 use gq_facts::{put_fact, read_fact};
 use gq_keeper::{Fault, Lasting, Machine, Unread};
 use gq_memory::OutOfMemory;
 use gq_model::Line;
-use gq_node::{Answer, Ended, Fact, NeedRefused, Node, Output};
-use gq_tag::Message;
-use gq_wire::{Incoming, put_letter, put_told, read_incoming};
+use gq_node::{Answer, Ended, Fact, NeedRefused, Node, Output, Parcel};
+use gq_tag::{FileId, Message, StoredCopy};
+use gq_wire::{Incoming, put_joined, put_joins, put_letter, put_parcel, put_told, read_incoming};
 use std::alloc::Global;
 
 /// A node that takes lines. After an `Err` of any call it is given up: a part of what a step gives may have been appended, and where
@@ -73,13 +76,13 @@ impl NodeMachine {
         told: &mut Vec<u8>,
     ) -> Result<(), OutOfMemory>
         requires { tenant < length self.now.node.tables.plan.rows }
-        ensures { OnOk result (told.new.items ≡ told.old.items ++ answer_text self.now.node.tables.plan self.now.node.tables.server tenant asked.now answer.now) }
+        ensures { OnOk result (told.new.items ≡ told.old.items ++ answer_text self.now.node.tables.plan self.now.node.tables.here tenant asked.now answer.now) }
     {
         match answer {
             Some(answer) => put_told(
                 told,
                 self.node.plan(),
-                self.node.server(),
+                self.node.number(),
                 tenant,
                 asked,
                 answer,
@@ -91,18 +94,29 @@ impl NodeMachine {
     // Appends the lines of the letters.
     fn put_letters(&self, letters: &[Message], told: &mut Vec<u8>) -> Result<(), OutOfMemory>
         requires { All (HasAddress self.now.node.tables.plan) letters.now }
-        ensures { OnOk result (told.new.items ≡ told.old.items ++ flat_map (sent_line self.now.node.tables.plan self.now.node.tables.server) letters.now) }
+        ensures { OnOk result (told.new.items ≡ told.old.items ++ flat_map (sent_line self.now.node.tables.plan self.now.node.tables.here) letters.now) }
     {
         for letter in letters {
             put_letter(
                 told,
                 self.node.plan(),
                 self.node.address(letter),
-                self.node.server(),
+                self.node.number(),
                 letter,
             )?;
         }
         Ok(())
+    }
+
+    // Appends the line of the parcel, if there is one.
+    fn put_parcel(&self, parcel: &Option<Parcel>, told: &mut Vec<u8>) -> Result<(), OutOfMemory>
+        requires { IsOfPlan self.now.node.tables.plan parcel.now }
+        ensures { OnOk result (told.new.items ≡ told.old.items ++ parcel_text self.now.node.tables.plan self.now.node.tables.here parcel.now) }
+    {
+        match parcel {
+            Some(parcel) => put_parcel(told, self.node.plan(), self.node.number(), parcel),
+            None => Ok(()),
+        }
     }
 
     // Appends the line of the fact, if there is one.
@@ -145,12 +159,14 @@ impl NodeMachine {
         requires tenant { tenant < length self.now.node.tables.plan.rows }
         requires fact { IfSome out.now.fact (λ fact. tenant_of fact < length self.now.node.tables.plan.rows) }
         requires letters { All (HasAddress self.now.node.tables.plan) out.now.letters.items }
-        ensures appended { OnOk result (Appended self.now.node.tables.plan (option_to_list out.now.fact) (step_text self.now.node.tables.plan self.now.node.tables.server tenant asked.now out.now.answer out.now.letters.items) facts.old.items facts.new.items told.old.items told.new.items) }
+        requires parcel { IsOfPlan self.now.node.tables.plan out.now.parcel }
+        ensures appended { OnOk result (Appended self.now.node.tables.plan (option_to_list out.now.fact) (step_text self.now.node.tables.plan self.now.node.tables.here tenant asked.now out.now.answer out.now.letters.items out.now.parcel) facts.old.items facts.new.items told.old.items told.new.items) }
         ensures fit { OnOk result (All (FitsFact self.now.node.tables.plan) (option_to_list out.now.fact)) }
     {
         self.put_fact(&out.fact, facts)?;
         self.put_answer(tenant, asked, &out.answer, told)?;
-        self.put_letters(out.letters.as_slice(), told)
+        self.put_letters(out.letters.as_slice(), told)?;
+        self.put_parcel(&out.parcel, told)
     }
 
     // A request comes to the tenant.
@@ -187,7 +203,7 @@ impl NodeMachine {
     // A letter comes.
     fn letter(
         &mut self,
-        from: u8,
+        from: u16,
         message: &Message,
         facts: &mut Vec<u8>,
         told: &mut Vec<u8>,
@@ -203,27 +219,93 @@ impl NodeMachine {
         }
     }
 
-    // A tick comes to the tenant's session.
+    // A node of this one's column asks for its copy of the file.
+    fn fetch(
+        &mut self,
+        from: u16,
+        file: FileId,
+        facts: &mut Vec<u8>,
+        told: &mut Vec<u8>,
+    ) -> Result<(), Fault>
+        requires { file.tenant < length self.old.node.tables.plan.rows }
+        ensures { OnOk result (TookOf self.old.node.tables file.tenant (Fetching from (file_place file) ∷ []) facts.old.items facts.new.items told.old.items told.new.items self.new.node.tables) }
+    {
+        self.goes()?;
+        match self.node.fetch(from, file) {
+            Ok(out) => Ok(self.put(file.tenant, &Line::Bad, &out, facts, told)?),
+            Err(ended) => Err(no_memory(ended)),
+        }
+    }
+
+    // A node of this one's column gives its copy of the file.
+    fn fetched(
+        &mut self,
+        from: u16,
+        file: FileId,
+        copy: &StoredCopy,
+        facts: &mut Vec<u8>,
+        told: &mut Vec<u8>,
+    ) -> Result<(), Fault>
+        requires { file.tenant < length self.old.node.tables.plan.rows }
+        ensures { OnOk result (TookOf self.old.node.tables file.tenant (WasFetched from (file_place file) copy.now ∷ []) facts.old.items facts.new.items told.old.items told.new.items self.new.node.tables) }
+    {
+        self.goes()?;
+        let shared = copy.share()?;
+        match self.node.fetched(from, file, shared) {
+            Ok(out) => Ok(self.put(file.tenant, &Line::Bad, &out, facts, told)?),
+            Err(ended) => Err(no_memory(ended)),
+        }
+    }
+
+    // A tick comes to the session at that place of the tenant's.
     fn tick_session(
         &mut self,
         tenant: u8,
-        session: u32,
+        place: usize,
         facts: &mut Vec<u8>,
         told: &mut Vec<u8>,
     ) -> Result<(), Fault>
         requires tenant { tenant < length self.old.node.tables.plan.rows }
-        requires first { 1 ≤ session }
-        requires last { session ≤ (row_at self.old.node.tables.plan tenant).sessions }
-        ensures { OnOk result (TookOf self.old.node.tables tenant (Ticked session ∷ []) facts.old.items facts.new.items told.old.items told.new.items self.new.node.tables) }
+        requires place { place < (row_at self.old.node.tables.plan tenant).sessions }
+        ensures { OnOk result (TookOf self.old.node.tables tenant (Ticked (session_at self.old.node.tables.plan self.old.node.tables.here tenant place) ∷ []) facts.old.items facts.new.items told.old.items told.new.items self.new.node.tables) }
     {
         self.goes()?;
-        match self.node.tick(tenant, session) {
+        match self.node.tick(tenant, place) {
             Ok(out) => Ok(self.put(tenant, &Line::Bad, &out, facts, told)?),
             Err(ended) => Err(no_memory(ended)),
         }
     }
 
     // A tick comes to each session of the tenant, in order.
+    fn tick_sessions(
+        &mut self,
+        tenant: u8,
+        facts: &mut Vec<u8>,
+        told: &mut Vec<u8>,
+    ) -> Result<(), Fault>
+        requires { tenant < length self.old.node.tables.plan.rows }
+        ensures { OnOk result (TookOf self.old.node.tables tenant (session_ticks self.old.node.tables.plan self.old.node.tables.here tenant) facts.old.items facts.new.items told.old.items told.new.items self.new.node.tables) }
+    {
+        let sessions = self.node.plan().row(tenant).sessions;
+        for place in 0..sessions {
+            self.tick_session(tenant, place as usize, facts, told)?;
+        }
+        Ok(())
+    }
+
+    // A tick comes to the tenant behind those of its sessions: a file that the server lacks may be asked for.
+    fn look(&mut self, tenant: u8, facts: &mut Vec<u8>, told: &mut Vec<u8>) -> Result<(), Fault>
+        requires { tenant < length self.old.node.tables.plan.rows }
+        ensures { OnOk result (TookOf self.old.node.tables tenant (Looked ∷ []) facts.old.items facts.new.items told.old.items told.new.items self.new.node.tables) }
+    {
+        self.goes()?;
+        match self.node.look(tenant) {
+            Ok(out) => Ok(self.put(tenant, &Line::Bad, &out, facts, told)?),
+            Err(ended) => Err(no_memory(ended)),
+        }
+    }
+
+    // A tick comes to the tenant.
     fn tick_tenant(
         &mut self,
         tenant: u8,
@@ -231,24 +313,91 @@ impl NodeMachine {
         told: &mut Vec<u8>,
     ) -> Result<(), Fault>
         requires { tenant < length self.old.node.tables.plan.rows }
-        ensures { OnOk result (TookOf self.old.node.tables tenant (ticks_of self.old.node.tables.plan tenant) facts.old.items facts.new.items told.old.items told.new.items self.new.node.tables) }
+        ensures { OnOk result (TookOf self.old.node.tables tenant (ticks_of self.old.node.tables.plan self.old.node.tables.here tenant) facts.old.items facts.new.items told.old.items told.new.items self.new.node.tables) }
     {
-        let sessions = self.node.plan().row(tenant).sessions;
-        for place in 0..sessions {
-            self.tick_session(tenant, place + 1, facts, told)?;
-        }
-        Ok(())
+        self.tick_sessions(tenant, facts, told)?;
+        self.look(tenant, facts, told)
     }
 
     // A tick comes to each tenant, in plan order.
-    fn tick(&mut self, facts: &mut Vec<u8>, told: &mut Vec<u8>) -> Result<(), Fault>
-        ensures { OnOk result (TookAll self.old.node.tables (ticks_of self.old.node.tables.plan) facts.old.items facts.new.items told.old.items told.new.items self.new.node.tables) }
+    fn tick_tenants(&mut self, facts: &mut Vec<u8>, told: &mut Vec<u8>) -> Result<(), Fault>
+        ensures { OnOk result (TookAll self.old.node.tables (ticks_of self.old.node.tables.plan self.old.node.tables.here) facts.old.items facts.new.items told.old.items told.new.items self.new.node.tables) }
     {
         let tenants = self.node.plan().tenants();
         for place in 0..tenants {
             self.tick_tenant(place as u8, facts, told)?;
         }
         Ok(())
+    }
+
+    // Whether the server lacks a file of some tenant.
+    fn lacks_some(&self) -> bool
+        ensures { result ≡ some_lacks self.now.node.tables }
+    {
+        let tenants = self.node.plan().tenants();
+        for place in 0..tenants {
+            if self.node.lacked(place as u8) > 0 {
+                return true;
+            }
+        }
+        false
+    }
+
+    /// How many files the server lacks.
+    pub fn lacked(&self) -> usize {
+        let mut lacked = 0usize;
+        let tenants = self.node.plan().tenants();
+        for place in 0..tenants {
+            lacked = lacked.saturating_add(self.node.lacked(place as u8));
+        }
+        lacked
+    }
+
+    // Appends the question to each of these nodes whether its plan has this one.
+    fn put_joins(&self, nodes: &[u16], told: &mut Vec<u8>) -> Result<(), OutOfMemory>
+        ensures { OnOk result (told.new.items ≡ told.old.items ++ joins_text self.now.node.tables.plan self.now.node.tables.here nodes.now) }
+    {
+        let losses = self.node.lost().places().len();
+        for node in nodes {
+            put_joins(told, *node, self.node.number(), losses as u64)?;
+        }
+        Ok(())
+    }
+
+    // While the server lacks a file, appends the question to the nodes that have not joined.
+    fn ask_to_join(&self, told: &mut Vec<u8>) -> Result<(), OutOfMemory>
+        ensures { OnOk result (AskedToJoin self.now.node.tables told.old.items told.new.items) }
+    {
+        if !self.lacks_some() {
+            return Ok(());
+        }
+        let nodes = self.node.awaited()?;
+        self.put_joins(nodes.as_slice(), told)
+    }
+
+    // A tick comes.
+    fn tick(&mut self, facts: &mut Vec<u8>, told: &mut Vec<u8>) -> Result<(), Fault>
+        ensures { OnOk result (TookIncoming self.old.node.tables Tick facts.old.items facts.new.items told.old.items told.new.items self.new.node.tables) }
+    {
+        self.tick_tenants(facts, told)?;
+        Ok(self.ask_to_join(told)?)
+    }
+
+    // The node of that number, which is new, asks whether this one's plan has it, and so many losses or more.
+    fn asked_to_join(&self, from: u16, losses: u32, told: &mut Vec<u8>) -> Result<(), Fault>
+        ensures { OnOk result (told.new.items ≡ told.old.items ++ joined_text self.now.node.tables.plan self.now.node.tables.here from losses) }
+    {
+        if !self.node.tells_joined(from, losses) {
+            return Ok(());
+        }
+        Ok(put_joined(told, from, self.node.number(), losses)?)
+    }
+
+    // The node of that number tells that its plan has this one.
+    fn joined(&mut self, from: u16, losses: u32) -> Result<(), Fault>
+        ensures { OnOk result (LeadsAll self.old.node.tables (hears_joined from losses) self.new.node.tables) }
+    {
+        self.node.hear_joined(from, losses).map_err(no_memory)
     }
 
     // Takes what came.
@@ -259,13 +408,19 @@ impl NodeMachine {
         told: &mut Vec<u8>,
     ) -> Result<(), Fault>
         requires { FitsPlan self.old.node.tables.plan incoming.now }
-        ensures { OnOk result (TookAll self.old.node.tables (inputs_of self.old.node.tables.plan incoming.now) facts.old.items facts.new.items told.old.items told.new.items self.new.node.tables) }
+        ensures { OnOk result (TookIncoming self.old.node.tables incoming.now facts.old.items facts.new.items told.old.items told.new.items self.new.node.tables) }
     {
         match incoming {
             Incoming::Request { tenant, op, line } => self.request(*tenant, *op, line, facts, told),
             Incoming::Plan { tenant } => self.question(*tenant, facts, told),
             Incoming::Bad { tenant } => self.request(*tenant, 0, &Line::Bad, facts, told),
             Incoming::Letter { from, message } => self.letter(*from, message, facts, told),
+            Incoming::Joins { from, losses } => self.asked_to_join(*from, *losses, told),
+            Incoming::Joined { from, losses } => self.joined(*from, *losses),
+            Incoming::Fetch { from, file } => self.fetch(*from, *file, facts, told),
+            Incoming::Fetched { from, file, copy } => {
+                self.fetched(*from, *file, copy, facts, told)
+            }
             Incoming::Tick => self.tick(facts, told),
             Incoming::Nothing => Ok(()),
         }
@@ -297,15 +452,17 @@ impl Machine for NodeMachine {
     fn take(&mut self, line: &[u8], facts: &mut Vec<u8>, told: &mut Vec<u8>) -> Result<(), Fault> {
         plan_is_sound(self.node.plan());
         self.goes()?;
-        let incoming = read_incoming(self.alloc, line, self.node.plan(), self.node.server())?;
+        let incoming = read_incoming(self.alloc, line, self.node.plan(), self.node.number())?;
         self.take_incoming(&incoming, facts, told)
     }
 }
 
 impl Lasting for NodeMachine {
-    ghost use Rattle.gq_machine.specs.Machines.{MachineIsBlank, MachineRests, gives_facts, gives_readable, keeps_blank, keeps_rest, reads_again, starts_again};
+    ghost use Rattle.gq_machine.specs.Machines.{MachineIsBlank, MachineIsOf, MachineRests, gives_facts, gives_readable, keeps_blank, keeps_plan, recalls_plan, keeps_rest, reads_again, starts_again};
 
     ghost blank = { MachineIsBlank };
+
+    ghost is_of = { MachineIsOf };
 
     ghost rests = { MachineRests };
 
@@ -324,6 +481,10 @@ impl Lasting for NodeMachine {
     ghost gives_readable = { gives_readable };
 
     ghost keeps_blank = { keeps_blank };
+
+    ghost keeps_plan = { keeps_plan };
+
+    ghost recalls_plan = { recalls_plan };
 
     ghost keeps_rest = { keeps_rest };
 

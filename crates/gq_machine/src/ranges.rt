@@ -45,7 +45,7 @@ pub(crate) fn fact_fits(fact: &Fact)
         } => {
             let _numbers = (*session, *number);
         }
-        Fact::Kept { file, copy } => {
+        Fact::Kept { file, copy } | Fact::Had { file, copy } => {
             file_fits(file.volume, file.file);
             copy_fits(copy.tag.number, copy.tag.session, copy.bytes.as_slice());
         }

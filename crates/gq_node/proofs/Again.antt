@@ -1,857 +1,439 @@
--- How an operation ended is told again.
-use Rattle.std.proofs.Common.{◌≡◌, ◌∙◌, ℕ, ◌+◌, ◌≤◌, Bool, true, false, List, [], ◌∷◌, length, refl, sym, ap, subst, Option, Some, None, arith, inl, inr}
-use Rattle.std.specs.Prelude.{◌&&◌, ◌||◌, ◌==◌, not, nat_lt, nat_le, is_some, option_map, fold, if◌then◌else◌}
+-- How an operation ended is told again, at any nodes.
+use Rattle.std.proofs.Common.{◌≡◌, ◌∙◌, ◌⊎◌, ℕ, ◌≤◌, Bool, true, false, List, [], ◌∷◌, ◌++◌, refl, sym, ap, subst, append-nil, Option, Some, None, arith, inl, inr}
+use Rattle.std.specs.Prelude.{◌&&◌, ◌||◌, ◌==◌, not, is_some, fold, if◌then◌else◌}
 use Rattle.std.specs.List.{list_any}
-use Rattle.std.proofs.lemmas.Bool.Decides.{nat_tests}
-use Rattle.std.proofs.lemmas.Bool.{cases_Bool, and_parts, leb-true, eqb-true, eq-eqb, ne_eqb}
-use Rattle.gq_grid.specs.Grid.{Grid, Servers}
-use Rattle.gq_tag.specs.Tag.{OwnMessage, to_server}
-use Rattle.gq_desk.specs.Plans.{is_in}
-use Rattle.gq_desk.specs.declared.volumes.VolumeRow.{VolumeRow}
-use Rattle.gq_phase.specs.declared.Outcome.{Outcome}
-use Rattle.gq_phase.specs.Phase.{Task, Writing, Reading, Listing, Operation, Heard, HeardStale, HeardNoted, HeardNext, HeardDone, is_collect, is_current, ends_round, skips_store, with_decided, with_reply, file_done, collect_done, round_done, hear_current, hear, heard_servers}
-use Rattle.gq_model.specs.declared.events.Line.{Line}
-use Rattle.gq_model.specs.declared.events.Line.TheVariants.{Write, Read, List as ListFiles, Abandon}
-use Rattle.gq_model.specs.declared.events.Refusal.{Refusal}
-use Rattle.gq_model.specs.declared.events.Refusal.TheVariants.{Busy}
-use Rattle.gq_model.specs.Told.{Told, Began, Round, Done, Abandoned, Refused}
-use Rattle.gq_model.specs.Trace.{Own, State, Session, Deed, Elsewhere, Begins, Ends, heard_deed, operation, operation_with, session_by, limit_at, changed}
-use Rattle.gq_model.specs.Lone.{Step, is_refusal, entry_of, asked_step, session_causes, session_step, hear_step, heard_step, first_cause, unless}
-use Rattle.gq_cluster.specs.Cluster.{Setting, everyone}
-use Rattle.gq_cluster.specs.Facts.{OwnFact, Begun, Numbered, Kept, Reserved, greatest_number, last_of_run, reserving, reserved_by}
-use Rattle.gq_cluster.specs.Keeping.{KeptPart, kept_of}
+use Rattle.std.proofs.lemmas.Bool.{cases_Bool, and_parts, eqb-true, eq-eqb, ne_eqb, true≢false}
+use Rattle.std.proofs.lemmas.List.Sums.{fold-append}
+use Rattle.gq_tag.specs.declared.StoredCopy.{StoredCopy}
+use Rattle.gq_tag.specs.Tag.{File, is_file, first_copy, greatest}
+use Rattle.gq_laws.proofs.OperationMoments.{same_file}
+use Rattle.gq_tag.specs.declared.Body.TheVariants.{Store}
+use Rattle.gq_model.specs.Trace.{limit_at}
+use Rattle.gq_cluster.specs.Cluster.{Part, everyone, copy_in}
+use Rattle.gq_cluster.specs.Facts.{OwnFact, Begun, Numbered, Kept, Had}
+use Rattle.gq_replace.specs.Keeping.{KeptFiles, files_of_part, with_fleet_fact}
+use Rattle.gq_replace.specs.Plans.{place_of}
 use Rattle.gq_node.specs.declared.output.Answer.{Answer}
-use Rattle.gq_node.specs.declared.output.Answer.TheVariants.{Done as IsDone, Gone, Refused as IsRefused, Old, Early, Busy as IsBusy, Bad as IsBad}
-use Rattle.gq_node.specs.declared.output.Admission.{Admission}
-use Rattle.gq_node.specs.declared.output.Admission.TheVariants.{Tells, Passes, Goes}
-use Rattle.gq_node.specs.Again.{told_at_home, told_again, AllToldAgain, session_in, number_in, TellsEnd, begun_at, NoneBegins, is_start, forgotten, end_after, AllEndsToldAgain}
+use Rattle.gq_node.specs.Again.{TellsEnd, is_start, begun_at, NoneBegins, forgotten, end_after, AllEndsToldAgain}
 use Rattle.gq_node.specs.Bridge.{AtHome}
-use Rattle.gq_node.specs.Inputs.{Input, Asked, AskedPlan, Brought, Ticked, does}
-use Rattle.gq_node.specs.Local.{Local, Resident, Doing, new_local, part_in, silently, state_of, state_for, aim_at, with_resident, tries_next, asker, begins, ended, again, own_admission, admission, admission_in, asks, asks_in, asked_by, goes_on, answer_of, refused_with, outcome_after, receives, serves, hears, brings, ticks, waits_on, letter_fits, goes_between, has_above, of_round, recalls, recalled, fact_fits, file_in}
-use Rattle.gq_node.specs.Nodes.{Nodes, site_in, recalls_one, started, new_nodes, Event, LineCame, PlanCame, LetterCame, TickCame, Started, node_in, doing_of, after_doing, after_event, nodes_after}
+use Rattle.gq_node.specs.Inputs.{Input, Asked, AskedPlan, Brought, Ticked, Looked, Joined, Fetching, Fetched, does}
+use Rattle.gq_node.specs.Joining.{tells_joined, hears_joined, all_joined, next_mate, asks_mate, looks, is_mate, has_file, gives, takes}
+use Rattle.gq_node.specs.Local.{Local, Resident, Doing, new_local, part_in, state_of, given, file_fits, recalled, fits_local}
+use Rattle.gq_node.specs.Nodes.{NodeWorld, site_in, site_at, plan_volumes, Nodes, new_nodes, Event, Started, Came, AskedToJoin, node_in, started, first_of, fact_list, doing_of, takes_word, with_ready, after_doing, after_word, after_input, after_event, nodes_after}
 use Rattle.gq_node.specs.Once.{begun_by}
-use Rattle.gq_node.specs.Sites.{Site}
-use Rattle.gq_node.proofs.Asking.{goes_home, gives_up}
-use Rattle.gq_node.proofs.Bridging.{tried_reserved, all_requests_act, all_letters_act, all_ticks_act}
-use Rattle.gq_node.proofs.Following.{at_nodes, at_start, idle_home, journal_by, started_volumes}
-use Rattle.gq_node.proofs.Journal.{not_refused, does_keep}
-use Rattle.gq_node.proofs.Once.{never_goes}
-use Rattle.gq_node.proofs.Receiving.{parts, to_a_session, to_the_server}
+use Rattle.gq_node.specs.Resting.{IsBare, begun_local, recall_one, recall_all}
+use Rattle.gq_node.specs.Sites.{Site, has_session}
+use Rattle.gq_node.proofs.Beginnings.{idle_is, ops_are, floors_are}
+use Rattle.gq_node.proofs.Bridging.{all_requests_act, all_letters_act, all_ticks_act}
+use Rattle.gq_node.proofs.Journal.{FactIn, KeepsBy, Keeps, does_keep, stays_bare}
+use Rattle.gq_node.proofs.Moves.{AllNamed, end_of, HasEnded, ended_tells, Moves, moved_named, moved_ended, moved_reserved, moved_tells, asks_quiet, all_move}
 use Rattle.gq_node.proofs.Recalling.{recalls_fits, recalls_not}
-use Rattle.gq_node.proofs.Staying.{SameVolumes, asks_volumes, receives_volumes, ticks_volumes}
-use Rattle.gq_node.proofs.Ticking.{busy_is}
-use Rattle.gq_node.proofs.Using.{AllUsed, bridged_used, rests_used, new_rests, started_rests}
+use Rattle.gq_node.proofs.Using.{AllUsed, bridged_used, rests_used, all_of, AllIdle, idle_home}
 
--- ---- by what the node has of the session
+-- ---- what the facts reserve
 
--- what is told where the number of a request decides
-abbrev word_of : Admission → Option Answer
-word_of (Tells answer) = Some answer
-word_of Passes = None
-word_of Goes = None
+-- the last number that the facts reserve for the session's operations
+abbrev begun_behind : (k last : ℕ) → OwnFact → ℕ
+begun_behind k last (Begun j op) = if j == k then op else last
+begun_behind k last _ = last
 
-home_says : (k op last : ℕ) (going : Bool) (outcome : Option Outcome) → op ≤ last → word_of (own_admission k op true last going outcome) ≡ told_at_home k op last going outcome
-home_says k op last going outcome low = elim (cases_Bool (nat_lt op last || op == 0)) [
-  | inl old ↦ (rw old refl)
-  | inr late ↦ (elim (cases_Bool (op == last)) [
-    | inl same ↦ (rw (late, same) (by going))
-    | inr other ↦ (absurd (grind (arith, nat_tests)))
-  ])
-]
-  where
-    by : (b : Bool) → word_of (again k op true b outcome) ≡ (if b then None else Some (ended k op outcome))
-    by true = refl
-    by false = refl
+abbrev last_begun : (k : ℕ) → List OwnFact → ℕ
+last_begun k facts = fold (begun_behind k) 0 facts
 
-site_says : (site : Site) (k op last : ℕ) (going : Bool) (outcome : Option Outcome) → op ≤ last → word_of (admission site k op true last going outcome) ≡ told_again site k op last going outcome
-site_says site k op last going outcome low = elim (cases_Bool (is_in 1 site.row.sessions k)) [
-  | inr outside ↦ (rw outside refl)
-  | inl inside ↦ (elim (cases_Bool (site.home k == site.here)) [
-    | inr away ↦ (rw (inside, away) refl)
-    | inl here ↦ (rw (inside, here) (home_says k op last going outcome low))
-  ])
-]
-
-asked_word : (site : Site) (local : Local) (op : ℕ) (line : Line) (k : ℕ) (g : Admission) → admission_in site local k op (begins line) ≡ g → (g ≡ Goes → ⊥) → (asks_in site local op line k).answer ≡ word_of g
-asked_word site local op line k (Tells answer) is goes = rw is refl
-asked_word site local op line k Passes is goes = rw is refl
-asked_word site local op line k Goes is goes = absurd (goes refl)
-
-pub all_told_again : AllToldAgain
-all_told_again site local op line k its comes =
-    let last : ℕ = (local.residents k).session.op in
-    let going : Bool = is_some (local.residents k).session.current in
-    let h : (begins line && nat_le op last) ≡ true = rw its at comes in
-    let p = and_parts (begins line) (nat_le op last) h in
-    let low : op ≤ last = leb-true op last p.1 in
-    let same : asks op line site local ≡ asks_in site local op line k = rw its refl in
-    ap (λ (d : Doing). d.answer) same
-    ∙ asked_word site local op line k (admission_in site local k op (begins line)) refl (never_goes site local op line k p.0 low)
-    ∙ ap (λ b. word_of (admission site k op b last going (local.residents k).outcome)) p.0
-    ∙ site_says site k op last going (local.residents k).outcome low
-
--- ---- what holds of a session
-
--- an operation that goes on has a number, and the outcome is of the session's last one
-record Named (k : ℕ) (r : Resident) : Type 0 where
-  some : is_some r.session.current ≡ true → 1 ≤ r.session.op
-  own : (outcome : Outcome) → r.outcome ≡ Some outcome → (session_in outcome ≡ k) × (number_in outcome ≡ r.session.op)
-
-abbrev AllNamed : Local → Type 0
-AllNamed local = (k : ℕ) → Named k (local.residents k)
-
--- what is told of operation op, where the session's last one has that number: how it ended, or that its number is old
-abbrev end_of : (k op last : ℕ) → Option Outcome → Answer
-end_of k op last outcome = if op == last then ended k op outcome else Old k op last
-
--- the session has no operation, and of operation op this answer is told
-record HasEnded (k op : ℕ) (answer : Answer) (r : Resident) : Type 0 where
-  some : 1 ≤ op
-  low : op ≤ r.session.op
-  idle : r.session.current ≡ None
-  ends : end_of k op r.session.op r.outcome ≡ answer
-
--- of the last operation how it ended
-has_ended : (k op : ℕ) (answer : Answer) (r : Resident) → 1 ≤ op → r.session.op ≡ op → r.session.current ≡ None → ended k op r.outcome ≡ answer → HasEnded k op answer r
-has_ended k op answer r some number idle ends = record { some = some; low = omega arith; idle = idle; ends = rw (eq-eqb op r.session.op (sym number)) ends }
-
--- this node is the session's home
-record IsHere (site : Site) (k : ℕ) : Type 0 where
-  inside : is_in 1 site.row.sessions k ≡ true
-  home : (site.home k == site.here) ≡ true
-
--- ---- a request with its number
-
-again_tells : (k op : ℕ) (b : Bool) (outcome : Option Outcome) → again k op b false outcome ≡ Tells (ended k op outcome)
-again_tells k op b outcome = refl
-
-home_tells : (k op last : ℕ) (b : Bool) (outcome : Option Outcome) → op ≤ last → 1 ≤ op → own_admission k op b last false outcome ≡ Tells (end_of k op last outcome)
-home_tells k op last b outcome low some = elim (cases_Bool (op == last)) [
-  | inl same ↦ (let late : (nat_lt op last || op == 0) ≡ false = grind (arith, nat_tests) in rw (late, same) refl)
-  | inr other ↦ (let old : (nat_lt op last || op == 0) ≡ true = grind (arith, nat_tests) in rw (old, other) refl)
-]
-
-ended_tells : (site : Site) (local : Local) (op : ℕ) (line : Line) (k : ℕ) (answer : Answer) → IsHere site k → HasEnded k op answer (local.residents k) → asker line ≡ Some k → (asks op line site local).answer ≡ Some answer
-ended_tells site local op line k answer here at its =
-    let r : Resident = local.residents k in
-    let b : Bool = begins line in
-    let own : own_admission k op b r.session.op false r.outcome ≡ Tells answer = home_tells k op r.session.op b r.outcome at.low at.some ∙ ap Tells at.ends in
-    let all : admission site k op b r.session.op false r.outcome ≡ Tells answer = rw (here.inside, here.home) own in
-    let is : admission_in site local k op b ≡ Tells answer = ap (λ o. admission site k op b r.session.op (is_some o) r.outcome) at.idle ∙ all in
-    rw (its, is) refl
-
--- ---- an end that is told by the number
-
-same_word : (a answer : Answer) → Tells a ≡ Tells answer → a ≡ answer
-same_word a answer is = cc
-
--- the outcome is of the session's last operation
-abbrev Owns : (k last : ℕ) → Option Outcome → Type 0
-Owns k last outcome = (o : Outcome) → outcome ≡ Some o → (session_in o ≡ k) × (number_in o ≡ last)
-
--- the answer to number n of session j tells how operation op of session k ended: it is this one, and it ended so
-record IsTheEnd (j n last k op : ℕ) (going : Bool) (outcome : Option Outcome) (answer : Answer) : Type 0 where
-  session : j ≡ k
-  some : 1 ≤ op
-  number : last ≡ op
-  idle : going ≡ false
-  ends : ended k op outcome ≡ answer
-
-end_here : (j n last k op : ℕ) (outcome : Option Outcome) (answer : Answer) → n ≡ last → 1 ≤ n → Owns j last outcome → ended j n outcome ≡ answer → TellsEnd k op answer → IsTheEnd j n last k op false outcome answer
-end_here j n last k op None answer same some own is tells =
-    let h : (j ≡ k) × (n ≡ op) = subst (TellsEnd k op) (sym is) tells in
-    record { session = h.0; some = subst (λ x. 1 ≤ x) h.1 some; number = sym same ∙ h.1; idle = refl; ends = (λ i. Gone (sym h.0 i) (sym h.1 i)) ∙ is }
-end_here j n last k op (Some o) answer same some own is tells =
-    let h : (session_in o ≡ k) × (number_in o ≡ op) = subst (TellsEnd k op) (sym is) tells in
-    let w = own o refl in
-    let number : last ≡ op = sym w.1 ∙ h.1 in
-    record { session = sym w.0 ∙ h.0; some = subst (λ x. 1 ≤ x) (same ∙ number) some; number = number; idle = refl; ends = is }
-
-again_ends : (j n last k op : ℕ) (b going : Bool) (outcome : Option Outcome) (answer : Answer) → n ≡ last → 1 ≤ n → Owns j last outcome → again j n b going outcome ≡ Tells answer → TellsEnd k op answer → IsTheEnd j n last k op going outcome answer
-again_ends j n last k op true true outcome answer same some own is tells = absurd (cc)
-again_ends j n last k op false true outcome answer same some own is tells = absurd (cc)
-again_ends j n last k op b false outcome answer same some own is tells = end_here j n last k op outcome answer same some own (same_word (ended j n outcome) answer is) tells
-
-not_zero : (n last : ℕ) → (nat_lt n last || n == 0) ≡ false → 1 ≤ n
-not_zero n last is = grind (arith, nat_tests)
-
-no_end : (k op : ℕ) (a answer : Answer) → Tells a ≡ Tells answer → TellsEnd k op answer → TellsEnd k op a
-no_end k op a answer is tells = subst (TellsEnd k op) (sym (same_word a answer is)) tells
-
-home_ends : (j n last k op : ℕ) (b going : Bool) (outcome : Option Outcome) (answer : Answer) → Owns j last outcome → own_admission j n b last going outcome ≡ Tells answer → TellsEnd k op answer → IsTheEnd j n last k op going outcome answer
-home_ends j n last k op b going outcome answer own is tells = elim (cases_Bool (nat_lt n last || n == 0)) [
-  | inl old ↦ (let e = rw old at is in absurd (no_end k op (Old j n last) answer e tells))
-  | inr late ↦ (elim (cases_Bool (n == last)) [
-    | inl same ↦ (let e = rw (late, same) at is in again_ends j n last k op b going outcome answer (eqb-true n last same) (not_zero n last late) own e tells)
-    | inr other ↦ (elim (cases_Bool (b && n == last + 1)) [
-      | inl next ↦ (let e = rw (late, other, next) at is in absurd (cc))
-      | inr apart ↦ (let e = rw (late, other, apart) at is in absurd (no_end k op (Early j n last) answer e tells))
-    ])
-  ])
-]
-
-site_ends : (site : Site) (j n last k op : ℕ) (b going : Bool) (outcome : Option Outcome) (answer : Answer) → Owns j last outcome → admission site j n b last going outcome ≡ Tells answer → TellsEnd k op answer → IsHere site j × IsTheEnd j n last k op going outcome answer
-site_ends site j n last k op b going outcome answer own is tells = elim (cases_Bool (is_in 1 site.row.sessions j)) [
-  | inr outside ↦ (let e = rw outside at is in absurd (no_end k op _ answer e tells))
-  | inl inside ↦ (elim (cases_Bool (site.home j == site.here)) [
-    | inr away ↦ (let e = rw (inside, away) at is in absurd (no_end k op _ answer e tells))
-    | inl here ↦ (let e = rw (inside, here) at is in (record { inside = inside; home = here }, home_ends j n last k op b going outcome answer own e tells))
-  ])
-]
-
-not_going : (o : Option Task) → is_some o ≡ false → o ≡ None
-not_going None is = refl
-not_going (Some task) is = absurd (cc)
-
--- ---- what is told of the session, and what it then has
-
-pub record IsAlike (old : Resident) (session : Session) (outcome : Option Outcome) : Type 0 where
-  pub number : session.op ≡ old.session.op
-  current : session.current ≡ old.session.current
-  same : outcome ≡ old.outcome
-
-pub record IsDoneWith (k : ℕ) (o : Outcome) (old : Resident) (session : Session) (outcome : Option Outcome) : Type 0 where
-  busy : is_some old.session.current ≡ true
-  pub number : session.op ≡ old.session.op
-  idle : session.current ≡ None
-  is : outcome ≡ Some o
-  own_session : session_in o ≡ k
-  own_number : number_in o ≡ old.session.op
-
-pub record IsGivenUp (old : Resident) (session : Session) (outcome : Option Outcome) : Type 0 where
-  busy : is_some old.session.current ≡ true
-  pub number : session.op ≡ old.session.op
-  idle : session.current ≡ None
-  none : outcome ≡ None
-
-abbrev pub AfterTold : (k : ℕ) → Told → Resident → Session → Option Outcome → Type 0
-AfterTold k (Began op first count) old session outcome = (session.op ≡ old.session.op + 1) × (outcome ≡ None)
-AfterTold k (Done o) old session outcome = IsDoneWith k o old session outcome
-AfterTold k Abandoned old session outcome = IsGivenUp old session outcome
-AfterTold k told old session outcome = IsAlike old session outcome
-
-alike_named : (k : ℕ) (old new : Resident) → IsAlike old new.session new.outcome → Named k old → Named k new
-alike_named k old new a named = record {
-  some = λ busy. subst (λ x. 1 ≤ x) (sym a.number) (named.some (ap is_some (sym a.current) ∙ busy));
-  own = λ o is. let w = named.own o (sym a.same ∙ is) in (w.0, w.1 ∙ sym a.number);
-}
-
-alike_ended : (k op : ℕ) (answer : Answer) (old new : Resident) → IsAlike old new.session new.outcome → HasEnded k op answer old → HasEnded k op answer new
-alike_ended k op answer old new a at = record { some = at.some; low = subst (λ x. op ≤ x) (sym a.number) at.low; idle = a.current ∙ at.idle; ends = (λ i. end_of k op (a.number i) (a.same i)) ∙ at.ends }
-
-same_some : (a b : Outcome) → Some a ≡ Some b → a ≡ b
-same_some a b is = cc
-
-named_after : (k : ℕ) (told : Told) (old new : Resident) → AfterTold k told old new.session new.outcome → Named k old → Named k new
-named_after k (Began op first count) old new a named = record { some = λ busy. (let next = a.0 in omega (arith, next)); own = λ o is. let e = sym a.1 ∙ is in absurd (cc) }
-named_after k (Done outcome) old new a named = record {
-  some = λ busy. let e = sym (ap is_some a.idle) ∙ busy in absurd (cc);
-  own = λ o is. let e : outcome ≡ o = same_some outcome o (sym a.is ∙ is) in (ap session_in (sym e) ∙ a.own_session, ap number_in (sym e) ∙ a.own_number ∙ sym a.number);
-}
-named_after k Abandoned old new a named = record { some = λ busy. let e = sym (ap is_some a.idle) ∙ busy in absurd (cc); own = λ o is. let e = sym a.none ∙ is in absurd (cc) }
-named_after k told old new a named = alike_named k old new a named
-
--- nothing began
-abbrev NotBegun : Told → Type 0
-NotBegun (Began op first count) = ⊥
-NotBegun _ = Unit {0}
-
-ended_after : (j k op : ℕ) (answer : Answer) (told : Told) (old new : Resident) → NotBegun told → AfterTold j told old new.session new.outcome → HasEnded k op answer old → HasEnded k op answer new
-ended_after j k op answer (Began n first count) old new none a at = absurd none
-ended_after j k op answer (Done outcome) old new none a at = let e = sym (ap is_some at.idle) ∙ a.busy in absurd (cc)
-ended_after j k op answer Abandoned old new none a at = let e = sym (ap is_some at.idle) ∙ a.busy in absurd (cc)
-ended_after j k op answer told old new none a at = alike_ended k op answer old new a at
-
--- ---- a letter to the session
-
--- an outcome that is heard is of this operation
-abbrev OwnHeard : (k op : ℕ) → Heard → Type 0
-OwnHeard k op (HeardDone o) = (session_in o ≡ k) × (number_in o ≡ op)
-OwnHeard k op _ = Unit {0}
-
-file_own : (grid : Grid) (up : Servers) (o : Operation) (task : Task) → o.task ≡ task → OwnHeard o.session o.op (file_done grid up o)
-file_own grid up o (Writing file bytes) is = rw is (refl, refl)
-file_own grid up o (Reading file) is = rw is (refl, refl)
-file_own grid up o (Listing volume files) is = elim (cases_Bool (nat_lt (length o.collected) files)) [
-  | inl more ↦ (rw (is, more) tt)
-  | inr last ↦ (rw (is, last) (refl, refl))
-]
-
-collect_own : (grid : Grid) (up : Servers) (o : Operation) → OwnHeard o.session o.op (collect_done grid up o)
-collect_own grid up o = elim (cases_Bool (skips_store grid o)) [
-  | inl skips ↦ (rw skips (file_own grid up o o.task refl))
-  | inr stores ↦ (rw stores tt)
-]
-
-round_own : (grid : Grid) (up : Servers) (o : Operation) → OwnHeard o.session o.op (round_done grid up o)
-round_own grid up o = elim (cases_Bool (is_collect o.round)) [
-  | inl collects ↦ (rw collects (collect_own grid up (with_decided o)))
-  | inr stores ↦ (rw stores (file_own grid up o o.task refl))
-]
-
-current_own : (grid : Grid) (up : Servers) (o : Operation) → OwnHeard o.session o.op (hear_current grid up o)
-current_own grid up o = elim (cases_Bool (ends_round grid o.round o.heard)) [
-  | inl all ↦ (rw all (round_own grid up o))
-  | inr more ↦ (rw more tt)
-]
-
-hear_own : (grid : Grid) (up : Servers) (o : Operation) (m : OwnMessage) → OwnHeard o.session o.op (hear grid up o m)
-hear_own grid up o m = elim (cases_Bool (is_current o m)) [
-  | inl current ↦ (rw current (current_own grid up (with_reply o m)))
-  | inr other ↦ (rw other tt)
-]
-
-heard_after : (volumes : List VolumeRow) (k first : ℕ) (m : OwnMessage) (h : Heard) (old : Resident) → is_some old.session.current ≡ true → OwnHeard k old.session.op h →
-    AfterTold k (heard_step first h).told old (session_by volumes k (heard_deed m (heard_step first h).told) old.session) (outcome_after (heard_step first h).told old.outcome)
-heard_after volumes k first m HeardStale old busy own = record { number = refl; current = refl; same = refl }
-heard_after volumes k first m HeardNoted old busy own = record { number = refl; current = refl; same = refl }
-heard_after volumes k first m (HeardNext round tag messages) old busy own = record { number = refl; current = refl; same = refl }
-heard_after volumes k first m (HeardDone outcome) old busy own = record { busy = busy; number = refl; idle = refl; is = refl; own_session = own.0; own_number = own.1 }
-
-hear_after : (volumes : List VolumeRow) (k : ℕ) (grid : Grid) (state : State) (m : OwnMessage) (old : Resident) (current : Option Task) → old.session.current ≡ current →
-    let o : Option Operation = option_map (operation_with k old.session) current in
-    AfterTold k (hear_step grid state m o).told old (session_by volumes k (heard_deed m (hear_step grid state m o).told) old.session) (outcome_after (hear_step grid state m o).told old.outcome)
-hear_after volumes k grid state m old None is = record { number = refl; current = refl; same = refl }
-hear_after volumes k grid state m old (Some task) is =
-    heard_after volumes k _ m (hear grid state.up (operation_with k old.session task) m) old (ap is_some is) (hear_own grid state.up (operation_with k old.session task) m)
-
--- ---- what a step does to the sessions
-
--- no session changes; an answer that tells how an operation ended tells how it is
-pub record IsStill (site : Site) (local : Local) (doing : Doing) : Type 0 where
-  reserved : (k : ℕ) → (doing.local.residents k).reserved ≡ (local.residents k).reserved
-  pub each : (k : ℕ) → IsAlike (local.residents k) (doing.local.residents k).session (doing.local.residents k).outcome
-  tells : (k op : ℕ) (answer : Answer) → AllNamed local → doing.answer ≡ Some answer → TellsEnd k op answer → IsHere site k × HasEnded k op answer (local.residents k)
-
--- session j, which is of this node, was told this, to a line with the number n if it was given up
-pub record Turns (site : Site) (local : Local) (doing : Doing) (j n : ℕ) (told : Told) : Type 0 where
-  here : IsHere site j
-  pub after : AfterTold j told (local.residents j) (doing.local.residents j).session (doing.local.residents j).outcome
-  pub others : (k : ℕ) → (j == k) ≡ false → doing.local.residents k ≡ local.residents k
-  reserved : NotBegun told → (doing.local.residents j).reserved.op ≡ (local.residents j).reserved.op
-  answer : doing.answer ≡ answer_of j n (local.residents j).session.op told
-  given_up : told ≡ Abandoned → (1 ≤ n) × (n ≡ (local.residents j).session.op)
-
-pub data Moves (site : Site) (local : Local) (doing : Doing) : Type 0 where
-  Stays : IsStill site local doing → Moves site local doing
-  Goes_on : (j n : ℕ) (told : Told) → Turns site local doing j n told → Moves site local doing
-
--- ---- what it means for them
-
-moved_named : (site : Site) (local : Local) (doing : Doing) → Moves site local doing → AllNamed local → AllNamed doing.local
-moved_named site local doing (Stays still) named k = alike_named k (local.residents k) (doing.local.residents k) (still.each k) (named k)
-moved_named site local doing (Goes_on j n told turns) named k = elim (cases_Bool (j == k)) [
-  | inl same ↦ (subst (λ x. Named x (doing.local.residents x)) (eqb-true j k same) (named_after j told (local.residents j) (doing.local.residents j) turns.after (named j)))
-  | inr other ↦ (subst (Named k) (sym (turns.others k other)) (named k))
-]
-
--- where the session has the same last number nothing began
-not_begun : (j : ℕ) (told : Told) (local : Local) (doing : Doing) → AfterTold j told (local.residents j) (doing.local.residents j).session (doing.local.residents j).outcome → begun_by j local doing.local ≡ None → NotBegun told
-not_begun j (Began op first count) local doing a none =
-    let last : ℕ = (local.residents j).session.op in
-    let now : ℕ = (doing.local.residents j).session.op in
-    let next : now ≡ last + 1 = a.0 in
-    let other : (now == last) ≡ false = ne_eqb now last (λ e. omega (arith, next, e)) in
-    let bad = rw other at none in
-    cc
-not_begun j told local doing a none = tt
-
-moved_ended : (site : Site) (local : Local) (doing : Doing) (k op : ℕ) (answer : Answer) → Moves site local doing → begun_by k local doing.local ≡ None → HasEnded k op answer (local.residents k) → HasEnded k op answer (doing.local.residents k)
-moved_ended site local doing k op answer (Stays still) none at = alike_ended k op answer (local.residents k) (doing.local.residents k) (still.each k) at
-moved_ended site local doing k op answer (Goes_on j n told turns) none at = elim (cases_Bool (j == k)) [
-  | inl same ↦ (
-      let e : j ≡ k = eqb-true j k same in
-      let here : HasEnded k op answer (local.residents j) = subst (λ x. HasEnded k op answer (local.residents x)) (sym e) at in
-      let begun : NotBegun told = not_begun j told local doing turns.after (subst (λ x. begun_by x local doing.local ≡ None) (sym e) none) in
-      subst (λ x. HasEnded k op answer (doing.local.residents x)) e (ended_after j k op answer told (local.residents j) (doing.local.residents j) begun turns.after here))
-  | inr other ↦ (subst (HasEnded k op answer) (sym (turns.others k other)) at)
-]
-
--- and reserves nothing
-moved_reserved : (site : Site) (local : Local) (doing : Doing) (k : ℕ) → Moves site local doing → begun_by k local doing.local ≡ None → (doing.local.residents k).reserved.op ≡ (local.residents k).reserved.op
-moved_reserved site local doing k (Stays still) none = ap (λ (z : Reserved). z.op) (still.reserved k)
-moved_reserved site local doing k (Goes_on j n told turns) none = elim (cases_Bool (j == k)) [
-  | inl same ↦ (
-      let e : j ≡ k = eqb-true j k same in
-      let begun : NotBegun told = not_begun j told local doing turns.after (subst (λ x. begun_by x local doing.local ≡ None) (sym e) none) in
-      subst (λ x. (doing.local.residents x).reserved.op ≡ (local.residents x).reserved.op) e (turns.reserved begun))
-  | inr other ↦ (ap (λ (r : Resident). r.reserved.op) (turns.others k other))
-]
-
-refused_no_end : (j n last k op : ℕ) (word : Refusal) (answer : Answer) → Some (refused_with j n last word) ≡ Some answer → TellsEnd k op answer → ⊥
-refused_no_end j n last k op Busy answer is tells = let e : IsBusy j n last ≡ answer = cc in subst (TellsEnd k op) (sym e) tells
-refused_no_end j n last k op word answer is tells = let e : IsRefused j n word ≡ answer = cc in subst (TellsEnd k op) (sym e) tells
-
-same_answer : (a answer : Answer) → Some a ≡ Some answer → a ≡ answer
-same_answer a answer is = cc
-
--- the session that is told an end has it
-turned_tells : (j n k op : ℕ) (answer : Answer) (told : Told) (old new : Resident) → Named j old → AfterTold j told old new.session new.outcome → (told ≡ Abandoned → (1 ≤ n) × (n ≡ old.session.op)) →
-    answer_of j n old.session.op told ≡ Some answer → TellsEnd k op answer → (j ≡ k) × HasEnded k op answer new
-turned_tells j n k op answer (Done o) old new named a given is tells =
-    let e : IsDone o ≡ answer = same_answer (IsDone o) answer is in
-    let h : (session_in o ≡ k) × (number_in o ≡ op) = subst (TellsEnd k op) (sym e) tells in
-    let number : old.session.op ≡ op = sym a.own_number ∙ h.1 in
-    (sym a.own_session ∙ h.0, has_ended k op answer new (subst (λ x. 1 ≤ x) number (named.some a.busy)) (a.number ∙ number) a.idle (ap (ended k op) a.is ∙ e))
-turned_tells j n k op answer Abandoned old new named a given is tells =
-    let e : Gone j n ≡ answer = same_answer (Gone j n) answer is in
-    let h : (j ≡ k) × (n ≡ op) = subst (TellsEnd k op) (sym e) tells in
-    let g = given refl in
-    (h.0, has_ended k op answer new (subst (λ x. 1 ≤ x) h.1 g.0) (a.number ∙ sym g.1 ∙ h.1) a.idle (ap (ended k op) a.none ∙ cc (h.0, h.1, e)))
-turned_tells j n k op answer (Refused word) old new named a given is tells = absurd (refused_no_end j n old.session.op k op word answer is tells)
-turned_tells j n k op answer told old new named a given is tells = absurd (cc)
-
-moved_tells : (site : Site) (local : Local) (doing : Doing) (k op : ℕ) (answer : Answer) → AllNamed local → Moves site local doing → doing.answer ≡ Some answer → TellsEnd k op answer → IsHere site k × HasEnded k op answer (doing.local.residents k)
-moved_tells site local doing k op answer named (Stays still) is tells =
-    let h = still.tells k op answer named is tells in
-    (h.0, alike_ended k op answer (local.residents k) (doing.local.residents k) (still.each k) h.1)
-moved_tells site local doing k op answer named (Goes_on j n told turns) is tells =
-    let h = turned_tells j n k op answer told (local.residents j) (doing.local.residents j) (named j) turns.after turns.given_up (sym turns.answer ∙ is) tells in
-    (subst (IsHere site) h.0 turns.here, subst (λ x. HasEnded k op answer (doing.local.residents x)) h.0 h.1)
-
--- ---- each step is such a one
-
-alike_refl : (r : Resident) → IsAlike r r.session r.outcome
-alike_refl r = record { number = refl; current = refl; same = refl }
-
--- all stays, and nothing is told
-quiet : (site : Site) (local : Local) (doing : Doing) → doing.local.residents ≡ local.residents → doing.answer ≡ None → IsStill site local doing
-quiet site local doing same none = record {
-  reserved = λ k. ap (λ rs. (rs k).reserved) same;
-  each = λ k. subst (λ (r : Resident). IsAlike (local.residents k) r.session r.outcome) (sym (ap (λ rs. rs k) same)) (alike_refl (local.residents k));
-  tells = λ k op answer named is tells. let e = sym none ∙ is in absurd (cc);
-}
-
--- all stays, and this is told, which is no end
-says : (site : Site) (local : Local) (doing : Doing) (a : Answer) → doing.local ≡ local → doing.answer ≡ Some a → ((k op : ℕ) → TellsEnd k op a → ⊥) → IsStill site local doing
-says site local doing a same is never = record {
-  reserved = λ k. ap (λ (l : Local). (l.residents k).reserved) same;
-  each = λ k. subst (λ (l : Local). IsAlike (local.residents k) (l.residents k).session (l.residents k).outcome) (sym same) (alike_refl (local.residents k));
-  tells = λ k op answer named told tells. absurd (never k op (subst (TellsEnd k op) (sym (same_answer a answer (sym is ∙ told))) tells));
-}
-
-own_resident : (local : Local) (j : ℕ) (r : Resident) → (with_resident local j r).residents j ≡ r
-own_resident local j r = rw (eq-eqb j j refl) refl
-
-other_resident : (local : Local) (j k : ℕ) (r : Resident) → (j == k) ≡ false → (with_resident local j r).residents k ≡ local.residents k
-other_resident local j k r other = rw other refl
-
--- a session that goes on
-goes_on_turns : (site : Site) (local : Local) (j n : ℕ) (doing : Doing) (r : Resident) (told : Told) (floor : ℕ) → IsHere site j → doing.local ≡ with_resident local j r → doing.answer ≡ answer_of j n (local.residents j).session.op told →
-    r.reserved ≡ reserved_by (reserving j (local.residents j).reserved told floor) (local.residents j).reserved →
-    AfterTold j told (local.residents j) r.session r.outcome → (told ≡ Abandoned → (1 ≤ n) × (n ≡ (local.residents j).session.op)) → Turns site local doing j n told
-goes_on_turns site local j n doing r told floor here part answer reserved after given = record {
-  here = here;
-  after = subst (λ (x : Resident). AfterTold j told (local.residents j) x.session x.outcome) (sym now) after;
-  others = λ k other. ap (λ (l : Local). l.residents k) part ∙ other_resident local j k r other;
-  reserved = λ begun. ap (λ (x : Resident). x.reserved.op) now ∙ ap (λ (z : Reserved). z.op) reserved ∙ same_op told (local.residents j).reserved begun;
-  answer = answer;
-  given_up = given;
-}
-  where
-    now : doing.local.residents j ≡ r
-    now = ap (λ (l : Local). l.residents j) part ∙ own_resident local j r
-
-    same_op : (told : Told) (z : Reserved) → NotBegun told → (reserved_by (reserving j z told floor) z).op ≡ z.op
-    same_op (Began op first count) z begun = absurd begun
-    same_op (Round round tag first count) z begun = by (nat_le floor z.floor)
-      where
-        by : (b : Bool) → (reserved_by (if b then None else Some (Numbered j (last_of_run greatest_number floor))) z).op ≡ z.op
-        by true = refl
-        by false = refl
-    same_op told z begun = refl
-
--- ---- a request
-
-told_still : (site : Site) (local : Local) (n j : ℕ) (b : Bool) (answer : Answer) → admission_in site local j n b ≡ Tells answer → IsStill site local (record { local = local; answer = Some answer; letters = []; fact = None })
-told_still site local n j b answer is = record {
-  reserved = λ k. refl;
-  each = λ k. alike_refl (local.residents k);
-  tells = λ k op end named told tells.
-      let r : Resident = local.residents j in
-      let e : admission_in site local j n b ≡ Tells end = is ∙ ap Tells (same_answer answer end told) in
-      let h = site_ends site j n r.session.op k op b (is_some r.session.current) r.outcome end (named j).own e tells in
-      let at : HasEnded k op end r = has_ended k op end r h.1.some h.1.number (not_going r.session.current h.1.idle) h.1.ends in
-      (subst (IsHere site) h.1.session h.0, subst (λ x. HasEnded k op end (local.residents x)) h.1.session at);
-}
-
-refusal_no_end : (j n last k op : ℕ) (told : Told) (answer : Answer) → is_refusal told ≡ true → answer_of j n last told ≡ Some answer → TellsEnd k op answer → ⊥
-refusal_no_end j n last k op (Refused word) answer refused is tells = refused_no_end j n last k op word answer is tells
-refusal_no_end j n last k op (Done outcome) answer refused is tells = absurd (cc)
-refusal_no_end j n last k op Abandoned answer refused is tells = absurd (cc)
-refusal_no_end j n last k op told answer refused is tells = absurd (cc)
-
-refused_still : (site : Site) (local : Local) (j n : ℕ) (told : Told) → is_refusal told ≡ true → IsStill site local (record { local = local; answer = answer_of j n (local.residents j).session.op told; letters = []; fact = None })
-refused_still site local j n told refused = record {
-  reserved = λ k. refl;
-  each = λ k. alike_refl (local.residents k);
-  tells = λ k op answer named is tells. absurd (refusal_no_end j n (local.residents j).session.op k op told answer refused is tells);
-}
-
--- one that is given up has the number of the last operation
-up_number : (k n last : ℕ) (going : Bool) (outcome : Option Outcome) → own_admission k n false last going outcome ≡ Goes → (1 ≤ n) × (n ≡ last)
-up_number k n last going outcome goes = elim (cases_Bool (nat_lt n last || n == 0)) [
-  | inl old ↦ (let e = rw old at goes in absurd (cc))
-  | inr late ↦ (elim (cases_Bool (n == last)) [
-    | inl same ↦ (not_zero n last late, eqb-true n last same)
-    | inr other ↦ (let e = rw (late, other) at goes in absurd (cc))
-  ])
-]
-
--- what session k has and is told by a line of it that is not refused
-record ItsTurn (k : ℕ) (line : Line) : Type 0 where
-  its : asker line ≡ Some k
-  after : (site : Site) (local : Local) (aim : Servers) → is_refusal (asked_step site.grid site.row (state_of aim local) line).told ≡ false → (begins line ≡ false → is_some (local.residents k).session.current ≡ true) →
-      let old : Resident = local.residents k in
-      let state : State = state_of aim local in
-      let told : Told = (asked_step site.grid site.row state line).told in
-      AfterTold k told old ((changed (entry_of state (Own line) (asked_step site.grid site.row state line)) state).session k) (outcome_after told old.outcome)
-  given : (site : Site) (local : Local) (aim : Servers) → (asked_step site.grid site.row (state_of aim local) line).told ≡ Abandoned → begins line ≡ false
-
-request_moves : (op : ℕ) (line : Line) (k : ℕ) (site : Site) (local : Local) → ItsTurn k line → Moves site local (asks op line site local)
-request_moves op line k site local turn = by (admission_in site local k op (begins line)) refl
-  where
-    r : Resident
-    r = local.residents k
-
-    aim : Servers
-    aim = aim_at site.grid r
-
-    step : Step
-    step = asked_step site.grid site.row (state_of aim local) line
-
-    its : asker line ≡ Some k
-    its = turn.its
-
-    same : asks op line site local ≡ asks_in site local op line k
-    same = rw its refl
-
-    own : admission_in site local k op (begins line) ≡ Goes → begins line ≡ false → own_admission k op false r.session.op (is_some r.session.current) r.outcome ≡ Goes
-    own goes ends = subst (λ b. own_admission k op b r.session.op (is_some r.session.current) r.outcome ≡ Goes) ends (goes_home site k op r.session.op (begins line) (is_some r.session.current) r.outcome goes).2
-
-    said : admission_in site local k op (begins line) ≡ Goes → (b : Bool) → is_refusal step.told ≡ b → Moves site local (asked_by local k op (state_of aim local) line step)
-    said goes true is =
-        let e : asked_by local k op (state_of aim local) line step ≡ record { local = local; answer = answer_of k op r.session.op step.told; letters = []; fact = None } = rw is refl in
-        subst (Moves site local) (sym e) (Stays (refused_still site local k op step.told is))
-    said goes false is =
-        let doing : Doing = goes_on local k op false (state_of aim local) (entry_of (state_of aim local) (Own line) step) in
-        let e : asked_by local k op (state_of aim local) line step ≡ doing = rw is refl in
-        let there = goes_home site k op r.session.op (begins line) (is_some r.session.current) r.outcome goes in
-        subst (Moves site local) (sym e) (Goes_on k op step.told (goes_on_turns site local k op doing _ step.told _ (record { inside = there.0; home = there.1 }) refl refl refl
-        (turn.after site local aim is (λ ends. gives_up k op r.session.op (is_some r.session.current) r.outcome (own goes ends)))
-        (λ abandoned. up_number k op r.session.op (is_some r.session.current) r.outcome (own goes (turn.given site local aim abandoned)))))
-
-    by : (g : Admission) → admission_in site local k op (begins line) ≡ g → Moves site local (asks op line site local)
-    by (Tells answer) is =
-        let e : asks_in site local op line k ≡ record { local = local; answer = Some answer; letters = []; fact = None } = rw is refl in
-        subst (Moves site local) (sym (same ∙ e)) (Stays (told_still site local op k (begins line) answer is))
-    by Passes is =
-        let e : asks_in site local op line k ≡ silently local = rw is refl in
-        subst (Moves site local) (sym (same ∙ e)) (Stays (quiet site local (silently local) refl refl))
-    by Goes is =
-        let e : asks_in site local op line k ≡ asked_by local k op (state_of aim local) line step = rw is refl in
-        subst (Moves site local) (sym (same ∙ e)) (said is (is_refusal step.told) refl)
-
-begun_turn : (volumes : List VolumeRow) (k n first count : ℕ) (line : Line) (old : Resident) → AfterTold k (Began n first count) old (session_by volumes k (if k == k then Begins line else Elsewhere) old.session) None
-begun_turn volumes k n first count line old = rw (eq-eqb k k refl) (refl, refl)
-
-given_turn : (volumes : List VolumeRow) (k : ℕ) (old : Resident) → is_some old.session.current ≡ true → AfterTold k Abandoned old (session_by volumes k (if k == k then Ends else Elsewhere) old.session) None
-given_turn volumes k old busy = rw (eq-eqb k k refl) (record { busy = busy; number = refl; idle = refl; none = refl })
-
-its_turn : (site : Site) (local : Local) (aim : Servers) (line : Line) (k : ℕ) (d : Deed) (old : Resident) → is_refusal (asked_step site.grid site.row (state_of aim local) line).told ≡ false →
-    AfterTold k (session_step site.grid (state_of aim local) line).told old (session_by local.volumes k d (local.residents k).session) (outcome_after (session_step site.grid (state_of aim local) line).told old.outcome) →
-    AfterTold k (asked_step site.grid site.row (state_of aim local) line).told old (session_by local.volumes k d (local.residents k).session) (outcome_after (asked_step site.grid site.row (state_of aim local) line).told old.outcome)
-its_turn site local aim line k d old is after =
-    let same = not_refused (first_cause (session_causes site.grid site.row (state_of aim local) line)) (session_step site.grid (state_of aim local) line) is in
-    subst (λ (z : Step). AfterTold k z.told old (session_by local.volumes k d (local.residents k).session) (outcome_after z.told old.outcome)) (sym same) after
-
--- a line that begins is not told that it gives up
-never_given : (o : Option Refusal) (step : Step) (b : Bool) → (step.told ≡ Abandoned → b ≡ false) → (unless o step).told ≡ Abandoned → b ≡ false
-never_given None step b not is = not is
-never_given (Some word) step b not is = absurd (cc)
-
-requests_move : (op : ℕ) (line : Line) (site : Site) (local : Local) → Moves site local (asks op line site local)
-requests_move op (Write k v f bytes) site local = request_moves op (Write k v f bytes) k site local (record {
-  its = refl;
-  after = λ site local aim is busy. its_turn site local aim (Write k v f bytes) k _ (local.residents k) is (begun_turn local.volumes k 0 0 0 (Write k v f bytes) (local.residents k));
-  given = λ site local aim is. never_given (first_cause (session_causes site.grid site.row (state_of aim local) (Write k v f bytes))) (session_step site.grid (state_of aim local) (Write k v f bytes)) true (λ e. absurd (cc)) is;
-})
-requests_move op (Read k v f) site local = request_moves op (Read k v f) k site local (record {
-  its = refl;
-  after = λ site local aim is busy. its_turn site local aim (Read k v f) k _ (local.residents k) is (begun_turn local.volumes k 0 0 0 (Read k v f) (local.residents k));
-  given = λ site local aim is. never_given (first_cause (session_causes site.grid site.row (state_of aim local) (Read k v f))) (session_step site.grid (state_of aim local) (Read k v f)) true (λ e. absurd (cc)) is;
-})
-requests_move op (ListFiles k v) site local = request_moves op (ListFiles k v) k site local (record {
-  its = refl;
-  after = λ site local aim is busy. its_turn site local aim (ListFiles k v) k _ (local.residents k) is (begun_turn local.volumes k 0 0 0 (ListFiles k v) (local.residents k));
-  given = λ site local aim is. never_given (first_cause (session_causes site.grid site.row (state_of aim local) (ListFiles k v))) (session_step site.grid (state_of aim local) (ListFiles k v)) true (λ e. absurd (cc)) is;
-})
-requests_move op (Abandon k) site local = request_moves op (Abandon k) k site local (record {
-  its = refl;
-  after = λ site local aim is busy. its_turn site local aim (Abandon k) k (if k == k then Ends else Elsewhere) (local.residents k) is (given_turn local.volumes k (local.residents k) (busy refl));
-  given = λ site local aim is. refl;
-})
-requests_move op line site local = Stays (says site local (asks op line site local) IsBad refl refl (λ k op h. h))
-
--- ---- a letter
-
-session_here : (site : Site) (from : ℕ) (m : OwnMessage) → to_server m.body ≡ false → goes_between site from m ≡ true → (site.home m.session == site.here) ≡ true
-session_here site from m goes is =
-    let h : (site.home m.session == site.here && m.server == from) ≡ true = rw goes at is in
-    (and_parts (site.home m.session == site.here) (m.server == from) h).0
-
-hears_move : (site : Site) (local : Local) (m : OwnMessage) → to_server m.body ≡ false → IsHere site m.session → Moves site local (hears site local m)
-hears_move site local m goes here = by (has_above (local.residents m.session).session.floor && of_round (operation (state_for site local m.session) m.session) m.file) refl
-  where
-    k : ℕ
-    k = m.session
-
-    r : Resident
-    r = local.residents k
-
-    state : State
-    state = state_for site local k
-
-    step : Step
-    step = hear_step site.grid state m (operation state k)
-
-    doing : Doing
-    doing = goes_on local k r.session.op (heard_servers r.session.heard m.server) state (brings m step)
-
-    after : AfterTold k step.told r ((changed (brings m step) state).session k) (outcome_after step.told r.outcome)
-    after =
-        let same : (changed (brings m step) state).session k ≡ session_by local.volumes k (heard_deed m step.told) r.session = rw (goes, eq-eqb k k refl) refl in
-        subst (λ (x : Session). AfterTold k step.told r x (outcome_after step.told r.outcome)) (sym same) (hear_after local.volumes k site.grid state m r r.session.current refl)
-
-    by : (b : Bool) → (has_above r.session.floor && of_round (operation state k) m.file) ≡ b → Moves site local (hears site local m)
-    by false is = let e : hears site local m ≡ silently local = rw is refl in subst (Moves site local) (sym e) (Stays (quiet site local (silently local) refl refl))
-    by true is =
-        let e : hears site local m ≡ doing = rw is refl in
-        subst (Moves site local) (sym e) (Goes_on k r.session.op step.told (goes_on_turns site local k r.session.op doing _ step.told _ here refl refl refl after (λ abandoned. absurd (never_abandoned (operation state k) abandoned))))
-      where
-        heard_never : (h : Heard) → (heard_step (length state.sent) h).told ≡ Abandoned → ⊥
-        heard_never HeardStale is = cc
-        heard_never HeardNoted is = cc
-        heard_never (HeardNext round tag messages) is = cc
-        heard_never (HeardDone outcome) is = cc
-
-        never_abandoned : (o : Option Operation) → (hear_step site.grid state m o).told ≡ Abandoned → ⊥
-        never_abandoned None is = cc
-        never_abandoned (Some o) is = heard_never (hear site.grid state.up o m) is
-
-letters_move : (from : ℕ) (m : OwnMessage) (site : Site) (local : Local) → Moves site local (receives from m site local)
-letters_move from m site local = elim (cases_Bool (letter_fits site (limit_at (state_of everyone local) m.file.volume m.file.place) from m)) [
-  | inr not ↦ (let e : receives from m site local ≡ silently local = rw not refl in subst (Moves site local) (sym e) (Stays (quiet site local (silently local) refl refl)))
-  | inl fits ↦ (elim (cases_Bool (to_server m.body)) [
-    | inl goes ↦ (subst (Moves site local) (sym (to_the_server from m site local fits goes)) (Stays (quiet site local (serves site local m) refl refl)))
-    | inr goes ↦ (
-        let p = parts site (limit_at (state_of everyone local) m.file.volume m.file.place) from m fits in
-        subst (Moves site local) (sym (to_a_session from m site local fits goes)) (hears_move site local m goes (record { inside = p.session; home = session_here site from m goes p.between })))
-  ])
-]
-
--- ---- a tick
-
-tried_alike : (grid : Grid) (b : Bool) (r : Resident) → IsAlike r (tries_next grid b r).session (tries_next grid b r).outcome
-tried_alike grid true r = record { number = refl; current = refl; same = refl }
-tried_alike grid false r = record { number = refl; current = refl; same = refl }
-
--- the session tries on, or has waited now
-tries_still : (site : Site) (local : Local) (doing : Doing) (j : ℕ) (r : Resident) → doing.local ≡ with_resident local j r → doing.answer ≡ None → r.reserved ≡ (local.residents j).reserved → IsAlike (local.residents j) r.session r.outcome → IsStill site local doing
-tries_still site local doing j r part none numbers a = record {
-  reserved = λ k. ap (λ (l : Local). (l.residents k).reserved) part ∙ numbers_at k (j == k) refl;
-  each = λ k. subst (λ (l : Local). IsAlike (local.residents k) (l.residents k).session (l.residents k).outcome) (sym part) (one k (j == k) refl);
-  tells = λ k op answer named is tells. let e = sym none ∙ is in absurd (cc);
-}
-  where
-    numbers_at : (k : ℕ) (b : Bool) → (j == k) ≡ b → ((with_resident local j r).residents k).reserved ≡ (local.residents k).reserved
-    numbers_at k true same = rw same (numbers ∙ ap (λ x. (local.residents x).reserved) (eqb-true j k same))
-    numbers_at k false other = rw other refl
-
-    one : (k : ℕ) (b : Bool) → (j == k) ≡ b → IsAlike (local.residents k) ((with_resident local j r).residents k).session ((with_resident local j r).residents k).outcome
-    one k true same = subst (λ (x : Resident). IsAlike (local.residents k) x.session x.outcome) (sym (own_at k same)) (subst (λ n. IsAlike (local.residents n) r.session r.outcome) (eqb-true j k same) a)
-      where
-        own_at : (k : ℕ) → (j == k) ≡ true → (with_resident local j r).residents k ≡ r
-        own_at k same = rw same refl
-    one k false other = subst (λ (x : Resident). IsAlike (local.residents k) x.session x.outcome) (sym (other_resident local j k r other)) (alike_refl (local.residents k))
-
-ticks_move : (k : ℕ) (site : Site) (local : Local) → Moves site local (ticks k site local)
-ticks_move k site local = elim (cases_Bool (is_some (local.residents k).session.current)) [
-  | inr idle ↦ (let e : ticks k site local ≡ silently local = rw idle refl in subst (Moves site local) (sym e) (Stays (quiet site local (silently local) refl refl)))
-  | inl busy ↦ (subst (Moves site local) (sym (busy_is k site local busy)) (Stays (by (local.residents k).waited)))
-]
-  where
-    r : Resident
-    r = local.residents k
-
-    by : (b : Bool) → IsStill site local (waits_on site local k b)
-    by false = tries_still site local (waits_on site local k false) k (record r { waited = true }) refl refl refl (record { number = refl; current = refl; same = refl })
-    by true = tries_still site local (waits_on site local k true) k (tries_next site.grid (is_collect r.session.round) r) refl refl (tried_reserved site.grid (is_collect r.session.round) r) (tried_alike site.grid (is_collect r.session.round) r)
-
-pub all_move : (input : Input) (site : Site) (local : Local) → Moves site local (does input site local)
-all_move (Asked op line) site local = requests_move op line site local
-all_move AskedPlan site local = Stays (says site local (does AskedPlan site local) _ refl refl (λ k op h. h))
-all_move (Brought from letter) site local = letters_move from letter site local
-all_move (Ticked session) site local = ticks_move session site local
+begun_more : (k : ℕ) (facts : List OwnFact) (fact : OwnFact) → last_begun k (facts ++ fact ∷ []) ≡ begun_behind k (last_begun k facts) fact
+begun_more k facts fact = fold-append (begun_behind k) 0 facts (fact ∷ [])
 
 -- ---- a start
 
-record IsFresh (r : Resident) : Type 0 where
-  idle : r.session.current ≡ None
-  none : r.outcome ≡ None
+-- nothing is known of how an operation ended
+abbrev NoOutcome : Local → Type 0
+NoOutcome local = (k : ℕ) → (local.residents k).outcome ≡ None
 
-abbrev AllFresh : Local → Type 0
-AllFresh local = (k : ℕ) → IsFresh (local.residents k)
-
-recalled_fresh : (fact : OwnFact) (local : Local) → AllFresh local → AllFresh (recalled fact local)
-recalled_fresh (Begun k op) local fresh j = by (k == j) refl
+recalled_none : (fact : OwnFact) (local : Local) → NoOutcome local → NoOutcome (recalled fact local)
+recalled_none (Begun k op) local none j = by (k == j) refl
   where
-    by : (b : Bool) → (k == j) ≡ b → IsFresh ((recalled (Begun k op) local).residents j)
-    by true is = rw is (record { idle = refl; none = refl })
-    by false is = rw is (fresh j)
-recalled_fresh (Numbered k number) local fresh j = by (k == j) refl
+    by : (b : Bool) → (k == j) ≡ b → ((recalled (Begun k op) local).residents j).outcome ≡ None
+    by true is = rw is refl
+    by false is = rw is (none j)
+recalled_none (Numbered k number) local none j = by (k == j) refl
   where
-    by : (b : Bool) → (k == j) ≡ b → IsFresh ((recalled (Numbered k number) local).residents j)
-    by true is = rw is (record { idle = refl; none = refl })
-    by false is = rw is (fresh j)
-recalled_fresh (Kept file copy) local fresh j = fresh j
+    by : (b : Bool) → (k == j) ≡ b → ((recalled (Numbered k number) local).residents j).outcome ≡ None
+    by true is = rw is refl
+    by false is = rw is (none j)
+recalled_none (Kept file copy) local none j = none j
+recalled_none (Had file copy) local none j = none j
 
-recall_fresh : (fact : OwnFact) (site : Site) (local : Local) → AllFresh local → AllFresh (recalls fact site local).local
-recall_fresh fact site local fresh = elim (cases_Bool (fact_fits site (limit_at (state_of everyone local) (file_in fact).volume (file_in fact).place) fact)) [
-  | inl fits ↦ (subst (λ (d : Doing). AllFresh d.local) (sym (recalls_fits fact site local fits)) (recalled_fresh fact local fresh))
-  | inr not ↦ (subst (λ (d : Doing). AllFresh d.local) (sym (recalls_not fact site local not)) fresh)
+-- of a file that is lacked there is still the first copy
+recalled_bare : (fact : OwnFact) (site : Site) (local : Local) → fits_local fact site local ≡ true → IsBare local → IsBare (recalled fact local)
+recalled_bare (Begun k op) site local fits bare f lacks = bare f lacks
+recalled_bare (Numbered k number) site local fits bare f lacks = bare f lacks
+recalled_bare (Kept file copy) site local fits bare f lacks = elim (cases_Bool (is_file file f)) [
+  | inl same ↦ (
+      let has : not (local.lacks file) ≡ true = (and_parts (not (local.lacks file)) _ fits).0 in
+      let e : local.lacks f ≡ local.lacks file = ap local.lacks (sym (same_file file f same)) in
+      absurd (true≢false (sym has ∙ ap not (sym e ∙ lacks))))
+  | inr other ↦ (
+      let e : (recalled (Kept file copy) local).brought f ≡ local.brought f = rw other refl in
+      ap (λ copies. greatest (first_copy ∷ copies)) e ∙ bare f lacks)
+]
+recalled_bare (Had file copy) site local fits bare f lacks =
+    by (is_file file f) refl (and_parts (local.lacks f) (not (is_file file f)) lacks).1
+  where
+    by : (b : Bool) → is_file file f ≡ b → not (is_file file f) ≡ true → copy_in (part_in (recalled (Had file copy) local)) f ≡ first_copy
+    by true is other = absurd (true≢false (sym other ∙ ap not is))
+    by false is other =
+        let e : (recalled (Had file copy) local).brought f ≡ local.brought f = rw is refl in
+        ap (λ copies. greatest (first_copy ∷ copies)) e ∙ bare f (and_parts (local.lacks f) (not (is_file file f)) lacks).0
+
+-- and what is reserved is what the facts reserve, of a session that the plan has
+recalled_op : (k : ℕ) (fact : OwnFact) (local : Local) → ((recalled fact local).residents k).reserved.op ≡ begun_behind k (local.residents k).reserved.op fact
+recalled_op k (Begun j op) local = by (j == k) refl
+  where
+    by : (b : Bool) → (j == k) ≡ b → ((recalled (Begun j op) local).residents k).reserved.op ≡ (if j == k then op else (local.residents k).reserved.op)
+    by true is = rw is refl
+    by false is = rw is refl
+recalled_op k (Numbered j number) local = by (j == k) refl
+  where
+    by : (b : Bool) → (j == k) ≡ b → ((recalled (Numbered j number) local).residents k).reserved.op ≡ (local.residents k).reserved.op
+    by true is = rw is (ap (λ x. (local.residents x).reserved.op) (eqb-true j k is))
+    by false is = rw is refl
+recalled_op k (Kept file copy) local = refl
+recalled_op k (Had file copy) local = refl
+
+-- one that does not fit reserves nothing for it
+passed_op : (k : ℕ) (fact : OwnFact) (site : Site) (local : Local) (last : ℕ) → has_session site k ≡ true → fits_local fact site local ≡ false → begun_behind k last fact ≡ last
+passed_op k (Begun j op) site local last inside not' = elim (cases_Bool (j == k)) [
+  | inl same ↦ (absurd (true≢false (sym inside ∙ ap (has_session site) (sym (eqb-true j k same)) ∙ not')))
+  | inr other ↦ (rw other refl)
+]
+passed_op k (Numbered j number) site local last inside not' = refl
+passed_op k (Kept file copy) site local last inside not' = refl
+passed_op k (Had file copy) site local last inside not' = refl
+
+recall_op : (k : ℕ) (fact : OwnFact) (site : Site) (local : Local) → has_session site k ≡ true → ((recall_one site local fact).residents k).reserved.op ≡ begun_behind k (local.residents k).reserved.op fact
+recall_op k fact site local inside = elim (cases_Bool (fits_local fact site local)) [
+  | inl fits ↦ (ap (λ (d : Doing). (d.local.residents k).reserved.op) (recalls_fits fact site local fits) ∙ recalled_op k fact local)
+  | inr not' ↦ (ap (λ (d : Doing). (d.local.residents k).reserved.op) (recalls_not fact site local not') ∙ sym (passed_op k fact site local (local.residents k).reserved.op inside not'))
 ]
 
-started_fresh : (s : Setting) (n : ℕ) (facts : List OwnFact) (local : Local) → AllFresh local → AllFresh (fold (recalls_one s n) local facts)
-started_fresh s n [] local fresh = fresh
-started_fresh s n (fact ∷ facts) local fresh = started_fresh s n facts (recalls_one s n local fact) (recall_fresh fact (site_in s n) local fresh)
+recall_ops : (k : ℕ) (facts : List OwnFact) (site : Site) (local : Local) → has_session site k ≡ true → ((recall_all site local facts).residents k).reserved.op ≡ fold (begun_behind k) (local.residents k).reserved.op facts
+recall_ops k [] site local inside = refl
+recall_ops k (fact ∷ facts) site local inside = recall_ops k facts site (recall_one site local fact) inside ∙ ap (λ n. fold (begun_behind k) n facts) (recall_op k fact site local inside)
 
-fresh_named : (k : ℕ) (r : Resident) → IsFresh r → Named k r
-fresh_named k r fresh = record {
-  some = λ busy. let e = sym (ap is_some fresh.idle) ∙ busy in absurd (cc);
-  own = λ o is. let e = sym fresh.none ∙ is in absurd (cc);
+recall_bare : (site : Site) (facts : List OwnFact) (local : Local) → IsBare local → IsBare (recall_all site local facts)
+recall_bare site [] local bare = bare
+recall_bare site (fact ∷ facts) local bare = recall_bare site facts (recall_one site local fact) (one (cases_Bool (fits_local fact site local)))
+  where
+    one : (fits_local fact site local ≡ true) ⊎ (fits_local fact site local ≡ false) → IsBare (recall_one site local fact)
+    one (inl fits) = subst (λ (d : Doing). IsBare d.local) (sym (recalls_fits fact site local fits)) (recalled_bare fact site local fits bare)
+    one (inr not') = subst (λ (d : Doing). IsBare d.local) (sym (recalls_not fact site local not')) bare
+
+-- ---- what holds of a node
+
+-- what is said here looks at this alone
+record View : Type 0 where
+  last_plan : ℕ → ℕ
+  local : ℕ → Local
+  facts : ℕ → List OwnFact
+
+abbrev view : Nodes → View
+view nodes = record { last_plan = nodes.last_plan; local = nodes.local; facts = nodes.facts }
+
+-- its sessions are sound, no session used a number that is not reserved, and of those that its plan has its facts tell what is reserved
+record IsSound (site : Site) (local : Local) (facts : List OwnFact) : Type 0 where
+  home : AtHome site local
+  used : AllUsed local
+  named : AllNamed local
+  bare : IsBare local
+  ops : (k : ℕ) → has_session site k ≡ true → (local.residents k).reserved.op ≡ last_begun k facts
+
+abbrev AllSound : NodeWorld → View → Type 0
+AllSound w v = (n : ℕ) → IsSound (site_in w (v.last_plan n) n) (v.local n) (v.facts n)
+
+idle_named : (local : Local) → AllIdle local → NoOutcome local → AllNamed local
+idle_named local idle none k = record {
+  some = λ busy. let e = sym (ap is_some (idle k)) ∙ busy in absurd (cc);
+  own = λ o is. let e = sym (none k) ∙ is in absurd (cc);
 }
+
+new_all_sound : (w : NodeWorld) → AllSound w (view (new_nodes w))
+new_all_sound w n =
+    let local : Local = new_local w.world.setting.grid (place_of n) [] in
+    record {
+      home = idle_home (site_in w 0 n) local (λ k. refl);
+      used = rests_used local (λ k. record { op = refl; floor = refl });
+      named = idle_named local (λ k. refl) (λ k. refl);
+      bare = λ f lacks. refl;
+      ops = λ k inside. refl;
+    }
+
+started_sound : (w : NodeWorld) (first plan n : ℕ) (facts : List OwnFact) → IsSound (site_in w plan n) (started w first plan n facts) facts
+started_sound w first plan n facts =
+    let site : Site = site_in w plan n in
+    let new : Local = begun_local site (plan_volumes w plan) (w.world.plans first).volumes in
+    let local : Local = started w first plan n facts in
+    record {
+      home = idle_home site local (idle_is w first plan n facts);
+      used = rests_used local (λ k. record { op = ops_are w first plan n facts k; floor = floors_are w first plan n facts k });
+      named = idle_named local (idle_is w first plan n facts) (all_of NoOutcome recalled_none site facts new (λ k. refl));
+      bare = recall_bare site facts new (λ f lacks. refl);
+      ops = λ k inside. recall_ops k facts site new inside;
+    }
+
+-- ---- what comes
+
+-- what a new node asks for and is given leaves all sessions
+looks_residents : (site : Site) (local : Local) → (looks site local).local.residents ≡ local.residents
+looks_residents site local = by (all_joined site local.joined) refl
+  where
+    by : (b : Bool) → all_joined site local.joined ≡ b → (looks site local).local.residents ≡ local.residents
+    by true is = let e : looks site local ≡ asks_mate site local (next_mate site local.mate) = rw is refl in ap (λ (d : Doing). d.local.residents) e ∙ (asks_quiet site local (next_mate site local.mate)).0
+    by false is = rw is refl
+
+joined_residents : (from losses : ℕ) (site : Site) (local : Local) → (hears_joined from losses site local).local.residents ≡ local.residents
+joined_residents from losses site local = by (takes_word site from losses) refl
+  where
+    by : (b : Bool) → takes_word site from losses ≡ b → (hears_joined from losses site local).local.residents ≡ local.residents
+    by true is = rw is refl
+    by false is = rw is refl
+
+gives_residents : (from : ℕ) (file : File) (site : Site) (local : Local) → (gives from file site local).local.residents ≡ local.residents
+gives_residents from file site local = by (is_mate site from && has_file local file) refl
+  where
+    by : (b : Bool) → (is_mate site from && has_file local file) ≡ b → (gives from file site local).local.residents ≡ local.residents
+    by true is = rw is refl
+    by false is = rw is refl
+
+abbrev taking : (from : ℕ) → File → StoredCopy → Site → Local → Bool
+taking from file copy site local = is_mate site from && local.lacks file && file_fits (limit_at (state_of everyone local) file.volume file.place) (Store copy)
+
+takes_residents : (from : ℕ) (file : File) (copy : StoredCopy) (site : Site) (local : Local) → (takes from file copy site local).local.residents ≡ local.residents
+takes_residents from file copy site local = by (taking from file copy site local) refl
+  where
+    asked : Doing
+    asked = asks_mate site (given file copy local) (place_of from)
+
+    by : (b : Bool) → taking from file copy site local ≡ b → (takes from file copy site local).local.residents ≡ local.residents
+    by true is = let e : takes from file copy site local ≡ record asked { fact = Some (Had file copy) } = rw is refl in ap (λ (d : Doing). d.local.residents) e ∙ (asks_quiet site (given file copy local) (place_of from)).0
+    by false is = rw is refl
+
+-- where the sessions stay, so does what holds of them
+abbrev Holds : Site → Local → Type 0
+Holds site local = AtHome site local × AllUsed local
+
+same_holds : (site : Site) (local new : Local) → new.residents ≡ local.residents → Holds site local → Holds site new
+same_holds site local new same holds = (
+  λ k busy. holds.0 k (ap (λ rs. is_some (rs k).session.current) (sym same) ∙ busy),
+  λ k. record {
+    op = subst (λ (rs : ℕ → Resident). (rs k).session.op ≤ (rs k).reserved.op) (sym same) (holds.1 k).op;
+    floor = subst (λ (rs : ℕ → Resident). (rs k).session.floor ≤ (rs k).reserved.floor) (sym same) (holds.1 k).floor;
+  },
+)
+
+does_hold : (input : Input) (site : Site) (local : Local) → Holds site local → Holds site (does input site local).local
+does_hold (Asked op line) site local holds = let b = all_requests_act op line site local holds.0 in (b.home, bridged_used site local _ _ _ _ b holds.1)
+does_hold AskedPlan site local holds = holds
+does_hold (Brought from letter) site local holds = let b = all_letters_act from letter site local holds.0 in (b.home, bridged_used site local _ _ _ _ b holds.1)
+does_hold (Ticked session) site local holds = let b = all_ticks_act session site local holds.0 in (b.home, bridged_used site local _ _ _ _ b holds.1)
+does_hold Looked site local holds = same_holds site local (looks site local).local (looks_residents site local) holds
+does_hold (Joined from losses) site local holds = same_holds site local (hears_joined from losses site local).local (joined_residents from losses site local) holds
+does_hold (Fetching from file) site local holds = same_holds site local (gives from file site local).local (gives_residents from file site local) holds
+does_hold (Fetched from file copy) site local holds = same_holds site local (takes from file copy site local).local (takes_residents from file copy site local) holds
+
+-- the fact of a step tells what it reserves
+fleet_op : (k : ℕ) (files : KeptFiles) (fact : OwnFact) → (with_fleet_fact files (Some fact)).kept.op k ≡ begun_behind k (files.kept.op k) fact
+fleet_op k files (Begun j op) = refl
+fleet_op k files (Numbered j number) = refl
+fleet_op k files (Kept file copy) = refl
+fleet_op k files (Had file copy) = refl
+
+keeps_op : (site : Site) (local : Local) (fact : Option OwnFact) (part : Part) (facts : List OwnFact) (k : ℕ) → KeepsBy site local fact part → (local.residents k).reserved.op ≡ last_begun k facts → (part.reserved k).op ≡ last_begun k (facts ++ fact_list fact)
+keeps_op site local None part facts k keeps was = ap (λ (z : KeptFiles). z.kept.op k) keeps ∙ was ∙ ap (last_begun k) (sym (append-nil facts))
+keeps_op site local (Some fact) part facts k keeps was =
+    ap (λ (z : KeptFiles). z.kept.op k) keeps.0
+    ∙ fleet_op k (files_of_part (part_in local)) fact
+    ∙ ap (λ n. begun_behind k n fact) was
+    ∙ sym (begun_more k facts fact)
+
+-- for a session that the plan does not have it reserves nothing
+keeps_outside : (site : Site) (local : Local) (fact : Option OwnFact) (part : Part) (facts : List OwnFact) (k : ℕ) → has_session site k ≡ false → KeepsBy site local fact part → last_begun k (facts ++ fact_list fact) ≡ last_begun k facts
+keeps_outside site local None part facts k outside keeps = ap (last_begun k) (append-nil facts)
+keeps_outside site local (Some fact) part facts k outside keeps = begun_more k facts fact ∙ by fact keeps.1
+  where
+    by : (fact : OwnFact) → FactIn site local fact → begun_behind k (last_begun k facts) fact ≡ last_begun k facts
+    by (Begun j op) inside = elim (cases_Bool (j == k)) [
+      | inl same ↦ (absurd (true≢false (sym inside.0 ∙ ap (has_session site) (eqb-true j k same) ∙ outside)))
+      | inr other ↦ (rw other refl)
+    ]
+    by (Numbered j number) inside = refl
+    by (Kept file copy) fits = refl
+    by (Had file copy) fits = refl
+
+does_sound : (site : Site) (input : Input) (local : Local) (facts : List OwnFact) → IsSound site local facts → IsSound site (does input site local).local (facts ++ fact_list (does input site local).fact)
+does_sound site input local facts sound =
+    let doing : Doing = does input site local in
+    let keeps : Keeps site local doing = does_keep input site local sound.bare in
+    let holds = does_hold input site local (sound.home, sound.used) in
+    record {
+      home = holds.0;
+      used = holds.1;
+      named = moved_named site local doing (all_move input site local) sound.named;
+      bare = stays_bare site local doing keeps sound.bare;
+      ops = λ k inside. keeps_op site local doing.fact (part_in doing.local) facts k keeps (sound.ops k inside);
+    }
 
 -- ---- all nodes
 
--- node n has these volumes, its facts tell what is reserved, no session used another number, and its sessions are sound
-record IsSound (s : Setting) (n : ℕ) (local : Local) (facts : List OwnFact) : Type 0 where
-  volumes : local.volumes ≡ s.volumes
-  journal : kept_of (part_in (started s n facts)) ≡ kept_of (part_in local)
-  home : AtHome (site_in s n) local
-  used : AllUsed local
-  named : AllNamed local
+-- what a node's view is behind an event
+word_view : (w : NodeWorld) (nodes : Nodes) (n from losses : ℕ) (after : Nodes) → view (after_word w nodes n from losses after) ≡ view after
+word_view w nodes n from losses after = by (takes_word (site_at w nodes n) from losses && (not (nodes.ready n) && all_joined (site_at w nodes n) (after.local n).joined))
+  where
+    by : (b : Bool) → view (if b then with_ready w after n else after) ≡ view after
+    by true = refl
+    by false = refl
 
-abbrev AllSound : Setting → Nodes → Type 0
-AllSound s nodes = (n : ℕ) → IsSound s n (nodes.local n) (nodes.facts n)
+input_view : (w : NodeWorld) (nodes : Nodes) (n : ℕ) (input : Input) → view (after_input w nodes n input) ≡ view (after_doing w nodes n (does input (site_at w nodes n) (nodes.local n)))
+input_view w nodes n (Asked op line) = refl
+input_view w nodes n AskedPlan = refl
+input_view w nodes n (Brought from letter) = refl
+input_view w nodes n (Ticked session) = refl
+input_view w nodes n Looked = refl
+input_view w nodes n (Joined from losses) = word_view w nodes n from losses (after_doing w nodes n (does (Joined from losses) (site_at w nodes n) (nodes.local n)))
+input_view w nodes n (Fetching from file) = refl
+input_view w nodes n (Fetched from file copy) = refl
 
-fresh_start : (s : Setting) (n : ℕ) (facts : List OwnFact) → AllFresh (started s n facts)
-fresh_start s n facts = started_fresh s n facts (new_local s.grid n s.volumes) (λ k. record { idle = refl; none = refl })
+join_view : (w : NodeWorld) (nodes : Nodes) (n from losses : ℕ) → view (after_event w nodes (AskedToJoin n from losses)) ≡ view nodes
+join_view w nodes n from losses = by (tells_joined from losses (site_at w nodes n))
+  where
+    by : (b : Bool) → view (if b then record nodes { joined = nodes.joined ++ record { from = n; to = from; losses = losses } ∷ [] } else nodes) ≡ view nodes
+    by true = refl
+    by false = refl
 
-new_all_sound : (s : Setting) → AllSound s (new_nodes s)
-new_all_sound s n = record {
-  volumes = refl;
-  journal = refl;
-  home = idle_home (site_in s n) (new_local s.grid n s.volumes) (λ k. refl);
-  used = rests_used (new_local s.grid n s.volumes) (new_rests s.grid n s.volumes);
-  named = λ k. fresh_named k _ (record { idle = refl; none = refl });
-}
+input_sound : (w : NodeWorld) (nodes : Nodes) (n : ℕ) (input : Input) → AllSound w (view nodes) → AllSound w (view (after_doing w nodes n (does input (site_at w nodes n) (nodes.local n))))
+input_sound w nodes n input sound m = by (m == n) refl
+  where
+    doing : Doing
+    doing = does input (site_at w nodes n) (nodes.local n)
 
--- what comes leaves it so
-does_sound : (input : Input) (site : Site) (local : Local) → AtHome site local → AllUsed local → AtHome site (does input site local).local × AllUsed (does input site local).local
-does_sound (Asked op line) site local home used = let b = all_requests_act op line site local home in (b.home, bridged_used site local _ _ _ _ b used)
-does_sound AskedPlan site local home used = (home, used)
-does_sound (Brought from letter) site local home used = let b = all_letters_act from letter site local home in (b.home, bridged_used site local _ _ _ _ b used)
-does_sound (Ticked session) site local home used = let b = all_ticks_act session site local home in (b.home, bridged_used site local _ _ _ _ b used)
+    by : (b : Bool) → (m == n) ≡ b → IsSound (site_in w (nodes.last_plan m) m) ((after_doing w nodes n doing).local m) ((after_doing w nodes n doing).facts m)
+    by false is = rw is (sound m)
+    by true is = rw is (subst (λ x. IsSound (site_in w (nodes.last_plan x) x) doing.local (nodes.facts x ++ fact_list doing.fact)) (sym (eqb-true m n is)) (does_sound (site_at w nodes n) input (nodes.local n) (nodes.facts n) (sound n)))
 
-input_sound : (s : Setting) (nodes : Nodes) (n : ℕ) (input : Input) → AllSound s nodes → SameVolumes (nodes.local n) (does input (site_in s n) (nodes.local n)) → AllSound s (after_doing nodes n (does input (site_in s n) (nodes.local n)))
-input_sound s nodes n input sound volumes =
-    let local : Local = nodes.local n in
-    let doing : Doing = does input (site_in s n) local in
-    let still = does_sound input (site_in s n) local (sound n).home (sound n).used in
-    at_nodes (IsSound s) nodes n doing (record {
-      volumes = volumes ∙ (sound n).volumes;
-      journal = journal_by s n (nodes.facts n) local doing.fact (part_in doing.local) (sound n).journal (sound n).volumes (does_keep input (site_in s n) local);
-      home = still.0;
-      used = still.1;
-      named = moved_named (site_in s n) local doing (all_move input (site_in s n) local) (sound n).named;
-    }) (λ m away. sound m)
+start_sound : (w : NodeWorld) (nodes : Nodes) (n plan : ℕ) → AllSound w (view nodes) → AllSound w (view (after_event w nodes (Started n plan)))
+start_sound w nodes n plan sound m = by (m == n) refl
+  where
+    by : (b : Bool) → (m == n) ≡ b → IsSound (site_in w ((after_event w nodes (Started n plan)).last_plan m) m) ((after_event w nodes (Started n plan)).local m) (nodes.facts m)
+    by false is = rw is (sound m)
+    by true is = rw is (subst (λ x. IsSound (site_in w plan x) (started w (first_of nodes n plan) plan n (nodes.facts n)) (nodes.facts x)) (sym (eqb-true m n is)) (started_sound w (first_of nodes n plan) plan n (nodes.facts n)))
 
-event_sound : (s : Setting) (nodes : Nodes) (event : Event) → AllSound s nodes → AllSound s (after_event s nodes event)
-event_sound s nodes (LineCame n op line) sound = input_sound s nodes n (Asked op line) sound (asks_volumes op line (site_in s n) (nodes.local n))
-event_sound s nodes (PlanCame n) sound = input_sound s nodes n AskedPlan sound refl
-event_sound s nodes (LetterCame n from letter) sound = input_sound s nodes n (Brought from letter) sound (receives_volumes from letter (site_in s n) (nodes.local n))
-event_sound s nodes (TickCame n k) sound = input_sound s nodes n (Ticked k) sound (ticks_volumes k (site_in s n) (nodes.local n))
-event_sound s nodes (Started n) sound = at_start (IsSound s) s nodes n (record {
-  volumes = started_volumes s n (nodes.facts n) (new_local s.grid n s.volumes) refl;
-  journal = refl;
-  home = idle_home (site_in s n) (started s n (nodes.facts n)) (λ k. (fresh_start s n (nodes.facts n) k).idle);
-  used = rests_used (started s n (nodes.facts n)) (started_rests s n (nodes.facts n));
-  named = λ k. fresh_named k _ (fresh_start s n (nodes.facts n) k);
-}) (λ m away. sound m)
+event_sound : (w : NodeWorld) (nodes : Nodes) (event : Event) → AllSound w (view nodes) → AllSound w (view (after_event w nodes event))
+event_sound w nodes (Started n plan) sound = start_sound w nodes n plan sound
+event_sound w nodes (Came n input) sound = subst (AllSound w) (sym (input_view w nodes n input)) (input_sound w nodes n input sound)
+event_sound w nodes (AskedToJoin n from losses) sound = subst (AllSound w) (sym (join_view w nodes n from losses)) sound
 
-all_sound : (s : Setting) (events : List Event) (nodes : Nodes) → AllSound s nodes → AllSound s (nodes_after s nodes events)
-all_sound s [] nodes sound = sound
-all_sound s (event ∷ events) nodes sound = all_sound s events (after_event s nodes event) (event_sound s nodes event sound)
+all_sound : (w : NodeWorld) (events : List Event) (nodes : Nodes) → AllSound w (view nodes) → AllSound w (view (nodes_after w nodes events))
+all_sound w [] nodes sound = sound
+all_sound w (event ∷ events) nodes sound = all_sound w events (after_event w nodes event) (event_sound w nodes event sound)
 
 -- ---- one event
 
--- of operation op of session k this is told at node n, and that is the last number reserved for the session's operations
-record EndedAt (nodes : Nodes) (n k op last : ℕ) (answer : Answer) : Type 0 where
-  ended : HasEnded k op answer ((nodes.local n).residents k)
-  reserved : ((nodes.local n).residents k).reserved.op ≡ last
+-- the facts reserve this number as the last one for the session's operations; and where the plan has the session, this is told of operation op
+record EndedAt (w : NodeWorld) (v : View) (n k op last : ℕ) (answer : Answer) : Type 0 where
+  some : 1 ≤ op
+  low : op ≤ last
+  facts : last_begun k (v.facts n) ≡ last
+  ended : has_session (site_in w (v.last_plan n) n) k ≡ true → HasEnded k op answer ((v.local n).residents k)
 
-input_ended : (s : Setting) (nodes : Nodes) (m : ℕ) (input : Input) (n k op last : ℕ) (answer : Answer) → begun_by k (nodes.local n) ((after_doing nodes m (does input (site_in s m) (nodes.local m))).local n) ≡ None →
-    EndedAt nodes n k op last answer → EndedAt (after_doing nodes m (does input (site_in s m) (nodes.local m))) n k op last answer
-input_ended s nodes m input n k op last answer none at = elim (cases_Bool (n == m)) [
-  | inr other ↦ (record { ended = rw other at.ended; reserved = rw other at.reserved })
+does_ended : (w : NodeWorld) (nodes : Nodes) (m : ℕ) (input : Input) (n k op last : ℕ) (answer : Answer) → AllSound w (view nodes) → begun_by k (nodes.local n) ((after_doing w nodes m (does input (site_at w nodes m) (nodes.local m))).local n) ≡ None →
+    EndedAt w (view nodes) n k op last answer → EndedAt w (view (after_doing w nodes m (does input (site_at w nodes m) (nodes.local m)))) n k op last answer
+does_ended w nodes m input n k op last answer sound none at = elim (cases_Bool (n == m)) [
+  | inr other ↦ (record { some = at.some; low = at.low; facts = rw other at.facts; ended = rw other at.ended })
   | inl same ↦ (
       let e : n ≡ m = eqb-true n m same in
-      let doing : Doing = does input (site_in s m) (nodes.local m) in
       let here : begun_by k (nodes.local n) doing.local ≡ None = rw same at none in
       let begun : begun_by k (nodes.local m) doing.local ≡ None = subst (λ x. begun_by k (nodes.local x) doing.local ≡ None) e here in
-      let moves : Moves (site_in s m) (nodes.local m) doing = all_move input (site_in s m) (nodes.local m) in
+      let its : EndedAt w (view nodes) m k op last answer = subst (λ x. EndedAt w (view nodes) x k op last answer) e at in
       record {
-        ended = rw same (moved_ended (site_in s m) (nodes.local m) doing k op answer moves begun (subst (λ x. HasEnded k op answer ((nodes.local x).residents k)) e at.ended));
-        reserved = rw same (moved_reserved (site_in s m) (nodes.local m) doing k moves begun ∙ ap (λ x. ((nodes.local x).residents k).reserved.op) (sym e) ∙ at.reserved);
+        some = at.some;
+        low = at.low;
+        facts = rw same (subst (λ x. last_begun k (nodes.facts x ++ fact_list doing.fact) ≡ last) (sym e) (facts_say begun its (has_session site k) refl));
+        ended = rw same (subst (λ x. has_session (site_in w (nodes.last_plan x) x) k ≡ true → HasEnded k op answer (doing.local.residents k)) (sym e) (λ inside. moved_ended site (nodes.local m) doing k op answer moves begun (its.ended inside)));
       })
 ]
+  where
+    site : Site
+    site = site_at w nodes m
+
+    doing : Doing
+    doing = does input site (nodes.local m)
+
+    moves : Moves site (nodes.local m) doing
+    moves = all_move input site (nodes.local m)
+
+    keeps : Keeps site (nodes.local m) doing
+    keeps = does_keep input site (nodes.local m) (sound m).bare
+
+    facts_say : begun_by k (nodes.local m) doing.local ≡ None → EndedAt w (view nodes) m k op last answer → (b : Bool) → has_session site k ≡ b → last_begun k (nodes.facts m ++ fact_list doing.fact) ≡ last
+    facts_say begun its true inside =
+        sym (keeps_op site (nodes.local m) doing.fact (part_in doing.local) (nodes.facts m) k keeps ((sound m).ops k inside))
+        ∙ moved_reserved site (nodes.local m) doing k moves begun
+        ∙ (sound m).ops k inside
+        ∙ its.facts
+    facts_say begun its false outside = keeps_outside site (nodes.local m) doing.fact (part_in doing.local) (nodes.facts m) k outside keeps ∙ its.facts
 
 -- what is told of it then
 abbrev end_by : (n k op last : ℕ) → Event → Answer → Answer
 end_by n k op last event answer = if is_start n event then forgotten k op last else answer
 
-start_ended : (s : Setting) (nodes : Nodes) (m n k op last : ℕ) (answer : Answer) → AllSound s nodes → EndedAt nodes n k op last answer → EndedAt (after_event s nodes (Started m)) n k op last (if m == n then forgotten k op last else answer)
-start_ended s nodes m n k op last answer sound at = elim (cases_Bool (n == m)) [
-  | inr other ↦ (record { ended = rw (other, not_same m n other) at.ended; reserved = rw other at.reserved })
+start_ended : (w : NodeWorld) (nodes : Nodes) (m plan n k op last : ℕ) (answer : Answer) → EndedAt w (view nodes) n k op last answer → EndedAt w (view (after_event w nodes (Started m plan))) n k op last (if m == n then forgotten k op last else answer)
+start_ended w nodes m plan n k op last answer at = elim (cases_Bool (n == m)) [
+  | inr other ↦ (record { some = at.some; low = at.low; facts = at.facts; ended = rw (other, not_same m n other) at.ended })
   | inl same ↦ (
       let e : n ≡ m = eqb-true n m same in
-      let facts : List OwnFact = nodes.facts m in
-      let r : Resident = (started s m facts).residents k in
-      let fresh : IsFresh r = fresh_start s m facts k in
-      let reserved : r.reserved.op ≡ last = ap (λ (z : KeptPart). z.op k) (sound m).journal ∙ ap (λ x. ((nodes.local x).residents k).reserved.op) (sym e) ∙ at.reserved in
-      let number : r.session.op ≡ last = (started_rests s m facts k).op ∙ reserved in
-      let low = at.ended.low in
-      let used = ((sound n).used k).op in
-      let was = at.reserved in
-      let after : HasEnded k op (forgotten k op last) r = record {
-        some = at.ended.some;
-        low = omega (arith, low, used, was, number);
-        idle = fresh.idle;
-        ends = λ i. end_of k op (number i) (fresh.none i);
-      } in
-      record { ended = rw (same, eq-eqb m n (sym e)) after; reserved = rw same reserved })
+      record {
+        some = at.some;
+        low = at.low;
+        facts = at.facts;
+        ended = rw (same, eq-eqb m n (sym e)) (subst (λ x. has_session (site_in w plan x) k ≡ true → HasEnded k op (forgotten k op last) ((started w (first_of nodes m plan) plan m (nodes.facts m)).residents k)) (sym e) (here (subst (λ x. last_begun k (nodes.facts x) ≡ last) e at.facts)));
+      })
 ]
   where
     not_same : (m n : ℕ) → (n == m) ≡ false → (m == n) ≡ false
     not_same m n other = ne_eqb m n (λ e. let f = sym other ∙ eq-eqb n m (sym e) in absurd (cc))
 
-event_ended : (s : Setting) (nodes : Nodes) (event : Event) (n k op last : ℕ) (answer : Answer) → AllSound s nodes → begun_at s nodes n k event ≡ None → EndedAt nodes n k op last answer → EndedAt (after_event s nodes event) n k op last (end_by n k op last event answer)
-event_ended s nodes (LineCame m number line) n k op last answer sound none at = input_ended s nodes m (Asked number line) n k op last answer none at
-event_ended s nodes (PlanCame m) n k op last answer sound none at = input_ended s nodes m AskedPlan n k op last answer none at
-event_ended s nodes (LetterCame m from letter) n k op last answer sound none at = input_ended s nodes m (Brought from letter) n k op last answer none at
-event_ended s nodes (TickCame m j) n k op last answer sound none at = input_ended s nodes m (Ticked j) n k op last answer none at
-event_ended s nodes (Started m) n k op last answer sound none at = start_ended s nodes m n k op last answer sound at
+    first : ℕ
+    first = first_of nodes m plan
+
+    r : Resident
+    r = (started w first plan m (nodes.facts m)).residents k
+
+    new : Local
+    new = begun_local (site_in w plan m) (plan_volumes w plan) (w.world.plans first).volumes
+
+    none : r.outcome ≡ None
+    none = all_of NoOutcome recalled_none (site_in w plan m) (nodes.facts m) new (λ k. refl) k
+
+    here : last_begun k (nodes.facts m) ≡ last → has_session (site_in w plan m) k ≡ true → HasEnded k op (forgotten k op last) r
+    here reserved inside =
+        let number : r.session.op ≡ last = ops_are w first plan m (nodes.facts m) k ∙ (started_sound w first plan m (nodes.facts m)).ops k inside ∙ reserved in
+        record {
+          some = at.some;
+          low = subst (λ x. op ≤ x) (sym number) at.low;
+          idle = idle_is w first plan m (nodes.facts m) k;
+          ends = λ i. end_of k op (number i) (none i);
+        }
+
+input_ended : (w : NodeWorld) (nodes : Nodes) (m : ℕ) (input : Input) (n k op last : ℕ) (answer : Answer) → AllSound w (view nodes) → begun_by k (nodes.local n) ((view (after_input w nodes m input)).local n) ≡ None →
+    EndedAt w (view nodes) n k op last answer → EndedAt w (view (after_input w nodes m input)) n k op last answer
+input_ended w nodes m input n k op last answer sound none at =
+    let same = input_view w nodes m input in
+    subst (λ v. EndedAt w v n k op last answer) (sym same) (does_ended w nodes m input n k op last answer sound (subst (λ (v : View). begun_by k (nodes.local n) (v.local n) ≡ None) same none) at)
+
+event_ended : (w : NodeWorld) (nodes : Nodes) (event : Event) (n k op last : ℕ) (answer : Answer) → AllSound w (view nodes) → begun_at w nodes n k event ≡ None → EndedAt w (view nodes) n k op last answer →
+    EndedAt w (view (after_event w nodes event)) n k op last (end_by n k op last event answer)
+event_ended w nodes (Started m plan) n k op last answer sound none at = start_ended w nodes m plan n k op last answer at
+event_ended w nodes (Came m input) n k op last answer sound none at = input_ended w nodes m input n k op last answer sound none at
+event_ended w nodes (AskedToJoin m from losses) n k op last answer sound none at = subst (λ v. EndedAt w v n k op last answer) (sym (join_view w nodes m from losses)) at
 
 end_more : (n k op last : ℕ) (event : Event) (events : List Event) (answer : Answer) → end_after n k op last events (end_by n k op last event answer) ≡ end_after n k op last (event ∷ events) answer
 end_more n k op last event events answer = by (is_start n event) (list_any (is_start n) events)
@@ -862,38 +444,46 @@ end_more n k op last event events answer = by (is_start n event) (list_any (is_s
     by false true = refl
     by false false = refl
 
-events_ended : (s : Setting) (events : List Event) (nodes : Nodes) (n k op last : ℕ) (answer : Answer) → AllSound s nodes → NoneBegins s nodes n k events → EndedAt nodes n k op last answer → EndedAt (nodes_after s nodes events) n k op last (end_after n k op last events answer)
-events_ended s [] nodes n k op last answer sound none at = at
-events_ended s (event ∷ events) nodes n k op last answer sound none at =
-    let new : Nodes = after_event s nodes event in
-    subst (EndedAt (nodes_after s new events) n k op last) (end_more n k op last event events answer)
-    (events_ended s events new n k op last (end_by n k op last event answer) (event_sound s nodes event sound) none.1 (event_ended s nodes event n k op last answer sound none.0 at))
+events_ended : (w : NodeWorld) (events : List Event) (nodes : Nodes) (n k op last : ℕ) (answer : Answer) → AllSound w (view nodes) → NoneBegins w nodes n k events → EndedAt w (view nodes) n k op last answer →
+    EndedAt w (view (nodes_after w nodes events)) n k op last (end_after n k op last events answer)
+events_ended w [] nodes n k op last answer sound none at = at
+events_ended w (event ∷ events) nodes n k op last answer sound none at =
+    let new : Nodes = after_event w nodes event in
+    subst (EndedAt w (view (nodes_after w new events)) n k op last) (end_more n k op last event events answer)
+    (events_ended w events new n k op last (end_by n k op last event answer) (event_sound w nodes event sound) none.1 (event_ended w nodes event n k op last answer sound none.0 at))
 
 -- ---- the end that is told
 
-input_tells : (s : Setting) (nodes : Nodes) (n : ℕ) (input : Input) (k op : ℕ) (answer : Answer) → AllSound s nodes → (does input (site_in s n) (nodes.local n)).answer ≡ Some answer → TellsEnd k op answer →
-    IsHere (site_in s n) k × HasEnded k op answer (((after_doing nodes n (does input (site_in s n) (nodes.local n))).local n).residents k)
-input_tells s nodes n input k op answer sound is tells =
-    let doing : Doing = does input (site_in s n) (nodes.local n) in
-    let h = moved_tells (site_in s n) (nodes.local n) doing k op answer (sound n).named (all_move input (site_in s n) (nodes.local n)) is tells in
-    (h.0, rw (eq-eqb n n refl) h.1)
+-- the node is the session's home, and this is told there
+record IsTold (w : NodeWorld) (v : View) (n k op : ℕ) (answer : Answer) : Type 0 where
+  home : (w.world.setting.home k == n) ≡ true
+  has : has_session (site_in w (v.last_plan n) n) k ≡ true
+  ended : HasEnded k op answer ((v.local n).residents k)
 
-event_tells : (s : Setting) (nodes : Nodes) (event : Event) (k op : ℕ) (answer : Answer) → AllSound s nodes → (doing_of s nodes event).answer ≡ Some answer → TellsEnd k op answer →
-    IsHere (site_in s (node_in event)) k × HasEnded k op answer (((after_event s nodes event).local (node_in event)).residents k)
-event_tells s nodes (LineCame n number line) k op answer sound is tells = input_tells s nodes n (Asked number line) k op answer sound is tells
-event_tells s nodes (PlanCame n) k op answer sound is tells = input_tells s nodes n AskedPlan k op answer sound is tells
-event_tells s nodes (LetterCame n from letter) k op answer sound is tells = input_tells s nodes n (Brought from letter) k op answer sound is tells
-event_tells s nodes (TickCame n j) k op answer sound is tells = input_tells s nodes n (Ticked j) k op answer sound is tells
-event_tells s nodes (Started n) k op answer sound is tells = absurd (cc)
+input_tells : (w : NodeWorld) (nodes : Nodes) (n : ℕ) (input : Input) (k op : ℕ) (answer : Answer) → AllSound w (view nodes) → (does input (site_at w nodes n) (nodes.local n)).answer ≡ Some answer → TellsEnd k op answer → IsTold w (view (after_input w nodes n input)) n k op answer
+input_tells w nodes n input k op answer sound is tells =
+    let site : Site = site_at w nodes n in
+    let doing : Doing = does input site (nodes.local n) in
+    let h = moved_tells site (nodes.local n) doing k op answer (sound n).named (all_move input site (nodes.local n)) is tells in
+    subst (λ v. IsTold w v n k op answer) (sym (input_view w nodes n input)) (record { home = h.0.home; has = h.0.inside; ended = rw (eq-eqb n n refl) h.1 })
+
+event_tells : (w : NodeWorld) (nodes : Nodes) (event : Event) (k op : ℕ) (answer : Answer) → AllSound w (view nodes) → (doing_of w nodes event).answer ≡ Some answer → TellsEnd k op answer → IsTold w (view (after_event w nodes event)) (node_in event) k op answer
+event_tells w nodes (Started n plan) k op answer sound is tells = absurd (cc)
+event_tells w nodes (Came n input) k op answer sound is tells = input_tells w nodes n input k op answer sound is tells
+event_tells w nodes (AskedToJoin n from losses) k op answer sound is tells = absurd (cc)
 
 pub all_ends_told_again : AllEndsToldAgain
-all_ends_told_again s before event between k op answer line is tells none its =
-    let nodes : Nodes = nodes_after s (new_nodes s) before in
-    let told : Nodes = after_event s nodes event in
+all_ends_told_again w before event between k op answer line is tells none has its =
+    let nodes : Nodes = nodes_after w (new_nodes w) before in
+    let told : Nodes = after_event w nodes event in
     let n : ℕ = node_in event in
-    let sound : AllSound s nodes = all_sound s before (new_nodes s) (new_all_sound s) in
-    let h = event_tells s nodes event k op answer sound is tells in
-    let later : Nodes = nodes_after s told between in
+    let later : Nodes = nodes_after w told between in
+    let sound : AllSound w (view nodes) = all_sound w before (new_nodes w) (new_all_sound w) in
+    let also : AllSound w (view told) = event_sound w nodes event sound in
+    let h : IsTold w (view told) n k op answer = event_tells w nodes event k op answer sound is tells in
     let last : ℕ = ((told.local n).residents k).reserved.op in
-    let end : EndedAt later n k op last (end_after n k op last between answer) = events_ended s between told n k op last answer (event_sound s nodes event sound) none (record { ended = h.1; reserved = refl }) in
-    ended_tells (site_in s n) (later.local n) op line k (end_after n k op last between answer) h.0 end.ended its
+    let low = h.ended.low in
+    let used = ((also n).used k).op in
+    let at : EndedAt w (view told) n k op last answer = record { some = h.ended.some; low = omega (arith, low, used); facts = sym ((also n).ops k h.has); ended = λ inside. h.ended } in
+    let end : EndedAt w (view later) n k op last (end_after n k op last between answer) = events_ended w between told n k op last answer also none at in
+    ended_tells (site_at w later n) (later.local n) op line k (end_after n k op last between answer) (record { inside = has; home = h.home }) (end.ended has) its

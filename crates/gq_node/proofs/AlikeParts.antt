@@ -17,8 +17,8 @@ use Rattle.gq_model.specs.Told.{Refused, Replied}
 use Rattle.gq_model.specs.Trace.{State, Session, Deed, Elsewhere, Begins, Hears, Moves, Ends, Leaps, changed, deed, operation_with, session_by, serves, stored_by, held, deed_in}
 use Rattle.gq_model.specs.Lone.{Step, is_refusal, asked_step, hear_step, reply_to, quiet}
 use Rattle.gq_cluster.proofs.Parts.{act_deed}
-use Rattle.gq_cluster.specs.Facts.{OwnFact, Begun, Numbered, Kept, Reserved, none_reserved, reserving, with_reserved, replaced_in}
-use Rattle.gq_cluster.specs.Cluster.{Setting, Part, Act, Asks, Comes, part_of, node_of, step_of, state_after, fact_in, fact_of, part_after, act_entry, aim_of, session_named, IsOfSession, copy_in, state_of}
+use Rattle.gq_cluster.specs.Facts.{OwnFact, Begun, Numbered, Kept, Had, Reserved, none_reserved, reserving, with_reserved, replaced_in}
+use Rattle.gq_cluster.specs.Cluster.{Setting, Part, Act, Asks, Comes, part_of, step_of, state_after, fact_in, fact_of, part_after, act_entry, aim_of, session_named, IsOfSession, copy_in, state_of}
 use Rattle.gq_laws.proofs.Holding.{greatest-push}
 use Rattle.gq_node.specs.Nodes.{SessionAlike, PartAlike}
 
@@ -96,11 +96,16 @@ abbrev pub IsAct : Act → Type 0
 IsAct (Asks line aim) = IsOfSession line
 IsAct (Comes m aim) = Unit {0}
 
-pub step_alike : (s : Setting) (n : ℕ) (p q : Part) (act : Act) → IsAct act → node_of s.home act ≡ n → PartAlike s.home n p q → step_of s p act ≡ step_of s q act
+-- a line, or a letter to a session, comes to its home
+abbrev pub HereAt : (home : ℕ → ℕ) (n : ℕ) → Act → Type 0
+HereAt home n (Asks line aim) = home (session_named line) ≡ n
+HereAt home n (Comes m aim) = to_server m.body ≡ false → home m.session ≡ n
+
+pub step_alike : (s : Setting) (n : ℕ) (p q : Part) (act : Act) → IsAct act → HereAt s.home n act → PartAlike s.home n p q → step_of s p act ≡ step_of s q act
 step_alike s n p q (Asks line aim) its here alike = asked_alike s aim p q line its (alike.sessions (session_named line) here)
 step_alike s n p q (Comes m aim) its here alike = elim (cases_Bool (to_server m.body)) [
   | inl goes ↦ (served_alike s p q m aim goes (alike.lacks m.file) (alike.copies m.file))
-  | inr goes ↦ (heard_alike s p q m aim goes (alike.sessions m.session (rw goes at here)))
+  | inr goes ↦ (heard_alike s p q m aim goes (alike.sessions m.session (here goes)))
 ]
 
 -- ---- what is left
@@ -140,6 +145,7 @@ reserved_alike None a b j same = same
 reserved_alike (Some (Begun k op)) a b j same = λ i. if k == j then record (same i) { op = op } else same i
 reserved_alike (Some (Numbered k number)) a b j same = λ i. if k == j then record (same i) { floor = number } else same i
 reserved_alike (Some (Kept file copy)) a b j same = same
+reserved_alike (Some (Had file copy)) a b j same = same
 
 -- the fact that session k gives by the act
 told_fact_alike : (s : Setting) (n : ℕ) (p q : Part) (act : Act) (k : ℕ) → s.home k ≡ n → step_of s p act ≡ step_of s q act → PartAlike s.home n p q → fact_in s p act k ≡ fact_in s q act k
@@ -155,7 +161,7 @@ told_fact_alike s n p q act k here same alike = λ i. reserving k (alike.reserve
         ∙ (deed_alike s.volumes k (deed k (act_entry act (step_of s q act))) (p.session k) (q.session k) (q.session k).current refl (alike.sessions k here)).floor
         ∙ sym (said q)
 
-fact_alike : (s : Setting) (n : ℕ) (p q : Part) (act : Act) → node_of s.home act ≡ n → step_of s p act ≡ step_of s q act → PartAlike s.home n p q → fact_of s p act ≡ fact_of s q act
+fact_alike : (s : Setting) (n : ℕ) (p q : Part) (act : Act) → HereAt s.home n act → step_of s p act ≡ step_of s q act → PartAlike s.home n p q → fact_of s p act ≡ fact_of s q act
 fact_alike s n p q (Asks line aim) here same alike = told_fact_alike s n p q (Asks line aim) (session_named line) here same alike
 fact_alike s n p q (Comes m aim) here same alike = by (to_server m.body) refl
   where
@@ -164,14 +170,14 @@ fact_alike s n p q (Comes m aim) here same alike = by (to_server m.body) refl
 
     by : (b : Bool) → to_server m.body ≡ b → fact p (to_server m.body) ≡ fact q (to_server m.body)
     by true goes = ap (fact p) goes ∙ (λ i. if alike.lacks m.file i then None else replaced_in (alike.copies m.file i) m.file m.body) ∙ sym (ap (fact q) goes)
-    by false goes = ap (fact p) goes ∙ told_fact_alike s n p q (Comes m aim) m.session (rw goes at here) same alike ∙ sym (ap (fact q) goes)
+    by false goes = ap (fact p) goes ∙ told_fact_alike s n p q (Comes m aim) m.session (here goes) same alike ∙ sym (ap (fact q) goes)
 
 -- the part after the act, where this is told and sent by it, and this is its fact
 abbrev part_by : Setting → ℕ → Act → Option OwnFact → Step → Part → Part
 part_by s n act fact step x = if is_refusal step.told then x else part_of n (with_reserved fact x.reserved) (changed (act_entry act step) (state_of s.volumes (aim_of act) x))
 
-pub part_alike : (s : Setting) (n : ℕ) (p q : Part) (act : Act) → IsAct act → node_of s.home act ≡ n → PartAlike s.home n p q → PartAlike s.home n (part_after s n p act) (part_after s n q act)
-part_alike s n p q act its here alike = subst (λ (x : Part). PartAlike s.home n x (part_after s n q act)) (sym same_by) (by (is_refusal step.told) refl)
+pub part_alike : (s : Setting) (n server : ℕ) (p q : Part) (act : Act) → IsAct act → HereAt s.home n act → PartAlike s.home n p q → PartAlike s.home n (part_after s server p act) (part_after s server q act)
+part_alike s n server p q act its here alike = subst (λ (x : Part). PartAlike s.home n x (part_after s server q act)) (sym same_by) (by (is_refusal step.told) refl)
   where
     step : Step
     step = step_of s q act
@@ -182,13 +188,13 @@ part_alike s n p q act its here alike = subst (λ (x : Part). PartAlike s.home n
     same_step : step_of s p act ≡ step
     same_step = step_alike s n p q act its here alike
 
-    same_by : part_after s n p act ≡ part_by s n act fact step p
-    same_by = λ i. part_by s n act (fact_alike s n p q act here same_step alike i) (same_step i) p
+    same_by : part_after s server p act ≡ part_by s server act fact step p
+    same_by = λ i. part_by s server act (fact_alike s n p q act here same_step alike i) (same_step i) p
 
-    accepted : PartAlike s.home n (part_of n (with_reserved fact p.reserved) (changed (act_entry act step) (state_of s.volumes (aim_of act) p))) (part_of n (with_reserved fact q.reserved) (changed (act_entry act step) (state_of s.volumes (aim_of act) q)))
+    accepted : PartAlike s.home n (part_of server (with_reserved fact p.reserved) (changed (act_entry act step) (state_of s.volumes (aim_of act) p))) (part_of server (with_reserved fact q.reserved) (changed (act_entry act step) (state_of s.volumes (aim_of act) q)))
     accepted = record {
-      copies = λ file. held_alike s n p q act step file (alike.lacks file) (alike.copies file);
-      lacks = λ file. lacks_still s n p act step file ∙ alike.lacks file ∙ sym (lacks_still s n q act step file);
+      copies = λ file. held_alike s server p q act step file (alike.lacks file) (alike.copies file);
+      lacks = λ file. lacks_still s server p act step file ∙ alike.lacks file ∙ sym (lacks_still s server q act step file);
       reserved = λ k at. reserved_alike fact p.reserved q.reserved k (alike.reserved k at);
       sessions = λ k at.
           let D : Deed → Deed → Type 0 = λ a b. SessionAlike (session_by s.volumes k a (p.session k)) (session_by s.volumes k b (q.session k)) in
@@ -197,6 +203,6 @@ part_alike s n p q act its here alike = subst (λ (x : Part). PartAlike s.home n
           (subst (λ b. D d b) (sym (act_deed [] k (q.session k) act step)) (deed_alike s.volumes k d (p.session k) (q.session k) (q.session k).current refl (alike.sessions k at)));
     }
 
-    by : (b : Bool) → is_refusal step.told ≡ b → PartAlike s.home n (part_by s n act fact step p) (part_by s n act fact step q)
+    by : (b : Bool) → is_refusal step.told ≡ b → PartAlike s.home n (part_by s server act fact step p) (part_by s server act fact step q)
     by true is = rw is alike
     by false is = rw is accepted

@@ -10,21 +10,21 @@ use Rattle.gq_node.specs.Sites.{Site, site_of}
 use Rattle.gq_node.specs.Tables.{Tables, Agrees, Acts}
 
 -- the node as the tenant sees it stays
-same_site : (old next : Tables) (t : ℕ) → next.plan ≡ old.plan → next.server ≡ old.server → site_of next.plan next.server t ≡ site_of old.plan old.server t
-same_site old next t plan server = ap (λ p. site_of p next.server t) plan ∙ ap (λ n. site_of old.plan n t) server
+same_site : (old next : Tables) (t : ℕ) → next.plan ≡ old.plan → next.here ≡ old.here → site_of next.plan next.here t ≡ site_of old.plan old.here t
+same_site old next t plan here = ap (λ p. site_of p next.here t) plan ∙ ap (λ x. site_of old.plan x t) here
 
 -- one call more before those that are so
 one_call : (old next new : Tables) (call : Call) (rest : List Call) (t : ℕ) (local : Local) → Acts old call.tenant (does call.input) call.out next → Agrees old t local →
-    ((after : Local) → Agrees next t after → GoesByPart (site_of next.plan next.server t) new t after (inputs_for t rest) (outputs_for t rest)) →
-    GoesByPart (site_of old.plan old.server t) new t local (inputs_for t (call ∷ rest)) (outputs_for t (call ∷ rest))
+    ((after : Local) → Agrees next t after → GoesByPart (site_of next.plan next.here t) new t after (inputs_for t rest) (outputs_for t rest)) →
+    GoesByPart (site_of old.plan old.here t) new t local (inputs_for t (call ∷ rest)) (outputs_for t (call ∷ rest))
 one_call old next new call rest t local acts agrees later = by (call.tenant == t) refl
   where
     site : Site
-    site = site_of old.plan old.server t
+    site = site_of old.plan old.here t
 
     from_next : (after : Local) → Agrees next t after → GoesByPart site new t after (inputs_for t rest) (outputs_for t rest)
     from_next after there =
-        subst (λ (s : Site). GoesByPart s new t after (inputs_for t rest) (outputs_for t rest)) (same_site old next t acts.leads.plan acts.leads.server) (later after there)
+        subst (λ (s : Site). GoesByPart s new t after (inputs_for t rest) (outputs_for t rest)) (same_site old next t acts.leads.plan acts.leads.here) (later after there)
 
     by : (b : Bool) → (call.tenant == t) ≡ b →
         GoesByPart site new t local (if b then call.input ∷ inputs_for t rest else inputs_for t rest) (if b then call.out ∷ outputs_for t rest else outputs_for t rest)
@@ -48,7 +48,7 @@ same_given t [] (a ∷ ones) twos one two = absurd one
 same_given t (doing ∷ doings) [] twos one two = absurd one
 same_given t (doing ∷ doings) (a ∷ ones) [] one two = absurd two
 same_given t (doing ∷ doings) (a ∷ ones) (b ∷ twos) one two = (
-  record { answer = one.0.answer ∙ sym two.0.answer; letters = one.0.letters ∙ sym two.0.letters; fact = one.0.fact ∙ sym two.0.fact },
+  record { answer = one.0.answer ∙ sym two.0.answer; letters = one.0.letters ∙ sym two.0.letters; parcel = one.0.parcel ∙ sym two.0.parcel; fact = one.0.fact ∙ sym two.0.fact },
   same_given t doings ones twos one.1 two.1,
 )
 
@@ -57,5 +57,5 @@ tenants_apart one two one_new two_new ones twos t local one_calls two_calls site
     let first = calls_by_parts one one_new ones t local one_calls one_agrees in
     let second = calls_by_parts two two_new twos t local two_calls two_agrees in
     let P : Site → List Input → Type 0 = λ s came. AllGive t (doings s local came) (outputs_for t twos) in
-    same_given t (doings (site_of one.plan one.server t) local (inputs_for t ones)) (outputs_for t ones) (outputs_for t twos) first.gives
-    (subst (P (site_of one.plan one.server t)) (sym came) (subst (λ s. P s (inputs_for t twos)) (sym site) second.gives))
+    same_given t (doings (site_of one.plan one.here t) local (inputs_for t ones)) (outputs_for t ones) (outputs_for t twos) first.gives
+    (subst (P (site_of one.plan one.here t)) (sym came) (subst (λ s. P s (inputs_for t twos)) (sym site) second.gives))

@@ -1,5 +1,5 @@
 -- A request of a session: why it is refused, and how its operation begins.
-use Rattle.std.proofs.Common.{◌≡◌, ◌≢◌, ◌∙◌, ℕ, zero, suc, ◌+◌, ◌*◌, ◌<◌, ◌≤◌, Bool, true, false, List, [], ◌∷◌, ◌++◌, length, map, refl, sym, ap, subst, Option, Some, None, arith, inl, inr, zero-mul, mul-zero}
+use Rattle.std.proofs.Common.{◌≡◌, ◌≢◌, ◌∙◌, ℕ, zero, suc, ◌+◌, ◌*◌, ◌<◌, Bool, true, false, List, [], ◌∷◌, ◌++◌, length, map, refl, sym, ap, subst, Option, Some, None, arith, inl, inr, zero-mul, mul-zero}
 use Rattle.std.specs.Prelude.{Result, Ok, Err, IfOk, IsErrOf, ◌↔◌, slice_get, option_map, not, nat_lt, is_some, is_none, unwrap_or, ◌==◌, ◌||◌, if◌then◌else◌}
 use Rattle.std.specs.Option.{option_and_then}
 use Rattle.std.proofs.lemmas.Bool.{cases_Bool, eq-eqb, eqb-true}
@@ -14,6 +14,7 @@ use Rattle.gq_desk.specs.declared.plans.TenantRow.{TenantRow}
 use Rattle.gq_desk.specs.declared.volumes.VolumeRow.{VolumeRow}
 use Rattle.gq_desk.specs.Plans.{is_in}
 use Rattle.gq_desk.specs.Volumes.{Account, account_at, limit_in}
+use Rattle.gq_replace.specs.Plans.{place_of}
 use Rattle.gq_phase.specs.Quorums.{collect_quorum}
 use Rattle.gq_phase.specs.declared.Outcome.{Outcome}
 use Rattle.gq_phase.specs.declared.operation.Operation.{Operation as Code}
@@ -22,7 +23,7 @@ use Rattle.gq_phase.specs.declared.BeginRefused.TheVariants.{NoQuorum as NoneUp}
 use Rattle.gq_phase.specs.Phase.{Task, Writing, Reading, Listing, Operation, begun, round_messages, round_quorum}
 use Rattle.gq_phase.specs.Standing.{StandsFor, Begins}
 use Rattle.gq_model.specs.declared.events.Refusal.{Refusal}
-use Rattle.gq_model.specs.declared.events.Refusal.TheVariants.{Busy, NoVolume, NoFile, TooLong, NoQuorum}
+use Rattle.gq_model.specs.declared.events.Refusal.TheVariants.{NoSession, Busy, NoVolume, NoFile, TooLong, NoQuorum}
 use Rattle.gq_model.specs.declared.events.Line.{Line}
 use Rattle.gq_model.specs.declared.events.Line.TheVariants.{Bad, Quorum, NewVolume, Volumes, Write, Read, List as ListFiles, Deliver, Lose, Retry, Abandon}
 use Rattle.gq_model.specs.Told.{Abandoned, Refused}
@@ -34,7 +35,7 @@ use Rattle.gq_node.specs.declared.output.Answer.TheVariants.{Gone, Bad as IsBad}
 use Rattle.gq_node.specs.declared.output.Admission.TheVariants.{Tells, Passes, Goes}
 use Rattle.gq_node.specs.declared.output.Fact.TheVariants.{Began as FactBegan}
 use Rattle.gq_node.specs.declared.output.Output.{Output}
-use Rattle.gq_node.specs.Sites.{Site, site_of}
+use Rattle.gq_node.specs.Sites.{Site, numbered, site_of, has_session}
 use Rattle.gq_node.specs.Local.{Local, Doing, state_for, silently, tells, goes_on, session_fact, asks, asks_in, asked_by, again, own_admission, admission, admission_in, refused_with, aim_at, begins as begins_line, asker}
 use Rattle.gq_node.proofs.Aiming.{all_aims_have_quorums}
 use Rattle.gq_node.specs.Asking.{volume_causes, file_causes, write_causes, admission_at, MayGo, HasBegunWith, Starts}
@@ -42,9 +43,9 @@ use Rattle.gq_cluster.specs.Facts.{Reserved, reserved_by, greatest_op}
 use Rattle.gq_node.specs.Heard.{new_run}
 use Rattle.gq_node.specs.Seats.{busy_seat, rested_seat, last_in, seat_aim, GivesNothing}
 use Rattle.gq_node.specs.Shape.{IsShaped}
-use Rattle.gq_node.specs.Tables.{Tables, Agrees, Acts, Gives, Sits, seat_at, with_seat}
+use Rattle.gq_node.specs.Tables.{Tables, Agrees, Acts, Gives, IsOfPlan, Sits, seat_at, with_seat}
 use Rattle.gq_node.proofs.Reserving.{begun_reserves, begun_keeps, begun_gives_fact}
-use Rattle.gq_node.proofs.Seating.{Settles, aim_is, in_range, seat_of, seat_leads, same_leads, place_there, tenant_there, last_agrees}
+use Rattle.gq_node.proofs.Seating.{Settles, aim_is, placed, is_number, seat_of, seat_leads, seat_there, same_leads, last_agrees}
 
 -- ---- a session of the tables
 
@@ -87,13 +88,13 @@ not_false false e = sym e
 
 -- ---- what the number of a request decides
 
-admission_is : (w : Tables) (t k op : ℕ) (b : Bool) (local : Local) → Agrees w t local → admission_at w t k op b ≡ admission_in (site_of w.plan w.server t) local k op b
-admission_is w t k op b local agrees = elim (cases_Bool (is_in 1 (row_at w.plan t).sessions k)) [
+admission_is : (w : Tables) (t k op : ℕ) (b : Bool) (local : Local) → Agrees w t local → admission_at w t k op b ≡ admission_in (site_of w.plan w.here t) local k op b
+admission_is w t k op b local agrees = elim (cases_Bool (has_session (site_of w.plan w.here t) k)) [
   | inr outside ↦ (rw outside refl)
   | inl inside ↦ (
-      let site : Site = site_of w.plan w.server t in
-      let range = in_range (row_at w.plan t).sessions k inside in
-      let seat = seat_of w t k local agrees range.0 range.1 in
+      let site : Site = site_of w.plan w.here t in
+      let at = placed w t k inside in
+      let seat = seat_of w t k local agrees at in
       let old : Seat = seat_at w t k in
       let session : Session = (local.residents k).session in
       ap (λ n. admission site k op b n (is_some old.operation) old.outcome) seat.op
@@ -112,18 +113,18 @@ admission_goes : (site : Site) (local : Local) (op : ℕ) (line : Line) (k : ℕ
 admission_goes site local op line k is = rw is refl
 
 -- where the number lets the request go, there is the session
-goes_inside : (w : Tables) (t k op : ℕ) (b : Bool) → admission_at w t k op b ≡ Goes → is_in 1 (row_at w.plan t).sessions k ≡ true
-goes_inside w t k op b goes = elim (cases_Bool (is_in 1 (row_at w.plan t).sessions k)) [
+pub goes_inside : (w : Tables) (t k op : ℕ) (b : Bool) → admission_at w t k op b ≡ Goes → has_session (site_of w.plan w.here t) k ≡ true
+goes_inside w t k op b goes = elim (cases_Bool (has_session (site_of w.plan w.here t) k)) [
   | inl inside ↦ inside
   | inr outside ↦ (let e = rw outside at goes in absurd (cc))
 ]
 
-pub goes_range : (w : Tables) (t k op : ℕ) (b : Bool) → admission_at w t k op b ≡ Goes → (1 ≤ k) × (k ≤ (row_at w.plan t).sessions)
-goes_range w t k op b goes = in_range (row_at w.plan t).sessions k (goes_inside w t k op b goes)
+pub goes_placed : (w : Tables) (t k op : ℕ) (b : Bool) → admission_at w t k op b ≡ Goes → IsOfPlan w t k
+goes_placed w t k op b goes = placed w t k (goes_inside w t k op b goes)
 
 -- and its home is here
-pub goes_home : (site : Site) (k op last : ℕ) (b going : Bool) (outcome : Option Outcome) → admission site k op b last going outcome ≡ Goes → (is_in 1 site.row.sessions k ≡ true) × ((site.home k == site.here) ≡ true) × (own_admission k op b last going outcome ≡ Goes)
-goes_home site k op last b going outcome goes = elim (cases_Bool (is_in 1 site.row.sessions k)) [
+pub goes_home : (site : Site) (k op last : ℕ) (b going : Bool) (outcome : Option Outcome) → admission site k op b last going outcome ≡ Goes → (has_session site k ≡ true) × ((site.home k == site.here) ≡ true) × (own_admission k op b last going outcome ≡ Goes)
+goes_home site k op last b going outcome goes = elim (cases_Bool (has_session site k)) [
   | inr outside ↦ (let e = rw outside at goes in absurd (cc))
   | inl inside ↦ (elim (cases_Bool (site.home k == site.here)) [
     | inr away ↦ (let e = rw (inside, away) at goes in absurd (cc))
@@ -151,7 +152,7 @@ next_number k op last going outcome goes = elim (cases_Bool (nat_lt op last || o
 pub goes_number : (w : Tables) (t k op : ℕ) → admission_at w t k op true ≡ Goes → op ≡ (seat_at w t k).op + 1
 goes_number w t k op goes =
     let old : Seat = seat_at w t k in
-    next_number k op old.op (is_some old.operation) old.outcome (goes_home (site_of w.plan w.server t) k op old.op true (is_some old.operation) old.outcome goes).2
+    next_number k op old.op (is_some old.operation) old.outcome (goes_home (site_of w.plan w.here t) k op old.op true (is_some old.operation) old.outcome goes).2
 
 -- so the last number is not the greatest
 pub below : (op last : ℕ) → op ≡ last + 1 → op < 4294967296 → last < 4294967295
@@ -171,7 +172,7 @@ gives_up k op last false outcome goes = elim (cases_Bool (nat_lt op last || op =
 going_there : (w : Tables) (t k op : ℕ) → admission_at w t k op false ≡ Goes → is_some (seat_at w t k).operation ≡ true
 going_there w t k op goes =
     let old : Seat = seat_at w t k in
-    gives_up k op old.op (is_some old.operation) old.outcome (goes_home (site_of w.plan w.server t) k op old.op false (is_some old.operation) old.outcome goes).2
+    gives_up k op old.op (is_some old.operation) old.outcome (goes_home (site_of w.plan w.here t) k op old.op false (is_some old.operation) old.outcome goes).2
 
 -- the line is a request of session k
 pub record IsOf (k : ℕ) (line : Line) : Type 0 where
@@ -184,37 +185,38 @@ of_line k line is = record { asks = λ op site local. rw is refl }
 pub record IsTold (answer : Answer) (out : Output) : Type 0 where
   pub answer_is : out.answer ≡ Some answer
   pub letters : out.letters.items ≡ []
+  pub parcel : out.parcel ≡ None
   pub fact : out.fact ≡ None
 
-told_acts : (w : Tables) (t : ℕ) (step : Site → Local → Doing) (answer : Answer) (out : Output) → ((local : Local) → Agrees w t local → step (site_of w.plan w.server t) local ≡ tells local answer) → IsTold answer out → Acts w t step out w
+told_acts : (w : Tables) (t : ℕ) (step : Site → Local → Doing) (answer : Answer) (out : Output) → ((local : Local) → Agrees w t local → step (site_of w.plan w.here t) local ≡ tells local answer) → IsTold answer out → Acts w t step out w
 told_acts w t step answer out does told = record {
   leads = same_leads w t step (λ local agrees. ap (λ (d : Doing). d.local) (does local agrees));
-  gives = λ local agrees. subst (λ (d : Doing). Gives t d out) (sym (does local agrees)) (record { answer = told.answer_is; letters = told.letters; fact = told.fact });
+  gives = λ local agrees. subst (λ (d : Doing). Gives t d out) (sym (does local agrees)) (record { answer = told.answer_is; letters = told.letters; parcel = told.parcel; fact = told.fact });
 }
 
 pub told_by_number : (w : Tables) (t k op : ℕ) (line : Line) (answer : Answer) (out : Output) → IsOf k line → admission_at w t k op (begins_line line) ≡ Tells answer → IsTold answer out → Acts w t (asks op line) out w
 told_by_number w t k op line answer out of is told =
-    told_acts w t (asks op line) answer out (λ local agrees. of.asks op (site_of w.plan w.server t) local ∙ admission_tells (site_of w.plan w.server t) local op line k answer (sym (admission_is w t k op (begins_line line) local agrees) ∙ is)) told
+    told_acts w t (asks op line) answer out (λ local agrees. of.asks op (site_of w.plan w.here t) local ∙ admission_tells (site_of w.plan w.here t) local op line k answer (sym (admission_is w t k op (begins_line line) local agrees) ∙ is)) told
 
 pub passed_by_number : (w : Tables) (t k op : ℕ) (line : Line) (out : Output) → IsOf k line → admission_at w t k op (begins_line line) ≡ Passes → GivesNothing out → Acts w t (asks op line) out w
 passed_by_number w t k op line out of is none =
-    let does : (local : Local) → Agrees w t local → asks op line (site_of w.plan w.server t) local ≡ silently local =
-    λ local agrees. of.asks op (site_of w.plan w.server t) local ∙ admission_passes (site_of w.plan w.server t) local op line k (sym (admission_is w t k op (begins_line line) local agrees) ∙ is) in
+    let does : (local : Local) → Agrees w t local → asks op line (site_of w.plan w.here t) local ≡ silently local =
+    λ local agrees. of.asks op (site_of w.plan w.here t) local ∙ admission_passes (site_of w.plan w.here t) local op line k (sym (admission_is w t k op (begins_line line) local agrees) ∙ is) in
     record {
       leads = same_leads w t (asks op line) (λ local agrees. ap (λ (d : Doing). d.local) (does local agrees));
-      gives = λ local agrees. subst (λ (d : Doing). Gives t d out) (sym (does local agrees)) (record { answer = none.answer; letters = none.letters; fact = none.fact });
+      gives = λ local agrees. subst (λ (d : Doing). Gives t d out) (sym (does local agrees)) (record { answer = none.answer; letters = none.letters; parcel = none.parcel; fact = none.fact });
     }
 
 -- the model refuses it
 pub refused_acts : (w : Tables) (t k op : ℕ) (line : Line) (word : Refusal) (out : Output) → IsOf k line → admission_at w t k op (begins_line line) ≡ Goes →
-    ((local : Local) → Agrees w t local → asked_step w.plan.grid (row_at w.plan t) (state_for (site_of w.plan w.server t) local k) line ≡ quiet (Refused word)) → IsTold (refused_with k op (seat_at w t k).op word) out → Acts w t (asks op line) out w
+    ((local : Local) → Agrees w t local → asked_step w.plan.grid (numbered (row_at w.plan t)) (state_for (site_of w.plan w.here t) local k) line ≡ quiet (Refused word)) → IsTold (refused_with k op (seat_at w t k).op word) out → Acts w t (asks op line) out w
 refused_acts w t k op line word out of goes refuses told =
-    let site : Site = site_of w.plan w.server t in
-    let range = goes_range w t k op (begins_line line) goes in
+    let site : Site = site_of w.plan w.here t in
+    let at = goes_placed w t k op (begins_line line) goes in
     told_acts w t (asks op line) (refused_with k op (seat_at w t k).op word) out (λ local agrees.
     of.asks op site local ∙ admission_goes site local op line k (sym (admission_is w t k op (begins_line line) local agrees) ∙ goes)
     ∙ ap (asked_by local k op (state_for site local k) line) (refuses local agrees)
-    ∙ ap (λ last. tells local (refused_with k op last word)) (sym (seat_of w t k local agrees range.0 range.1).op)) told
+    ∙ ap (λ last. tells local (refused_with k op last word)) (sym (seat_of w t k local agrees at).op)) told
 
 -- ---- the causes in the tables are those of the model
 
@@ -231,45 +233,45 @@ chain (cause ∷ causes) last = by cause.0 (chain causes last)
     by true rest = refl
     by false rest = rest
 
+abbrev not_there : Tables → ℕ → ℕ → Cause
+not_there w t k = (not (has_session (site_of w.plan w.here t) k), NoSession)
+
 abbrev busy_at : Tables → ℕ → ℕ → Cause
 busy_at w t k = (is_some (seat_at w t k).operation, Busy)
 
 -- the answers for session k
 abbrev state_at : Tables → ℕ → ℕ → Local → State
-state_at w t k local = state_for (site_of w.plan w.server t) local k
+state_at w t k local = state_for (site_of w.plan w.here t) local k
 
-account_is : (w : Tables) (t k : ℕ) (local : Local) → Agrees w t local → account_at w.desk t ≡ account_of (row_at w.plan t) (state_at w t k local)
+account_is : (w : Tables) (t k : ℕ) (local : Local) → Agrees w t local → account_at w.desk t ≡ account_of (numbered (row_at w.plan t)) (state_at w t k local)
 account_is w t k local agrees = agrees.account
 
 -- the rest is asked of the tenant's account, which is that of the model
-causes_are : (w : Tables) (t k : ℕ) (rest : Account → List Cause) (local : Local) → Agrees w t local →
-    first_cause (no_session (row_at w.plan t) k ∷ busy (state_at w t k local) k ∷ rest (account_of (row_at w.plan t) (state_at w t k local)) ++ no_quorum w.plan.grid (state_at w t k local) 1 ∷ [])
-    ≡ else_cause (first_cause (no_session (row_at w.plan t) k ∷ busy_at w t k ∷ rest (account_at w.desk t))) (no_quorum w.plan.grid (state_at w t k local) 1)
-causes_are w t k rest local agrees = elim (cases_Bool (is_in 1 (row_at w.plan t).sessions k)) [
-  | inr outside ↦ (rw outside refl)
-  | inl inside ↦ (
-      let row : TenantRow = row_at w.plan t in
-      let state : State = state_at w t k local in
-      let range = in_range row.sessions k inside in
-      let seat = seat_of w t k local agrees range.0 range.1 in
-      let old : Seat = seat_at w t k in
-      let same : is_some (state.session k).current ≡ is_some old.operation =
-      is_busy w.plan.grid t old.floor (state.session k).floor old.operation k (state.session k) (state.session k).current seat.sits in
-      let last : Cause = no_quorum w.plan.grid state 1 in
-      let C : Bool → Account → Option Refusal = λ b a. first_cause (no_session row k ∷ (b, Busy) ∷ rest a ++ last ∷ []) in
-      ap (λ b. C b (account_of row state)) same
-      ∙ ap (C (is_some old.operation)) (sym (account_is w t k local agrees))
-      ∙ chain (no_session row k ∷ busy_at w t k ∷ rest (account_at w.desk t)) last)
-]
+causes_are : (w : Tables) (t k : ℕ) (rest : Account → List Cause) (local : Local) → has_session (site_of w.plan w.here t) k ≡ true → Agrees w t local →
+    first_cause (no_session (numbered (row_at w.plan t)) k ∷ busy (state_at w t k local) k ∷ rest (account_of (numbered (row_at w.plan t)) (state_at w t k local)) ++ no_quorum w.plan.grid (state_at w t k local) 1 ∷ [])
+    ≡ else_cause (first_cause (not_there w t k ∷ busy_at w t k ∷ rest (account_at w.desk t))) (no_quorum w.plan.grid (state_at w t k local) 1)
+causes_are w t k rest local inside agrees =
+    let row : TenantRow = numbered (row_at w.plan t) in
+    let state : State = state_at w t k local in
+    let seat = seat_of w t k local agrees (placed w t k inside) in
+    let old : Seat = seat_at w t k in
+    let same : is_some (state.session k).current ≡ is_some old.operation =
+    is_busy w.plan.grid t old.floor (state.session k).floor old.operation k (state.session k) (state.session k).current seat.sits in
+    let last : Cause = no_quorum w.plan.grid state 1 in
+    let there : not (is_in 1 row.sessions k) ≡ not (has_session (site_of w.plan w.here t) k) = ap not (is_number (site_of w.plan w.here t) k inside ∙ sym inside) in
+    let C : Bool → Bool → Account → Option Refusal = λ n b a. first_cause ((n, NoSession) ∷ (b, Busy) ∷ rest a ++ last ∷ []) in
+    ap (λ n. C n (is_some (state.session k).current) (account_of row state)) there
+    ∙ ap (λ b. C (not (has_session (site_of w.plan w.here t) k)) b (account_of row state)) same
+    ∙ ap (C (not (has_session (site_of w.plan w.here t) k)) (is_some old.operation)) (sym (account_is w t k local agrees))
+    ∙ chain (not_there w t k ∷ busy_at w t k ∷ rest (account_at w.desk t)) last
 
 -- where no cause holds there is such a session, which has no operation
-there_at_rest : (w : Tables) (t k : ℕ) (rest : List Cause) → first_cause (no_session (row_at w.plan t) k ∷ busy_at w t k ∷ rest) ≡ None →
-    (1 ≤ k) × (k ≤ (row_at w.plan t).sessions) × ((seat_at w t k).operation ≡ None)
+there_at_rest : (w : Tables) (t k : ℕ) (rest : List Cause) → first_cause (not_there w t k ∷ busy_at w t k ∷ rest) ≡ None →
+    IsOfPlan w t k × ((seat_at w t k).operation ≡ None)
 there_at_rest w t k rest is =
-    let a = first_none (no_session (row_at w.plan t) k) (busy_at w t k ∷ rest) is in
+    let a = first_none (not_there w t k) (busy_at w t k ∷ rest) is in
     let b = first_none (busy_at w t k) rest a.1 in
-    let range = in_range (row_at w.plan t).sessions k (not_false (is_in 1 (row_at w.plan t).sessions k) a.0) in
-    (range.0, range.1, none_is (seat_at w t k).operation b.0)
+    (placed w t k (not_false (has_session (site_of w.plan w.here t) k) a.0), none_is (seat_at w t k).operation b.0)
 
 -- ---- the session after it
 
@@ -296,9 +298,9 @@ session_begins volumes k line task s asks =
 pub record IsRequest (w : Tables) (t k : ℕ) (task : Task) (line : Line) (causes : List Cause) : Type 0 where
   pub is_of : IsOf k line
   pub begins : begins_line line ≡ true
-  pub session : first_cause causes ≡ None → (1 ≤ k) × (k ≤ (row_at w.plan t).sessions) × ((seat_at w t k).operation ≡ None)
-  pub same : (local : Local) → Agrees w t local → first_cause (session_causes w.plan.grid (row_at w.plan t) (state_at w t k local) line) ≡ else_cause (first_cause causes) (no_quorum w.plan.grid (state_at w t k local) 1)
-  pub asks : (local : Local) → Agrees w t local → asked_step w.plan.grid (row_at w.plan t) (state_at w t k local) line ≡ unless (first_cause (session_causes w.plan.grid (row_at w.plan t) (state_at w t k local) line)) (begin_step w.plan.grid (state_at w t k local) k (Some task))
+  pub session : first_cause causes ≡ None → IsOfPlan w t k × ((seat_at w t k).operation ≡ None)
+  pub same : (local : Local) → has_session (site_of w.plan w.here t) k ≡ true → Agrees w t local → first_cause (session_causes w.plan.grid (numbered (row_at w.plan t)) (state_at w t k local) line) ≡ else_cause (first_cause causes) (no_quorum w.plan.grid (state_at w t k local) 1)
+  pub asks : (local : Local) → Agrees w t local → asked_step w.plan.grid (numbered (row_at w.plan t)) (state_at w t k local) line ≡ unless (first_cause (session_causes w.plan.grid (numbered (row_at w.plan t)) (state_at w t k local) line)) (begin_step w.plan.grid (state_at w t k local) k (Some task))
   pub does : (local : Local) → Agrees w t local → (s : Step) → (changed (entry_of (state_at w t k local) (Own line) s) (state_at w t k local)).session k ≡ begun_session (local.residents k).session task
 
 abbrev volume_rest : ℕ → Account → List Cause
@@ -336,7 +338,7 @@ is_list w t k v = record {
   begins = refl;
   session = there_at_rest w t k (volume_rest v (account_at w.desk t));
   same = causes_are w t k (volume_rest v);
-  asks = λ local agrees. ap (λ n. unless (first_cause (session_causes w.plan.grid (row_at w.plan t) (state_at w t k local) (ListFiles k v))) (begin_step w.plan.grid (state_at w t k local) k (Some (Listing v n)))) (files_are w t v local agrees);
+  asks = λ local agrees. ap (λ n. unless (first_cause (session_causes w.plan.grid (numbered (row_at w.plan t)) (state_at w t k local) (ListFiles k v))) (begin_step w.plan.grid (state_at w t k local) k (Some (Listing v n)))) (files_are w t v local agrees);
   does = λ local agrees s. session_begins local.volumes k (ListFiles k v) (list_task w t v) (local.residents k).session (ap (λ n. Some (Listing v n)) (files_are w t v local agrees));
 }
   where
@@ -345,20 +347,20 @@ is_list w t k v = record {
 
 -- ---- it is refused
 
-early : (w : Tables) (t k : ℕ) (task : Task) (line : Line) (causes : List Cause) (word : Refusal) → IsRequest w t k task line causes → first_cause causes ≡ Some word → (local : Local) → Agrees w t local →
-    asked_step w.plan.grid (row_at w.plan t) (state_at w t k local) line ≡ quiet (Refused word)
-early w t k task line causes word r is local agrees =
+early : (w : Tables) (t k : ℕ) (task : Task) (line : Line) (causes : List Cause) (word : Refusal) → IsRequest w t k task line causes → has_session (site_of w.plan w.here t) k ≡ true → first_cause causes ≡ Some word → (local : Local) → Agrees w t local →
+    asked_step w.plan.grid (numbered (row_at w.plan t)) (state_at w t k local) line ≡ quiet (Refused word)
+early w t k task line causes word r inside is local agrees =
     r.asks local agrees
-    ∙ ap (λ o. unless o (begin_step w.plan.grid (state_at w t k local) k (Some task))) (r.same local agrees ∙ ap (λ o. else_cause o (no_quorum w.plan.grid (state_at w t k local) 1)) is)
+    ∙ ap (λ o. unless o (begin_step w.plan.grid (state_at w t k local) k (Some task))) (r.same local inside agrees ∙ ap (λ o. else_cause o (no_quorum w.plan.grid (state_at w t k local) 1)) is)
 
 pub early_acts : (w : Tables) (t k op : ℕ) (task : Task) (line : Line) (causes : List Cause) (word : Refusal) (out : Output) → IsRequest w t k task line causes → admission_at w t k op true ≡ Goes → first_cause causes ≡ Some word →
     IsTold (refused_with k op (seat_at w t k).op word) out → Acts w t (asks op line) out w
 early_acts w t k op task line causes word out r goes is told =
-    refused_acts w t k op line word out r.is_of (ap (admission_at w t k op) r.begins ∙ goes) (early w t k task line causes word r is) told
+    refused_acts w t k op line word out r.is_of (ap (admission_at w t k op) r.begins ∙ goes) (early w t k task line causes word r (goes_inside w t k op true goes) is) told
 
 -- whom the session asks
-its_aim : (w : Tables) (t k : ℕ) (local : Local) → Agrees w t local → 1 ≤ k → k ≤ (row_at w.plan t).sessions → seat_aim w.plan.grid (seat_at w t k) ≡ aim_at w.plan.grid (local.residents k)
-its_aim w t k local agrees low high = aim_is w.plan.grid t k (seat_at w t k) (local.residents k) (seat_of w t k local agrees low high)
+its_aim : (w : Tables) (t k : ℕ) (local : Local) → Agrees w t local → IsOfPlan w t k → seat_aim w.plan.grid (seat_at w t k) ≡ aim_at w.plan.grid (local.residents k)
+its_aim w t k local agrees at = aim_is w.plan.grid t k (seat_at w t k) (local.residents k) (seat_of w t k local agrees at)
 
 some_rows : (rows cols n : ℕ) → n < rows * cols → 0 < rows
 some_rows zero cols n less = absurd (omega (arith, zero-mul cols))
@@ -372,7 +374,7 @@ some_cols rows (suc cols) n less = omega arith
 quorum_there : (w : Tables) (t k : ℕ) → IsShaped w → collect_quorum w.plan.grid (seat_aim w.plan.grid (seat_at w t k)) ≢ None
 quorum_there w t k shaped =
     let grid : Grid = w.plan.grid in
-    (all_aims_have_quorums grid (seat_at w t k).row (seat_at w t k).column (some_rows grid.rows grid.cols w.server shaped.server) (some_cols grid.rows grid.cols w.server shaped.server)).0
+    (all_aims_have_quorums grid (seat_at w t k).row (seat_at w t k).column (some_rows grid.rows grid.cols (place_of w.here.node) shaped.place) (some_cols grid.rows grid.cols (place_of w.here.node) shaped.place)).0
 
 -- so no operation is refused for want of one
 pub never_refused : (w : Tables) (t k : ℕ) (began : Result (Code × List Message) BeginRefused) (grid : Grid) (set : ServerSet) → IsShaped w → grid ≡ w.plan.grid → servers set ≡ seat_aim w.plan.grid (seat_at w t k) →
@@ -390,21 +392,21 @@ is_there : (q : Option Servers) → q ≢ None → is_none q ≡ false
 is_there None h = absurd (h refl)
 is_there (Some set) h = refl
 
-begins_so : (w : Tables) (t k : ℕ) (task : Task) (line : Line) (causes : List Cause) (local : Local) → IsRequest w t k task line causes → Agrees w t local → first_cause causes ≡ None → collect_quorum w.plan.grid (seat_aim w.plan.grid (seat_at w t k)) ≢ None →
-    asked_step w.plan.grid (row_at w.plan t) (state_at w t k local) line ≡ begin_step w.plan.grid (state_at w t k local) k (Some task)
-begins_so w t k task line causes local r agrees asked there =
+begins_so : (w : Tables) (t k : ℕ) (task : Task) (line : Line) (causes : List Cause) (local : Local) → IsRequest w t k task line causes → has_session (site_of w.plan w.here t) k ≡ true → Agrees w t local → first_cause causes ≡ None → collect_quorum w.plan.grid (seat_aim w.plan.grid (seat_at w t k)) ≢ None →
+    asked_step w.plan.grid (numbered (row_at w.plan t)) (state_at w t k local) line ≡ begin_step w.plan.grid (state_at w t k local) k (Some task)
+begins_so w t k task line causes local r inside agrees asked there =
     let s = r.session asked in
-    let q : is_none (round_quorum w.plan.grid (aim_at w.plan.grid (local.residents k)) 1) ≡ false = ap (λ up. is_none (collect_quorum w.plan.grid up)) (sym (its_aim w t k local agrees s.0 s.1)) ∙ is_there (collect_quorum w.plan.grid (seat_aim w.plan.grid (seat_at w t k))) there in
-    let none : first_cause (session_causes w.plan.grid (row_at w.plan t) (state_at w t k local) line) ≡ None =
-    r.same local agrees ∙ ap (λ o. else_cause o (no_quorum w.plan.grid (state_at w t k local) 1)) asked ∙ ap (λ b. first_cause ((b, NoQuorum) ∷ [])) q in
+    let q : is_none (round_quorum w.plan.grid (aim_at w.plan.grid (local.residents k)) 1) ≡ false = ap (λ up. is_none (collect_quorum w.plan.grid up)) (sym (its_aim w t k local agrees s.0)) ∙ is_there (collect_quorum w.plan.grid (seat_aim w.plan.grid (seat_at w t k))) there in
+    let none : first_cause (session_causes w.plan.grid (numbered (row_at w.plan t)) (state_at w t k local) line) ≡ None =
+    r.same local inside agrees ∙ ap (λ o. else_cause o (no_quorum w.plan.grid (state_at w t k local) 1)) asked ∙ ap (λ b. first_cause ((b, NoQuorum) ∷ [])) q in
     r.asks local agrees ∙ ap (λ o. unless o (begin_step w.plan.grid (state_at w t k local) k (Some task))) none
 
-first_is : (w : Tables) (t k : ℕ) (task : Task) (local : Local) → Agrees w t local → (1 ≤ k) × (k ≤ (row_at w.plan t).sessions) × ((seat_at w t k).operation ≡ None) → first_at w t k task ≡ first_operation (state_at w t k local) k task
+first_is : (w : Tables) (t k : ℕ) (task : Task) (local : Local) → Agrees w t local → IsOfPlan w t k × ((seat_at w t k).operation ≡ None) → first_at w t k task ≡ first_operation (state_at w t k local) k task
 first_is w t k task local agrees s =
     let old : Seat = seat_at w t k in
     let session : Session = (local.residents k).session in
-    let seat = seat_of w t k local agrees s.0 s.1 in
-    let floor = floor_is w.plan.grid t old.floor session.floor old.operation k session session.current s.2 seat.sits in
+    let seat = seat_of w t k local agrees s.0 in
+    let floor = floor_is w.plan.grid t old.floor session.floor old.operation k session session.current s.1 seat.sits in
     ap (λ op. begun k (op + 1) task old.floor) seat.op ∙ ap (begun k (session.op + 1) task) floor
 
 -- what began for the session
@@ -424,13 +426,13 @@ abbrev first_step : Tables → ℕ → ℕ → Task → Local → Step
 first_step w t k task local = begin_step w.plan.grid (state_at w t k local) k (Some task)
 
 does_is : (w : Tables) (t k op : ℕ) (task : Task) (line : Line) (causes : List Cause) (code : Code) (messages : List Message) (local : Local) → IsBegun w t k op task line causes code messages → Agrees w t local →
-    asks op line (site_of w.plan w.server t) local ≡ goes_on local k op false (state_at w t k local) (entry_of (state_at w t k local) (Own line) (first_step w t k task local))
+    asks op line (site_of w.plan w.here t) local ≡ goes_on local k op false (state_at w t k local) (entry_of (state_at w t k local) (Own line) (first_step w t k task local))
 does_is w t k op task line causes code messages local h agrees =
-    let site : Site = site_of w.plan w.server t in
+    let site : Site = site_of w.plan w.here t in
     let r : IsRequest w t k task line causes = h.request in
     let goes = ap (admission_in site local k op) r.begins ∙ sym (admission_is w t k op true local agrees) ∙ h.goes in
     r.is_of.asks op site local ∙ admission_goes site local op line k goes
-    ∙ ap (asked_by local k op (state_at w t k local) line) (begins_so w t k task line causes local r agrees h.asked h.quorum)
+    ∙ ap (asked_by local k op (state_at w t k local) line) (begins_so w t k task line causes local r (goes_inside w t k op true h.goes) agrees h.asked h.quorum)
 
 begun_settles : (w : Tables) (t k op : ℕ) (task : Task) (line : Line) (causes : List Cause) (code : Code) (messages : List Message) (local : Local) → IsBegun w t k op task line causes code messages → Agrees w t local →
     Settles w t k (busy_seat (seat_at w t k) code) (asks op line) local
@@ -439,7 +441,7 @@ begun_settles w t k op task line causes code messages local h agrees =
     let state : State = state_at w t k local in
     let r : IsRequest w t k task line causes = h.request in
     let s = r.session h.asked in
-    let seat = seat_of w t k local agrees s.0 s.1 in
+    let seat = seat_of w t k local agrees s.0 in
     let step : Step = first_step w t k task local in
     let P : Session → Type 0 = λ x. (old.op + 1 ≡ x.op) × Sits w.plan.grid t old.floor (Some code) x.floor (option_map (operation_with k x) x.current) in
     let session : Session = (local.residents k).session in
@@ -473,12 +475,12 @@ begun_settles w t k op task line causes code messages local h agrees =
     }
 
 begun_gives : (w : Tables) (t k op : ℕ) (task : Task) (line : Line) (causes : List Cause) (code : Code) (messages : List Message) (out : Output) (new : Tables) (local : Local) → IsBegun w t k op task line causes code messages → HasBegunWith w t k code messages out new → Agrees w t local →
-    Gives t (asks op line (site_of w.plan w.server t) local) out
+    Gives t (asks op line (site_of w.plan w.here t) local) out
 begun_gives w t k op task line causes code messages out new local h gives agrees =
     let old : Seat = seat_at w t k in
     let r : IsRequest w t k task line causes = h.request in
     let s = r.session h.asked in
-    let seat = seat_of w t k local agrees s.0 s.1 in
+    let seat = seat_of w t k local agrees s.0 in
     let first = first_is w t k task local agrees s in
     let session : Session = (local.residents k).session in
     let state : State = state_at w t k local in
@@ -486,10 +488,11 @@ begun_gives w t k op task line causes code messages out new local h gives agrees
     let sends : messages ≡ map (message_of t) (first_messages w t k task local) =
     h.begins.1
     ∙ ap (λ o. map (message_of t) (round_messages w.plan.grid (seat_aim w.plan.grid old) o)) first
-    ∙ ap (λ up. map (message_of t) (round_messages w.plan.grid up (first_operation (state_at w t k local) k task))) (its_aim w t k local agrees s.0 s.1) in
+    ∙ ap (λ up. map (message_of t) (round_messages w.plan.grid up (first_operation (state_at w t k local) k task))) (its_aim w t k local agrees s.0) in
     subst (λ (d : Doing). Gives t d out) (sym (does_is w t k op task line causes code messages local h agrees)) (record {
       answer = gives.answer;
       letters = gives.letters ∙ sends;
+      parcel = gives.parcel;
       fact = gives.fact
           ∙ ap (λ n. option_map (FactBegan t k) (new_run greatest_op (n + 1) old.reserved_op)) seat.op
           ∙ ap (λ n. option_map (FactBegan t k) (new_run greatest_op (session.op + 1) n)) seat.reserved_op
@@ -505,7 +508,7 @@ start_acts w t k op task line causes (Ok (code, messages)) out new shaped within
     let s = r.session asked in
     let h : IsBegun w t k op task line causes code messages = record { request = r; goes = goes; asked = asked; quorum = quorum_there w t k shaped; begins = begins } in
     subst (Acts w t (asks op line) out) (sym starts.busy) (record {
-      leads = seat_leads w t k (busy_seat (seat_at w t k) code) (asks op line) (tenant_there w t shaped within) (place_there w t k shaped within s.0 s.1) s.0
+      leads = seat_leads w t k (busy_seat (seat_at w t k) code) (asks op line) (seat_there w t k shaped within s.0)
           (λ local agrees. begun_settles w t k op task line causes code messages local h agrees);
       gives = λ local agrees. begun_gives w t k op task line causes code messages out new local h starts agrees;
     })
@@ -526,28 +529,28 @@ requested w t k op task line causes began grid who floor set out new shaped with
 
 -- the model does not refuse it
 none_idle : (w : Tables) (t k op : ℕ) (local : Local) → Agrees w t local → admission_at w t k op false ≡ Goes →
-    first_cause (session_causes w.plan.grid (row_at w.plan t) (state_at w t k local) (Abandon k)) ≡ None
+    first_cause (session_causes w.plan.grid (numbered (row_at w.plan t)) (state_at w t k local) (Abandon k)) ≡ None
 none_idle w t k op local agrees goes =
-    let range = goes_range w t k op false goes in
-    let seat = seat_of w t k local agrees range.0 range.1 in
+    let at = goes_placed w t k op false goes in
+    let seat = seat_of w t k local agrees at in
     let session : Session = (local.residents k).session in
     let busy : is_some session.current ≡ true = is_busy w.plan.grid t (seat_at w t k).floor session.floor (seat_at w t k).operation k session session.current seat.sits ∙ going_there w t k op goes in
-    rw (goes_inside w t k op false goes, some_not_none session.current busy) refl
+    rw (is_number (site_of w.plan w.here t) k (goes_inside w t k op false goes), some_not_none session.current busy) refl
 
 pub abandon_acts : (w : Tables) (t k op : ℕ) (out : Output) → IsShaped w → t < length w.plan.rows → admission_at w t k op false ≡ Goes →
     IsTold (Gone k op) out → Acts w t (asks op (Abandon k)) out (with_seat w t k (rested_seat (seat_at w t k)))
 abandon_acts w t k op out shaped within goes told =
-    let site : Site = site_of w.plan w.server t in
-    let range = goes_range w t k op false goes in
+    let site : Site = site_of w.plan w.here t in
+    let at = goes_placed w t k op false goes in
     let old : Seat = seat_at w t k in
     let does : (local : Local) → Agrees w t local → asks op (Abandon k) site local ≡ goes_on local k op false (state_at w t k local) (entry_of (state_at w t k local) (Own (Abandon k)) (quiet Abandoned)) =
     λ local agrees. admission_goes site local op (Abandon k) k (sym (admission_is w t k op false local agrees) ∙ goes)
     ∙ ap (λ o. asked_by local k op (state_at w t k local) (Abandon k) (unless o (quiet Abandoned))) (none_idle w t k op local agrees goes) in
     record {
-      leads = seat_leads w t k (rested_seat old) (asks op (Abandon k)) (tenant_there w t shaped within) (place_there w t k shaped within range.0 range.1) range.0 (λ local agrees.
+      leads = seat_leads w t k (rested_seat old) (asks op (Abandon k)) (seat_there w t k shaped within at) (λ local agrees.
           let state : State = state_at w t k local in
           let session : Session = (local.residents k).session in
-          let seat = seat_of w t k local agrees range.0 range.1 in
+          let seat = seat_of w t k local agrees at in
           let ended : (changed (entry_of state (Own (Abandon k)) (quiet Abandoned)) state).session k ≡ record { op = session.op; current = None; round = session.round; heard = session.heard; collected = session.collected; floor = session.floor } = rw (eq-eqb k k refl) refl in
           let P : Session → Type 0 = λ x. (old.op ≡ x.op) × Sits w.plan.grid t (last_in old) None x.floor (option_map (operation_with k x) x.current) in
           let now : P ((changed (entry_of state (Own (Abandon k)) (quiet Abandoned)) state).session k) = subst P (sym ended) (seat.op, last_agrees w.plan.grid t k old (local.residents k) seat) in
@@ -556,7 +559,7 @@ abandon_acts w t k op out shaped within goes told =
             agrees = record { op = now.0; reserved_op = seat.reserved_op; reserved_floor = seat.reserved_floor; sits = now.1; outcome = refl; row = seat.row; column = seat.column; waited = seat.waited };
             left = ap (λ (d : Doing). d.local) (does local agrees);
           });
-      gives = λ local agrees. subst (λ (d : Doing). Gives t d out) (sym (does local agrees)) (record { answer = told.answer_is; letters = told.letters; fact = told.fact });
+      gives = λ local agrees. subst (λ (d : Doing). Gives t d out) (sym (does local agrees)) (record { answer = told.answer_is; letters = told.letters; parcel = told.parcel; fact = told.fact });
     }
 
 -- ---- a line that is no request

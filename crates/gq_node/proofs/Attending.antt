@@ -1,5 +1,5 @@
 -- A letter comes to a session.
-use Rattle.std.proofs.Common.{◌≡◌, ◌∙◌, ℕ, ◌-◌, ◌<◌, ◌≤◌, Bool, true, false, List, [], length, map, refl, sym, ap, subst, Option, Some, None, inl, inr}
+use Rattle.std.proofs.Common.{◌≡◌, ◌∙◌, ℕ, ◌<◌, Bool, true, false, List, [], length, map, refl, sym, ap, subst, Option, Some, None, inl, inr}
 use Rattle.std.specs.Prelude.{option_map, slice_set, ◌&&◌, unwrap_or}
 use Rattle.std.proofs.lemmas.Bool.{cases_Bool, eq-eqb}
 use Rattle.std.proofs.lemmas.List.{set-get_or}
@@ -8,7 +8,6 @@ use Rattle.gq_tag.specs.declared.StoredCopy.{StoredCopy}
 use Rattle.gq_tag.specs.declared.FileId.{FileId}
 use Rattle.gq_tag.specs.declared.Message.{Message}
 use Rattle.gq_tag.specs.Tag.{File, is_file, file_place, OwnMessage, own_message, message_of, to_server}
-use Rattle.gq_desk.specs.CheckedPlan.{row_at}
 use Rattle.gq_desk.specs.declared.volumes.VolumeRow.{VolumeRow}
 use Rattle.gq_phase.specs.declared.Outcome.{Outcome}
 use Rattle.gq_phase.specs.declared.Heard.{Heard}
@@ -20,15 +19,15 @@ use Rattle.gq_model.specs.Trace.{Own, Entry, State, Session, changed, operation,
 use Rattle.gq_model.specs.Lone.{heard_step, hear_step}
 use Rattle.gq_node.specs.declared.seats.Seat.{Seat}
 use Rattle.gq_node.specs.declared.output.Output.{Output}
-use Rattle.gq_node.specs.Sites.{Site, site_of}
+use Rattle.gq_node.specs.Sites.{Site, seat_place, site_of}
 use Rattle.gq_cluster.specs.Facts.{Reserved, reserved_by}
 use Rattle.gq_node.specs.Local.{Local, Resident, Doing, state_of, state_for, silently, goes_on, brings, hears, has_above, of_round, aim_at, outcome_after, waits_after, answer_of, session_fact}
 use Rattle.gq_node.specs.Heard.{HeardGives, heard_answer, heard_fact, heard_run, heard_outcome, heard_waits}
 use Rattle.gq_node.specs.Seats.{has_heard, is_of_round, seat_aim, SeatHears, SeatAttends, SaysAndGives, GivesNothing, said_by, operation_after, last_of, last_in}
 use Rattle.gq_node.specs.Shape.{IsShaped}
-use Rattle.gq_node.specs.Tables.{Tables, Agrees, Acts, Leads, Gives, SeatAgrees, Sits, seats_at, seat_at, with_seat, no_seat}
+use Rattle.gq_node.specs.Tables.{Tables, Agrees, Acts, Leads, Gives, SeatAgrees, IsOfPlan, Sits, seats_at, seat_at, with_seat, no_seat}
 use Rattle.gq_node.proofs.Reserving.{heard_keeps, heard_reserves, heard_gives_fact}
-use Rattle.gq_node.proofs.Seating.{Settles, aim_is, seat_of, seat_leads, same_leads, place_there, tenant_there, last_is, last_agrees}
+use Rattle.gq_node.proofs.Seating.{Settles, aim_is, seat_of, seat_leads, seat_there, same_leads, last_is, last_agrees}
 
 -- ---- what the model says
 
@@ -206,6 +205,7 @@ heard_gives grid t local up M old new heard out goes agrees h reserved gives =
     record {
       answer = gives.answer ∙ ap heard_answer is ∙ answer_as k (state.session k).op (state.session k).op t s;
       letters = gives.letters ∙ ap messages_of is ∙ sent_as t s;
+      parcel = gives.parcel;
       fact = gives.fact
           ∙ ap (λ x. heard_fact t k (heard_run old.reserved_floor (last_in new) x) x) is
           ∙ ap (λ n. heard_fact t k (heard_run n (last_in new) (heard_as t s)) (heard_as t s)) agrees.reserved_floor
@@ -235,18 +235,18 @@ hears_it site t local seat M agrees =
 -- what a part of the node that agrees does
 record Attended (w : Tables) (t : ℕ) (M : Message) (seat : Seat) (out : Output) (local : Local) : Type 0 where
   pub settles : Settles w t M.session seat (λ site local. hears site local (own_message M)) local
-  pub gives : Gives t (hears (site_of w.plan w.server t) local (own_message M)) out
+  pub gives : Gives t (hears (site_of w.plan w.here t) local (own_message M)) out
 
-attended : (w : Tables) (t : ℕ) (M : Message) (seat : Seat) (out : Output) (local : Local) → to_server M.body ≡ false → 1 ≤ M.session → M.session ≤ (row_at w.plan t).sessions →
+attended : (w : Tables) (t : ℕ) (M : Message) (seat : Seat) (out : Output) (local : Local) → to_server M.body ≡ false → IsOfPlan w t M.session →
     seat_hears_it (seat_at w t M.session) M ≡ true → SeatAttends t M.session w.plan.grid (seat_at w t M.session) seat M out → Agrees w t local → Attended w t M seat out local
-attended w t M seat out local goes low high fits attends agrees =
+attended w t M seat out local goes at fits attends agrees =
     let k : ℕ = M.session in
     let m : OwnMessage = own_message M in
-    let site : Site = site_of w.plan w.server t in
+    let site : Site = site_of w.plan w.here t in
     let grid : Grid = w.plan.grid in
     let old : Seat = seat_at w t k in
     let r : Resident = local.residents k in
-    let before : SeatAgrees grid t k old r = seat_of w t k local agrees low high in
+    let before : SeatAgrees grid t k old r = seat_of w t k local agrees at in
     let h : SaysAndGives t k (seat_aim grid old) old seat M out = attends_it t k grid old seat M out fits attends in
     let hears' : SeatHears old seat (aim_at grid r) M h.heard = subst (λ (x : Servers). SeatHears old seat x M h.heard) (aim_is grid t k old r before) h.hears in
     let is = hears_is site local m (sym (hears_it site t local old M before) ∙ fits) in
@@ -262,32 +262,31 @@ attended w t M seat out local goes low high fits attends agrees =
     }
 
 gives_nothing : (t : ℕ) (local : Local) (out : Output) → GivesNothing out → Gives t (silently local) out
-gives_nothing t local out none = record { answer = none.answer; letters = none.letters; fact = none.fact }
+gives_nothing t local out none = record { answer = none.answer; letters = none.letters; parcel = none.parcel; fact = none.fact }
 
 -- a seat put in its place again
 pub unchanged : (w : Tables) (t k : ℕ) (seat : Seat) → seat ≡ seat_at w t k → w ≡ with_seat w t k seat
 unchanged w t k seat is =
-    let seats : slice_set (seats_at w.seats t) (k - 1) seat ≡ seats_at w.seats t = ap (slice_set (seats_at w.seats t) (k - 1)) is ∙ set-get_or (seats_at w.seats t) (k - 1) no_seat in
+    let seats : slice_set (seats_at w.seats t) (seat_place k) seat ≡ seats_at w.seats t = ap (slice_set (seats_at w.seats t) (seat_place k)) is ∙ set-get_or (seats_at w.seats t) (seat_place k) no_seat in
     sym (ap (λ all. record w { seats = all }) (ap (slice_set w.seats t) seats ∙ set-get_or w.seats t []))
 
-pub attend_acts : (w : Tables) (t : ℕ) (M : Message) (seat : Seat) (out : Output) → IsShaped w → t < length w.plan.rows → to_server M.body ≡ false → 1 ≤ M.session → M.session ≤ (row_at w.plan t).sessions →
+pub attend_acts : (w : Tables) (t : ℕ) (M : Message) (seat : Seat) (out : Output) → IsShaped w → t < length w.plan.rows → to_server M.body ≡ false → IsOfPlan w t M.session →
     SeatAttends t M.session w.plan.grid (seat_at w t M.session) seat M out → Acts w t (λ site local. hears site local (own_message M)) out (with_seat w t M.session seat)
-attend_acts w t M seat out shaped within goes low high attends =
+attend_acts w t M seat out shaped within goes at attends =
     let k : ℕ = M.session in
     let old : Seat = seat_at w t k in
     let step = λ (site : Site) (local : Local). hears site local (own_message M) in
-    let tenants = tenant_there w t shaped within in
-    let places = place_there w t k shaped within low high in
+    let there = seat_there w t k shaped within at in
     elim (cases_Bool (seat_hears_it old M)) [
       | inl fits ↦ (record {
-        leads = seat_leads w t k seat step tenants places low (λ local agrees. (attended w t M seat out local goes low high fits attends agrees).settles);
-        gives = λ local agrees. (attended w t M seat out local goes low high fits attends agrees).gives;
+        leads = seat_leads w t k seat step there (λ local agrees. (attended w t M seat out local goes at fits attends agrees).settles);
+        gives = λ local agrees. (attended w t M seat out local goes at fits attends agrees).gives;
       })
       | inr none ↦ (
           let h = attends_not t k w.plan.grid old seat M out none attends in
-          let model : (local : Local) → Agrees w t local → hears (site_of w.plan w.server t) local (own_message M) ≡ silently local =
-          λ local agrees. hears_nothing (site_of w.plan w.server t) local (own_message M)
-          (sym (hears_it (site_of w.plan w.server t) t local old M (seat_of w t k local agrees low high)) ∙ none) in
+          let model : (local : Local) → Agrees w t local → hears (site_of w.plan w.here t) local (own_message M) ≡ silently local =
+          λ local agrees. hears_nothing (site_of w.plan w.here t) local (own_message M)
+          (sym (hears_it (site_of w.plan w.here t) t local old M (seat_of w t k local agrees at)) ∙ none) in
           record {
             leads = subst (λ (x : Tables). Leads w t step x) (unchanged w t k seat h.0) (same_leads w t step (λ local agrees. ap (λ (d : Doing). d.local) (model local agrees)));
             gives = λ local agrees. subst (λ (d : Doing). Gives t d out) (sym (model local agrees)) (gives_nothing t local out h.1);

@@ -10,7 +10,7 @@ use Rattle.gq_node.specs.Inputs.{does, doings}
 use Rattle.gq_node.specs.Local.{Local, Resident, Doing}
 use Rattle.gq_node.specs.Once.{begun_by, with_number, numbers_begun, AllBeginOnce}
 use Rattle.gq_node.specs.Sites.{Site}
-use Rattle.gq_node.proofs.Again.{AfterTold, Moves, Stays, Goes_on, all_move}
+use Rattle.gq_node.proofs.Moves.{AfterTold, Moves, Stays, Goes_on, all_move}
 
 -- ---- the number of a session's last operation
 

@@ -7,14 +7,13 @@ use Rattle.gq_tag.specs.declared.StoredCopy.{StoredCopy}
 use Rattle.gq_tag.specs.declared.Body.{Body}
 use Rattle.gq_tag.specs.declared.Body.TheVariants.{Ask, Copy, Store, Stored}
 use Rattle.gq_tag.specs.Tag.{File, OwnMessage, to_server}
-use Rattle.gq_desk.specs.Plans.{is_in}
 use Rattle.gq_phase.specs.Phase.{Task, Operation, Heard, HeardStale, HeardNoted, HeardNext, HeardDone, hear, is_collect, round_quorum, resent, heard_servers}
 use Rattle.gq_model.specs.declared.events.Line.{Line}
 use Rattle.gq_model.specs.declared.events.Line.TheVariants.{Write, Read, List as ListFiles, Retry, Abandon}
 use Rattle.gq_model.specs.declared.events.Refusal.{Refusal}
 use Rattle.gq_model.specs.declared.events.Refusal.TheVariants.{Idle, NoQuorum}
 use Rattle.gq_model.specs.Told.{Told, Resent, Refused}
-use Rattle.gq_model.specs.Trace.{Own, Entry, State, Session, Deed, Elsewhere, changed, deed, session_by, operation, operation_with, limit_at, stored_by}
+use Rattle.gq_model.specs.Trace.{Own, Entry, State, Session, Deed, Elsewhere, changed, deed, session_by, operation, operation_with, limit_at, stored_by, serves as model_serves}
 use Rattle.gq_model.specs.Lone.{Step, is_refusal, entry_of, asked_step, hear_step, serve_step, heard_step, retry_step, session_causes, first_cause, unless, quiet as quiet_step}
 use Rattle.gq_cluster.specs.Facts.{OwnFact, Reserved, reserving, reserved_by, with_reserved, replaced_in}
 use Rattle.gq_cluster.specs.Cluster.{Setting, Part, Act, Asks, Comes, everyone, copy_in, part_of, step_of, fact_in, fact_of, part_after, act_entry, aim_of, session_named, state_of as state_of_part}
@@ -25,8 +24,9 @@ use Rattle.gq_node.specs.declared.output.Answer.TheVariants.{Bad as IsBad}
 use Rattle.gq_node.specs.declared.output.Admission.{Admission}
 use Rattle.gq_node.specs.declared.output.Admission.TheVariants.{Tells, Passes, Goes}
 use Rattle.gq_node.specs.Local.{Local, Resident, Doing, part_in, state_of, state_for, aim_at, tries_next, answer_of, asker, begins, admission_in, asks, asked_by, goes_on, with_resident, tells, silently, session_fact, receives, serves, hears, brings, ticks, waits_on, outcome_after, waits_after, letter_fits, goes_between, has_above, of_round}
-use Rattle.gq_node.specs.Sites.{Site}
+use Rattle.gq_node.specs.Sites.{Site, has_session}
 use Rattle.gq_node.specs.Bridge.{setting_in, AtHome, request_act, request_answer, letter_act, waited_act, tick_act, Bridges, AllRequestsAct, AllQuestionsTell, AllLettersAct, AllTicksAct}
+use Rattle.gq_node.proofs.Seating.{is_number}
 use Rattle.gq_node.proofs.Asking.{goes_home}
 use Rattle.gq_node.proofs.Ticking.{busy_is}
 use Rattle.gq_node.proofs.Receiving.{Parts, parts, its_server, to_a_session}
@@ -41,16 +41,16 @@ bridged_as site local act act' answer answer' tell doing doing' a n d h =
 -- ---- the sessions
 
 -- another resident of a session whose home is here
-home_with : (site : Site) (local : Local) (k : ℕ) (r : Resident) → is_in 1 site.row.sessions k ≡ true → site.home k ≡ site.here → AtHome site local → AtHome site (with_resident local k r)
+home_with : (site : Site) (local : Local) (k : ℕ) (r : Resident) → has_session site k ≡ true → site.home k ≡ site.here → AtHome site local → AtHome site (with_resident local k r)
 home_with site local k r inside here home j some = elim (cases_Bool (k == j)) [
-  | inl same ↦ (let is : k ≡ j = eqb-true k j same in (ap (is_in 1 site.row.sessions) (sym is) ∙ inside, ap site.home (sym is) ∙ here))
+  | inl same ↦ (let is : k ≡ j = eqb-true k j same in (ap (has_session site) (sym is) ∙ inside, ap site.home (sym is) ∙ here))
   | inr other ↦ (home j (rw other at some))
 ]
 
 -- a session goes on, and all else stays
 goes_part : (local : Local) (k op n : ℕ) (heard_before : Bool) (up : Servers) (e : Entry) (fact : Option OwnFact) → fact ≡ session_fact local k (state_of up local) e →
     ((j : ℕ) → (k == j) ≡ false → (changed e (state_of up local)).session j ≡ (local.residents j).session) →
-    ((file : File) → (changed e (state_of up local)).brought n file ≡ local.brought file) → ((file : File) → (changed e (state_of up local)).lacks n file ≡ false) →
+    ((file : File) → (changed e (state_of up local)).brought n file ≡ local.brought file) → ((file : File) → (changed e (state_of up local)).lacks n file ≡ local.lacks file) →
     part_in (goes_on local k op heard_before (state_of up local) e).local ≡ part_of n (with_reserved fact (part_in local).reserved) (changed e (state_of up local))
 goes_part local k op n heard_before up e fact its others copies whole = λ i. record { brought = λ file. sym (copies file) i; lacks = λ file. sym (whole file) i; session = λ j. by j (k == j) refl i; reserved = λ j. reserved j i }
   where
@@ -97,7 +97,7 @@ record IsRequestLine (line : Line) : Type 0 where
   others : (aim : Servers) (step : Step) (j : ℕ) → (session_named line == j) ≡ false → deed j (act_entry (Asks line aim) step) ≡ Elsewhere
   quiet : (up : Servers) (local : Local) (aim : Servers) (step : Step) (n : ℕ) (file : File) → (changed (act_entry (Asks line aim) step) (state_of up local)).brought n file ≡ local.brought file
 
-asked_act : (op : ℕ) (line : Line) (site : Site) (local : Local) → IsRequestLine line → AtHome site local → is_in 1 site.row.sessions (session_named line) ≡ true → site.home (session_named line) ≡ site.here →
+asked_act : (op : ℕ) (line : Line) (site : Site) (local : Local) → IsRequestLine line → AtHome site local → has_session site (session_named line) ≡ true → site.home (session_named line) ≡ site.here →
     let k : ℕ = session_named line in
     let state : State = state_for site local k in
     Bridges site local (Some (Asks line (aim_at site.grid (local.residents k)))) None (answer_of k op (local.residents k).session.op) (asked_by local k op state line (asked_step site.grid site.row state line))
@@ -105,24 +105,26 @@ asked_act op line site local l home inside here = elim (cases_Bool (is_refusal s
   | inl is ↦ (record {
     does = record {
       here = here;
-      part = ap (λ (d : Doing). part_in d.local) (said_no is) ∙ sym (refused s site.here (part_in local) act is);
+      part = ap (λ (d : Doing). part_in d.local) (said_no is) ∙ sym (refused s site.place (part_in local) act is);
       letters = ap (λ (d : Doing). d.letters) (said_no is) ∙ sym (refused_quiet site.grid site.row state act is);
       told = ap (λ (d : Doing). d.answer) (said_no is);
     };
     volumes = ap (λ (d : Doing). d.local.volumes) (said_no is);
+    parcel = ap (λ (d : Doing). d.parcel) (said_no is);
     home = subst (λ (d : Doing). AtHome site d.local) (sym (said_no is)) home;
   })
   | inr is ↦ (record {
     does = record {
       here = here;
       part = ap (λ (d : Doing). part_in d.local) (said_so is)
-          ∙ goes_part local k op site.here false aim (act_entry act step) (fact_of s (part_in local) act) refl
-          (λ j other. ap (λ d. session_by' j d) (l.others aim step j other)) (l.quiet aim local aim step site.here) (λ file. refl)
-          ∙ sym (accepted s site.here (part_in local) act is);
+          ∙ goes_part local k op site.place false aim (act_entry act step) (fact_of s (part_in local) act) refl
+          (λ j other. ap (λ d. session_by' j d) (l.others aim step j other)) (l.quiet aim local aim step site.place) (λ file. refl)
+          ∙ sym (accepted s site.place (part_in local) act is);
       letters = ap (λ (d : Doing). d.letters) (said_so is);
       told = ap (λ (d : Doing). d.answer) (said_so is);
     };
     volumes = ap (λ (d : Doing). d.local.volumes) (said_so is);
+    parcel = ap (λ (d : Doing). d.parcel) (said_so is);
     home = subst (λ (d : Doing). AtHome site d.local) (sym (said_so is)) (home_with site local k (went local k false state (act_entry act step)) inside here home);
   })
 ]
@@ -148,7 +150,7 @@ asked_act op line site local l home inside here = elim (cases_Bool (is_refusal s
     session_by' : ℕ → Deed → Session
     session_by' j d = session_by local.volumes j d (local.residents j).session
 
-    said_no : is_refusal step.told ≡ true → asked_by local k op state line step ≡ record { local = local; answer = answer_of k op (local.residents k).session.op step.told; letters = []; fact = None }
+    said_no : is_refusal step.told ≡ true → asked_by local k op state line step ≡ record { local = local; answer = answer_of k op (local.residents k).session.op step.told; letters = []; parcel = None; fact = None }
     said_no is = rw is refl
 
     said_so : is_refusal step.told ≡ false → asked_by local k op state line step ≡ goes_on local k op false state (act_entry act step)
@@ -173,13 +175,13 @@ request_in op line site local l home = by (admission_in site local k op (begins 
         let told : request_answer op line site local ≡ Some answer = rw (its, is) refl in
         let doing : asks op line site local ≡ tells local answer = rw (its, is) refl in
         bridged_as site local (request_act op line site local) None (request_answer op line site local) (Some answer) tell (asks op line site local) (tells local answer) act told doing
-        (record { does = record { part = refl; letters = refl; told = refl }; volumes = refl; home = home })
+        (record { does = record { part = refl; letters = refl; told = refl }; volumes = refl; parcel = refl; home = home })
     by Passes is =
         let act : request_act op line site local ≡ None = rw (its, is) refl in
         let told : request_answer op line site local ≡ None = rw (its, is) refl in
         let doing : asks op line site local ≡ silently local = rw (its, is) refl in
         bridged_as site local (request_act op line site local) None (request_answer op line site local) None tell (asks op line site local) (silently local) act told doing
-        (record { does = record { part = refl; letters = refl; told = refl }; volumes = refl; home = home })
+        (record { does = record { part = refl; letters = refl; told = refl }; volumes = refl; parcel = refl; home = home })
     by Goes is =
         let state : State = state_for site local k in
         let one : Act = Asks line (aim_at site.grid (local.residents k)) in
@@ -199,7 +201,7 @@ no_request op line site local tell none home =
     let told : request_answer op line site local ≡ Some IsBad = rw none refl in
     let doing : asks op line site local ≡ tells local IsBad = rw none refl in
     bridged_as site local (request_act op line site local) None (request_answer op line site local) (Some IsBad) tell (asks op line site local) (tells local IsBad) act told doing
-    (record { does = record { part = refl; letters = refl; told = refl }; volumes = refl; home = home })
+    (record { does = record { part = refl; letters = refl; told = refl }; volumes = refl; parcel = refl; home = home })
 
 pub all_requests_act : AllRequestsAct
 all_requests_act op (Write k v f bytes) site local home =
@@ -216,20 +218,21 @@ all_requests_act op line site local home = no_request op line site local _ refl 
 
 passes : (site : Site) (local : Local) (act : Option Act) (tell : Told → Option Answer) (doing : Doing) → act ≡ None → doing ≡ silently local → AtHome site local → Bridges site local act None tell doing
 passes site local act tell doing none is home =
-    bridged_as site local act None None None tell doing (silently local) none refl is (record { does = record { part = refl; letters = refl; told = refl }; volumes = refl; home = home })
+    bridged_as site local act None None None tell doing (silently local) none refl is (record { does = record { part = refl; letters = refl; told = refl }; volumes = refl; parcel = refl; home = home })
 
 -- to the server
-served_act : (site : Site) (local : Local) (m : OwnMessage) (tell : Told → Option Answer) → to_server m.body ≡ true → m.server ≡ site.here → AtHome site local →
+served_act : (site : Site) (local : Local) (m : OwnMessage) (tell : Told → Option Answer) → to_server m.body ≡ true → m.server ≡ site.place → local.lacks m.file ≡ false → AtHome site local →
     Bridges site local (Some (Comes m everyone)) None (answer_of m.session (local.residents m.session).session.op (local.residents m.session).session.op) (serves site local m)
-served_act site local m tell goes here home = record {
+served_act site local m tell goes here has home = record {
   does = record {
-    here = (rw goes refl) ∙ here;
-    part = (λ i. record { brought = (changed (brings m step) state).brought site.here; lacks = λ file. false; session = λ k. sym (sessions k) i; reserved = λ k. sym (reserved k) i })
-        ∙ sym (ap (λ (z : Step). part_of site.here (with_reserved (fact_of s (part_in local) act) (part_in local).reserved) (changed (act_entry act z) state)) law_step) ∙ sym law_part;
+    here = rw goes here;
+    part = (λ i. record { brought = (changed (brings m step) state).brought site.place; lacks = local.lacks; session = λ k. sym (sessions k) i; reserved = λ k. sym (reserved k) i })
+        ∙ sym (ap (λ (z : Step). part_of site.place (with_reserved (fact_of s (part_in local) act) (part_in local).reserved) (changed (act_entry act z) state)) law_step) ∙ sym law_part;
     letters = ap (λ (z : Step). z.new) (sym law_step);
-    told = ap (λ (z : Step). answer_of m.session (local.residents m.session).session.op (local.residents m.session).session.op z.told) (sym law_step);
+    told = nothing ∙ ap (λ (z : Step). answer_of m.session (local.residents m.session).session.op (local.residents m.session).session.op z.told) (sym law_step);
   };
   volumes = refl;
+  parcel = refl;
   home = home;
 }
   where
@@ -248,21 +251,24 @@ served_act site local m tell goes here home = record {
     law_step : step_of s (part_in local) act ≡ step
     law_step = rw goes refl
 
-    accepts : is_refusal (step_of s (part_in local) act).told ≡ false
-    accepts = ap (λ (z : Step). is_refusal z.told) law_step
+    nothing : None ≡ answer_of m.session (local.residents m.session).session.op (local.residents m.session).session.op step.told
+    nothing = rw has refl
 
-    law_part : part_after s site.here (part_in local) act ≡ part_of site.here (with_reserved (fact_of s (part_in local) act) (part_in local).reserved) (changed (act_entry act (step_of s (part_in local) act)) state)
-    law_part = accepted s site.here (part_in local) act accepts
-        ∙ ap (λ up. part_of site.here (with_reserved (fact_of s (part_in local) act) (part_in local).reserved) (changed (act_entry act (step_of s (part_in local) act)) (state_of up local))) aims
+    accepts : is_refusal (step_of s (part_in local) act).told ≡ false
+    accepts = ap (λ (z : Step). is_refusal z.told) law_step ∙ (let h : is_refusal step.told ≡ false = rw has refl in h)
+
+    law_part : part_after s site.place (part_in local) act ≡ part_of site.place (with_reserved (fact_of s (part_in local) act) (part_in local).reserved) (changed (act_entry act (step_of s (part_in local) act)) state)
+    law_part = accepted s site.place (part_in local) act accepts
+        ∙ ap (λ up. part_of site.place (with_reserved (fact_of s (part_in local) act) (part_in local).reserved) (changed (act_entry act (step_of s (part_in local) act)) (state_of up local))) aims
       where
         aims : aim_of act ≡ everyone
         aims = rw goes refl
 
     fact : Bool → Option OwnFact
-    fact b = if b then replaced_in (copy_in (part_in local) m.file) m.file m.body else fact_in s (part_in local) act m.session
+    fact b = if b then (if local.lacks m.file then None else replaced_in (copy_in (part_in local) m.file) m.file m.body) else fact_in s (part_in local) act m.session
 
     reserved : (k : ℕ) → with_reserved (fact (to_server m.body)) (part_in local).reserved k ≡ (local.residents k).reserved
-    reserved k = ap (λ b. with_reserved (fact b) (part_in local).reserved k) goes ∙ replaced_none (copy_in (part_in local) m.file) m.file m.body (part_in local).reserved k
+    reserved k = ap (λ b. with_reserved (fact b) (part_in local).reserved k) goes ∙ ap (λ b. with_reserved (if b then None else replaced_in (copy_in (part_in local) m.file) m.file m.body) (part_in local).reserved k) has ∙ replaced_none (copy_in (part_in local) m.file) m.file m.body (part_in local).reserved k
 
     sessions : (k : ℕ) → (changed (brings m step) state).session k ≡ (local.residents k).session
     sessions k = rw goes refl
@@ -285,20 +291,21 @@ reply_brings serving session op round server file (Copy copy) before n f goes = 
 reply_brings serving session op round server file (Store copy) before n f goes = absurd (cc)
 reply_brings serving session op round server file Stored before n f goes = refl
 
-heard_act : (site : Site) (local : Local) (m : OwnMessage) → to_server m.body ≡ false → is_in 1 site.row.sessions m.session ≡ true → site.home m.session ≡ site.here → AtHome site local →
+heard_act : (site : Site) (local : Local) (m : OwnMessage) → to_server m.body ≡ false → has_session site m.session ≡ true → site.home m.session ≡ site.here → AtHome site local →
     let k : ℕ = m.session in
     let state : State = state_for site local k in
     Bridges site local (Some (Comes m (aim_at site.grid (local.residents k)))) None (answer_of k (local.residents k).session.op (local.residents k).session.op)
     (goes_on local k (local.residents k).session.op (heard_servers (local.residents k).session.heard m.server) state (brings m (hear_step site.grid state m (operation state k))))
 heard_act site local m goes inside here home = record {
   does = record {
-    here = (rw goes refl) ∙ here;
-    part = goes_part local k last site.here heard_before aim (brings m step) (fact_of s (part_in local) act) its_fact (λ j other. rw (goes, other) refl) (λ file. reply_brings (λ n f. aim n) m.session m.op m.round m.server m.file m.body state.brought site.here file goes) (λ file. refl)
-        ∙ sym (ap (λ (z : Step). part_of site.here (with_reserved (fact_of s (part_in local) act) (part_in local).reserved) (changed (act_entry act z) state)) law_step) ∙ sym law_part;
+    here = rw goes here;
+    part = goes_part local k last site.place heard_before aim (brings m step) (fact_of s (part_in local) act) its_fact (λ j other. rw (goes, other) refl) (λ file. reply_brings (model_serves aim (λ server. local.lacks)) m.session m.op m.round m.server m.file m.body state.brought site.place file goes) (λ file. refl)
+        ∙ sym (ap (λ (z : Step). part_of site.place (with_reserved (fact_of s (part_in local) act) (part_in local).reserved) (changed (act_entry act z) state)) law_step) ∙ sym law_part;
     letters = ap (λ (z : Step). z.new) (sym law_step);
     told = ap (λ (z : Step). answer_of k last last z.told) (sym law_step);
   };
   volumes = refl;
+  parcel = refl;
   home = home_with site local k (went local k heard_before state (brings m step)) inside here home;
 }
   where
@@ -333,7 +340,7 @@ heard_act site local m goes inside here home = record {
     accepts = ap (λ (z : Step). is_refusal z.told) law_step ∙ hear_fine site.grid state m (operation state k)
 
     fact : Bool → Option OwnFact
-    fact b = if b then replaced_in (copy_in (part_in local) m.file) m.file m.body else fact_in s (part_in local) act k
+    fact b = if b then (if local.lacks m.file then None else replaced_in (copy_in (part_in local) m.file) m.file m.body) else fact_in s (part_in local) act k
 
     aims : aim_of act ≡ aim
     aims = rw goes refl
@@ -344,9 +351,9 @@ heard_act site local m goes inside here home = record {
     its_fact : fact_of s (part_in local) act ≡ session_fact local k state (brings m step)
     its_fact = ap fact goes ∙ (λ i. fact_at (aims i) (law_step i))
 
-    law_part : part_after s site.here (part_in local) act ≡ part_of site.here (with_reserved (fact_of s (part_in local) act) (part_in local).reserved) (changed (act_entry act (step_of s (part_in local) act)) state)
-    law_part = accepted s site.here (part_in local) act accepts
-        ∙ ap (λ up. part_of site.here (with_reserved (fact_of s (part_in local) act) (part_in local).reserved) (changed (act_entry act (step_of s (part_in local) act)) (state_of up local))) aims
+    law_part : part_after s site.place (part_in local) act ≡ part_of site.place (with_reserved (fact_of s (part_in local) act) (part_in local).reserved) (changed (act_entry act (step_of s (part_in local) act)) state)
+    law_part = accepted s site.place (part_in local) act accepts
+        ∙ ap (λ up. part_of site.place (with_reserved (fact_of s (part_in local) act) (part_in local).reserved) (changed (act_entry act (step_of s (part_in local) act)) (state_of up local))) aims
 
 pub all_letters_act : AllLettersAct
 all_letters_act from m site local home = elim (cases_Bool (letter_fits site (limit_at (state_of everyone local) m.file.volume m.file.place) from m)) [
@@ -354,8 +361,11 @@ all_letters_act from m site local home = elim (cases_Bool (letter_fits site (lim
   | inl fits ↦ (
       let p : Parts site (limit_at (state_of everyone local) m.file.volume m.file.place) from m = parts site (limit_at (state_of everyone local) m.file.volume m.file.place) from m fits in
       elim (cases_Bool (to_server m.body)) [
-        | inl goes ↦ (bridged_as site local (letter_act from m site local) (Some (Comes m everyone)) None None tell (receives from m site local) (serves site local m) (rw (fits, goes) refl) refl (rw (fits, goes) refl)
-            (served_act site local m tell goes (its_server site from m goes p.between) home))
+        | inl goes ↦ (elim (cases_Bool (local.lacks m.file)) [
+          | inl lacks ↦ (passes site local (letter_act from m site local) tell (receives from m site local) (rw (fits, goes, lacks) refl) (rw (fits, goes, lacks) refl) home)
+          | inr has ↦ (bridged_as site local (letter_act from m site local) (Some (Comes m everyone)) None None tell (receives from m site local) (serves site local m) (rw (fits, goes, has) refl) refl (rw (fits, goes, has) refl)
+              (served_act site local m tell goes (its_server site from m goes p.between) has home))
+        ])
         | inr goes ↦ (elim (cases_Bool (has_above (local.residents m.session).session.floor && of_round (operation (state_for site local m.session) m.session) m.file)) [
           | inr deaf ↦ (passes site local (letter_act from m site local) tell (receives from m site local) (rw (fits, goes, deaf) refl) (rw (fits, goes, deaf) refl) home)
           | inl hears' ↦ (
@@ -378,19 +388,19 @@ all_letters_act from m site local home = elim (cases_Bool (letter_fits site (lim
 
     its_home : (site : Site) (from : ℕ) (m : OwnMessage) → to_server m.body ≡ false → goes_between site from m ≡ true → site.home m.session ≡ site.here
     its_home site from m goes is =
-        let h : (site.home m.session == site.here && m.server == from) ≡ true = rw goes at is in
-        eqb-true (site.home m.session) site.here (and_parts (site.home m.session == site.here) (m.server == from) h).0
+        let h : (site.home m.session == site.here && site.node_at m.server == from) ≡ true = rw goes at is in
+        eqb-true (site.home m.session) site.here (and_parts (site.home m.session == site.here) (site.node_at m.server == from) h).0
 
 -- ---- what a tenant has
 
 pub all_questions_tell : AllQuestionsTell
-all_questions_tell site local home = record { does = record { part = refl; letters = refl; told = refl }; volumes = refl; home = home }
+all_questions_tell site local home = record { does = record { part = refl; letters = refl; told = refl }; volumes = refl; parcel = refl; home = home }
 
 -- ---- a tick
 
 -- the resident that a tick leaves has the same session, and the same numbers are reserved
 pub same_sessions : (local : Local) (k : ℕ) (r : Resident) → r.session ≡ (local.residents k).session → r.reserved ≡ (local.residents k).reserved → part_in (with_resident local k r) ≡ part_in local
-same_sessions local k r same numbers = λ i. record { brought = local.brought; lacks = λ file. false; session = λ j. by j (k == j) refl i; reserved = λ j. reserved j (k == j) refl i }
+same_sessions local k r same numbers = λ i. record { brought = local.brought; lacks = local.lacks; session = λ j. by j (k == j) refl i; reserved = λ j. reserved j (k == j) refl i }
   where
     by : (j : ℕ) (b : Bool) → (k == j) ≡ b → (part_in (with_resident local k r)).session j ≡ (local.residents j).session
     by j true is = rw is (same ∙ ap (λ x. (local.residents x).session) (eqb-true k j is))
@@ -424,7 +434,7 @@ retries grid state k (Some task) = by (round_quorum grid state.up (state.session
     by None is = rw is refl
     by (Some set) is = rw is refl
 
-retried : (site : Site) (local : Local) (k : ℕ) (aim : Servers) → is_in 1 site.row.sessions k ≡ true →
+retried : (site : Site) (local : Local) (k : ℕ) (aim : Servers) → has_session site k ≡ true →
     (retry_step site.grid (state_of aim local) (operation (state_of aim local) k)).new ≡ (asked_step site.grid site.row (state_of aim local) (Retry k)).new
 retried site local k aim inside = retries site.grid (state_of aim local) k (local.residents k).session.current ∙ sym (ap (λ (z : Step). z.new) law)
   where
@@ -433,7 +443,7 @@ retried site local k aim inside = retries site.grid (state_of aim local) k (loca
 
     law : asked_step site.grid site.row state (Retry k)
         ≡ unless (first_cause ((is_none (local.residents k).session.current, Idle) ∷ (is_none (round_quorum site.grid aim (local.residents k).session.round), NoQuorum) ∷ [])) (retry_step site.grid state (operation state k))
-    law = rw inside refl
+    law = rw (is_number site k inside) refl
 
 -- a retry uses no number
 retry_none : (grid : Grid) (state : State) (k : ℕ) (reserved : Reserved) (floor : ℕ) (o : Option Operation) → reserving k reserved (retry_step grid state o).told floor ≡ None
@@ -464,16 +474,17 @@ retry_stays s n part k aim = elim (cases_Bool (is_refusal (step_of s part (Asks 
     none : fact_of s part (Asks (Retry k) aim) ≡ None
     none = unless_none k (part.reserved k) (part.session k).floor (first_cause (session_causes s.grid s.row state (Retry k))) (retry_step s.grid state (operation state k)) (retry_none s.grid state k (part.reserved k) (part.session k).floor (operation state k))
 
-retry_act : (site : Site) (local : Local) (k : ℕ) → is_in 1 site.row.sessions k ≡ true → site.home k ≡ site.here → AtHome site local →
+retry_act : (site : Site) (local : Local) (k : ℕ) → has_session site k ≡ true → site.home k ≡ site.here → AtHome site local →
     Bridges site local (Some (Asks (Retry k) (aim_at site.grid (tries_next site.grid (is_collect (local.residents k).session.round) (local.residents k))))) None (λ told. None) (waits_on site local k true)
 retry_act site local k inside here home = record {
   does = record {
     here = here;
-    part = same_sessions local k r (tried_session site.grid (is_collect (local.residents k).session.round) (local.residents k)) (tried_reserved site.grid (is_collect (local.residents k).session.round) (local.residents k)) ∙ sym (retry_stays (setting_in site local) site.here (part_in local) k (aim_at site.grid r));
+    part = same_sessions local k r (tried_session site.grid (is_collect (local.residents k).session.round) (local.residents k)) (tried_reserved site.grid (is_collect (local.residents k).session.round) (local.residents k)) ∙ sym (retry_stays (setting_in site local) site.place (part_in local) k (aim_at site.grid r));
     letters = retried site local k (aim_at site.grid r) inside;
     told = refl;
   };
   volumes = refl;
+  parcel = refl;
   home = home_with site local k r inside here home;
 }
   where
@@ -499,10 +510,11 @@ all_ticks_act k site local home = elim (cases_Bool (is_some (local.residents k).
         let there = home k busy in
         bridged_as site local (tick_act k site local) (waited_act site local k b) None None tell (ticks k site local) (waits_on site local k b) act refl doing (by b there.0 there.1)
       where
-        by : (b : Bool) → is_in 1 site.row.sessions k ≡ true → site.home k ≡ site.here → Bridges site local (waited_act site local k b) None tell (waits_on site local k b)
+        by : (b : Bool) → has_session site k ≡ true → site.home k ≡ site.here → Bridges site local (waited_act site local k b) None tell (waits_on site local k b)
         by false inside here = record {
           does = record { part = same_sessions local k (record (local.residents k) { waited = true }) refl refl; letters = refl; told = refl };
           volumes = refl;
+          parcel = refl;
           home = home_with site local k (record (local.residents k) { waited = true }) inside here home;
         }
         by true inside here = retry_act site local k inside here home

@@ -5,7 +5,6 @@ use Rattle.std.specs.List.{list_all}
 use Rattle.std.proofs.lemmas.Bool.{and_parts}
 use Rattle.std.proofs.lemmas.Bool.Decides.{nat_tests}
 use Rattle.gq_tag.specs.declared.TheConstants.{MOST_FILES}
-use Rattle.gq_desk.specs.CheckedPlan.{row_at}
 use Rattle.gq_desk.specs.declared.volumes.VolumeRow.{VolumeRow}
 use Rattle.gq_desk.specs.Plans.{is_in}
 use Rattle.gq_desk.specs.Volumes.{account_at, is_sized}
@@ -13,6 +12,7 @@ use Rattle.gq_model.specs.declared.events.Refusal.TheVariants.{NoSession, Busy, 
 use Rattle.gq_model.specs.Trace.{files_of}
 use Rattle.gq_model.specs.Lone.{Cause, first_cause}
 use Rattle.gq_node.specs.Asking.{volume_causes}
+use Rattle.gq_node.specs.Sites.{site_of, has_session}
 use Rattle.gq_node.specs.Tables.{Tables, seat_at}
 use Rattle.gq_node.proofs.Seating.{in_range}
 use Rattle.gq_node.proofs.Asking.{first_none}
@@ -26,7 +26,7 @@ listed_there w t k v is =
     let volumes : List VolumeRow = (account_at w.desk t).volumes in
     let c2 : List Cause = (not (nat_lt v (length volumes)), NoVolume) ∷ [] in
     let c1 : List Cause = (is_some (seat_at w t k).operation, Busy) ∷ c2 in
-    let a = first_none (not (is_in 1 (row_at w.plan t).sessions k), NoSession) c1 is in
+    let a = first_none (not (has_session (site_of w.plan w.here t) k), NoSession) c1 is in
     let b = first_none (is_some (seat_at w t k).operation, Busy) c2 a.1 in
     let c = first_none (not (nat_lt v (length volumes)), NoVolume) [] b.1 in
     volume_there volumes v c.0

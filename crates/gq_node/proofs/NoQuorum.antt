@@ -3,7 +3,6 @@ use Rattle.std.proofs.Common.{◌≡◌, ◌≢◌, ◌∙◌, ℕ, ◌+◌, Boo
 use Rattle.std.specs.Prelude.{is_some, is_none, nat_lt, not, ◌&&◌, ◌||◌, ◌==◌, if◌then◌else◌}
 use Rattle.std.proofs.lemmas.Bool.{cases_Bool}
 use Rattle.gq_grid.specs.Grid.{Servers}
-use Rattle.gq_desk.specs.Plans.{is_in}
 use Rattle.gq_phase.specs.declared.Outcome.{Outcome}
 use Rattle.gq_phase.specs.Quorums.{collect_quorum}
 use Rattle.gq_model.specs.declared.events.Line.{Line}
@@ -19,7 +18,7 @@ use Rattle.gq_node.specs.declared.output.Admission.{Admission}
 use Rattle.gq_node.specs.declared.output.Admission.TheVariants.{Tells, Passes, Goes}
 use Rattle.gq_node.specs.Aims.{AllRequestsHaveQuorums}
 use Rattle.gq_node.specs.Local.{Local, Doing, aim_at, answer_of, refused_with, again, admission, admission_in, begins, asks, asks_in, asked_by, state_for}
-use Rattle.gq_node.specs.Sites.{Site}
+use Rattle.gq_node.specs.Sites.{Site, has_session}
 use Rattle.gq_node.proofs.Aiming.{all_aims_have_quorums}
 
 -- whether a word, an answer, what is told, or a admission is of a quorum that is wanting
@@ -62,7 +61,7 @@ admission_fine site k op b last going outcome =
     let same : Admission = if op == last then again k op b going outcome else next in
     let own : Admission = if nat_lt op last || op == 0 then Tells (Old k op last) else same in
     let here : Admission = if not (site.home k == site.here) then Tells (Away k op (site.home k)) else own in
-    either_fine (not (is_in 1 site.row.sessions k)) (Tells (IsRefused k op NoSession)) here refl
+    either_fine (not (has_session site k)) (Tells (IsRefused k op NoSession)) here refl
     (either_fine (not (site.home k == site.here)) (Tells (Away k op (site.home k))) own refl
     (either_fine (nat_lt op last || op == 0) (Tells (Old k op last)) same refl
     (either_fine (op == last) (again k op b going outcome) next (again_fine k op b going outcome)

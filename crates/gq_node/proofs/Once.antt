@@ -5,7 +5,7 @@ use Rattle.std.proofs.lemmas.Bool.{and_parts, leb-true}
 use Rattle.gq_model.specs.declared.events.Line.{Line}
 use Rattle.gq_node.specs.declared.output.Admission.{Admission}
 use Rattle.gq_node.specs.declared.output.Admission.TheVariants.{Tells, Passes, Goes}
-use Rattle.gq_node.specs.Inputs.{Input, Asked, AskedPlan, Brought, Ticked, does, after_one, after_all}
+use Rattle.gq_node.specs.Inputs.{Input, Asked, AskedPlan, Brought, Ticked, Looked, Joined, Fetching, Fetched, does, after_one, after_all}
 use Rattle.gq_node.specs.Local.{Local, asker, begins, admission_in, asks, asks_in, own_admission}
 use Rattle.gq_node.specs.Once.{comes_again, LeavesAll, AllAgainLeave, TakesOnce, AllTakeOnce}
 use Rattle.gq_node.specs.Sites.{Site}
@@ -14,8 +14,8 @@ use Rattle.gq_node.proofs.Asking.{goes_home, next_number}
 -- ---- a request that comes again
 
 quiet_by : (site : Site) (local : Local) (op : ℕ) (line : Line) (k : ℕ) (admission : Admission) → admission_in site local k op (begins line) ≡ admission → (admission ≡ Goes → ⊥) → LeavesAll local (asks_in site local op line k)
-quiet_by site local op line k (Tells answer) is goes = rw is (record { part = refl; letters = refl; fact = refl })
-quiet_by site local op line k Passes is goes = rw is (record { part = refl; letters = refl; fact = refl })
+quiet_by site local op line k (Tells answer) is goes = rw is (record { part = refl; letters = refl; parcel = refl; fact = refl })
+quiet_by site local op line k Passes is goes = rw is (record { part = refl; letters = refl; parcel = refl; fact = refl })
 quiet_by site local op line k Goes is goes = absurd (goes refl)
 
 pub never_goes : (site : Site) (local : Local) (op : ℕ) (line : Line) (k : ℕ) → begins line ≡ true → op ≤ (local.residents k).session.op → admission_in site local k op (begins line) ≡ Goes → ⊥
@@ -39,6 +39,10 @@ again_leave site local (Asked op line) again = again_leaves site local op line (
 again_leave site local AskedPlan again = absurd (cc)
 again_leave site local (Brought from letter) again = absurd (cc)
 again_leave site local (Ticked session) again = absurd (cc)
+again_leave site local Looked again = absurd (cc)
+again_leave site local (Joined from losses) again = absurd (cc)
+again_leave site local (Fetching from file) again = absurd (cc)
+again_leave site local (Fetched from file copy) again = absurd (cc)
 
 -- ---- all that comes
 

@@ -29,16 +29,22 @@ pub open_opens : (w : Tables) (t : ℕ) (row : VolumeRow) (store : StoreCopies) 
     Opens w t row (opened_tables w t row store)
 open_opens w t row store within sound copies = record {
   plan = refl;
-  server = refl;
+  here = refl;
   sound = sound;
   own = λ local agrees. record {
     account = set_here w.desk t (with_volume row (account_at w.desk t)) within ∙ ap (with_volume row) agrees.account;
     copies = λ file. copies (file_of t file) ∙ agrees.copies file;
+    lacks = agrees.lacks;
+    joined = agrees.joined;
+    mate = agrees.mate;
     seats = agrees.seats;
   };
   others = λ u other local agrees. record {
     account = set_there w.desk t u (with_volume row (account_at w.desk t)) other ∙ agrees.account;
     copies = λ file. copies (file_of u file) ∙ agrees.copies file;
+    lacks = agrees.lacks;
+    joined = agrees.joined;
+    mate = agrees.mate;
     seats = agrees.seats;
   };
 }
@@ -78,13 +84,20 @@ opened_few desk t row within sound few u = elim (cases_eq u t) [
 ]
 
 pub opened_shaped : (w : Tables) (t : ℕ) (row : VolumeRow) (store : StoreCopies) → IsShaped w → t < length w.desk → open_fault (account_at w.desk t) row ≡ None →
-    store_accounts store ≡ slice_set (store_accounts w.store) t (with_volume row (tenant_account w.store t)) → IsShaped (opened_tables w t row store)
-opened_shaped w t row store h within sound added = record {
-  server = h.server;
+    store_accounts store ≡ slice_set (store_accounts w.store) t (with_volume row (tenant_account w.store t)) → ((file : FileId) → copy_at store file ≡ copy_at w.store file) → IsShaped (opened_tables w t row store)
+opened_shaped w t row store h within sound added copies = record {
+  place = h.place;
+  few = h.few;
   grid = h.grid;
   desk = length-set w.desk t (with_volume row (account_at w.desk t)) ∙ h.desk;
   accounts = added ∙ ap (λ accounts. slice_set accounts t (with_volume row (account_at accounts t))) h.accounts;
   volumes = opened_few w.desk t row within sound h.volumes;
+  given = h.given;
+  whole = h.whole;
+  bare = λ u f lacks. copies (file_of u f) ∙ h.bare u f lacks;
+  few_given = h.few_given;
+  mates = h.mates;
+  grid_mates = h.grid_mates;
   tenants = h.tenants;
   seats = h.seats;
   sessions = h.sessions;

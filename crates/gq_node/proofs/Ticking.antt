@@ -1,10 +1,9 @@
 -- A tick comes to a session.
-use Rattle.std.proofs.Common.{◌≡◌, ◌∙◌, ℕ, ◌<◌, ◌≤◌, Bool, true, false, List, [], length, map, refl, sym, ap, subst, Option, Some, None}
+use Rattle.std.proofs.Common.{◌≡◌, ◌∙◌, ℕ, ◌<◌, Bool, true, false, List, [], length, map, refl, sym, ap, subst, Option, Some, None}
 use Rattle.std.specs.Prelude.{option_map, is_some, unwrap_or}
 use Rattle.gq_grid.specs.Grid.{Grid, Servers}
 use Rattle.gq_tag.specs.declared.Message.{Message}
 use Rattle.gq_tag.specs.Tag.{message_of}
-use Rattle.gq_desk.specs.CheckedPlan.{row_at}
 use Rattle.gq_phase.specs.declared.operation.Operation.{Operation as Code}
 use Rattle.gq_phase.specs.Phase.{Task, Operation, is_collect, round_quorum, resent}
 use Rattle.gq_phase.proofs.Saying.{collects_is}
@@ -16,8 +15,8 @@ use Rattle.gq_node.specs.Sites.{Site, site_of, next_of}
 use Rattle.gq_node.specs.Local.{Local, Resident, Doing, state_of, silently, ticks, waits_on, aim_at, tries_next}
 use Rattle.gq_node.specs.Seats.{ResendsIn, TicksIn, TicksWith, SeatTicks, collects_in, seat_aim, seat_tries}
 use Rattle.gq_node.specs.Shape.{IsShaped}
-use Rattle.gq_node.specs.Tables.{Tables, Agrees, Acts, Leads, Gives, SeatAgrees, Sits, seat_at, with_seat}
-use Rattle.gq_node.proofs.Seating.{Settles, aim_is, seat_of, seat_leads, same_leads, place_there, tenant_there}
+use Rattle.gq_node.specs.Tables.{Tables, Agrees, Acts, Leads, Gives, SeatAgrees, IsOfPlan, Sits, seat_at, with_seat}
+use Rattle.gq_node.proofs.Seating.{Settles, aim_is, seat_of, seat_leads, seat_there, same_leads}
 use Rattle.gq_node.proofs.Attending.{unchanged}
 
 -- ---- what goes out once more
@@ -67,11 +66,12 @@ busy_is k site local is = rw is refl
 pub record IsSent (messages : Option (List Message)) (out : Output) : Type 0 where
   pub answer : out.answer ≡ None
   pub letters : out.letters.items ≡ unwrap_or messages []
+  pub parcel : out.parcel ≡ None
   pub fact : out.fact ≡ None
 
 record Ticked (w : Tables) (t k : ℕ) (seat : Seat) (out : Output) (local : Local) : Type 0 where
   pub settles : Settles w t k seat (ticks k) local
-  pub gives : Gives t (ticks k (site_of w.plan w.server t) local) out
+  pub gives : Gives t (ticks k (site_of w.plan w.here t) local) out
 
 -- the round of the value collects where that of the operation does
 collects_there : (grid : Grid) (t k floor : ℕ) (code : Code) (session : Session) (current : Option Task) → Sits grid t floor (Some code) session.floor (option_map (operation_with k session) current) → collects_in (Some code) ≡ is_collect session.round
@@ -83,14 +83,14 @@ tries_agrees : (grid : Grid) (t k : ℕ) (seat : Seat) (r : Resident) (collects 
 tries_agrees grid t k seat r true a = record { op = a.op; reserved_op = a.reserved_op; reserved_floor = a.reserved_floor; sits = a.sits; outcome = a.outcome; row = ap (next_of grid.rows) a.row; column = a.column; waited = a.waited }
 tries_agrees grid t k seat r false a = record { op = a.op; reserved_op = a.reserved_op; reserved_floor = a.reserved_floor; sits = a.sits; outcome = a.outcome; row = a.row; column = ap (next_of grid.cols) a.column; waited = a.waited }
 
-ticked : (w : Tables) (t k : ℕ) (seat : Seat) (messages : Option (List Message)) (out : Output) (local : Local) (code : Code) (waited : Bool) → 1 ≤ k → k ≤ (row_at w.plan t).sessions → (seat_at w t k).operation ≡ Some code → (seat_at w t k).waited ≡ waited →
+ticked : (w : Tables) (t k : ℕ) (seat : Seat) (messages : Option (List Message)) (out : Output) (local : Local) (code : Code) (waited : Bool) → IsOfPlan w t k → (seat_at w t k).operation ≡ Some code → (seat_at w t k).waited ≡ waited →
     TicksIn w.plan.grid waited (seat_at w t k) seat messages → IsSent messages out → Agrees w t local → Ticked w t k seat out local
-ticked w t k seat messages out local code false low high is waits h sent agrees =
-    let site : Site = site_of w.plan w.server t in
+ticked w t k seat messages out local code false at is waits h sent agrees =
+    let site : Site = site_of w.plan w.here t in
     let grid : Grid = w.plan.grid in
     let old : Seat = seat_at w t k in
     let r : Resident = local.residents k in
-    let before = seat_of w t k local agrees low high in
+    let before = seat_of w t k local agrees at in
     let P : Option Code → Type 0 = λ o. Sits grid t old.floor o r.session.floor (option_map (operation_with k r.session) r.session.current) in
     let sits : P (Some code) = subst P is before.sits in
     let step : ticks k site local ≡ waits_on site local k false = busy_is k site local (some_there grid t k old.floor code r.session r.session.current sits) ∙ ap (waits_on site local k) (sym before.waited ∙ waits) in
@@ -102,14 +102,14 @@ ticked w t k seat messages out local code false low high is waits h sent agrees 
         agrees = subst (λ (x : Seat). SeatAgrees grid t k x (record r { waited = true })) (sym h.0) now;
         left = ap (λ (d : Doing). d.local) step;
       };
-      gives = subst (λ (d : Doing). Gives t d out) (sym step) (record { answer = sent.answer; letters = sent.letters ∙ ap (λ m. unwrap_or m []) h.1; fact = sent.fact });
+      gives = subst (λ (d : Doing). Gives t d out) (sym step) (record { answer = sent.answer; letters = sent.letters ∙ ap (λ m. unwrap_or m []) h.1; parcel = sent.parcel; fact = sent.fact });
     }
-ticked w t k seat messages out local code true low high is waits h sent agrees =
-    let site : Site = site_of w.plan w.server t in
+ticked w t k seat messages out local code true at is waits h sent agrees =
+    let site : Site = site_of w.plan w.here t in
     let grid : Grid = w.plan.grid in
     let old : Seat = seat_at w t k in
     let r : Resident = local.residents k in
-    let before = seat_of w t k local agrees low high in
+    let before = seat_of w t k local agrees at in
     let P : Option Code → Type 0 = λ o. Sits grid t old.floor o r.session.floor (option_map (operation_with k r.session) r.session.current) in
     let sits : P (Some code) = subst P is before.sits in
     let step : ticks k site local ≡ waits_on site local k true = busy_is k site local (some_there grid t k old.floor code r.session r.session.current sits) ∙ ap (waits_on site local k) (sym before.waited ∙ waits) in
@@ -130,29 +130,30 @@ ticked w t k seat messages out local code true low high is waits h sent agrees =
       gives = subst (λ (d : Doing). Gives t d out) (sym step) (record {
         answer = sent.answer;
         letters = sent.letters ∙ resends_as grid t k old.floor state r.session r.session.current code messages sits sends;
+        parcel = sent.parcel;
         fact = sent.fact;
       });
     }
 
-pub tick_acts : (w : Tables) (t k : ℕ) (seat : Seat) (messages : Option (List Message)) (out : Output) → IsShaped w → t < length w.plan.rows → 1 ≤ k → k ≤ (row_at w.plan t).sessions →
+pub tick_acts : (w : Tables) (t k : ℕ) (seat : Seat) (messages : Option (List Message)) (out : Output) → IsShaped w → t < length w.plan.rows → IsOfPlan w t k →
     SeatTicks w.plan.grid (seat_at w t k) seat messages → IsSent messages out → Acts w t (ticks k) out (with_seat w t k seat)
-tick_acts w t k seat messages out shaped within low high h sent = by (seat_at w t k).operation refl
+tick_acts w t k seat messages out shaped within at h sent = by (seat_at w t k).operation refl
   where
     by : (code : Option Code) → (seat_at w t k).operation ≡ code → Acts w t (ticks k) out (with_seat w t k seat)
     by None is =
-        let site : Site = site_of w.plan w.server t in
+        let site : Site = site_of w.plan w.here t in
         let old : Seat = seat_at w t k in
         let none = ticks_none w.plan.grid old seat messages is h in
         let model : (local : Local) → Agrees w t local → ticks k site local ≡ silently local =
-        λ local agrees. idle_is k site local (none_there w.plan.grid t k old.floor old.operation (local.residents k).session (local.residents k).session.current is (seat_of w t k local agrees low high).sits) in
+        λ local agrees. idle_is k site local (none_there w.plan.grid t k old.floor old.operation (local.residents k).session (local.residents k).session.current is (seat_of w t k local agrees at).sits) in
         record {
           leads = subst (λ (x : Tables). Leads w t (ticks k) x) (unchanged w t k seat none.0) (same_leads w t (ticks k) (λ local agrees. ap (λ (d : Doing). d.local) (model local agrees)));
-          gives = λ local agrees. subst (λ (d : Doing). Gives t d out) (sym (model local agrees)) (record { answer = sent.answer; letters = sent.letters ∙ ap (λ m. unwrap_or m []) none.1; fact = sent.fact });
+          gives = λ local agrees. subst (λ (d : Doing). Gives t d out) (sym (model local agrees)) (record { answer = sent.answer; letters = sent.letters ∙ ap (λ m. unwrap_or m []) none.1; parcel = sent.parcel; fact = sent.fact });
         }
     by (Some code) is =
         let does = ticks_some w.plan.grid (seat_at w t k) seat messages code is h in
         record {
-          leads = seat_leads w t k seat (ticks k) (tenant_there w t shaped within) (place_there w t k shaped within low high) low
-              (λ local agrees. (ticked w t k seat messages out local code (seat_at w t k).waited low high is refl does sent agrees).settles);
-          gives = λ local agrees. (ticked w t k seat messages out local code (seat_at w t k).waited low high is refl does sent agrees).gives;
+          leads = seat_leads w t k seat (ticks k) (seat_there w t k shaped within at)
+              (λ local agrees. (ticked w t k seat messages out local code (seat_at w t k).waited at is refl does sent agrees).settles);
+          gives = λ local agrees. (ticked w t k seat messages out local code (seat_at w t k).waited at is refl does sent agrees).gives;
         }

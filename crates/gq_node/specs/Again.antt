@@ -1,19 +1,17 @@
 -- What is told of a request that comes again.
 use Rattle.std.specs.Prelude.{◌≡◌, ℕ, List, [], ◌∷◌, Bool, true, false, ◌==◌, ◌||◌, not, nat_lt, Option, Some, None, is_some, ⊤, if◌then◌else◌}
 use Rattle.std.specs.List.{list_any}
-use Rattle.gq_desk.specs.Plans.{is_in}
 use Rattle.gq_phase.specs.declared.Outcome.{Outcome}
 use Rattle.gq_phase.specs.declared.Outcome.TheVariants.{Wrote, Gave, Listed}
-use Rattle.gq_cluster.specs.Cluster.{Setting}
 use Rattle.gq_model.specs.declared.events.Line.{Line}
 use Rattle.gq_model.specs.declared.events.Refusal.TheVariants.{NoSession}
 use Rattle.gq_node.specs.declared.output.Answer.{Answer}
 use Rattle.gq_node.specs.declared.output.Answer.TheVariants.{Done, Gone, Refused, Old, Away}
 use Rattle.gq_node.specs.Inputs.{Asked, does}
 use Rattle.gq_node.specs.Local.{Local, asker, ended}
-use Rattle.gq_node.specs.Nodes.{Nodes, Event, LineCame, Started, new_nodes, node_in, doing_of, after_event, nodes_after}
+use Rattle.gq_node.specs.Nodes.{NodeWorld, site_at, Nodes, Event, Started, Came, new_nodes, node_in, doing_of, after_event, nodes_after}
 use Rattle.gq_node.specs.Once.{comes_again, begun_by}
-use Rattle.gq_node.specs.Sites.{Site}
+use Rattle.gq_node.specs.Sites.{Site, has_session}
 
 -- ---- by what the node has of the session
 
@@ -28,7 +26,7 @@ told_at_home k op last going outcome =
 -- and at any node
 abbrev pub told_again : Site → (k op last : ℕ) → (going : Bool) → Option Outcome → Option Answer
 told_again site k op last going outcome =
-    if not (is_in 1 site.row.sessions k) then Some (Refused k op NoSession)
+    if not (has_session site k) then Some (Refused k op NoSession)
     else if not (site.home k == site.here) then Some (Away k op (site.home k))
     else told_at_home k op last going outcome
 
@@ -58,17 +56,17 @@ TellsEnd k op _ = ⊥
 
 -- whether node n starts again by the event
 abbrev pub is_start : ℕ → Event → Bool
-is_start n (Started m) = m == n
+is_start n (Started m plan) = m == n
 is_start n _ = false
 
 -- the operation of session k that began at node n by the event, if one did; none does by a start
-abbrev pub begun_at : Setting → Nodes → (n k : ℕ) → Event → Option ℕ
-begun_at s nodes n k event = if is_start n event then None else begun_by k (nodes.local n) ((after_event s nodes event).local n)
+abbrev pub begun_at : NodeWorld → Nodes → (n k : ℕ) → Event → Option ℕ
+begun_at w nodes n k event = if is_start n event then None else begun_by k (nodes.local n) ((after_event w nodes event).local n)
 
 -- none begins by these
-abbrev pub NoneBegins : Setting → Nodes → (n k : ℕ) → List Event → Type 0
-NoneBegins s nodes n k [] = ⊤
-NoneBegins s nodes n k (event ∷ events) = (begun_at s nodes n k event ≡ None) × NoneBegins s (after_event s nodes event) n k events
+abbrev pub NoneBegins : NodeWorld → Nodes → (n k : ℕ) → List Event → Type 0
+NoneBegins w nodes n k [] = ⊤
+NoneBegins w nodes n k (event ∷ events) = (begun_at w nodes n k event ≡ None) × NoneBegins w (after_event w nodes event) n k events
 
 -- what a node that started again tells of operation op of session k, where it goes on behind that number: that it is gone; or that its
 -- number is old, as it goes on behind a greater one
@@ -80,14 +78,15 @@ forgotten k op last = if op == last then Gone k op else Old k op last
 abbrev pub end_after : (n k op last : ℕ) → List Event → Answer → Answer
 end_after n k op last events answer = if list_any (is_start n) events then forgotten k op last else answer
 
--- of any nodes that were never started, whatever came to them: once a node told how operation op of session k ended, each line that
--- comes to it for this session with this number is told the same again, whatever came to all nodes between, until the session begins
--- its next operation
+-- Of any nodes, with any plans, whatever comes to them: once a node told how operation op of session k ended, each line that comes to it for
+-- this session with this number is told the same again, whatever came to all nodes between, until the session begins its next operation. Where
+-- the node was started again since, its plan has the session still.
 abbrev pub AllEndsToldAgain : Type 0
-AllEndsToldAgain = (s : Setting) (before : List Event) (event : Event) (between : List Event) (k op : ℕ) (answer : Answer) (line : Line) →
-    let nodes : Nodes = nodes_after s (new_nodes s) before in
-    let told : Nodes = after_event s nodes event in
+AllEndsToldAgain = (w : NodeWorld) (before : List Event) (event : Event) (between : List Event) (k op : ℕ) (answer : Answer) (line : Line) →
+    let nodes : Nodes = nodes_after w (new_nodes w) before in
+    let told : Nodes = after_event w nodes event in
+    let later : Nodes = nodes_after w told between in
     let n : ℕ = node_in event in
-    (doing_of s nodes event).answer ≡ Some answer → TellsEnd k op answer →
-    NoneBegins s told n k between → asker line ≡ Some k →
-    (doing_of s (nodes_after s told between) (LineCame n op line)).answer ≡ Some (end_after n k op ((told.local n).residents k).reserved.op between answer)
+    (doing_of w nodes event).answer ≡ Some answer → TellsEnd k op answer →
+    NoneBegins w told n k between → has_session (site_at w later n) k ≡ true → asker line ≡ Some k →
+    (doing_of w later (Came n (Asked op line))).answer ≡ Some (end_after n k op ((told.local n).residents k).reserved.op between answer)

@@ -40,7 +40,7 @@ pub record GoesByPart (site : Site) (new : Tables) (t : ℕ) (local : Local) (ca
 -- whatever came for other tenants between
 abbrev pub AllCallsByParts : Type 0
 AllCallsByParts = (old new : Tables) (calls : List Call) (t : ℕ) (local : Local) → Calls old calls new → Agrees old t local →
-    GoesByPart (site_of old.plan old.server t) new t local (inputs_for t calls) (outputs_for t calls)
+    GoesByPart (site_of old.plan old.here t) new t local (inputs_for t calls) (outputs_for t calls)
 
 -- ---- two runs
 
@@ -48,6 +48,7 @@ AllCallsByParts = (old new : Tables) (calls : List Call) (t : ℕ) (local : Loca
 pub record GivesTheSame (one two : Output) : Type 0 where
   pub answer : one.answer ≡ two.answer
   pub letters : one.letters.items ≡ two.letters.items
+  pub parcel : one.parcel ≡ two.parcel
   pub fact : one.fact ≡ two.fact
 
 abbrev pub AllGiveTheSame : List Output → List Output → Type 0
@@ -58,5 +59,5 @@ AllGiveTheSame _ _ = ⊥
 -- a node that has the same part of the tenant gives the same for it, where the same came for it, whatever came for others
 abbrev pub AllTenantsApart : Type 0
 AllTenantsApart = (one two one_new two_new : Tables) (ones twos : List Call) (t : ℕ) (local : Local) → Calls one ones one_new → Calls two twos two_new →
-    site_of one.plan one.server t ≡ site_of two.plan two.server t → Agrees one t local → Agrees two t local → inputs_for t ones ≡ inputs_for t twos →
+    site_of one.plan one.here t ≡ site_of two.plan two.here t → Agrees one t local → Agrees two t local → inputs_for t ones ≡ inputs_for t twos →
     AllGiveTheSame (outputs_for t ones) (outputs_for t twos)

@@ -2,8 +2,6 @@
 use Rattle.std.specs.Prelude.{ℕ, ◌≡◌, ◌+◌, List, [], ◌∷◌, ◌++◌, Bool, Option, Some, None, Result, Ok, Err, not, nat_lt, is_some, is_none, option_map, unwrap_or, length}
 use Rattle.gq_tag.specs.declared.Message.{Message}
 use Rattle.gq_tag.specs.Tag.{file_of}
-use Rattle.gq_desk.specs.CheckedPlan.{row_at}
-use Rattle.gq_desk.specs.Plans.{is_in}
 use Rattle.gq_desk.specs.Volumes.{account_at, limit_of}
 use Rattle.gq_phase.specs.declared.operation.Operation.{Operation as Code}
 use Rattle.gq_phase.specs.declared.BeginRefused.{BeginRefused}
@@ -13,7 +11,7 @@ use Rattle.gq_model.specs.Lone.{Cause}
 use Rattle.gq_node.specs.declared.output.Admission.{Admission}
 use Rattle.gq_node.specs.declared.output.Admission.TheVariants.{Goes}
 use Rattle.gq_node.specs.Local.{admission, asker, begins}
-use Rattle.gq_node.specs.Sites.{site_of}
+use Rattle.gq_node.specs.Sites.{site_of, has_session}
 use Rattle.gq_cluster.specs.Facts.{greatest_op}
 use Rattle.gq_node.specs.declared.seats.Seat.{Seat}
 use Rattle.gq_node.specs.declared.output.Fact.{Fact}
@@ -27,7 +25,7 @@ use Rattle.gq_node.specs.Tables.{Tables, seat_at, with_seat}
 -- there, and names a volume, or a file, or a content for it
 abbrev pub volume_causes : Tables → ℕ → ℕ → ℕ → List Cause
 volume_causes w t k v =
-    (not (is_in 1 (row_at w.plan t).sessions k), NoSession)
+    (not (has_session (site_of w.plan w.here t) k), NoSession)
     ∷ (is_some (seat_at w t k).operation, Busy)
     ∷ (not (nat_lt v (length (account_at w.desk t).volumes)), NoVolume)
     ∷ []
@@ -43,7 +41,7 @@ write_causes w t k v f bytes = file_causes w t k v f ++ (nat_lt (unwrap_or (tabl
 
 -- what the number op says of a request of session k
 abbrev pub admission_at : Tables → (t k op : ℕ) → Bool → Admission
-admission_at w t k op begins = admission (site_of w.plan w.server t) k op begins (seat_at w t k).op (is_some (seat_at w t k).operation) (seat_at w t k).outcome
+admission_at w t k op begins = admission (site_of w.plan w.here t) k op begins (seat_at w t k).op (is_some (seat_at w t k).operation) (seat_at w t k).outcome
 
 -- the number lets the line be the model's to answer
 abbrev pub MayGo : Tables → (t op : ℕ) → Line → Type 0
@@ -62,6 +60,7 @@ pub record HasBegunWith (old : Tables) (t k : ℕ) (code : Code) (messages : Lis
   pub busy : new ≡ with_seat old t k (busy_seat (seat_at old t k) code)
   pub answer : out.answer ≡ None
   pub letters : out.letters.items ≡ messages
+  pub parcel : out.parcel ≡ None
   pub fact : out.fact ≡ begun_fact t k (seat_at old t k)
 
 -- what comes of an operation that began; none is wanting a quorum, and without memory nothing comes of it

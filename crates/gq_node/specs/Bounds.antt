@@ -1,12 +1,13 @@
 -- How much a node holds, counted.
-use Rattle.std.specs.Prelude.{◌≡◌, ℕ, ◌<◌, ◌≤◌, is_some, length}
+use Rattle.std.specs.Prelude.{◌≡◌, ℕ, ◌*◌, ◌<◌, ◌≤◌, is_some, length}
 use Rattle.std.specs.List.{sum_by, count_by}
 use Rattle.gq_desk.specs.CheckedPlan.{row_at}
 use Rattle.gq_desk.specs.declared.limits.TheConstants.{MOST_VOLUMES}
 use Rattle.gq_desk.specs.Volumes.{account_at}
 use Rattle.gq_store.specs.Copies.{VolumeCopies, tenant_in}
+use Rattle.gq_tag.specs.declared.TheConstants.{MOST_FILES}
 use Rattle.gq_node.specs.declared.seats.Seat.{Seat}
-use Rattle.gq_node.specs.Tables.{Tables, seats_at}
+use Rattle.gq_node.specs.Tables.{Tables, given_at, seats_at}
 
 -- of the tenant at place t: the files of its open volumes, and the copies that the server has of them
 abbrev pub files_open : Tables → ℕ → ℕ
@@ -22,12 +23,24 @@ operations_held w t = count_by (λ (seat : Seat). is_some seat.operation) (seats
 abbrev pub outcomes_held : Tables → ℕ → ℕ
 outcomes_held w t = count_by (λ (seat : Seat). is_some seat.outcome) (seats_at w.seats t)
 
--- There are tables for the plan's tenants and no others; for each of them no more volumes than it may have, one copy of each file, and at
--- most one operation and one outcome for each of its sessions.
+-- the volumes that it lost with the node that stood here before, and the marks, one for each file, which of these files the server was given
+abbrev pub volumes_lost : Tables → ℕ → ℕ
+volumes_lost w t = length (given_at w t)
+
+abbrev pub marks_held : Tables → ℕ → ℕ
+marks_held w t = sum_by length (given_at w t)
+
+-- There are tables for the plan's tenants and no others; for each of them no more volumes than it may have, one copy of each file, at
+-- most one operation and one outcome for each of its sessions, one place whose node was asked last for a file, and for each of its lost volumes,
+-- which are no more than it may have, one mark for each file that a volume may have.
 pub record IsBounded (w : Tables) : Type 0 where
   pub copied : length w.store.tenants ≡ length w.plan.rows
   pub seated : length w.seats ≡ length w.plan.rows
+  pub marked : length w.given ≡ length w.plan.rows
+  pub asked : length w.mates ≡ length w.plan.rows
   pub volumes : (t : ℕ) → length (account_at w.desk t).volumes ≤ MOST_VOLUMES
   pub copies : (t : ℕ) → copies_held w t ≡ files_open w t
   pub operations : (t : ℕ) → t < length w.plan.rows → operations_held w t ≤ (row_at w.plan t).sessions
   pub outcomes : (t : ℕ) → t < length w.plan.rows → outcomes_held w t ≤ (row_at w.plan t).sessions
+  pub lost : (t : ℕ) → volumes_lost w t ≤ MOST_VOLUMES
+  pub marks : (t : ℕ) → marks_held w t ≡ volumes_lost w t * MOST_FILES

@@ -1,19 +1,18 @@
 -- What a node does by a line, a letter or a tick is, in the tenant's part, an act of the law of clusters or nothing.
-use Rattle.std.specs.Prelude.{◌≡◌, ℕ, [], Bool, true, false, ◌&&◌, Option, Some, None, is_some}
+use Rattle.std.specs.Prelude.{◌≡◌, ℕ, [], Bool, true, false, ◌&&◌, Option, Some, None, is_some, if◌then◌else◌}
 use Rattle.gq_tag.specs.Tag.{OwnMessage, to_server}
-use Rattle.gq_desk.specs.Plans.{is_in}
 use Rattle.gq_phase.specs.Phase.{is_collect}
 use Rattle.gq_model.specs.declared.events.Line.{Line}
 use Rattle.gq_model.specs.declared.events.Line.TheVariants.{Retry}
 use Rattle.gq_model.specs.Told.{Told}
 use Rattle.gq_model.specs.Trace.{operation, limit_at}
-use Rattle.gq_cluster.specs.Cluster.{Setting, Act, Asks, Comes, everyone, node_of, step_of, part_after, session_named}
+use Rattle.gq_cluster.specs.Cluster.{Setting, Act, Asks, Comes, everyone, step_of, part_after, session_named}
 use Rattle.gq_node.specs.declared.output.Answer.{Answer}
 use Rattle.gq_node.specs.declared.output.Answer.TheVariants.{Has, Bad as IsBad}
 use Rattle.gq_node.specs.declared.output.Admission.{Admission}
 use Rattle.gq_node.specs.declared.output.Admission.TheVariants.{Tells, Passes, Goes}
 use Rattle.gq_node.specs.Local.{Local, Doing, part_in, state_of, state_for, aim_at, tries_next, answer_of, asker, begins, admission_in, asks, holding, tells_holding, receives, ticks, letter_fits, has_above, of_round}
-use Rattle.gq_node.specs.Sites.{Site}
+use Rattle.gq_node.specs.Sites.{Site, has_session}
 
 -- the tenant's run, as the law has it
 abbrev pub setting_in : Site → Local → Setting
@@ -21,7 +20,7 @@ setting_in site local = record { grid = site.grid; row = site.row; home = site.h
 
 -- only sessions whose home is here have an operation
 abbrev pub AtHome : Site → Local → Type 0
-AtHome site local = (k : ℕ) → is_some (local.residents k).session.current ≡ true → (is_in 1 site.row.sessions k ≡ true) × (site.home k ≡ site.here)
+AtHome site local = (k : ℕ) → is_some (local.residents k).session.current ≡ true → (has_session site k ≡ true) × (site.home k ≡ site.here)
 
 -- ---- the acts
 
@@ -51,7 +50,7 @@ request_answer op line site local = by (asker line)
     by None = Some IsBad
     by (Some k) = of_admission (admission_in site local k op (begins line))
 
--- a letter is an act where it fits, and goes to the server, or is heard by its session
+-- a letter is an act where it fits, and goes to the server, which has the file, or is heard by its session
 abbrev pub letter_act : (from : ℕ) → OwnMessage → Site → Local → Option Act
 letter_act from m site local = by (letter_fits site (limit_at (state_of everyone local) m.file.volume m.file.place) from m)
   where
@@ -60,7 +59,7 @@ letter_act from m site local = by (letter_fits site (limit_at (state_of everyone
     heard true = Some (Comes m (aim_at site.grid (local.residents m.session)))
 
     to_its_end : Bool → Option Act
-    to_its_end true = Some (Comes m everyone)
+    to_its_end true = if local.lacks m.file then None else Some (Comes m everyone)
     to_its_end false = heard (has_above (local.residents m.session).session.floor && of_round (operation (state_for site local m.session) m.session) m.file)
 
     by : Bool → Option Act
@@ -87,10 +86,19 @@ pub record DoesNothing (local : Local) (answer : Option Answer) (doing : Doing) 
   pub letters : doing.letters ≡ []
   pub told : doing.answer ≡ answer
 
+-- a letter to a server comes to the node at its place, and all else to the home of its session
+abbrev pub IsHere : Site → Act → Type 0
+IsHere site (Asks line aim) = site.home (session_named line) ≡ site.here
+IsHere site (Comes letter aim) = by (to_server letter.body)
+  where
+    by : Bool → Type 0
+    by true = letter.server ≡ site.place
+    by false = site.home letter.session ≡ site.here
+
 -- the act is done here: the part is what it leaves, its messages are sent, and what is told is told of it
 pub record DoesAct (site : Site) (local : Local) (tell : Told → Option Answer) (doing : Doing) (act : Act) : Type 0 where
-  pub here : node_of site.home act ≡ site.here
-  pub part : part_in doing.local ≡ part_after (setting_in site local) site.here (part_in local) act
+  pub here : IsHere site act
+  pub part : part_in doing.local ≡ part_after (setting_in site local) site.place (part_in local) act
   pub letters : doing.letters ≡ (step_of (setting_in site local) (part_in local) act).new
   pub told : doing.answer ≡ tell (step_of (setting_in site local) (part_in local) act).told
 
@@ -101,6 +109,7 @@ Does site local (Some act) answer tell doing = DoesAct site local tell doing act
 pub record Bridges (site : Site) (local : Local) (act : Option Act) (answer : Option Answer) (tell : Told → Option Answer) (doing : Doing) : Type 0 where
   pub does : Does site local act answer tell doing
   pub volumes : doing.local.volumes ≡ local.volumes
+  pub parcel : doing.parcel ≡ None
   pub home : AtHome site doing.local
 
 -- each line, letter and tick is an act or nothing; that a tenant asks what it has is none

@@ -1,7 +1,9 @@
 -- What comes to one tenant's part of a node, and what the part does by it.
 use Rattle.std.specs.Prelude.{ℕ, List, [], ◌∷◌, fold}
-use Rattle.gq_tag.specs.Tag.{OwnMessage}
+use Rattle.gq_tag.specs.declared.StoredCopy.{StoredCopy}
+use Rattle.gq_tag.specs.Tag.{File, OwnMessage}
 use Rattle.gq_model.specs.declared.events.Line.{Line}
+use Rattle.gq_node.specs.Joining.{hears_joined, looks, gives, takes}
 use Rattle.gq_node.specs.Local.{Local, Doing, asks, tells_holding, receives, ticks}
 use Rattle.gq_node.specs.Sites.{Site}
 
@@ -14,6 +16,14 @@ pub data Input : Type 0 where
   Brought : (from : ℕ) (letter : OwnMessage) → Input
   -- a tick for this session
   Ticked : (session : ℕ) → Input
+  -- a tick, behind those of the sessions
+  Looked : Input
+  -- that node tells that its plan has this one, and so many losses
+  Joined : (from losses : ℕ) → Input
+  -- that node asks for this one's copy of the file
+  Fetching : (from : ℕ) (file : File) → Input
+  -- that node gives its own
+  Fetched : (from : ℕ) (file : File) (copy : StoredCopy) → Input
 
 -- what the part does by it
 abbrev pub does : Input → Site → Local → Doing
@@ -21,6 +31,10 @@ does (Asked op line) site local = asks op line site local
 does AskedPlan site local = tells_holding site local
 does (Brought from letter) site local = receives from letter site local
 does (Ticked session) site local = ticks session site local
+does Looked site local = looks site local
+does (Joined from losses) site local = hears_joined from losses site local
+does (Fetching from file) site local = gives from file site local
+does (Fetched from file copy) site local = takes from file copy site local
 
 -- the part after it, and after several, in order
 abbrev pub after_one : Site → Local → Input → Local

@@ -4,9 +4,13 @@ pub mod Apart
 pub mod Asking
 pub mod Bounds
 pub mod Bridge
+pub mod Deciding
 pub mod Heard
 pub mod Inputs
+pub mod Joining
+pub mod Lacks
 pub mod Local
+pub mod Lost
 pub mod Needing
 pub mod Nodes
 pub mod Once

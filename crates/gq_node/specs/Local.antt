@@ -1,14 +1,13 @@
 -- One tenant's part of a node, and what a line does to it: each step is one of the model, on the answers to the model's
 -- questions that are made of this part. Nothing here names another tenant.
 use Rattle.std.specs.Prelude.{ℕ, ◌*◌, ◌+◌, ◌/◌, ◌%◌, List, [], ◌∷◌, ◌++◌, Bool, true, false, ◌&&◌, ◌||◌, ◌==◌, not, nat_lt, nat_le, Option, Some, None, is_some, length, if◌then◌else◌}
-use Rattle.gq_grid.specs.Grid.{Grid, Servers}
+use Rattle.gq_grid.specs.Grid.{Grid, Servers, no_servers}
 use Rattle.gq_tag.specs.declared.StoredCopy.{StoredCopy}
 use Rattle.gq_tag.specs.declared.Body.{Body}
 use Rattle.gq_tag.specs.declared.Body.TheVariants.{Ask, Copy, Store, Stored}
 use Rattle.gq_tag.specs.Tag.{File, is_file, OwnMessage, to_server}
 use Rattle.gq_phase.specs.declared.Outcome.{Outcome}
 use Rattle.gq_phase.specs.Phase.{Operation, is_collect, round_file, heard_servers}
-use Rattle.gq_desk.specs.Plans.{is_in}
 use Rattle.gq_desk.specs.declared.volumes.VolumeRow.{VolumeRow}
 use Rattle.gq_model.specs.declared.events.Line.{Line}
 use Rattle.gq_model.specs.declared.events.Line.TheVariants.{Write, Read, List as ListFiles, Deliver, Abandon}
@@ -23,8 +22,8 @@ use Rattle.gq_node.specs.declared.output.Holding.{Holding}
 use Rattle.gq_node.specs.declared.output.Admission.{Admission}
 use Rattle.gq_node.specs.declared.output.Admission.TheVariants.{Tells, Passes, Goes}
 use Rattle.gq_cluster.specs.Cluster.{Part, everyone, state_of as state_of_part}
-use Rattle.gq_cluster.specs.Facts.{OwnFact, Begun, Numbered, Kept, Reserved, none_reserved, greatest_number, reserving, reserved_by, replaced_in}
-use Rattle.gq_node.specs.Sites.{Site, aim, next_of}
+use Rattle.gq_cluster.specs.Facts.{OwnFact, Begun, Numbered, Kept, Had, Reserved, none_reserved, greatest_number, reserving, reserved_by, replaced_in}
+use Rattle.gq_node.specs.Sites.{Site, has_session, nodes_from, aim, next_of}
 
 -- ---- a tenant's part
 
@@ -38,10 +37,17 @@ pub record Resident : Type 0 where
   pub column : ℕ
   pub waited : Bool
 
--- the tenant's volumes, the copies that stores brought to this server of each file, and the tenant's sessions
+-- what the node has of the tenant
 pub record Local : Type 0 where
   pub volumes : List VolumeRow
+  -- of each file the copies that came to its server
   pub brought : File → List StoredCopy
+  -- the files that its server has no copy of: it is a new node, and was given none of these yet
+  pub lacks : File → Bool
+  -- the places whose nodes have told this one, since it was started, that their plan has it
+  pub joined : Servers
+  -- the place whose node it asked last for a file, or its own
+  pub mate : ℕ
   pub residents : ℕ → Resident
 
 -- a session that tries the row and the column of this server
@@ -50,11 +56,11 @@ new_resident grid server = record { session = new_session; reserved = none_reser
 
 -- of the node of that server which was never started, with these volumes
 abbrev pub new_local : Grid → ℕ → List VolumeRow → Local
-new_local grid server volumes = record { volumes = volumes; brought = λ file. []; residents = λ k. new_resident grid server }
+new_local grid server volumes = record { volumes = volumes; brought = λ file. []; lacks = λ file. false; joined = no_servers; mate = server; residents = λ k. new_resident grid server }
 
--- what the law of clusters calls the node's part; it lacks no file
+-- what the law of clusters calls the node's part
 abbrev pub part_in : Local → Part
-part_in local = record { brought = local.brought; lacks = λ file. false; session = λ k. (local.residents k).session; reserved = λ k. (local.residents k).reserved }
+part_in local = record { brought = local.brought; lacks = local.lacks; session = λ k. (local.residents k).session; reserved = λ k. (local.residents k).reserved }
 
 -- the answers to the model's questions, where these servers are up
 abbrev pub state_of : Servers → Local → State
@@ -74,19 +80,27 @@ with_resident local k resident = record local { residents = λ j. if k == j then
 
 -- ---- what a step gives
 
--- the tenant's part after a step, what the tenant is told, the letters that go out, and what must not be forgotten
+-- what goes between a new node and a node of its column
+pub data Parcel : Type 0 where
+  -- that node is asked for its copy of the file
+  Wants : (to : ℕ) (file : File) → Parcel
+  -- that node is given this one's
+  Brings : (to : ℕ) (file : File) (copy : StoredCopy) → Parcel
+
+-- the tenant's part after a step, what the tenant is told, the letters and the parcel that go out, and what must not be forgotten
 pub record Doing : Type 0 where
   pub local : Local
   pub answer : Option Answer
   pub letters : List OwnMessage
+  pub parcel : Option Parcel
   pub fact : Option OwnFact
 
 -- nothing is told, sent or to be kept; the tenant is told this alone
 abbrev pub silently : Local → Doing
-silently local = record { local = local; answer = None; letters = []; fact = None }
+silently local = record { local = local; answer = None; letters = []; parcel = None; fact = None }
 
 abbrev pub tells : Local → Answer → Doing
-tells local answer = record { local = local; answer = Some answer; letters = []; fact = None }
+tells local answer = record { local = local; answer = Some answer; letters = []; parcel = None; fact = None }
 
 -- ---- a step of a session
 
@@ -134,6 +148,7 @@ goes_on local k op heard_before state e = record {
   });
   answer = answer_of k op (local.residents k).session.op e.told;
   letters = e.new;
+  parcel = None;
   fact = session_fact local k state e;
 }
 
@@ -173,7 +188,7 @@ own_admission k op begins last going outcome =
 -- and at any node: whether there is the session, and where its home is, come first
 abbrev pub admission : Site → (k op : ℕ) → (begins : Bool) → (last : ℕ) → (going : Bool) → Option Outcome → Admission
 admission site k op begins last going outcome =
-    if not (is_in 1 site.row.sessions k) then Tells (IsRefused k op NoSession)
+    if not (has_session site k) then Tells (IsRefused k op NoSession)
     else if not (site.home k == site.here) then Tells (Away k op (site.home k))
     else own_admission k op begins last going outcome
 
@@ -186,7 +201,7 @@ abbrev pub asked_by : Local → (k op : ℕ) → State → Line → Step → Doi
 asked_by local k op state line step = by (is_refusal step.told)
   where
     by : Bool → Doing
-    by true = record { local = local; answer = answer_of k op (local.residents k).session.op step.told; letters = []; fact = None }
+    by true = record { local = local; answer = answer_of k op (local.residents k).session.op step.told; letters = []; parcel = None; fact = None }
     by false = goes_on local k op false state (entry_of state (Own line) step)
 
 abbrev pub asks_in : Site → Local → (op : ℕ) → Line → ℕ → Doing
@@ -211,11 +226,12 @@ asks op line site local = by (asker line)
 abbrev pub holding : Site → List VolumeRow → Holding
 holding site volumes = record {
   servers = site.grid.rows * site.grid.cols;
-  home = site.home 1;
-  sessions = site.row.sessions;
+  home = site.first_home;
+  sessions = site.sessions;
   share = site.row.share;
   most_blocks = site.row.most_blocks;
   volumes = volumes;
+  nodes = nodes_from site 1;
 }
 
 -- the tenant asks what it has: it is told, and nothing else is done
@@ -246,13 +262,13 @@ file_fits (Some limit) body = body_fits limit body
 -- a letter goes from a session's home to a server, or back
 abbrev pub goes_between : Site → ℕ → OwnMessage → Bool
 goes_between site from m =
-    if to_server m.body then m.server == site.here && site.home m.session == from
-    else site.home m.session == site.here && m.server == from
+    if to_server m.body then m.server == site.place && site.home m.session == from
+    else site.home m.session == site.here && site.node_at m.server == from
 
 -- whether an honest node from there sends this letter to this one, in a file of that limit
 abbrev pub letter_fits : Site → Option ℕ → ℕ → OwnMessage → Bool
 letter_fits site limit from m =
-    is_in 1 site.row.sessions m.session && nat_lt m.server (site.grid.rows * site.grid.cols) && goes_between site from m && file_fits limit m.body
+    has_session site m.session && nat_lt m.server (site.grid.rows * site.grid.cols) && goes_between site from m && file_fits limit m.body
 
 -- the entry of a letter that came
 abbrev pub brings : OwnMessage → Step → Entry
@@ -264,11 +280,16 @@ serves site local m =
     let state : State = state_of everyone local in
     let step : Step = serve_step state m in
     record {
-      local = record local { brought = (changed (brings m step) state).brought site.here };
+      local = record local { brought = (changed (brings m step) state).brought site.place };
       answer = None;
       letters = step.new;
-      fact = replaced_in (held state site.here m.file) m.file m.body;
+      parcel = None;
+      fact = replaced_in (held state site.place m.file) m.file m.body;
     }
+
+-- unless it lacks the file
+abbrev pub at_server : Site → Local → OwnMessage → Doing
+at_server site local m = if local.lacks m.file then silently local else serves site local m
 
 -- whether the file is that of the operation's round
 abbrev pub of_round : Option Operation → File → Bool
@@ -292,7 +313,7 @@ abbrev pub receives : ℕ → OwnMessage → Site → Local → Doing
 receives from m site local = by (letter_fits site (limit_at (state_of everyone local) m.file.volume m.file.place) from m)
   where
     to_its_end : Bool → Doing
-    to_its_end true = serves site local m
+    to_its_end true = at_server site local m
     to_its_end false = hears site local m
 
     by : Bool → Doing
@@ -334,26 +355,39 @@ ticks k site local = by (is_some (local.residents k).session.current)
 abbrev pub rested : Resident → Reserved → Resident
 rested r reserved = record { session = record new_session { op = reserved.op; floor = reserved.floor }; reserved = reserved; outcome = None; row = r.row; column = r.column; waited = false }
 
+-- the server has one copy of the file more; and was given the file
+abbrev pub with_copy : File → StoredCopy → Local → Local
+with_copy file copy local = record local { brought = λ f. if is_file file f then local.brought f ++ copy ∷ [] else local.brought f }
+
+abbrev pub given : File → StoredCopy → Local → Local
+given file copy local = record (with_copy file copy local) { lacks = λ f. local.lacks f && not (is_file file f) }
+
 -- what a start makes of a fact
 abbrev pub recalled : OwnFact → Local → Local
 recalled (Begun k op) local = with_resident local k (rested (local.residents k) (reserved_by (Some (Begun k op)) (local.residents k).reserved))
 recalled (Numbered k number) local = with_resident local k (rested (local.residents k) (reserved_by (Some (Numbered k number)) (local.residents k).reserved))
-recalled (Kept file copy) local = record local { brought = λ f. if is_file file f then local.brought f ++ copy ∷ [] else local.brought f }
+recalled (Kept file copy) local = with_copy file copy local
+recalled (Had file copy) local = given file copy local
 
--- whether a fact can be one of this tenant, in a file of that limit
-abbrev pub fact_fits : Site → Option ℕ → OwnFact → Bool
-fact_fits site limit (Begun k op) = is_in 1 site.row.sessions k
-fact_fits site limit (Numbered k number) = is_in 1 site.row.sessions k
-fact_fits site limit (Kept file copy) = file_fits limit (Store copy)
+-- whether a fact can be one of this tenant, in a file of that limit, which its server lacks or has
+abbrev pub fact_fits : Site → (lacks : Bool) → Option ℕ → OwnFact → Bool
+fact_fits site lacks limit (Begun k op) = has_session site k
+fact_fits site lacks limit (Numbered k number) = has_session site k
+fact_fits site lacks limit (Kept file copy) = not lacks && file_fits limit (Store copy)
+fact_fits site lacks limit (Had file copy) = file_fits limit (Store copy)
 
 -- the file of a fact
 abbrev pub file_in : OwnFact → File
 file_in (Kept file copy) = file
+file_in (Had file copy) = file
 file_in _ = record { volume = 0; place = 0 }
+
+abbrev pub fits_local : OwnFact → Site → Local → Bool
+fits_local fact site local = fact_fits site (local.lacks (file_in fact)) (limit_at (state_of everyone local) (file_in fact).volume (file_in fact).place) fact
 
 -- a fact that does not fit is passed over
 abbrev pub recalls : OwnFact → Site → Local → Doing
-recalls fact site local = by (fact_fits site (limit_at (state_of everyone local) (file_in fact).volume (file_in fact).place) fact)
+recalls fact site local = by (fits_local fact site local)
   where
     by : Bool → Doing
     by false = silently local

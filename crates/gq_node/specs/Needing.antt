@@ -1,5 +1,5 @@
 -- The facts that a start needs, one by one.
-use Rattle.std.specs.Prelude.{◌≡◌, ℕ, ◌<◌, List, [], ◌∷◌, ◌++◌, true, false, ◌==◌, Some, length, map, if◌then◌else◌}
+use Rattle.std.specs.Prelude.{◌≡◌, ℕ, ◌<◌, List, [], ◌∷◌, ◌++◌, true, false, ◌==◌, Bool, Some, length, map, if◌then◌else◌}
 use Rattle.std.specs.List.{flat_map, range_with_len}
 use Rattle.gq_tag.specs.declared.StoredCopy.{StoredCopy}
 use Rattle.gq_tag.specs.Tag.{File, file_of, is_less, first_tag, first_copy}
@@ -10,9 +10,10 @@ use Rattle.gq_store.specs.Copies.{copy_at}
 use Rattle.gq_node.specs.declared.output.Fact.{Fact}
 use Rattle.gq_node.specs.declared.output.NeedRefused.{NeedRefused}
 use Rattle.gq_node.specs.declared.output.NeedRefused.TheVariants.{Memory, Unreadable}
-use Rattle.gq_cluster.specs.Facts.{OwnFact, Begun, Numbered, Kept}
+use Rattle.gq_cluster.specs.Facts.{OwnFact, Begun, Numbered, Kept, Had}
 use Rattle.gq_node.specs.Local.{copy_fits}
-use Rattle.gq_node.specs.Tables.{Tables, seat_at, fact_of}
+use Rattle.gq_node.specs.Sites.{session_at}
+use Rattle.gq_node.specs.Tables.{Tables, seat_at, fact_of, lacks_at, is_new_node}
 
 -- the last numbers that are reserved for the session, of its operations and of its tags, where they are not 0
 abbrev pub begun_facts : (k op : ℕ) → List OwnFact
@@ -27,15 +28,30 @@ numbers_facts k op number = begun_facts k op ++ number_facts k number
 abbrev pub seat_facts : Tables → (t k : ℕ) → List OwnFact
 seat_facts w t k = numbers_facts k (seat_at w t k).reserved_op (seat_at w t k).reserved_floor
 
+-- of so many sessions
+abbrev pub place_numbers : Tables → (t place : ℕ) → List OwnFact
+place_numbers w t place = seat_facts w t (session_at w.plan w.here t place)
+
+abbrev pub seats_facts : Tables → (t places : ℕ) → List OwnFact
+seats_facts w t places = flat_map (place_numbers w t) (range_with_len 0 places)
+
 -- the copy of a file, where it is above the first one
 abbrev pub copy_facts : File → StoredCopy → List OwnFact
 copy_facts file copy = if is_less first_tag copy.tag then Kept file copy ∷ [] else []
 
-abbrev pub place_of : (volume place : ℕ) → File
-place_of volume place = record { volume = volume; place = place }
+-- of a new node, which has the file or lacks it: it was given it, whatever the copy
+abbrev pub given_facts : (lacks : Bool) → File → StoredCopy → List OwnFact
+given_facts lacks file copy = if lacks then [] else Had file copy ∷ []
+
+abbrev pub file_facts : (new lacks : Bool) → File → StoredCopy → List OwnFact
+file_facts new lacks file copy = if new then given_facts lacks file copy else copy_facts file copy
+
+abbrev pub file_at : (volume place : ℕ) → File
+file_at volume place = record { volume = volume; place = place }
 
 abbrev pub place_facts : Tables → (t volume place : ℕ) → List OwnFact
-place_facts w t volume place = copy_facts (place_of volume place) (copy_at w.store (file_of t (place_of volume place)))
+place_facts w t volume place =
+    file_facts (is_new_node w) (lacks_at w t (file_at volume place)) (file_at volume place) (copy_at w.store (file_of t (file_at volume place)))
 
 -- of so many files of the volume
 abbrev pub files_facts : Tables → (t volume files : ℕ) → List OwnFact
@@ -54,7 +70,7 @@ volumes_facts w t = flat_map (volume_facts w t) (range_with_len 0 (length (accou
 
 -- of the tenant at place t
 abbrev pub tenant_facts : Tables → ℕ → List OwnFact
-tenant_facts w t = flat_map (seat_facts w t) (range_with_len 1 (row_at w.plan t).sessions) ++ volumes_facts w t
+tenant_facts w t = seats_facts w t (row_at w.plan t).sessions ++ volumes_facts w t
 
 -- of all tenants
 abbrev pub all_facts : Tables → List Fact
@@ -66,7 +82,7 @@ pub record IsReadable (limit : ℕ) (copy : StoredCopy) : Type 0 where
   pub first : is_less first_tag copy.tag ≡ false → copy ≡ first_copy
 
 abbrev pub PlaceReadable : Tables → (t volume place : ℕ) → Type 0
-PlaceReadable w t volume place = (limit : ℕ) → limit_of w.desk (file_of t (place_of volume place)) ≡ Some limit → IsReadable limit (copy_at w.store (file_of t (place_of volume place)))
+PlaceReadable w t volume place = (limit : ℕ) → limit_of w.desk (file_of t (file_at volume place)) ≡ Some limit → IsReadable limit (copy_at w.store (file_of t (file_at volume place)))
 
 -- so is each copy of the tenant's files
 abbrev pub AllReadable : Tables → ℕ → Type 0

@@ -1,16 +1,15 @@
 -- A part at rest: what a start makes of it, and the facts that a start needs.
-use Rattle.std.specs.Prelude.{◌≡◌, ℕ, ◌<◌, List, [], ◌∷◌, true, ◌==◌, None, length, fold, if◌then◌else◌}
+use Rattle.std.specs.Prelude.{◌≡◌, ℕ, ◌<◌, List, [], ◌∷◌, true, ◌==◌, ◌&&◌, None, is_some, length, fold, if◌then◌else◌}
 use Rattle.std.specs.List.{list_all}
-use Rattle.gq_tag.specs.Tag.{File}
-use Rattle.gq_desk.specs.CheckedPlan.{row_at}
-use Rattle.gq_desk.specs.Plans.{is_in}
-use Rattle.gq_desk.specs.declared.plans.TenantRow.{TenantRow}
-use Rattle.gq_cluster.specs.Cluster.{copy_in}
+use Rattle.gq_tag.specs.Tag.{File, first_copy}
+use Rattle.gq_desk.specs.declared.volumes.VolumeRow.{VolumeRow}
+use Rattle.gq_model.specs.Trace.{limit_at}
+use Rattle.gq_cluster.specs.Cluster.{everyone, copy_in, is_within}
 use Rattle.gq_node.specs.declared.output.Fact.{Fact}
 use Rattle.gq_cluster.specs.Facts.{OwnFact}
-use Rattle.gq_node.specs.Local.{Local, Resident, new_local, part_in, recalls}
+use Rattle.gq_node.specs.Local.{Local, Resident, new_local, part_in, state_of, recalls}
 use Rattle.gq_node.specs.Recalling.{tenant_of, own_fact, fits_in}
-use Rattle.gq_node.specs.Sites.{Site, site_of}
+use Rattle.gq_node.specs.Sites.{Site, site_of, has_session, is_new}
 use Rattle.gq_node.specs.Tables.{Tables, Agrees}
 
 -- what a start makes of facts, in order
@@ -25,17 +24,23 @@ abbrev pub those_of : ℕ → List Fact → List OwnFact
 those_of t [] = []
 those_of t (fact ∷ facts) = if tenant_of fact == t then own_fact fact ∷ those_of t facts else those_of t facts
 
+-- the part of a node which was never started, and of which another one was lost if it is a new one: it lacks the files of so many first volumes
+abbrev pub begun_local : Site → List VolumeRow → ℕ → Local
+begun_local site volumes lost = record (new_local site.grid site.place volumes) { lacks = λ file. is_new site && is_within lost file }
+
 -- the session goes on behind the numbers that are reserved for it
 pub record GoesBehind (r : Resident) : Type 0 where
   pub op : r.session.op ≡ r.reserved.op
   pub floor : r.session.floor ≡ r.reserved.floor
 
--- The one part is the other at rest: it has the same volumes and copies, and the same numbers are reserved for each session of the row;
+-- The one part is the other at rest: it has the same volumes and copies, and lacks the same files; the same numbers are reserved for each session
+-- of the plan;
 -- its sessions go on behind these, and none has an operation.
-pub record IsAtRest (row : TenantRow) (rest local : Local) : Type 0 where
+pub record IsAtRest (site : Site) (rest local : Local) : Type 0 where
   pub volumes : rest.volumes ≡ local.volumes
   pub copies : (file : File) → copy_in (part_in rest) file ≡ copy_in (part_in local) file
-  pub reserved : (k : ℕ) → is_in 1 row.sessions k ≡ true → (rest.residents k).reserved ≡ (local.residents k).reserved
+  pub lacks : (file : File) → is_some (limit_at (state_of everyone local) file.volume file.place) ≡ true → rest.lacks file ≡ local.lacks file
+  pub reserved : (k : ℕ) → has_session site k ≡ true → (rest.residents k).reserved ≡ (local.residents k).reserved
   pub behind : (k : ℕ) → GoesBehind (rest.residents k)
   pub idle : (k : ℕ) → (rest.residents k).session.current ≡ None
 
@@ -44,10 +49,15 @@ abbrev pub AllOfPlan : Tables → List Fact → Type 0
 AllOfPlan w [] = Unit {0}
 AllOfPlan w (fact ∷ facts) = (tenant_of fact < length w.plan.rows) × AllOfPlan w facts
 
--- a node that was never started, with the same volumes open, and reads these facts, each of which fits, has each part of the node at
--- rest
+-- of a file that its server lacks the part has the first copy
+abbrev pub IsBare : Local → Type 0
+IsBare local = (f : File) → local.lacks f ≡ true → copy_in (part_in local) f ≡ first_copy
+
+-- A node that was never started, with the same volumes open, and reads these facts, each of which fits, has each part of the node at
+-- rest. Of a file that it lacks the node has the first copy, which no fact has to say.
 pub record Needed (w : Tables) (facts : List Fact) : Type 0 where
   pub within : AllOfPlan w facts
   pub fit : list_all (fits_in w) facts ≡ true
+  pub bare : (t : ℕ) (local : Local) → Agrees w t local → IsBare local
   pub makes : (t : ℕ) → t < length w.plan.rows → (local : Local) → Agrees w t local →
-      IsAtRest (row_at w.plan t) (recall_all (site_of w.plan w.server t) (new_local w.plan.grid w.server local.volumes) (those_of t facts)) local
+      IsAtRest (site_of w.plan w.here t) (recall_all (site_of w.plan w.here t) (begun_local (site_of w.plan w.here t) local.volumes (length local.volumes)) (those_of t facts)) local

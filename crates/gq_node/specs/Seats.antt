@@ -120,6 +120,7 @@ SeatTicks grid old new messages = TicksWith old.operation grid old new messages
 pub record GivesNothing (out : Output) : Type 0 where
   pub answer : out.answer ≡ None
   pub letters : out.letters.items ≡ []
+  pub parcel : out.parcel ≡ None
   pub fact : out.fact ≡ None
 
 -- the operation of session k says this to the message, a run of numbers of tags is reserved for it where one has to be, and this is given

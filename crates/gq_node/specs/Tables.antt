@@ -1,6 +1,8 @@
 -- What a contract sees of a node's tables, and what a tenant's part of them stands for.
-use Rattle.std.specs.Prelude.{◌≡◌, ◌≢◌, ℕ, ◌+◌, ◌-◌, ◌/◌, ◌%◌, ◌<◌, List, [], ◌∷◌, Option, Some, None, Bool, false, length, map, option_map, slice_index_or, slice_set}
+use Rattle.std.specs.Prelude.{◌≡◌, ◌≢◌, ℕ, ◌/◌, ◌%◌, ◌<◌, List, [], ◌∷◌, Option, Some, None, Bool, false, ◌==◌, ◌||◌, nat_lt, length, map, option_map, slice_index_or, slice_set}
 use Rattle.gq_grid.specs.Grid.{Grid}
+use Rattle.gq_grid.specs.Sets.{servers}
+use Rattle.gq_grid.specs.declared.ServerSet.{ServerSet}
 use Rattle.gq_tag.specs.Tag.{File, file_of, message_of, first_copy, greatest}
 use Rattle.gq_desk.specs.CheckedPlan.{CheckedPlan, row_at}
 use Rattle.gq_desk.specs.Volumes.{Account, account_at, account_with}
@@ -9,20 +11,28 @@ use Rattle.gq_phase.specs.Standing.{StandsFor}
 use Rattle.gq_phase.specs.declared.operation.Operation.{Operation as Code}
 use Rattle.gq_store.specs.Copies.{StoreCopies, copy_at}
 use Rattle.gq_model.specs.Trace.{operation_with}
+use Rattle.gq_replace.specs.Plans.{place_of, generation}
 use Rattle.gq_node.specs.declared.seats.Seat.{Seat}
 use Rattle.gq_node.specs.declared.output.Output.{Output}
 use Rattle.gq_node.specs.declared.output.Fact.{Fact}
-use Rattle.gq_node.specs.declared.output.Fact.TheVariants.{Began, Numbered as HasNumber, Kept as IsKept}
-use Rattle.gq_cluster.specs.Facts.{OwnFact, Begun, Numbered, Kept}
-use Rattle.gq_node.specs.Local.{Local, Resident, Doing}
-use Rattle.gq_node.specs.Sites.{Site, site_of}
+use Rattle.gq_node.specs.declared.output.Fact.TheVariants.{Began, Numbered as HasNumber, Kept as IsKept, Had as WasGiven}
+use Rattle.gq_node.specs.declared.output.Parcel.{Parcel as CodeParcel}
+use Rattle.gq_node.specs.declared.output.Parcel.TheVariants.{Wants as CodeWants, Brings as CodeBrings}
+use Rattle.gq_cluster.specs.Facts.{OwnFact, Begun, Numbered, Kept, Had}
+use Rattle.gq_node.specs.Local.{Local, Resident, Parcel, Wants, Brings, Doing}
+use Rattle.gq_node.specs.Lacks.{Given, lacks_in}
+use Rattle.gq_node.specs.Sites.{Site, Here, seat_place, session_at, site_of}
 
--- the plan, the number of the node's server, the tenants' volumes, the server's copies, and the tenants' sessions
+-- the plan, which node it is, the tenants' volumes, the server's copies and which files it lacks, the nodes that have joined, whom the tenants'
+-- files were asked of last, and the tenants' sessions
 pub record Tables : Type 0 where
   pub plan : CheckedPlan
-  pub server : ℕ
+  pub here : Here
   pub desk : List Account
   pub store : StoreCopies
+  pub given : List Given
+  pub joined : ServerSet
+  pub mates : List ℕ
   pub seats : List (List Seat)
 
 -- a session that began nothing
@@ -33,20 +43,43 @@ no_seat = record { op = 0; floor = 0; reserved_op = 0; reserved_floor = 0; opera
 abbrev pub first_seat : Grid → ℕ → Seat
 first_seat grid server = record { op = 0; floor = 0; reserved_op = 0; reserved_floor = 0; operation = None; outcome = None; row = server / grid.cols; column = server % grid.cols; waited = false }
 
--- the sessions of the tenant at place t, and the one at a place of them, which is the session of one more
+-- the sessions of the tenant at place t, and the one at a place of them
 abbrev pub seats_at : List (List Seat) → ℕ → List Seat
 seats_at seats t = slice_index_or seats t []
 
 abbrev pub seat_in : List Seat → ℕ → Seat
 seat_in seats place = slice_index_or seats place no_seat
 
+-- whether another node was lost at this one's place before
+abbrev pub is_new_node : Tables → Bool
+is_new_node w = nat_lt 0 (generation w.here.node)
+
+-- which files of the tenant at place t the server lacks, and whom it asked last for one
+abbrev pub given_at : Tables → ℕ → Given
+given_at w t = slice_index_or w.given t []
+
+abbrev pub lacks_at : Tables → ℕ → File → Bool
+lacks_at w t file = lacks_in (given_at w t) file
+
+abbrev pub mate_at : Tables → ℕ → ℕ
+mate_at w t = slice_index_or w.mates t 0
+
+-- the node at that place has joined, or is this one
+abbrev pub has_joined : Tables → (place : ℕ) → Bool
+has_joined w place = place == place_of w.here.node || servers w.joined place
+
 -- session k of the tenant at place t
 abbrev pub seat_at : Tables → ℕ → ℕ → Seat
-seat_at w t k = seat_in (seats_at w.seats t) (k - 1)
+seat_at w t k = seat_in (seats_at w.seats t) (seat_place k)
 
 -- the tables in which that session is another
 abbrev pub with_seat : Tables → ℕ → ℕ → Seat → Tables
-with_seat w t k seat = record w { seats = slice_set w.seats t (slice_set (seats_at w.seats t) (k - 1) seat) }
+with_seat w t k seat = record w { seats = slice_set w.seats t (slice_set (seats_at w.seats t) (seat_place k) seat) }
+
+-- session k is that of the plan at its place
+pub record IsOfPlan (w : Tables) (t k : ℕ) : Type 0 where
+  pub within : seat_place k < (row_at w.plan t).sessions
+  pub number : session_at w.plan w.here t (seat_place k) ≡ k
 
 -- ---- what the tables stand for
 
@@ -71,7 +104,10 @@ pub record SeatAgrees (grid : Grid) (t k : ℕ) (seat : Seat) (r : Resident) : T
 pub record Agrees (w : Tables) (t : ℕ) (local : Local) : Type 0 where
   pub account : account_at w.desk t ≡ account_with (row_at w.plan t) local.volumes
   pub copies : (file : File) → copy_at w.store (file_of t file) ≡ greatest (first_copy ∷ local.brought file)
-  pub seats : (place : ℕ) → place < (row_at w.plan t).sessions → SeatAgrees w.plan.grid t (place + 1) (seat_in (seats_at w.seats t) place) (local.residents (place + 1))
+  pub lacks : (file : File) → lacks_at w t file ≡ local.lacks file
+  pub joined : servers w.joined ≡ local.joined
+  pub mate : mate_at w t ≡ local.mate
+  pub seats : (place : ℕ) → place < (row_at w.plan t).sessions → SeatAgrees w.plan.grid t (session_at w.plan w.here t place) (seat_in (seats_at w.seats t) place) (local.residents (session_at w.plan w.here t place))
 
 -- ---- what a step gives
 
@@ -80,29 +116,42 @@ abbrev pub fact_of : ℕ → OwnFact → Fact
 fact_of t (Begun k op) = Began t k op
 fact_of t (Numbered k number) = HasNumber t k number
 fact_of t (Kept file copy) = IsKept (file_of t file) copy
+fact_of t (Had file copy) = WasGiven (file_of t file) copy
+
+-- the parcel of the tenant at place t, if there is one
+abbrev pub parcel_of : ℕ → Parcel → CodeParcel
+parcel_of t (Wants to file) = CodeWants to (file_of t file)
+parcel_of t (Brings to file copy) = CodeBrings to (file_of t file) copy
 
 -- what is written is what the step of the tenant at place t gives
 pub record Gives (t : ℕ) (doing : Doing) (out : Output) : Type 0 where
   pub answer : out.answer ≡ doing.answer
   pub letters : out.letters.items ≡ map (message_of t) doing.letters
+  pub parcel : out.parcel ≡ option_map (parcel_of t) doing.parcel
   pub fact : out.fact ≡ option_map (fact_of t) doing.fact
 
 -- the step of the tenant at place t leads from the old tables to the new, whatever part of the node the tables have for the
 -- tenant; for all others they have what they had
 pub record Leads (old : Tables) (t : ℕ) (step : Site → Local → Doing) (new : Tables) : Type 0 where
   pub plan : new.plan ≡ old.plan
-  pub server : new.server ≡ old.server
-  pub own : (local : Local) → Agrees old t local → Agrees new t (step (site_of old.plan old.server t) local).local
+  pub here : new.here ≡ old.here
+  pub own : (local : Local) → Agrees old t local → Agrees new t (step (site_of old.plan old.here t) local).local
   pub others : (u : ℕ) → u ≢ t → (local : Local) → Agrees old u local → Agrees new u local
 
 -- this is what the step gives, whatever part of the node the tables have for the tenant
 abbrev pub GivesAt : Tables → ℕ → (Site → Local → Doing) → Output → Type 0
-GivesAt old t step out = (local : Local) → Agrees old t local → Gives t (step (site_of old.plan old.server t) local) out
+GivesAt old t step out = (local : Local) → Agrees old t local → Gives t (step (site_of old.plan old.here t) local) out
 
 -- the step leads from the old tables to the new, and gives this
 pub record Acts (old : Tables) (t : ℕ) (step : Site → Local → Doing) (out : Output) (new : Tables) : Type 0 where
   pub leads : Leads old t step new
   pub gives : GivesAt old t step out
+
+-- each part goes on by the step, and nothing is given
+pub record LeadsAll (old : Tables) (step : Site → Local → Doing) (new : Tables) : Type 0 where
+  pub plan : new.plan ≡ old.plan
+  pub here : new.here ≡ old.here
+  pub parts : (t : ℕ) → t < length old.plan.rows → (local : Local) → Agrees old t local → Agrees new t (step (site_of old.plan old.here t) local).local
 
 -- the tables have for the tenant some part of the node
 pub record Stands (w : Tables) (t : ℕ) : Type 0 where

@@ -1,20 +1,20 @@
 //! What a start makes of a fact, and the facts that a start needs.
 
 ghost use Rattle.std.specs.Prelude.{◌≡◌, ◌↔◌, ◌<◌, ◌≤◌, ◌++◌, ℕ, length, map, true, false, IfOk, IfErr, IsSome, OnOk, IsTrue, unwrap_or};
-ghost use Rattle.gq_tag.specs.Tag.{file_place, first_copy, first_tag, is_less};
+ghost use Rattle.gq_tag.specs.Tag.{file_of, file_place, first_copy, first_tag, is_less};
 ghost use Rattle.gq_desk.specs.CheckedPlan.{row_at};
-ghost use Rattle.gq_desk.specs.Plans.{is_in};
+ghost use Rattle.gq_node.specs.Sites.{site_of, has_session};
 ghost use Rattle.gq_desk.specs.Volumes.{account_at, limit_of};
 ghost use Rattle.gq_desk.specs.declared.limits.TheConstants.{MOST_VOLUMES};
 ghost use Rattle.gq_store.specs.Copies.{copy_at};
 ghost use Rattle.gq_node.specs.Local.{recalls};
-ghost use Rattle.gq_node.specs.Needing.{copy_facts, IsReadable, IsRefusedOf, seat_facts, place_facts, files_facts, files_in, volumes_facts, tenant_facts, PlaceReadable, AllReadable, IsRefusedIn};
+ghost use Rattle.gq_node.specs.Needing.{file_facts, IsReadable, IsRefusedOf, place_numbers, seats_facts, file_at, place_facts, files_facts, files_in, volumes_facts, tenant_facts, PlaceReadable, AllReadable, IsRefusedIn};
 ghost use Rattle.gq_node.specs.Recalling.{tenant_of, own_fact, fits_in};
 ghost use Rattle.gq_node.specs.Tables.{fact_of, Leads, seat_at, with_seat};
-ghost use Rattle.std.specs.List.{flat_map, range_with_len};
 ghost use Rattle.gq_node.specs.Resting.{Needed};
 ghost use Rattle.gq_node.specs.Seats.{recalled_seat};
 
+use crate::homes::seat_place;
 use crate::letters::copy_fits;
 use crate::output::{Fact, NeedRefused, put_begun, put_number};
 use crate::tables::Core;
@@ -35,27 +35,44 @@ fn is_above_first(copy: &StoredCopy) -> bool
     0 < copy.tag.number || 0 == copy.tag.number && 0 < copy.tag.session
 }
 
-// Appends the file's copy, where a start needs it and would take it again.
-fn put_copy(
+// Whether a start would take the copy again.
+fn is_readable(limit: u32, copy: &StoredCopy) -> bool
+    ensures readable { result ≡ true → IsReadable limit copy.now }
+    ensures not { result ≡ false → IsReadable limit copy.now → ⊥ }
+{
+    if is_above_first(copy) {
+        copy_fits(limit, copy)
+    } else {
+        is_first(copy)
+    }
+}
+
+// Appends what a start needs of the file, at a new node or another, whose server lacks it or has this copy, where a start would take it
+// again.
+fn put_file(
+    new: bool,
+    lacks: bool,
     limit: u32,
     file: FileId,
     copy: StoredCopy,
     facts: &mut Vec<Fact>,
 ) -> Result<(), NeedRefused>
-    ensures facts { OnOk result (facts.new.items ≡ facts.old.items ++ map (fact_of file.tenant) (copy_facts (file_place file) copy)) }
+    ensures facts { OnOk result (facts.new.items ≡ facts.old.items ++ map (fact_of file.tenant) (file_facts new lacks (file_place file) copy)) }
     ensures readable { OnOk result (IsReadable limit copy) }
     ensures refused { IfErr result (IsRefusedOf limit copy) }
 {
-    if !is_above_first(&copy) {
-        if !is_first(&copy) {
-            return Err(NeedRefused::Unreadable);
+    if !is_readable(limit, &copy) {
+        return Err(NeedRefused::Unreadable);
+    }
+    if new {
+        if !lacks {
+            facts.grow(Fact::Had { file, copy })?;
         }
         return Ok(());
     }
-    if !copy_fits(limit, &copy) {
-        return Err(NeedRefused::Unreadable);
+    if is_above_first(&copy) {
+        facts.grow(Fact::Kept { file, copy })?;
     }
-    facts.grow(Fact::Kept { file, copy })?;
     Ok(())
 }
 
@@ -69,7 +86,7 @@ impl Core {
         number: Option<u64>,
     ) -> bool
         requires { tenant < length self.old.plan.rows }
-        ensures fits { result ≡ is_in 1 (row_at self.old.plan tenant).sessions session }
+        ensures fits { result ≡ has_session (site_of self.old.plan self.old.here tenant) session }
         ensures none { result ≡ false → self.new ≡ self.old }
         ensures recalled { result ≡ true → self.new ≡ with_seat self.old tenant session
             (recalled_seat (seat_at self.old tenant session) (unwrap_or op (seat_at self.old tenant session).reserved_op) (unwrap_or number (seat_at self.old tenant session).reserved_floor)) }
@@ -78,11 +95,11 @@ impl Core {
         if !self.has(tenant, u32::from(session)) {
             return false;
         }
-        self.seats[tenant as usize].recall(session as usize - 1, op, number);
+        self.seats[tenant as usize].recall(seat_place(u32::from(session)), op, number);
         true
     }
 
-    // The server of a start has this copy, where the file is there and has room for it.
+    // The server of a start has this copy, where the file is there and has room for it, and the server does not lack it.
     fn recall_copy(&mut self, file: FileId, copy: &StoredCopy) -> bool
         requires { file.tenant < length self.old.plan.rows }
         ensures leads { Leads self.old file.tenant (recalls (own_fact (Fact.Kept file copy.now))) self.new }
@@ -96,7 +113,31 @@ impl Core {
         if !copy_fits(limit, copy) {
             return false;
         }
+        if self.lacks(file) {
+            return true;
+        }
         let _put = self.store.put(file, copy.tag, copy.bytes.as_slice());
+        true
+    }
+
+    // The server of a start was given this copy, where the file is there and has room for it.
+    fn recall_given(&mut self, file: FileId, copy: &StoredCopy) -> bool
+        requires { file.tenant < length self.old.plan.rows }
+        ensures leads { Leads self.old file.tenant (recalls (own_fact (Fact.Had file copy.now))) self.new }
+        ensures fits { result ≡ fits_in self.old (Fact.Had file copy.now) }
+        ensures none { result ≡ false → self.new ≡ self.old }
+        ensures desk { self.new.desk ≡ self.old.desk }
+    {
+        let Some(limit) = self.desk.limit(file) else {
+            return false;
+        };
+        if !copy_fits(limit, copy) {
+            return false;
+        }
+        if !self.is_there(file) {
+            return false;
+        }
+        self.has_now(file, copy);
         true
     }
 
@@ -108,7 +149,7 @@ impl Core {
         ensures none { result ≡ false → self.new ≡ self.old }
         ensures desk { self.new.desk ≡ self.old.desk }
     {
-        let _server = self.server;
+        let _node = self.node;
         match fact {
             Fact::Began {
                 tenant,
@@ -121,38 +162,36 @@ impl Core {
                 number,
             } => self.recall_session(*tenant, *session, None, Some(*number)),
             Fact::Kept { file, copy } => self.recall_copy(*file, copy),
+            Fact::Had { file, copy } => self.recall_given(*file, copy),
         }
     }
 
-    // Appends what a start needs of the session.
-    fn put_seat(&self, tenant: u8, session: u32, facts: &mut Vec<Fact>) -> Result<(), OutOfMemory>
+    // Appends what a start needs of the session at that place.
+    fn put_seat(&self, tenant: u8, place: usize, facts: &mut Vec<Fact>) -> Result<(), OutOfMemory>
         requires tenant { tenant < length self.now.plan.rows }
-        requires first { 1 ≤ session }
-        requires last { session ≤ (row_at self.now.plan tenant).sessions }
-        ensures { OnOk result (facts.new.items ≡ facts.old.items ++ map (fact_of tenant) (seat_facts self.now tenant session)) }
+        requires place { place < (row_at self.now.plan tenant).sessions }
+        ensures { OnOk result (facts.new.items ≡ facts.old.items ++ map (fact_of tenant) (place_numbers self.now tenant place)) }
     {
-        if !self.has(tenant, session) {
-            return Ok(());
-        }
-        let seat = &self.seats[tenant as usize].items[session as usize - 1];
-        put_begun(tenant, session as u8, seat.reserved_op, facts)?;
-        put_number(tenant, session as u8, seat.reserved_floor, facts)
+        let session = self.session_at(tenant, place);
+        let seat = &self.seats[tenant as usize].items[place];
+        put_begun(tenant, session, seat.reserved_op, facts)?;
+        put_number(tenant, session, seat.reserved_floor, facts)
     }
 
     // Appends what a start needs of the tenant's sessions.
     fn put_seats(&self, tenant: u8, facts: &mut Vec<Fact>) -> Result<(), OutOfMemory>
         requires { tenant < length self.now.plan.rows }
-        ensures { OnOk result (facts.new.items ≡ facts.old.items ++ map (fact_of tenant) (flat_map (seat_facts self.now tenant) (range_with_len 1 (row_at self.now.plan tenant).sessions))) }
+        ensures { OnOk result (facts.new.items ≡ facts.old.items ++ map (fact_of tenant) (seats_facts self.now tenant (row_at self.now.plan tenant).sessions)) }
     {
         let sessions = self.plan.row(tenant).sessions;
         for place in 0..sessions {
-            self.put_seat(tenant, place + 1, facts)?;
+            self.put_seat(tenant, place as usize, facts)?;
         }
         Ok(())
     }
 
     // The copy of the file.
-    fn copy_of(&self, file: FileId) -> Result<StoredCopy, OutOfMemory>
+    pub(crate) fn copy_of(&self, file: FileId) -> Result<StoredCopy, OutOfMemory>
         requires { IsSome (limit_of self.now.desk file) }
         ensures { IfOk result (λ copy. copy ≡ copy_at self.now.store file) }
     {
@@ -164,7 +203,7 @@ impl Core {
         })
     }
 
-    // Appends the copy of the file, where a start needs it.
+    // Appends what a start needs of the file.
     fn put_place(
         &self,
         tenant: u8,
@@ -172,7 +211,8 @@ impl Core {
         place: u32,
         facts: &mut Vec<Fact>,
     ) -> Result<(), NeedRefused>
-        requires { tenant < length self.now.plan.rows }
+        requires tenant { tenant < length self.now.plan.rows }
+        requires there { IsSome (limit_of self.now.desk (file_of tenant (file_at volume place))) }
         ensures facts { OnOk result (facts.new.items ≡ facts.old.items ++ map (fact_of tenant) (place_facts self.now tenant volume place)) }
         ensures readable { OnOk result (PlaceReadable self.now tenant volume place) }
         ensures refused { IfErr result (IsRefusedIn self.now) }
@@ -186,10 +226,10 @@ impl Core {
             return Ok(());
         };
         let copy = self.copy_of(file)?;
-        put_copy(limit, file, copy, facts)
+        put_file(self.is_new(), self.lacks(file), limit, file, copy, facts)
     }
 
-    // Appends the copies of so many files of the volume.
+    // Appends what a start needs of so many files of the volume.
     fn put_files(
         &self,
         tenant: u8,
@@ -197,7 +237,9 @@ impl Core {
         files: u32,
         facts: &mut Vec<Fact>,
     ) -> Result<(), NeedRefused>
-        requires { tenant < length self.now.plan.rows }
+        requires tenant { tenant < length self.now.plan.rows }
+        requires volume { volume < length (account_at self.now.desk tenant).volumes }
+        requires files { files ≡ files_in self.now tenant volume }
         ensures facts { OnOk result (facts.new.items ≡ facts.old.items ++ map (fact_of tenant) (files_facts self.now tenant volume files)) }
         ensures readable { OnOk result ((place : ℕ) → place < files → PlaceReadable self.now tenant volume place) }
         ensures refused { IfErr result (IsRefusedIn self.now) }
@@ -209,7 +251,7 @@ impl Core {
     }
 
     // How many volumes the tenant has.
-    fn count_volumes(&self, tenant: u8) -> usize
+    pub(crate) fn count_volumes(&self, tenant: u8) -> usize
         requires { tenant < length self.now.plan.rows }
         ensures count { result ≡ length (account_at self.now.desk tenant).volumes }
         ensures few { result ≤ MOST_VOLUMES }
@@ -217,7 +259,7 @@ impl Core {
         self.desk.volumes(tenant).len()
     }
 
-    // Appends the copies of the tenant's files.
+    // Appends what a start needs of the tenant's files.
     fn put_volumes(&self, tenant: u8, facts: &mut Vec<Fact>) -> Result<(), NeedRefused>
         requires { tenant < length self.now.plan.rows }
         ensures facts { OnOk result (facts.new.items ≡ facts.old.items ++ map (fact_of tenant) (volumes_facts self.now tenant)) }

@@ -1,12 +1,12 @@
 //! The laws, as clauses of functions that do nothing.
 
 ghost use Rattle.gq_node.specs.Again.{AllToldAgain, AllEndsToldAgain};
-ghost use Rattle.gq_node.specs.Apart.{AllCallsByParts, AllTenantsApart};
+ghost use Rattle.gq_node.specs.Nodes.{AllNodesFollow, AllNodesServe, AllVolumesOpen};
 ghost use Rattle.gq_node.specs.Once.{AllAgainLeave, AllTakeOnce, AllBeginOnce};
+ghost use Rattle.gq_node.specs.Apart.{AllCallsByParts, AllTenantsApart};
 ghost use Rattle.gq_node.specs.Progress.{AllRowsAreTried, AllColumnsAreTried};
 ghost use Rattle.gq_node.specs.Aims.{AllAimsHaveQuorums, AllRequestsHaveQuorums};
 ghost use Rattle.gq_node.specs.Bridge.{AllRequestsAct, AllQuestionsTell, AllLettersAct, AllTicksAct};
-ghost use Rattle.gq_node.specs.Nodes.{AllNodesFollow, AllNodesServe, AllVolumesOpen};
 
 /// What a node does by a line, a letter or a tick is, in the tenant's part of it, an act of the law of clusters
 /// (`gq_cluster::laws::clusters`) or nothing. It is an act of the law where a request begins an operation, gives it up
@@ -20,12 +20,16 @@ pub fn acts()
     ensures ticks { AllTicksAct }
 {}
 
-/// Whatever comes to the nodes of a tenant that were never started, of which each letter was written before: lines,
-/// questions what the tenant has, letters, ticks, and starts, at which a node reads the facts that it gave. All this is
-/// a list of steps of the law of clusters, which may follow one another; what they tell and send is what the nodes do;
-/// and in the end each server's copies are the same, and each session is as its home has it. And a node that starts
-/// knows its copies again, and the numbers that are reserved for each of its sessions, of operations and of tags; each
-/// session goes on behind these, used or not, and what was going on is gone.
+/// Whatever comes to the nodes of a tenant, of which some are lost and replaced by new ones: lines, questions what the
+/// tenant has, letters, ticks, starts with the same plan or a later one, at which a node reads the facts that it gave, the
+/// word of nodes that they know of a new one, and questions for copies and answers to these; as long as what comes of
+/// another node was written by it, and a node whose place a new one has taken over does nothing more. All this is a list
+/// of steps of the law of nodes that are replaced (`gq_replace::laws`), which may happen one behind the other; what they
+/// tell and send is what the nodes do; and in the end the law has of each node what the node has. A request that a node
+/// refuses is no step. And a node that starts knows its copies again, the files that it lacks, and the numbers that are
+/// reserved for each of its sessions; each session goes on behind these, used or not, and what was going on is gone.
+/// Where the plan gives the tenant as many steps as the run takes, it is a run of the service, and each file is one
+/// register.
 pub fn nodes()
     ensures follow { AllNodesFollow }
     ensures serve { AllNodesServe }
@@ -60,8 +64,8 @@ pub fn requests_once()
 /// that it is gone, where the node does not know the outcome; and of an operation before the last one that its number
 /// is old. And once the tenant was told how an operation ended, it is told the same, byte for byte, at each line of the
 /// session with this number, whatever comes to the nodes between, until the session begins its next operation; where
-/// the node started again since, it is told that the operation is gone, or that its number is old, where the session
-/// goes on behind a greater one.
+/// the node started again since, by a plan that has the session still, it is told that the operation is gone, or that its
+/// number is old, where the session goes on behind a greater one.
 pub fn told_again()
     ensures again { AllToldAgain }
     ensures ends { AllEndsToldAgain }

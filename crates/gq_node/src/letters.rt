@@ -8,11 +8,12 @@ ghost use Rattle.gq_desk.specs.Volumes.{limit_of};
 ghost use Rattle.gq_store.specs.Copies.{copy_at, file_limit};
 ghost use Rattle.gq_phase.specs.Best.{copied_number};
 ghost use Rattle.gq_cluster.specs.Facts.{replaced_in};
-ghost use Rattle.gq_node.specs.Local.{serves, hears, receives, ticks, goes_between, letter_fits, copy_fits, file_fits};
-ghost use Rattle.gq_node.specs.Sites.{site_of, address_of};
-ghost use Rattle.gq_node.specs.Tables.{fact_of, Acts, Stands};
+ghost use Rattle.gq_node.specs.Local.{serves, at_server, hears, receives, ticks, goes_between, letter_fits, copy_fits, file_fits};
+ghost use Rattle.gq_node.specs.Sites.{site_of, has_session, session_at, address_of};
+ghost use Rattle.gq_replace.specs.Plans.{place_of};
+ghost use Rattle.gq_node.specs.Tables.{fact_of, Acts, Stands, lacks_at};
 
-use crate::homes::home;
+use crate::homes::{home, seat_place};
 use crate::output::{Fact, Output, letters_of};
 use crate::tables::Core;
 use gq_memory::{GrowVec, OutOfMemory};
@@ -41,29 +42,33 @@ fn file_fits(limit: Option<u32>, body: &Body) -> bool
 
 impl Core {
     // Whether a letter that came from there goes from a session's home to a server, or back.
-    fn goes_between(&self, from: u8, message: &Message) -> bool
+    fn goes_between(&self, from: u16, message: &Message) -> bool
         requires tenant { message.now.tenant < length self.now.plan.rows }
         requires first { 1 ≤ message.now.session }
-        ensures { result ≡ goes_between (site_of self.now.plan self.now.server message.now.tenant) from (own_message message.now) }
+        requires server { message.now.server < MOST_SERVERS }
+        ensures { result ≡ goes_between (site_of self.now.plan self.now.here message.now.tenant) from (own_message message.now) }
     {
-        let home = home(&self.plan, message.tenant, u32::from(message.session));
+        let home = home(&self.plan, message.tenant, message.session);
         if message.to_server() {
-            message.server == self.server && home == from
+            message.server == self.server() && home == from
         } else {
-            home == self.server && message.server == from
+            home == self.node && self.lost.node_at(message.server as usize) == from
         }
     }
 
     // Whether an honest node from there sends this letter to this one.
-    fn fits(&self, from: u8, message: &Message) -> bool
+    fn fits(&self, from: u16, message: &Message) -> bool
         requires { message.now.tenant < length self.now.plan.rows }
-        ensures { result ≡ letter_fits (site_of self.now.plan self.now.server message.now.tenant)
+        ensures { result ≡ letter_fits (site_of self.now.plan self.now.here message.now.tenant)
             (limit_of self.now.desk message.now.file) from (own_message message.now) }
     {
-        self.has(message.tenant, u32::from(message.session))
-            && (message.server as usize) < self.plan.grid().servers()
-            && self.goes_between(from, message)
-            && file_fits(self.desk.limit(message.file), &message.body)
+        if !self.has(message.tenant, u32::from(message.session)) {
+            return false;
+        }
+        if message.server as usize >= self.plan.grid().servers() {
+            return false;
+        }
+        self.goes_between(from, message) && file_fits(self.desk.limit(message.file), &message.body)
     }
 
     // What is kept of a letter to the server.
@@ -87,7 +92,8 @@ impl Core {
         requires tenant { message.now.tenant < length self.old.plan.rows }
         requires own { message.now.file.tenant ≡ message.now.tenant }
         requires goes { to_server message.now.body ≡ true }
-        requires server { message.now.server ≡ self.old.server }
+        requires server { message.now.server ≡ place_of self.old.here.node }
+        requires has { lacks_at self.old message.now.tenant (file_place message.now.file) ≡ false }
         requires fits { file_fits (limit_of self.old.desk message.now.file) message.now.body ≡ true }
         ensures acts { IfOk result (λ out. Acts self.old message.now.tenant (λ site local. serves site local (own_message message.now)) out self.new) }
     {
@@ -102,15 +108,30 @@ impl Core {
         Ok(Output {
             answer: None,
             letters,
+            parcel: None,
             fact,
         })
+    }
+
+    // The server serves the letter, unless it lacks the file.
+    fn bring(&mut self, message: &Message) -> Result<Output, OutOfMemory>
+        requires tenant { message.now.tenant < length self.old.plan.rows }
+        requires own { message.now.file.tenant ≡ message.now.tenant }
+        requires goes { to_server message.now.body ≡ true }
+        requires server { message.now.server ≡ place_of self.old.here.node }
+        requires fits { file_fits (limit_of self.old.desk message.now.file) message.now.body ≡ true }
+        ensures acts { IfOk result (λ out. Acts self.old message.now.tenant (λ site local. at_server site local (own_message message.now)) out self.new) }
+    {
+        if self.lacks(message.file) {
+            return Ok(Output::nothing(self.alloc));
+        }
+        self.serve(message)
     }
 
     // A session hears the letter.
     fn hear(&mut self, message: &Message) -> Result<Output, OutOfMemory>
         requires tenant { message.now.tenant < length self.old.plan.rows }
-        requires first { 1 ≤ message.now.session }
-        requires last { message.now.session ≤ (row_at self.old.plan message.now.tenant).sessions }
+        requires has { has_session (site_of self.old.plan self.old.here message.now.tenant) message.now.session ≡ true }
         requires goes { to_server message.now.body ≡ false }
         requires server { message.now.server < MOST_SERVERS }
         requires number { copied_number message.now.body < u64.MAX }
@@ -119,7 +140,7 @@ impl Core {
         let alloc = self.alloc;
         let grid = *self.plan.grid();
         self.seats[message.tenant as usize].attend(
-            message.session as usize - 1,
+            seat_place(u32::from(message.session)),
             alloc,
             &grid,
             message,
@@ -127,7 +148,7 @@ impl Core {
     }
 
     // A letter that came from there.
-    pub(crate) fn letter(&mut self, from: u8, message: &Message) -> Result<Output, OutOfMemory>
+    pub(crate) fn letter(&mut self, from: u16, message: &Message) -> Result<Output, OutOfMemory>
         requires tenant { message.now.tenant < length self.old.plan.rows }
         requires own { message.now.file.tenant ≡ message.now.tenant }
         ensures acts { IfOk result (λ out. Acts self.old message.now.tenant (receives from (own_message message.now)) out self.new) }
@@ -136,38 +157,37 @@ impl Core {
             return Ok(Output::nothing(self.alloc));
         }
         if message.to_server() {
-            self.serve(message)
+            self.bring(message)
         } else {
             self.hear(message)
         }
     }
 
     // The node that the letter goes to.
-    pub(crate) fn address(&self, message: &Message) -> u8
-        requires tenant { message.now.tenant < length self.now.plan.rows }
-        requires first { 1 ≤ message.now.session }
-        ensures { result ≡ address_of self.now.plan message.now }
+    pub(crate) fn address(&self, message: &Message) -> u16
+        requires { message.now.tenant < length self.now.plan.rows }
+        ensures { result ≡ address_of self.now.plan self.now.here message.now }
     {
         if message.to_server() {
-            message.server
+            self.lost.node_at(message.server as usize)
         } else {
-            home(&self.plan, message.tenant, u32::from(message.session))
+            home(&self.plan, message.tenant, message.session)
         }
     }
 
-    // A tick comes to the session.
-    pub(crate) fn tick(&mut self, tenant: u8, session: u32) -> Result<Output, OutOfMemory>
+    // A tick comes to the session at that place of the tenant's.
+    pub(crate) fn tick(&mut self, tenant: u8, place: usize) -> Result<Output, OutOfMemory>
         requires tenant { tenant < length self.old.plan.rows }
-        requires first { 1 ≤ session }
-        requires last { session ≤ (row_at self.old.plan tenant).sessions }
+        requires place { place < (row_at self.old.plan tenant).sessions }
         requires stands { Stands self.old tenant }
-        ensures acts { IfOk result (λ out. Acts self.old tenant (ticks session) out self.new) }
+        ensures acts { IfOk result (λ out. Acts self.old tenant (ticks (session_at self.old.plan self.old.here tenant place)) out self.new) }
     {
         let grid = *self.plan.grid();
-        let messages = self.seats[tenant as usize].tick(session as usize - 1, &grid)?;
+        let messages = self.seats[tenant as usize].tick(place, &grid)?;
         Ok(Output {
             answer: None,
             letters: letters_of(self.alloc, messages)?,
+            parcel: None,
             fact: None,
         })
     }

@@ -6,8 +6,11 @@
 mod aims;
 mod facts;
 mod homes;
+mod joining;
+mod lacks;
 pub mod laws;
 mod letters;
+mod lost;
 mod node;
 mod output;
 mod requests;
@@ -15,5 +18,7 @@ mod seats;
 mod tables;
 
 pub use gq_model::{Line, Refusal};
+pub use lost::{Lost, LostRefused, MOST_NUMBERS, MOST_TIMES, NODE_NUMBERS};
 pub use node::{Ended, Node};
-pub use output::{Answer, Fact, Holding, NeedRefused, Output};
+pub use output::{Answer, Fact, Holding, NeedRefused, NodeNumbers, Output, Parcel};
+pub use tables::place_of;

@@ -1,24 +1,29 @@
 //! The node, until memory runs out.
 
 ghost use Rattle.std.specs.Prelude.{◌≡◌, ◌*◌, ◌<◌, ◌≤◌, ℕ, [], true, false, length, IfOk, IfErr, OnOk, OnErr, IsErr};
-ghost use Rattle.gq_tag.specs.Tag.{own_message};
+ghost use Rattle.gq_tag.specs.Tag.{own_message, file_place};
+ghost use Rattle.gq_grid.specs.Sets.{servers};
+ghost use Rattle.gq_desk.specs.declared.limits.TheConstants.{MOST_VOLUMES};
 ghost use Rattle.gq_desk.specs.CheckedPlan.{row_at};
 ghost use Rattle.gq_desk.specs.Volumes.{IsRefusedFor, open_fault, account_at};
 ghost use Rattle.gq_node.specs.Bounds.{IsBounded};
-ghost use Rattle.gq_node.specs.Sites.{address_of};
+ghost use Rattle.gq_replace.specs.Plans.{place_of};
+ghost use Rattle.gq_node.specs.Sites.{address_of, session_at, site_of};
 ghost use Rattle.gq_node.specs.Local.{new_local, asks, tells_holding, receives, ticks, recalls};
 ghost use Rattle.gq_node.specs.Recalling.{tenant_of, own_fact, fits_in};
 ghost use Rattle.gq_node.specs.Needing.{IsRefusedIn};
 ghost use Rattle.gq_node.specs.Resting.{Needed};
-ghost use Rattle.gq_node.specs.Opening.{Opens};
-ghost use Rattle.gq_node.specs.Tables.{Acts, Leads, Agrees, AllStand};
+ghost use Rattle.gq_node.specs.Opening.{Bereaves, Opens};
+ghost use Rattle.gq_node.specs.Joining.{tells_joined, hears_joined, awaited, lacked_files, looks, gives, takes};
+ghost use Rattle.gq_node.specs.Tables.{Acts, Leads, LeadsAll, Agrees, AllStand, lacks_at};
 
+use crate::lost::Lost;
 use crate::output::{Fact, NeedRefused, Output};
 use crate::tables::Core;
 use gq_desk::{OpenRefused, Plan};
 use gq_memory::OutOfMemory;
 use gq_model::Line;
-use gq_tag::Message;
+use gq_tag::{FileId, Message, StoredCopy};
 use std::alloc::Global;
 use std::marker::Model;
 use thiserror::Error;
@@ -48,20 +53,40 @@ impl Model for Node {
 pub struct Ended(pub OutOfMemory);
 
 impl Node {
-    /// The node of the plan's server of this number, which was never started: no volume is open. Where memory is
-    /// wanting the plan is given up.
-    pub fn new(alloc: Global, plan: Plan, server: u8) -> Result<Node, OutOfMemory>
-        requires { server < plan.grid.rows * plan.grid.cols }
+    /// The node of this number, which was never started, by a plan in which these nodes were lost: no volume is open.
+    /// Where memory is wanting the plan is given up.
+    pub fn new(alloc: Global, plan: Plan, lost: Lost, node: u16) -> Result<Node, OutOfMemory>
+        requires { place_of node < plan.grid.rows * plan.grid.cols }
         ensures plan { IfOk result (λ w. w.tables.plan ≡ plan) }
-        ensures server { IfOk result (λ w. w.tables.server ≡ server) }
-        ensures agrees { IfOk result (λ w. (t : ℕ) → t < length plan.rows → Agrees w.tables t (new_local plan.grid server [])) }
+        ensures here { IfOk result (λ w. w.tables.here ≡ record { node = node; lost = lost }) }
+        ensures agrees { IfOk result (λ w. (t : ℕ) → t < length plan.rows → Agrees w.tables t (new_local plan.grid (place_of node) [])) }
         ensures goes { IfOk result (λ w. w.ended ≡ false) }
     {
-        let tables = Core::new(alloc, plan, server)?;
+        let tables = Core::new(alloc, plan, lost, node)?;
         Ok(Node {
             tables,
             ended: None,
         })
+    }
+
+    /// The tenant's first volumes, so many, were lost with the node that stood at this one's place before, where this is a
+    /// new one: its server lacks their files. No fact was read yet. Where memory is wanting the node is given up.
+    pub fn lack(&mut self, tenant: u8, volumes: usize) -> Result<(), OutOfMemory>
+        requires tenant { tenant < length self.old.tables.plan.rows }
+        requires few { volumes ≤ MOST_VOLUMES }
+        requires first { Agrees self.old.tables tenant (new_local self.old.tables.plan.grid (place_of self.old.tables.here.node) (account_at self.old.tables.desk tenant).volumes) }
+        requires goes { self.old.ended ≡ false }
+        ensures begins { OnOk result (Bereaves self.old.tables tenant volumes self.new.tables) }
+        ensures ended { OnErr result (self.new.ended ≡ true) }
+        ensures goes { OnOk result (self.new.ended ≡ false) }
+    {
+        match self.tables.lack(tenant, volumes) {
+            Ok(()) => Ok(()),
+            Err(refused) => {
+                self.ended = Some(refused.again());
+                Err(refused)
+            }
+        }
     }
 
     /// Opens the next volume of the tenant at that place of the plan: so many files of so many blocks each. The causes
@@ -131,18 +156,24 @@ impl Node {
         self.tables.plan()
     }
 
-    /// The number of the node's server.
-    pub fn server(&self) -> u8
-        ensures { result ≡ self.now.tables.server }
+    /// The number of the node.
+    pub fn number(&self) -> u16
+        ensures { result ≡ self.now.tables.here.node }
     {
-        self.tables.server()
+        self.tables.node()
+    }
+
+    /// The nodes that were lost, as the node's plan says.
+    pub fn lost(&self) -> &Lost
+        ensures { result.now ≡ self.now.tables.here.lost }
+    {
+        self.tables.lost()
     }
 
     /// The node that the letter goes to.
-    pub fn address(&self, message: &Message) -> u8
-        requires tenant { message.now.tenant < length self.now.tables.plan.rows }
-        requires first { 1 ≤ message.now.session }
-        ensures { result ≡ address_of self.now.tables.plan message.now }
+    pub fn address(&self, message: &Message) -> u16
+        requires { message.now.tenant < length self.now.tables.plan.rows }
+        ensures { result ≡ address_of self.now.tables.plan self.now.tables.here message.now }
     {
         self.tables.address(message)
     }
@@ -192,7 +223,7 @@ impl Node {
     }
 
     /// Takes a letter from the node of that number. One that no honest node sends to this one is passed over.
-    pub fn letter(&mut self, from: u8, message: &Message) -> Result<Output, Ended>
+    pub fn letter(&mut self, from: u16, message: &Message) -> Result<Output, Ended>
         requires tenant { message.now.tenant < length self.old.tables.plan.rows }
         requires own { message.now.file.tenant ≡ message.now.tenant }
         ensures acts { IfOk result (λ out. Acts self.old.tables message.now.tenant (receives from (own_message message.now)) out self.new.tables) }
@@ -213,12 +244,17 @@ impl Node {
         }
     }
 
-    /// Takes a tick for the tenant's session: a tick of the node is one for each session of each tenant, in order.
-    pub fn tick(&mut self, tenant: u8, session: u32) -> Result<Output, Ended>
-        requires tenant { tenant < length self.old.tables.plan.rows }
-        requires first { 1 ≤ session }
-        requires last { session ≤ (row_at self.old.tables.plan tenant).sessions }
-        ensures acts { IfOk result (λ out. Acts self.old.tables tenant (ticks session) out self.new.tables) }
+    /// Whether a new node that asks is told that this one's plan has it, and so many losses or more.
+    pub fn tells_joined(&self, from: u16, losses: u32) -> bool
+        ensures { (t : ℕ) → result ≡ tells_joined from losses (site_of self.now.tables.plan self.now.tables.here t) }
+    {
+        self.tables.tells_joined(from, losses)
+    }
+
+    /// Takes the word of the node of that number that its plan has this one, and so many losses. It counts where this is a
+    /// new node, and its own plan has that node and as many losses.
+    pub fn hear_joined(&mut self, from: u16, losses: u32) -> Result<(), Ended>
+        ensures leads { OnOk result (LeadsAll self.old.tables (hears_joined from losses) self.new.tables) }
         ensures ended { OnErr result (self.new.ended ≡ true) }
         ensures after { self.old.ended ≡ true → IsErr result }
         ensures still { self.old.ended ≡ true → self.new ≡ self.old }
@@ -227,7 +263,95 @@ impl Node {
         if let Some(refused) = &self.ended {
             return Err(Ended(refused.again()));
         }
-        match self.tables.tick(tenant, session) {
+        self.tables.join(from, losses);
+        Ok(())
+    }
+
+    /// The other nodes of the plan whose word, that they have joined, did not come since the start, in rising order.
+    pub fn awaited(&self) -> Result<Vec<u16>, OutOfMemory>
+        ensures { IfOk result (λ nodes. (t : ℕ) → nodes.items ≡ awaited (site_of self.now.tables.plan self.now.tables.here t) (servers self.now.tables.joined)) }
+    {
+        self.tables.awaited()
+    }
+
+    /// How many files of the tenant the server lacks.
+    pub fn lacked(&self, tenant: u8) -> usize
+        requires { tenant < length self.now.tables.plan.rows }
+        ensures { result ≡ lacked_files (lacks_at self.now.tables tenant) (account_at self.now.tables.desk tenant).volumes }
+    {
+        self.tables.lacked(tenant)
+    }
+
+    /// Takes a tick behind those of the tenant's sessions: once all other nodes have joined, the first file of the tenant
+    /// that the server lacks is asked of the next node of its column.
+    pub fn look(&mut self, tenant: u8) -> Result<Output, Ended>
+        requires { tenant < length self.old.tables.plan.rows }
+        ensures acts { IfOk result (λ out. Acts self.old.tables tenant looks out self.new.tables) }
+        ensures ended { OnErr result (self.new.ended ≡ true) }
+        ensures after { self.old.ended ≡ true → IsErr result }
+        ensures still { self.old.ended ≡ true → self.new ≡ self.old }
+        ensures goes { OnOk result (self.new.ended ≡ false) }
+    {
+        if let Some(refused) = &self.ended {
+            return Err(Ended(refused.again()));
+        }
+        Ok(self.tables.look(tenant))
+    }
+
+    /// Takes a question of the node of that number for this one's copy of the file. It is given where that is a node of
+    /// this one's column, and the server has the file.
+    pub fn fetch(&mut self, from: u16, file: FileId) -> Result<Output, Ended>
+        requires { file.tenant < length self.old.tables.plan.rows }
+        ensures acts { IfOk result (λ out. Acts self.old.tables file.tenant (gives from (file_place file)) out self.new.tables) }
+        ensures same { self.new.tables ≡ self.old.tables }
+        ensures ended { OnErr result (self.new.ended ≡ true) }
+        ensures after { self.old.ended ≡ true → IsErr result }
+        ensures still { self.old.ended ≡ true → self.new ≡ self.old }
+        ensures goes { OnOk result (self.new.ended ≡ false) }
+    {
+        if let Some(refused) = &self.ended {
+            return Err(Ended(refused.again()));
+        }
+        match self.tables.give(from, file) {
+            Ok(out) => Ok(out),
+            Err(refused) => {
+                self.ended = Some(refused.again());
+                Err(Ended(refused))
+            }
+        }
+    }
+
+    /// Takes the copy of the file that the node of that number gives. The server has it from then on, where it lacked the
+    /// file and that is a node of its column, and the next file that it lacks is asked of that node at once.
+    pub fn fetched(&mut self, from: u16, file: FileId, copy: StoredCopy) -> Result<Output, Ended>
+        requires { file.tenant < length self.old.tables.plan.rows }
+        ensures acts { IfOk result (λ out. Acts self.old.tables file.tenant (takes from (file_place file) copy) out self.new.tables) }
+        ensures ended { OnErr result (self.new.ended ≡ true) }
+        ensures after { self.old.ended ≡ true → IsErr result }
+        ensures still { self.old.ended ≡ true → self.new ≡ self.old }
+        ensures goes { OnOk result (self.new.ended ≡ false) }
+    {
+        if let Some(refused) = &self.ended {
+            return Err(Ended(refused.again()));
+        }
+        Ok(self.tables.take(from, file, copy))
+    }
+
+    /// Takes a tick for the session at that place of the tenant's, from 0: a tick of the node is one for each session of
+    /// each tenant, in order.
+    pub fn tick(&mut self, tenant: u8, place: usize) -> Result<Output, Ended>
+        requires tenant { tenant < length self.old.tables.plan.rows }
+        requires place { place < (row_at self.old.tables.plan tenant).sessions }
+        ensures acts { IfOk result (λ out. Acts self.old.tables tenant (ticks (session_at self.old.tables.plan self.old.tables.here tenant place)) out self.new.tables) }
+        ensures ended { OnErr result (self.new.ended ≡ true) }
+        ensures after { self.old.ended ≡ true → IsErr result }
+        ensures still { self.old.ended ≡ true → self.new ≡ self.old }
+        ensures goes { OnOk result (self.new.ended ≡ false) }
+    {
+        if let Some(refused) = &self.ended {
+            return Err(Ended(refused.again()));
+        }
+        match self.tables.tick(tenant, place) {
             Ok(out) => Ok(out),
             Err(refused) => {
                 self.ended = Some(refused.again());

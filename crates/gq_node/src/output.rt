@@ -12,13 +12,14 @@ use gq_model::Refusal;
 use gq_phase::{Heard, Messages, Outcome};
 use gq_tag::{FileId, Message, StoredCopy};
 use std::alloc::Global;
+use std::marker::Model;
 
 /// What a tenant has.
 #[derive(Debug, Drop)]
 pub struct Holding {
     /// How many servers the grid has.
     pub servers: u8,
-    /// The node that is the home of its session 1.
+    /// The place of the grid at which the home of its first session stands.
     pub home: u8,
     /// How many sessions it has.
     pub sessions: u32,
@@ -28,6 +29,22 @@ pub struct Holding {
     pub most_blocks: u32,
     /// Its open volumes in order.
     pub volumes: VolumeRows,
+    /// The nodes that took the place of others, which were lost, in rising order.
+    pub nodes: NodeNumbers,
+}
+
+/// Numbers of nodes.
+#[derive(Debug, Drop)]
+pub struct NodeNumbers {
+    pub items: Vec<u16>,
+}
+
+impl Model for NodeNumbers {
+    ghost use Rattle.std.specs.Prelude.{List, ℕ};
+
+    ghost Value = { List ℕ };
+
+    ghost view = { λ n. n.items.items };
 }
 
 /// What a node tells a tenant. Each answer to a request names the session and the number of the operation that it is of.
@@ -68,7 +85,7 @@ pub enum Answer {
     Away {
         session: u32,
         op: u32,
-        home: u8,
+        home: u16,
     },
     /// What the tenant has.
     Has(Holding),
@@ -108,14 +125,36 @@ pub enum Fact {
         file: FileId,
         copy: StoredCopy,
     },
+    /// The server was given this copy of the file, which it lacked.
+    Had {
+        file: FileId,
+        copy: StoredCopy,
+    },
 }
 
-/// What a step gives: what the tenant is told, the letters that go out, and what must not be forgotten. What goes out rests on
-/// the fact: nothing of it may leave before the fact is safe.
+/// What goes between a new node and a node of its column, so that the new one gets the files that its server lacks.
+#[derive(Debug, Drop)]
+pub enum Parcel {
+    /// The node `to` is asked for its copy of the file.
+    Wants {
+        to: u16,
+        file: FileId,
+    },
+    /// The node `to` is given this one's copy.
+    Brings {
+        to: u16,
+        file: FileId,
+        copy: StoredCopy,
+    },
+}
+
+/// What a step gives: what the tenant is told, the letters and the parcel that go out, and what must not be forgotten. What
+/// goes out rests on the fact: nothing of it may leave before the fact is safe.
 #[derive(Debug, Drop)]
 pub struct Output {
     pub answer: Option<Answer>,
     pub letters: Vec<Message>,
+    pub parcel: Option<Parcel>,
     pub fact: Option<Fact>,
 }
 
@@ -124,11 +163,28 @@ impl Output {
     pub(crate) fn nothing(alloc: Global) -> Output
         ensures answer { result.answer ≡ None }
         ensures letters { result.letters.items ≡ [] }
+        ensures parcel { result.parcel ≡ None }
         ensures fact { result.fact ≡ None }
     {
         Output {
             answer: None,
             letters: Vec::new(alloc),
+            parcel: None,
+            fact: None,
+        }
+    }
+
+    // The parcel alone goes out.
+    pub(crate) fn sent(alloc: Global, parcel: Parcel) -> Output
+        ensures answer { result.answer ≡ None }
+        ensures letters { result.letters.items ≡ [] }
+        ensures parcel { result.parcel ≡ Some parcel }
+        ensures fact { result.fact ≡ None }
+    {
+        Output {
+            answer: None,
+            letters: Vec::new(alloc),
+            parcel: Some(parcel),
             fact: None,
         }
     }
@@ -137,11 +193,13 @@ impl Output {
     pub(crate) fn told(alloc: Global, answer: Answer) -> Output
         ensures answer { result.answer ≡ Some answer }
         ensures letters { result.letters.items ≡ [] }
+        ensures parcel { result.parcel ≡ None }
         ensures fact { result.fact ≡ None }
     {
         Output {
             answer: Some(answer),
             letters: Vec::new(alloc),
+            parcel: None,
             fact: None,
         }
     }
@@ -225,6 +283,7 @@ pub(crate) fn heard_output(
             Ok(Output {
                 answer: None,
                 letters,
+                parcel: None,
                 fact: numbered_fact(tenant, session, run),
             })
         }

@@ -2,7 +2,7 @@
 
 ghost use Rattle.std.specs.Prelude.{◌≡◌, ◌<◌, ◌≤◌, ◌+◌, [], length, true, false, Some, None, IfOk, IsErrOf, option_map};
 ghost use Rattle.gq_grid.specs.Sets.{servers};
-ghost use Rattle.gq_desk.specs.CheckedPlan.{row_at};
+ghost use Rattle.gq_node.specs.Sites.{site_of, has_session};
 ghost use Rattle.gq_model.specs.declared.events.Line.{Line};
 ghost use Rattle.gq_model.specs.Lone.{first_cause};
 ghost use Rattle.gq_cluster.specs.Facts.{greatest_op};
@@ -13,7 +13,7 @@ ghost use Rattle.gq_node.specs.Asking.{volume_causes, file_causes, write_causes,
 ghost use Rattle.gq_node.specs.Seats.{seat_aim};
 
 use crate::aims::aim;
-use crate::homes::home;
+use crate::homes::{home, seat_place};
 use crate::output::{Admission, Answer, Output, begun_fact, refused_answer};
 use crate::tables::Core;
 use bytes::Bytes;
@@ -63,11 +63,11 @@ impl Core {
                 refusal: Refusal::NoSession,
             }));
         }
-        let home = home(&self.plan, tenant, session);
-        if home != self.server {
+        let home = home(&self.plan, tenant, session as u8);
+        if home != self.node {
             return Ok(Admission::Tells(Answer::Away { session, op, home }));
         }
-        self.seats[tenant as usize].items[session as usize - 1].admission(session, op, begins)
+        self.seats[tenant as usize].items[seat_place(session)].admission(session, op, begins)
     }
 
     // Why a request of the session that names the volume is refused, the choice of a quorum apart.
@@ -78,7 +78,7 @@ impl Core {
         if !self.has(tenant, session) {
             return Some(Refusal::NoSession);
         }
-        if self.seats[tenant as usize].items[session as usize - 1]
+        if self.seats[tenant as usize].items[seat_place(session)]
             .operation
             .is_some()
         {
@@ -136,20 +136,19 @@ impl Core {
     // The number of the session's last operation.
     fn last_op(&self, tenant: u8, session: u32) -> u32
         requires tenant { tenant < length self.now.plan.rows }
-        requires first { 1 ≤ session }
-        requires last { session ≤ (row_at self.now.plan tenant).sessions }
+        requires has { has_session (site_of self.now.plan self.now.here tenant) session ≡ true }
         ensures { result ≡ (seat_at self.now tenant session).op }
     {
-        self.seats[tenant as usize].items[session as usize - 1].op
+        self.seats[tenant as usize].items[seat_place(session)].op
     }
 
     // The session's request is refused.
     fn refused(&self, tenant: u8, session: u32, op: u32, refusal: Refusal) -> Output
         requires tenant { tenant < length self.now.plan.rows }
-        requires first { 1 ≤ session }
-        requires last { session ≤ (row_at self.now.plan tenant).sessions }
+        requires has { has_session (site_of self.now.plan self.now.here tenant) session ≡ true }
         ensures answer { result.answer ≡ Some (refused_with session op (seat_at self.now tenant session).op refusal) }
         ensures letters { result.letters.items ≡ [] }
+        ensures parcel { result.parcel ≡ None }
         ensures fact { result.fact ≡ None }
     {
         let last = self.last_op(tenant, session);
@@ -165,16 +164,16 @@ impl Core {
         messages: Messages,
     ) -> Result<Output, OutOfMemory>
         requires tenant { tenant < length self.old.plan.rows }
-        requires first { 1 ≤ session }
-        requires last { session ≤ (row_at self.old.plan tenant).sessions }
+        requires has { has_session (site_of self.old.plan self.old.here tenant) session ≡ true }
         requires number { (seat_at self.old tenant session).op < greatest_op }
         ensures begins { IfOk result (λ out. HasBegunWith self.old tenant session operation messages out self.new) }
     {
         let letters = messages.to_vec(self.alloc)?;
-        let run = self.seats[tenant as usize].begin(session as usize - 1, operation);
+        let run = self.seats[tenant as usize].begin(seat_place(session), operation);
         Ok(Output {
             answer: None,
             letters,
+            parcel: None,
             fact: begun_fact(tenant, session as u8, run),
         })
     }
@@ -187,8 +186,7 @@ impl Core {
         began: Result<(Operation, Messages), BeginRefused>,
     ) -> Result<Output, OutOfMemory>
         requires tenant { tenant < length self.old.plan.rows }
-        requires first { 1 ≤ session }
-        requires last { session ≤ (row_at self.old.plan tenant).sessions }
+        requires has { has_session (site_of self.old.plan self.old.here tenant) session ≡ true }
         requires number { (seat_at self.old tenant session).op < greatest_op }
         requires quorum { ¬ IsErrOf began BeginRefused.NoQuorum }
         ensures starts { IfOk result (λ out. Starts self.old tenant session began out self.new) }
@@ -203,14 +201,13 @@ impl Core {
     // What the session's next operation begins with.
     fn next(&self, tenant: u8, session: u32) -> Next
         requires tenant { tenant < length self.now.plan.rows }
-        requires first { 1 ≤ session }
-        requires last { session ≤ (row_at self.now.plan tenant).sessions }
+        requires has { has_session (site_of self.now.plan self.now.here tenant) session ≡ true }
         requires number { (seat_at self.now tenant session).op < greatest_op }
         ensures who { result.who ≡ record { tenant = tenant; session = session; op = (seat_at self.now tenant session).op + 1 } }
         ensures floor { result.floor ≡ (seat_at self.now tenant session).floor }
         ensures up { servers result.up ≡ seat_aim self.now.plan.grid (seat_at self.now tenant session) }
     {
-        let seat = &self.seats[tenant as usize].items[session as usize - 1];
+        let seat = &self.seats[tenant as usize].items[seat_place(session)];
         Next {
             who: Who {
                 tenant,
@@ -325,7 +322,7 @@ impl Core {
         requires goes { admission_at self.old tenant session op false ≡ Goes }
         ensures { Acts self.old tenant (asks op (Line.Abandon session)) result self.new }
     {
-        self.seats[tenant as usize].abandon(session as usize - 1);
+        self.seats[tenant as usize].abandon(seat_place(session));
         Output::told(self.alloc, Answer::Gone { session, op })
     }
 

@@ -1,23 +1,27 @@
 //! A node's tables: their form, what they are at first, and what a tenant has in them.
 
-ghost use Rattle.std.specs.Prelude.{◌≡◌, ◌<◌, ◌≤◌, ◌*◌, length, map, replicate, true, IfOk, IfErr};
+ghost use Rattle.std.specs.Prelude.{◌≡◌, ◌<◌, ◌≤◌, ◌*◌, ◌≢◌, [], length, map, replicate, true, IfOk, IfErr};
 ghost use Rattle.gq_tag.specs.declared.TheConstants.{MOST_FILES};
 ghost use Rattle.gq_desk.specs.CheckedPlan.{row_at};
-ghost use Rattle.gq_desk.specs.Plans.{is_in};
 ghost use Rattle.gq_desk.specs.Volumes.{IsRefusedFor, open_fault, account_at};
 ghost use Rattle.gq_model.specs.Trace.{files_of};
 ghost use Rattle.gq_node.specs.Local.{holding, tells_holding};
 ghost use Rattle.gq_node.specs.Bounds.{IsBounded};
 ghost use Rattle.gq_node.specs.Shape.{FewSessions, IsShaped, IsFirst};
-ghost use Rattle.gq_node.specs.Sites.{site_of};
-ghost use Rattle.gq_node.specs.Tables.{first_seat, Tables, Acts, seats_at};
+ghost use Rattle.gq_node.specs.Sites.{Here, site_of, has_session, seat_place, session_at};
+ghost use Rattle.gq_replace.specs.Plans.{place_of};
+ghost use Rattle.gq_node.specs.declared.lost.TheConstants.{MOST_NUMBERS};
+ghost use Rattle.gq_node.specs.Tables.{first_seat, Tables, Acts, IsOfPlan, seats_at};
 ghost use Rattle.gq_node.specs.Opening.{Opens};
 
-use crate::homes::home;
-use crate::output::{Answer, Holding, Output};
+use crate::homes::{generation, home_place, seat_place};
+use crate::lacks::Lacks;
+use crate::lost::{Lost, MOST_NUMBERS};
+use crate::output::{Answer, Holding, NodeNumbers, Output};
 use crate::seats::Seats;
-use gq_desk::{Desk, OpenRefused, Plan, VolumeRows};
-use gq_memory::{GrowVec, OutOfMemory, slice_copied};
+use gq_desk::{Desk, MOST_SESSIONS, OpenRefused, Plan, VolumeRows};
+use gq_grid::{MOST_SERVERS, ServerSet};
+use gq_memory::{GrowVec, OutOfMemory, filled, room_for, slice_copied};
 use gq_store::ServerStore;
 use std::alloc::Global;
 use std::marker::Model;
@@ -27,9 +31,16 @@ use std::marker::Model;
 pub(crate) struct Core {
     pub(crate) alloc: Global,
     pub(crate) plan: Plan,
-    pub(crate) server: u8,
+    pub(crate) lost: Lost,
+    pub(crate) node: u16,
     pub(crate) desk: Desk,
     pub(crate) store: ServerStore,
+    // the files of each tenant that the server lacks
+    pub(crate) lacks: Vec<Lacks>,
+    // the places whose nodes have told, since the start, that their plan has this one
+    pub(crate) joined: ServerSet,
+    // whom each tenant's files were asked of last: a place
+    pub(crate) mates: Vec<u8>,
     // the sessions of each tenant
     pub(crate) seats: Vec<Seats>,
 }
@@ -40,9 +51,16 @@ impl Model for Core {
 
     ghost Value = { Tables };
 
-    ghost view = { λ w. record { plan = w.plan; server = w.server; desk = w.desk; store = w.store; seats = w.seats.items } };
+    ghost view = { λ w. record { plan = w.plan; here = record { node = w.node; lost = w.lost }; desk = w.desk; store = w.store; given = w.lacks.items; joined = w.joined; mates = w.mates.items; seats = w.seats.items } };
 
-    ghost invariant = { λ w. IsShaped (record { plan = w.plan; server = w.server; desk = w.desk; store = w.store; seats = w.seats.items }) };
+    ghost invariant = { λ w. IsShaped (record { plan = w.plan; here = record { node = w.node; lost = w.lost }; desk = w.desk; store = w.store; given = w.lacks.items; joined = w.joined; mates = w.mates.items; seats = w.seats.items }) };
+}
+
+/// The place of the grid at which the node of that number stands.
+pub fn place_of(node: u16) -> u8
+    ensures { result ≡ place_of node }
+{
+    (node as usize % MOST_SERVERS) as u8
 }
 
 // The sessions of each tenant of the plan, at the node of the server.
@@ -58,22 +76,42 @@ fn new_seats(alloc: Global, plan: &Plan, server: u8) -> Result<Vec<Seats>, OutOf
     Ok(seats)
 }
 
+// None of so many tenants has a file that the server lacks.
+fn no_lacks(alloc: Global, tenants: usize) -> Result<Vec<Lacks>, OutOfMemory>
+    ensures { IfOk result (λ lacks. lacks.items ≡ replicate tenants []) }
+{
+    let mut lacks = room_for(alloc, tenants)?;
+    for _ in 0..tenants {
+        lacks.push_reserved(Lacks::nothing(alloc));
+    }
+    Ok(lacks)
+}
+
 impl Core {
-    // The tables of the plan's server: no volume is open, and no line came.
-    pub(crate) fn new(alloc: Global, plan: Plan, server: u8) -> Result<Core, OutOfMemory>
-        requires { server < plan.grid.rows * plan.grid.cols }
-        ensures { IfOk result (λ w. IsFirst plan server w) }
+    // The tables of the plan's node of that number, where these were lost: no volume is open, and no line came.
+    pub(crate) fn new(alloc: Global, plan: Plan, lost: Lost, node: u16) -> Result<Core, OutOfMemory>
+        requires { place_of node < plan.grid.rows * plan.grid.cols }
+        ensures { IfOk result (λ w. IsFirst plan (record { node = node; lost = lost }) w) }
     {
+        let server = place_of(node);
         let _servers = plan.grid().servers();
+        lost.few();
         let desk = Desk::new(alloc, &plan)?;
         let store = ServerStore::new(alloc, &plan)?;
+        let tenants = plan.tenants();
+        let lacks = no_lacks(alloc, tenants)?;
+        let mates = filled(alloc, server, tenants)?;
         let seats = new_seats(alloc, &plan, server)?;
         Ok(Core {
             alloc,
             plan,
-            server,
+            lost,
+            node,
             desk,
             store,
+            lacks,
+            joined: ServerSet::empty(),
+            mates,
             seats,
         })
     }
@@ -87,9 +125,13 @@ impl Core {
         let Core {
             alloc,
             plan,
-            server,
+            lost,
+            node,
             mut desk,
             mut store,
+            lacks,
+            joined,
+            mates,
             seats,
         } = self;
         let _number = desk.open_volume(tenant, files, blocks)?;
@@ -97,9 +139,13 @@ impl Core {
             Ok(()) => Ok(Core {
                 alloc,
                 plan,
-                server,
+                lost,
+                node,
                 desk,
                 store,
+                lacks,
+                joined,
+                mates,
                 seats,
             }),
             Err(refused) => Err(OpenRefused::Memory(refused)),
@@ -117,26 +163,61 @@ impl Core {
     pub(crate) fn bounded(&self)
         ensures { IsBounded self.now }
     {
-        let _server = self.server;
+        for tenant in 0..self.plan.tenants() {
+            self.lacks[tenant].room();
+        }
     }
 
-    // The number of the server.
-    pub(crate) fn server(&self) -> u8
-        ensures { result ≡ self.now.server }
+    // The number of the node.
+    pub(crate) fn node(&self) -> u16
+        ensures { result ≡ self.now.here.node }
     {
-        self.server
+        self.node
+    }
+
+    // The nodes that were lost.
+    pub(crate) fn lost(&self) -> &Lost
+        ensures { result.now ≡ self.now.here.lost }
+    {
+        &self.lost
+    }
+
+    // The place of the node's server.
+    pub(crate) fn server(&self) -> u8
+        ensures { result ≡ place_of self.now.here.node }
+    {
+        place_of(self.node)
     }
 
     // Whether there is the session.
     pub(crate) fn has(&self, tenant: u8, session: u32) -> bool
         requires { tenant < length self.now.plan.rows }
-        ensures has { result ≡ is_in 1 (row_at self.now.plan tenant).sessions session }
+        ensures has { result ≡ has_session (site_of self.now.plan self.now.here tenant) session }
         ensures first { result ≡ true → 1 ≤ session }
-        ensures last { result ≡ true → session ≤ length (seats_at self.now.seats tenant) }
+        ensures last { result ≡ true → seat_place session < length (seats_at self.now.seats tenant) }
         ensures within { tenant < length self.now.seats }
-        ensures few { result ≡ true → session ≤ 16 }
+        ensures few { result ≡ true → session ≤ MOST_NUMBERS }
     {
-        1 <= session && session <= self.plan.row(tenant).sessions
+        let sessions = self.plan.row(tenant).sessions;
+        if session < 1 || MOST_NUMBERS < session {
+            return false;
+        }
+        let place = seat_place(session);
+        if place >= sessions as usize {
+            return false;
+        }
+        let lost = self.lost.times(home_place(&self.plan, tenant, place));
+        generation(session) == u32::from(lost)
+    }
+
+    // The number of the session at that place of the tenant's.
+    pub(crate) fn session_at(&self, tenant: u8, place: usize) -> u8
+        requires tenant { tenant < length self.now.plan.rows }
+        requires place { place < (row_at self.now.plan tenant).sessions }
+        ensures { result ≡ session_at self.now.plan self.now.here tenant place }
+    {
+        let lost = self.lost.times(home_place(&self.plan, tenant, place));
+        lost * MOST_SESSIONS as u8 + place as u8 + 1
     }
 
     // How many files the volume has.
@@ -153,17 +234,20 @@ impl Core {
     // What the tenant has.
     fn holding(&self, tenant: u8) -> Result<Holding, OutOfMemory>
         requires { tenant < length self.now.plan.rows }
-        ensures { IfOk result (λ has. has ≡ holding (site_of self.now.plan self.now.server tenant) (account_at self.now.desk tenant).volumes) }
+        ensures { IfOk result (λ has. has ≡ holding (site_of self.now.plan self.now.here tenant) (account_at self.now.desk tenant).volumes) }
     {
         let row = self.plan.row(tenant);
         let items = slice_copied(self.alloc, self.desk.volumes(tenant))?;
         Ok(Holding {
             servers: self.plan.grid().servers() as u8,
-            home: home(&self.plan, tenant, 1),
+            home: home_place(&self.plan, tenant, 0) as u8,
             sessions: row.sessions,
             share: row.share,
             most_blocks: row.most_blocks,
             volumes: VolumeRows { items },
+            nodes: NodeNumbers {
+                items: self.nodes_from(1)?,
+            },
         })
     }
 

@@ -1,10 +1,12 @@
 //! A grid of 2 by 2, one node for each server, and the letters between them by hand.
 
+ghost use Rattle.std.specs.Prelude.{◌≡◌, false};
+
 use bytes::Bytes;
 use gq_desk::{Name, Plan, TenantRow, VolumeRow};
 use gq_grid::Grid;
 use gq_memory::GrowVec;
-use gq_node::{Answer, Fact, Holding, Line, Node, Output};
+use gq_node::{Answer, Fact, Holding, Line, Lost, Node, Output, place_of};
 use gq_phase::Outcome;
 use gq_tag::Message;
 use std::alloc::Global;
@@ -27,7 +29,7 @@ enum Told {
     Early(u32),
     Busy(u32),
     // The home is this node.
-    Away(u8),
+    Away(u16),
     // Something else.
     Other,
 }
@@ -50,7 +52,7 @@ fn shown(answer: &Option<Answer>) -> Told {
 #[derive(Drop)]
 struct Cluster {
     nodes: Vec<Node>,
-    letters: Vec<(u8, Message)>,
+    letters: Vec<(u16, Message)>,
     facts: Vec<Fact>,
 }
 
@@ -70,11 +72,19 @@ fn plan(rt: &impl Abort, alloc: Global) -> Plan {
     Plan::check(alloc, grid, 16, &rows).expect(rt, "a plan")
 }
 
-// The node of that server, at which the first tenant has a volume of two files of one block.
-fn node(rt: &impl Abort, alloc: Global, server: u8) -> Node {
+// The node of that number, where none was lost, and no volume is open.
+fn bare_node(rt: &impl Abort, alloc: Global, number: u16) -> Node
+    ensures { result.ended ≡ false }
+{
     let plan = plan(rt, alloc);
-    assert!(rt; (server as usize) < plan.grid().servers());
-    let node = Node::new(alloc, plan, server).expect(rt, "memory");
+    assert!(rt; usize::from(place_of(number)) < plan.grid().servers());
+    let lost = Lost::none(alloc).expect(rt, "memory");
+    Node::new(alloc, plan, lost, number).expect(rt, "memory")
+}
+
+// And at which the first tenant has a volume of two files of one block.
+fn node(rt: &impl Abort, alloc: Global, number: u16) -> Node {
+    let node = bare_node(rt, alloc, number);
     assert!(rt; 0 < node.plan().tenants());
     node.open(0, 2, 1).expect(rt, "a volume")
 }
@@ -86,40 +96,40 @@ fn ask(rt: &impl Abort, node: &mut Node, op: u32, line: &Line) -> Output {
 }
 
 // Takes a letter.
-fn bring(rt: &impl Abort, node: &mut Node, from: u8, letter: &Message) -> Output {
+fn bring(rt: &impl Abort, node: &mut Node, from: u16, letter: &Message) -> Output {
     let tenant = letter.tenant;
     assert!(rt; (tenant as usize) < node.plan().tenants());
     assert!(rt; letter.file.tenant == tenant);
     node.letter(from, letter).expect(rt, "memory")
 }
 
-// Takes a tick for the session of the first tenant.
-fn tick(rt: &impl Abort, node: &mut Node, session: u32) -> Output {
+// Takes a tick for the session of the first tenant at that place.
+fn tick(rt: &impl Abort, node: &mut Node, place: usize) -> Output {
     assert!(rt; 0 < node.plan().tenants());
-    assert!(rt; 1 <= session && session <= node.plan().row(0).sessions);
-    node.tick(0, session).expect(rt, "memory")
+    assert!(rt; place < node.plan().row(0).sessions as usize);
+    node.tick(0, place).expect(rt, "memory")
 }
 
 // Takes a fact of an earlier run.
 fn recall(rt: &impl Abort, node: &mut Node, fact: &Fact) {
     let tenant = match fact {
         Fact::Began { tenant, .. } | Fact::Numbered { tenant, .. } => *tenant,
-        Fact::Kept { file, .. } => file.tenant,
+        Fact::Kept { file, .. } | Fact::Had { file, .. } => file.tenant,
     };
     assert!(rt; (tenant as usize) < node.plan().tenants());
     assert!(rt; node.recall(fact));
 }
 
-fn address(rt: &impl Abort, node: &Node, letter: &Message) -> u8 {
-    assert!(rt; (letter.tenant as usize) < node.plan().tenants() && 1 <= letter.session);
+fn address(rt: &impl Abort, node: &Node, letter: &Message) -> u16 {
+    assert!(rt; (letter.tenant as usize) < node.plan().tenants());
     node.address(letter)
 }
 
 impl Cluster {
     fn new(rt: &impl Abort, alloc: Global) -> Cluster {
         let mut nodes = Vec::new(alloc);
-        for server in 0..4u8 {
-            nodes.grow(node(rt, alloc, server)).expect(rt, "memory");
+        for number in 0..4u16 {
+            nodes.grow(node(rt, alloc, number)).expect(rt, "memory");
         }
         Cluster {
             nodes,
@@ -128,18 +138,20 @@ impl Cluster {
         }
     }
 
-    fn node(&mut self, rt: &impl Abort, at: u8) -> &mut Node {
+    fn node(&mut self, rt: &impl Abort, at: u16) -> &mut Node {
         assert!(rt; (at as usize) < self.nodes.len());
         &mut self.nodes[at as usize]
     }
 
     // Sends what a node gave, and keeps its fact. Answers what it tells the tenant.
-    fn send(&mut self, rt: &impl Abort, from: u8, out: Output) -> Told {
+    fn send(&mut self, rt: &impl Abort, from: u16, out: Output) -> Told {
         let Output {
             answer,
             letters,
+            parcel,
             fact,
         } = out;
+        assert!(rt; parcel.is_none());
         for letter in letters {
             self.letters.grow((from, letter)).expect(rt, "memory");
         }
@@ -149,18 +161,18 @@ impl Cluster {
         shown(&answer)
     }
 
-    fn ask(&mut self, rt: &impl Abort, at: u8, op: u32, line: &Line) -> Told {
+    fn ask(&mut self, rt: &impl Abort, at: u16, op: u32, line: &Line) -> Told {
         let out = ask(rt, self.node(rt, at), op, line);
         self.send(rt, at, out)
     }
 
-    fn tick(&mut self, rt: &impl Abort, at: u8, session: u32) -> Told {
-        let out = tick(rt, self.node(rt, at), session);
+    fn tick(&mut self, rt: &impl Abort, at: u16, place: usize) -> Told {
+        let out = tick(rt, self.node(rt, at), place);
         self.send(rt, at, out)
     }
 
     // The first letter comes, unless it is to the server that is dead. Answers what its node tells the tenant.
-    fn step(&mut self, rt: &impl Abort, dead: u8) -> Told {
+    fn step(&mut self, rt: &impl Abort, dead: u16) -> Told {
         assert!(rt; !self.letters.is_empty());
         let (from, letter) = self.letters.remove(0);
         let to = address(rt, self.node(rt, 0), &letter);
@@ -172,7 +184,7 @@ impl Cluster {
     }
 
     // All letters come but those to the server that is dead. Answers what was told last.
-    fn run(&mut self, rt: &impl Abort, dead: u8) -> Told {
+    fn run(&mut self, rt: &impl Abort, dead: u16) -> Told {
         let mut last = Told::Nothing;
         for _ in 0..100u32 {
             if self.letters.is_empty() {
@@ -188,7 +200,7 @@ impl Cluster {
 }
 
 // No server of the grid.
-const NONE: u8 = 9;
+const NONE: u16 = 9;
 
 fn write(session: u32, bytes: &'static [u8]) -> Line {
     Line::Write {
@@ -238,9 +250,9 @@ fn goes_round(rt: &impl Abort, cluster: &mut Cluster, one: &Line) {
     assert_eq!(rt; cluster.ask(rt, 1, 1, &READ), Told::Nothing);
     assert_eq!(rt; cluster.run(rt, 0), Told::Nothing);
     assert_eq!(rt; cluster.ask(rt, 1, 2, &READ), Told::Busy(1));
-    assert_eq!(rt; cluster.tick(rt, 1, 2), Told::Nothing);
+    assert_eq!(rt; cluster.tick(rt, 1, 1), Told::Nothing);
     assert_eq!(rt; cluster.letters.len(), 0);
-    assert_eq!(rt; cluster.tick(rt, 1, 2), Told::Nothing);
+    assert_eq!(rt; cluster.tick(rt, 1, 1), Told::Nothing);
     assert_eq!(rt; cluster.letters.len(), 2);
     assert_eq!(rt; cluster.run(rt, 0), Told::Read(1, 3));
     // the row that served stays: the next read needs no tick
@@ -302,7 +314,7 @@ fn reserves(fact: Option<&Fact>) -> Reserved {
     match fact {
         Some(Fact::Began { op, .. }) => Reserved::Ops(*op),
         Some(Fact::Numbered { number, .. }) => Reserved::Numbers(*number),
-        Some(Fact::Kept { .. }) | None => Reserved::Nothing,
+        Some(Fact::Kept { .. } | Fact::Had { .. }) | None => Reserved::Nothing,
     }
 }
 
@@ -486,9 +498,7 @@ fn the_last_tags_of_a_session(rt: HostRuntime) -> Result<(), Fail> {
 
 // Node 1, at which the second tenant has two volumes, and the first one.
 fn node_with_volumes(rt: &impl Abort, alloc: Global) -> Node {
-    let plan = plan(rt, alloc);
-    assert!(rt; 1 < plan.grid().servers());
-    let node = Node::new(alloc, plan, 1).expect(rt, "memory");
+    let node = bare_node(rt, alloc, 1);
     assert!(rt; 1 < node.plan().tenants());
     let node = node.open(1, 2, 1).expect(rt, "a volume");
     assert!(rt; 1 < node.plan().tenants());
@@ -503,9 +513,11 @@ fn holding(rt: &impl Abort, node: &mut Node, tenant: u8) -> Option<Holding> {
     let Output {
         answer,
         letters,
+        parcel,
         fact,
     } = node.holding(tenant).expect(rt, "memory");
     assert!(rt; letters.is_empty());
+    assert!(rt; parcel.is_none());
     assert!(rt; fact.is_none());
     match answer {
         Some(Answer::Has(holding)) => Some(holding),
@@ -532,6 +544,7 @@ fn volume(files: u32, blocks: u32) -> VolumeRow {
 fn tells_each_its_own(rt: &impl Abort, node: &mut Node) {
     let ann = holding(rt, node, 0).expect(rt, "what ann has");
     assert_eq!(rt; numbers(&ann), (4, 0, 2, 8, 16));
+    assert!(rt; ann.nodes.items.is_empty());
     assert_eq!(rt; ann.volumes.items.len(), 1);
     assert_eq!(rt; ann.volumes.items.first().copied(), Some(volume(1, 8)));
     // the home of the second tenant's session 1 is node 2, whoever is asked

@@ -8,3 +8,5 @@ mod cluster;
 mod flood;
 #[cfg(test)]
 mod lines;
+#[cfg(test)]
+mod lost;

@@ -4,10 +4,13 @@ use bytes::Bytes;
 use gq_desk::{Name, Plan, TenantRow, VolumeRow, VolumeRows};
 use gq_grid::Grid;
 use gq_memory::{GrowCopies, GrowVec};
-use gq_node::{Answer, Holding, Line, Refusal};
+use gq_node::{Answer, Holding, Line, NodeNumbers, Parcel, Refusal};
 use gq_phase::{Outcome, Row, Rows};
 use gq_tag::{Body, FileId, Message, StoredCopy, Tag};
-use gq_wire::{Incoming, MOST_LINE, put_first, put_letter, put_told, read_incoming};
+use gq_wire::{
+    Incoming, MOST_LINE, put_first, put_joined, put_joins, put_letter, put_parcel, put_told,
+    read_incoming,
+};
 use std::alloc::Global;
 use std::process::Abort;
 use std::test::Fail;
@@ -117,7 +120,7 @@ fn reads_no_other_line(rt: HostRuntime) -> Result<(), Fail> {
     assert!(rt; is_nothing(&rt, alloc, b"02 ann read 1 1 0 0"));
     assert!(rt; is_nothing(&rt, alloc, b"ann 2 gone 1 1"));
     assert!(rt; is_nothing(&rt, alloc, b"2 bob read 1 1 0 0"));
-    assert!(rt; is_nothing(&rt, alloc, b"2 4 ann 1 5 3 0 3 ask"));
+    assert!(rt; is_nothing(&rt, alloc, b"2 960 ann 1 5 3 0 3 ask"));
     // no tick: of another node
     assert!(rt; is_nothing(&rt, alloc, b"2 1 tick"));
     // letters without form: of a session with no number, of a round that isn't the body's, with a word more
@@ -175,13 +178,80 @@ fn letter(round: u32, server: u8, body: Body) -> Message {
         op: 5,
         round,
         server,
-        file: FileId {
-            tenant: 0,
-            volume: 1,
-            file: 3,
-        },
+        file: FILE,
         body,
     }
+}
+
+const FILE: FileId = FileId {
+    tenant: 0,
+    volume: 1,
+    file: 3,
+};
+
+// Whether node 2 reads what a new node says and is told, and no other form of it.
+#[test]
+fn reads_lines_of_a_new_node(rt: HostRuntime) -> Result<(), Fail> {
+    let alloc = rt.alloc();
+    assert!(rt;
+        matches!(
+            incoming(&rt, alloc, b"2 64 joins 1"),
+            Incoming::Joins {
+                from: 64,
+                losses: 1
+            }
+        )
+    );
+    assert!(rt;
+        matches!(
+            incoming(&rt, alloc, b"2 0 joined 255"),
+            Incoming::Joined {
+                from: 0,
+                losses: 255
+            }
+        )
+    );
+    match incoming(&rt, alloc, b"2 64 ann fetch 1 3") {
+        Incoming::Fetch { from, file } => assert!(rt; from == 64 && file == FILE),
+        _ => assert!(rt; false),
+    }
+    match incoming(&rt, alloc, b"2 0 ann fetched 1 3 9 2 0a0B") {
+        Incoming::Fetched {
+            from,
+            file,
+            copy: given,
+        } => { assert!(rt; from == 0 && file == FILE && given == copy(9, 2, b"\x0a\x0b")) }
+        _ => assert!(rt; false),
+    }
+    assert!(rt; is_nothing(&rt, alloc, b"2 64 joins"));
+    assert!(rt; is_nothing(&rt, alloc, b"2 64 joins 1 1"));
+    assert!(rt; is_nothing(&rt, alloc, b"2 64 bob fetch 1 3"));
+    assert!(rt; is_nothing(&rt, alloc, b"2 64 ann fetch 1"));
+    assert!(rt; is_nothing(&rt, alloc, b"2 0 ann fetched 1 3 9 2"));
+    assert!(rt; is_bad(&rt, alloc, b"2 ann fetch 1 3"));
+    Ok(())
+}
+
+#[test]
+fn writes_lines_of_a_new_node(rt: HostRuntime) -> Result<(), Fail> {
+    let alloc = rt.alloc();
+    let plan = plan(&rt, alloc);
+    assert!(rt; 0 < plan.tenants());
+    let mut out = Vec::new(alloc);
+    put_joins(&mut out, 1, 64, 1)?;
+    put_joined(&mut out, 64, 1, 1)?;
+    put_parcel(&mut out, &plan, 64, &Parcel::Wants { to: 2, file: FILE })?;
+    let brings = Parcel::Brings {
+        to: 64,
+        file: FILE,
+        copy: copy(9, 2, b"\x0a\x0b"),
+    };
+    put_parcel(&mut out, &plan, 2, &brings)?;
+    assert_eq!(rt;
+        out.as_slice(),
+        b"1 64 joins 1\n64 1 joined 1\n2 64 ann fetch 1 3\n64 2 ann fetched 1 3 9 2 0a0b\n".as_slice()
+    );
+    Ok(())
 }
 
 // Whether node 2 writes this line to node 1 for the letter.
@@ -314,6 +384,9 @@ fn writes_what_a_tenant_has(rt: HostRuntime) -> Result<(), Fail> {
         files: 30,
         blocks: 16,
     })?;
+    let mut nodes = Vec::new(alloc);
+    nodes.grow(67u16)?;
+    nodes.grow(130u16)?;
     let has = Answer::Has(Holding {
         servers: 4,
         home: 3,
@@ -321,6 +394,7 @@ fn writes_what_a_tenant_has(rt: HostRuntime) -> Result<(), Fail> {
         share: 512,
         most_blocks: 16,
         volumes: VolumeRows { items },
+        nodes: NodeNumbers { items: nodes },
     });
     assert!(rt;
         tells(
@@ -328,7 +402,7 @@ fn writes_what_a_tenant_has(rt: HostRuntime) -> Result<(), Fail> {
             alloc,
             &none,
             &has,
-            b"ann 2 plan 4 3 2 512 16 2.1 30.16\n"
+            b"ann 2 plan 4 3 2 512 16 2.1 30.16 67 130\n"
         )
     );
     let nothing = Answer::Has(Holding {
@@ -338,6 +412,9 @@ fn writes_what_a_tenant_has(rt: HostRuntime) -> Result<(), Fail> {
         share: 4096,
         most_blocks: 16,
         volumes: VolumeRows {
+            items: Vec::new(alloc),
+        },
+        nodes: NodeNumbers {
             items: Vec::new(alloc),
         },
     });

@@ -1,206 +1,415 @@
 -- Each tenant's parts of all nodes are those of the law of nodes.
-use Rattle.std.proofs.Common.{◌≡◌, ◌≢◌, ◌∙◌, ℕ, ◌<◌, List, [], ◌∷◌, ◌++◌, length, map, refl, sym, ap, subst, inl, inr, append_assoc, append-nil, Some, None}
+use Rattle.std.proofs.Common.{◌≡◌, ◌≢◌, ◌∙◌, ℕ, ◌+◌, ◌*◌, ◌<◌, ◌≤◌, Bool, true, false, List, [], ◌∷◌, ◌++◌, length, map, cond, arith, refl, sym, ap, subst, inl, inr, append_assoc, append-nil, Some, None}
+use Rattle.std.specs.Prelude.{◌&&◌, not, nat_lt}
 use Rattle.std.specs.Option.{option_to_list}
-use Rattle.std.proofs.lemmas.Bool.{cases_eq, eq-eqb, ne_eqb}
+use Rattle.std.proofs.lemmas.Bool.{cases_eq, and_parts, eq-eqb, ne_eqb, eqb-true, leb-true}
+use Rattle.std.proofs.lemmas.Nat.{div-mul-add, mod-mul-add}
+use Rattle.std.proofs.Math.Nat.{mod-lt, mul-le-mul_left, mul-le-mul_right}
 use Rattle.std.proofs.lemmas.Grind.{flat_map-append}
-use Rattle.gq_desk.specs.CheckedPlan.{CheckedPlan}
-use Rattle.gq_desk.specs.declared.volumes.VolumeRow.{VolumeRow}
+use Rattle.gq_desk.specs.CheckedPlan.{CheckedPlan, row_at}
 use Rattle.gq_text.specs.Canonical.{IsPlan}
-use Rattle.gq_cluster.specs.Cluster.{Setting}
-use Rattle.gq_node.specs.Inputs.{Input, Asked, AskedPlan, Brought, Ticked, does, after_all}
-use Rattle.gq_node.specs.Local.{Local, Doing, new_local}
-use Rattle.gq_node.specs.Nodes.{Nodes, Event, Started, site_in, new_nodes, after_doing, after_event, nodes_after, started, fact_list}
-use Rattle.gq_node.specs.Resting.{recall_all, those_of}
-use Rattle.gq_node.specs.Sites.{site_of}
+use Rattle.gq_grid.specs.Grid.{Grid}
+use Rattle.gq_desk.specs.declared.plans.TenantRow.{TenantRow}
+use Rattle.gq_desk.specs.declared.volumes.VolumeRow.{VolumeRow}
+use Rattle.gq_cluster.specs.Laws.{setting_of, StepsEnough}
+use Rattle.gq_replace.specs.Laws.{HomesStand, IsRight}
+use Rattle.gq_replace.specs.Plans.{most_places, times, place_of, generation, node_at}
+use Rattle.gq_node.specs.Inputs.{Input, Asked, AskedPlan, Brought, Ticked, Looked, Joined as HeardJoined, Fetching, Fetched as WasFetched, does, after_all}
+use Rattle.gq_node.specs.Joining.{all_joined, tells_joined}
+use Rattle.gq_node.specs.Local.{Local, Doing}
+use Rattle.gq_node.specs.Nodes.{NodeWorld, Nodes, Event, Came, Started, site_in, site_at, new_nodes, takes_word, with_ready, after_word, after_doing, after_start, after_event, nodes_after, started, first_of as law_first, fact_list, AllCanCome, AllOpen, SessionsStay}
+use Rattle.gq_node.specs.Resting.{recall_all, those_of, begun_local}
+use Rattle.gq_node.specs.Sites.{Here, site_of, numbered, plan_in, seat_place, session_generation, home_place, home_of, is_of_plan}
 use Rattle.gq_node.specs.Tables.{Agrees}
-use Rattle.gq_node.proofs.Following.{all_nodes_follow}
-use Rattle.gq_parts.specs.Inputs.{line_inputs}
+use Rattle.gq_node.proofs.Events.{all_nodes_follow, all_nodes_serve}
+use Rattle.gq_node.proofs.Volumes.{all_volumes_open}
+use Rattle.gq_wire.specs.declared.incoming.Incoming.{Incoming}
+use Rattle.gq_wire.specs.declared.incoming.Incoming.TheVariants.{Request, Plan as AsksPlan, Bad, Letter, Joins, Joined, Fetch, Fetched, Tick, Nothing}
+use Rattle.gq_wire.specs.Incoming.{incoming_of}
+use Rattle.gq_parts.specs.Inputs.{inputs_of, line_inputs}
 use Rattle.gq_parts.specs.Texts.{own_facts, facts_by}
 use Rattle.gq_parts.specs.Recalls.{facts_said}
 use Rattle.gq_parts.specs.Resting.{IsNodeOf}
 use Rattle.gq_parts.specs.Steps.{AllAgree}
-use Rattle.gq_parts.specs.AllNodes.{AllNodes, node_count, Happening, Took, Restarted, StartsBy, Happens, AllHappen, setting_at, event_at, events_of, all_events, nodes_at, AreNodes, TellsAt, TellsAll, AllByLaw}
+use Rattle.gq_parts.specs.AllNodes.{GridPlans, here_in, volumes_in, plans_of, world_with, world_at, steps_with, AreSound, AllNodes, Happening, Took, Starts, StartsBy, first_of, TakesStep, TakesStart, Stays, Happens, AllHappen, came_events, events_of, all_events, nodes_at, AreNodes, TellsAt, TellsAll, AllByLaw}
 use Rattle.gq_parts.proofs.Apart.{StepByParts, step_by_parts}
 use Rattle.gq_parts.proofs.Reading.{those-append, said-append, said_back, those-by, same_node, all_recalled}
 
 -- ---- the nodes of the law
 
--- what the node has, and gave, after these inputs; the others stay
-record AfterAll (s : Setting) (n : ℕ) (nodes after : Nodes) (inputs : List Input) : Type 0 where
-  local : after.local n ≡ after_all (site_in s n) (nodes.local n) inputs
-  facts : after.facts n ≡ nodes.facts n ++ own_facts (site_in s n) (nodes.local n) inputs
+-- what is the same of a node: whether it was started, and with which plans
+record SamePlans (m : ℕ) (nodes after : Nodes) : Type 0 where
+  begun : after.begun m ≡ nodes.begun m
+  first_plan : after.first_plan m ≡ nodes.first_plan m
+  last_plan : after.last_plan m ≡ nodes.last_plan m
+
+-- what the node has, and gave, after one doing; the others stay
+record AfterOne (n : ℕ) (nodes after : Nodes) (doing : Doing) : Type 0 where
+  local : after.local n ≡ doing.local
+  facts : after.facts n ≡ nodes.facts n ++ fact_list doing.fact
   others : (m : ℕ) → m ≢ n → (after.local m ≡ nodes.local m) × (after.facts m ≡ nodes.facts m)
+  plans : (m : ℕ) → SamePlans m nodes after
 
-one_event : (s : Setting) (nodes : Nodes) (n : ℕ) (a : Input) → after_event s nodes (event_at n a) ≡ after_doing nodes n (does a (site_in s n) (nodes.local n))
-one_event s nodes n (Asked op line) = refl
-one_event s nodes n AskedPlan = refl
-one_event s nodes n (Brought from letter) = refl
-one_event s nodes n (Ticked session) = refl
+doing_one : (w : NodeWorld) (nodes : Nodes) (n : ℕ) (doing : Doing) → AfterOne n nodes (after_doing w nodes n doing) doing
+doing_one w nodes n doing = record {
+  local = rw (eq-eqb n n refl) refl;
+  facts = rw (eq-eqb n n refl) refl;
+  others = λ m other. (rw (ne_eqb m n other) refl, rw (ne_eqb m n other) refl);
+  plans = λ m. record { begun = refl; first_plan = refl; last_plan = refl };
+}
 
-doing_local : (nodes : Nodes) (n : ℕ) (doing : Doing) → (after_doing nodes n doing).local n ≡ doing.local
-doing_local nodes n doing = rw (eq-eqb n n refl) refl
-
-doing_facts : (nodes : Nodes) (n : ℕ) (doing : Doing) → (after_doing nodes n doing).facts n ≡ nodes.facts n ++ fact_list doing.fact
-doing_facts nodes n doing = rw (eq-eqb n n refl) refl
-
-doing_others : (nodes : Nodes) (n : ℕ) (doing : Doing) (m : ℕ) → m ≢ n → ((after_doing nodes n doing).local m ≡ nodes.local m) × ((after_doing nodes n doing).facts m ≡ nodes.facts m)
-doing_others nodes n doing m other = (rw (ne_eqb m n other) refl, rw (ne_eqb m n other) refl)
-
-after_inputs : (s : Setting) (n : ℕ) (nodes : Nodes) (inputs : List Input) → AfterAll s n nodes (nodes_after s nodes (map (event_at n) inputs)) inputs
-after_inputs s n nodes [] = record { local = refl; facts = sym (append-nil (nodes.facts n)); others = λ m other. (refl, refl) }
-after_inputs s n nodes (a ∷ inputs) =
-    let doing : Doing = does a (site_in s n) (nodes.local n) in
-    let next : Nodes = after_doing nodes n doing in
-    let rest : AfterAll s n next (nodes_after s next (map (event_at n) inputs)) inputs = after_inputs s n next inputs in
-    let P : Nodes → Type 0 = λ x. AfterAll s n nodes (nodes_after s x (map (event_at n) inputs)) (a ∷ inputs) in
-    let here : P next = record {
-      local = rest.local ∙ ap (λ l. after_all (site_in s n) l inputs) (doing_local nodes n doing);
-      facts = rest.facts ∙ ap (λ l. next.facts n ++ own_facts (site_in s n) l inputs) (doing_local nodes n doing) ∙ ap (λ fs. fs ++ own_facts (site_in s n) doing.local inputs) (doing_facts nodes n doing)
-          ∙ append_assoc (nodes.facts n) (fact_list doing.fact) (own_facts (site_in s n) doing.local inputs) ∙ ap (λ fs. nodes.facts n ++ (fs ++ own_facts (site_in s n) doing.local inputs)) (same_list doing);
-      others = λ m other. ((rest.others m other).0 ∙ (doing_others nodes n doing m other).0, (rest.others m other).1 ∙ (doing_others nodes n doing m other).1);
-    } in
-    subst P (sym (one_event s nodes n a)) here
+-- that a new node is ready changes none of that
+word_one : (w : NodeWorld) (nodes after : Nodes) (n from losses : ℕ) (doing : Doing) → AfterOne n nodes after doing → AfterOne n nodes (after_word w nodes n from losses after) doing
+word_one w nodes after n from losses doing one = by (takes_word (site_at w nodes n) from losses && (not (nodes.ready n) && all_joined (site_at w nodes n) (after.local n).joined))
   where
-    same_list : (doing : Doing) → fact_list doing.fact ≡ option_to_list doing.fact
-    same_list doing = elim doing.fact as (λ o. fact_list o ≡ option_to_list o) [ None ↦ refl | Some fact ↦ refl ]
+    by : (b : Bool) → AfterOne n nodes (cond b (with_ready w after n) after) doing
+    by true = record { local = one.local; facts = one.facts; others = one.others; plans = λ m. record { begun = (one.plans m).begun; first_plan = (one.plans m).first_plan; last_plan = (one.plans m).last_plan } }
+    by false = one
+
+one_event : (w : NodeWorld) (nodes : Nodes) (n : ℕ) (a : Input) → AfterOne n nodes (after_event w nodes (Came n a)) (does a (site_at w nodes n) (nodes.local n))
+one_event w nodes n (Asked op line) = doing_one w nodes n (does (Asked op line) (site_at w nodes n) (nodes.local n))
+one_event w nodes n AskedPlan = doing_one w nodes n (does AskedPlan (site_at w nodes n) (nodes.local n))
+one_event w nodes n (Brought from letter) = doing_one w nodes n (does (Brought from letter) (site_at w nodes n) (nodes.local n))
+one_event w nodes n (Ticked session) = doing_one w nodes n (does (Ticked session) (site_at w nodes n) (nodes.local n))
+one_event w nodes n Looked = doing_one w nodes n (does Looked (site_at w nodes n) (nodes.local n))
+one_event w nodes n (HeardJoined from losses) =
+    let doing : Doing = does (HeardJoined from losses) (site_at w nodes n) (nodes.local n) in
+    word_one w nodes (after_doing w nodes n doing) n from losses doing (doing_one w nodes n doing)
+one_event w nodes n (Fetching from file) = doing_one w nodes n (does (Fetching from file) (site_at w nodes n) (nodes.local n))
+one_event w nodes n (WasFetched from file copy) = doing_one w nodes n (does (WasFetched from file copy) (site_at w nodes n) (nodes.local n))
+
+-- what the node, with plan p, has, and gave, after these inputs; the others stay
+record AfterAll (w : NodeWorld) (p n : ℕ) (nodes after : Nodes) (inputs : List Input) : Type 0 where
+  local : after.local n ≡ after_all (site_in w p n) (nodes.local n) inputs
+  facts : after.facts n ≡ nodes.facts n ++ own_facts (site_in w p n) (nodes.local n) inputs
+  others : (m : ℕ) → m ≢ n → (after.local m ≡ nodes.local m) × (after.facts m ≡ nodes.facts m)
+  plans : (m : ℕ) → SamePlans m nodes after
+
+same_list : (doing : Doing) → fact_list doing.fact ≡ option_to_list doing.fact
+same_list doing = elim doing.fact as (λ o. fact_list o ≡ option_to_list o) [ None ↦ refl | Some fact ↦ refl ]
+
+after_inputs : (w : NodeWorld) (p n : ℕ) (nodes : Nodes) (inputs : List Input) → nodes.last_plan n ≡ p → AfterAll w p n nodes (nodes_after w nodes (map (λ input. Came n input) inputs)) inputs
+after_inputs w p n nodes [] plan = record { local = refl; facts = sym (append-nil (nodes.facts n)); others = λ m other. (refl, refl); plans = λ m. record { begun = refl; first_plan = refl; last_plan = refl } }
+after_inputs w p n nodes (a ∷ inputs) plan =
+    let doing : Doing = does a (site_in w p n) (nodes.local n) in
+    let next : Nodes = after_event w nodes (Came n a) in
+    let one : AfterOne n nodes next doing = subst (λ q. AfterOne n nodes next (does a (site_in w q n) (nodes.local n))) plan (one_event w nodes n a) in
+    let rest : AfterAll w p n next (nodes_after w next (map (λ input. Came n input) inputs)) inputs = after_inputs w p n next inputs ((one.plans n).last_plan ∙ plan) in
+    record {
+      local = rest.local ∙ ap (λ l. after_all (site_in w p n) l inputs) one.local;
+      facts = rest.facts ∙ ap (λ l. next.facts n ++ own_facts (site_in w p n) l inputs) one.local ∙ ap (λ fs. fs ++ own_facts (site_in w p n) doing.local inputs) one.facts
+          ∙ append_assoc (nodes.facts n) (fact_list doing.fact) (own_facts (site_in w p n) doing.local inputs) ∙ ap (λ fs. nodes.facts n ++ (fs ++ own_facts (site_in w p n) doing.local inputs)) (same_list doing);
+      others = λ m other. ((rest.others m other).0 ∙ (one.others m other).0, (rest.others m other).1 ∙ (one.others m other).1);
+      plans = λ m. record {
+        begun = (rest.plans m).begun ∙ (one.plans m).begun;
+        first_plan = (rest.plans m).first_plan ∙ (one.plans m).first_plan;
+        last_plan = (rest.plans m).last_plan ∙ (one.plans m).last_plan;
+      };
+    }
+
+-- a line to the node that brings this
+after_came : (g : GridPlans) (p n t : ℕ) (nodes : Nodes) (incoming : Incoming) → nodes.last_plan n ≡ p →
+    AfterAll (world_at g t) p n nodes (nodes_after (world_at g t) nodes (came_events g p n t incoming)) (inputs_of g.plan (here_in g p n) incoming t)
+after_came g p n t nodes (Request tenant op line) plan = after_inputs (world_at g t) p n nodes (inputs_of g.plan (here_in g p n) (Request tenant op line) t) plan
+after_came g p n t nodes (AsksPlan tenant) plan = after_inputs (world_at g t) p n nodes (inputs_of g.plan (here_in g p n) (AsksPlan tenant) t) plan
+after_came g p n t nodes (Bad tenant) plan = after_inputs (world_at g t) p n nodes (inputs_of g.plan (here_in g p n) (Bad tenant) t) plan
+after_came g p n t nodes (Letter from m) plan = after_inputs (world_at g t) p n nodes (inputs_of g.plan (here_in g p n) (Letter from m) t) plan
+after_came g p n t nodes (Joins from losses) plan = by (tells_joined from losses (site_at (world_at g t) nodes n))
+  where
+    by : (b : Bool) → AfterAll (world_at g t) p n nodes (cond b (record nodes { joined = nodes.joined ++ record { from = n; to = from; losses = losses } ∷ [] }) nodes) []
+    by true = record { local = refl; facts = sym (append-nil (nodes.facts n)); others = λ m other. (refl, refl); plans = λ m. record { begun = refl; first_plan = refl; last_plan = refl } }
+    by false = record { local = refl; facts = sym (append-nil (nodes.facts n)); others = λ m other. (refl, refl); plans = λ m. record { begun = refl; first_plan = refl; last_plan = refl } }
+after_came g p n t nodes (Joined from losses) plan = after_inputs (world_at g t) p n nodes (inputs_of g.plan (here_in g p n) (Joined from losses) t) plan
+after_came g p n t nodes (Fetch from file) plan = after_inputs (world_at g t) p n nodes (inputs_of g.plan (here_in g p n) (Fetch from file) t) plan
+after_came g p n t nodes (Fetched from file copy) plan = after_inputs (world_at g t) p n nodes (inputs_of g.plan (here_in g p n) (Fetched from file copy) t) plan
+after_came g p n t nodes Tick plan = after_inputs (world_at g t) p n nodes (inputs_of g.plan (here_in g p n) Tick t) plan
+after_came g p n t nodes Nothing plan = after_inputs (world_at g t) p n nodes (inputs_of g.plan (here_in g p n) Nothing t) plan
+
+-- the node with plan p, as the law and as the node itself has it
+same_site : (g : GridPlans) (p n t : ℕ) → site_in (world_at g t) p n ≡ site_of g.plan (here_in g p n) t
+same_site g p n t = λ i. record {
+  grid = g.plan.grid;
+  here = n;
+  place = place_of n;
+  row = numbered (row_at g.plan t);
+  sessions = (row_at g.plan t).sessions;
+  is_of_plan = λ k. is_of_plan g.plan (here_in g p n) t k;
+  home = home_of g.plan t;
+  first_home = home_place g.plan t 0;
+  node_at = λ place. node_at (plan_in (g.lost p)) place;
+  losses = length (g.lost p);
+}
 
 -- ---- more happenings
 
-more_events : (plan : CheckedPlan) (t : ℕ) (before : List Happening) (h : Happening) → all_events plan t (before ++ h ∷ []) ≡ all_events plan t before ++ events_of plan t h
-more_events plan t before h = flat_map-append (events_of plan t) before (h ∷ []) ∙ ap (λ z. all_events plan t before ++ z) (append-nil (events_of plan t h))
+more_events : (g : GridPlans) (t : ℕ) (before : List Happening) (h : Happening) → all_events g t (before ++ h ∷ []) ≡ all_events g t before ++ events_of g t h
+more_events g t before h = flat_map-append (events_of g t) before (h ∷ []) ∙ ap (λ z. all_events g t before ++ z) (append-nil (events_of g t h))
 
-fold_more : (s : Setting) (nodes : Nodes) (xs ys : List Event) → nodes_after s nodes (xs ++ ys) ≡ nodes_after s (nodes_after s nodes xs) ys
-fold_more s nodes [] ys = refl
-fold_more s nodes (x ∷ xs) ys = fold_more s (after_event s nodes x) xs ys
+fold_more : (w : NodeWorld) (nodes : Nodes) (xs ys : List Event) → nodes_after w nodes (xs ++ ys) ≡ nodes_after w (nodes_after w nodes xs) ys
+fold_more w nodes [] ys = refl
+fold_more w nodes (x ∷ xs) ys = fold_more w (after_event w nodes x) xs ys
 
-more_nodes : (plan : CheckedPlan) (volumes : ℕ → List VolumeRow) (before : List Happening) (h : Happening) (t : ℕ) →
-    nodes_at plan volumes (before ++ h ∷ []) t ≡ nodes_after (setting_at plan volumes t) (nodes_at plan volumes before t) (events_of plan t h)
-more_nodes plan volumes before h t =
-    ap (nodes_after (setting_at plan volumes t) (new_nodes (setting_at plan volumes t))) (more_events plan t before h)
-    ∙ fold_more (setting_at plan volumes t) (new_nodes (setting_at plan volumes t)) (all_events plan t before) (events_of plan t h)
+more_nodes : (g : GridPlans) (before : List Happening) (h : Happening) (t : ℕ) → nodes_at g (before ++ h ∷ []) t ≡ nodes_after (world_at g t) (nodes_at g before t) (events_of g t h)
+more_nodes g before h t =
+    ap (nodes_after (world_at g t) (new_nodes (world_at g t))) (more_events g t before h)
+    ∙ fold_more (world_at g t) (new_nodes (world_at g t)) (all_events g t before) (events_of g t h)
 
 -- ---- what holds behind some happenings
 
-record Holds (plan : CheckedPlan) (volumes : ℕ → List VolumeRow) (before : List Happening) (m : AllNodes) : Type 0 where
-  node : (n : ℕ) → n < node_count plan → IsNodeOf plan n (m.tables n)
-  are : (t : ℕ) → t < length plan.rows → AreNodes plan m t (nodes_at plan volumes before t)
+record Holds (g : GridPlans) (before : List Happening) (m : AllNodes) : Type 0 where
+  node : (n : ℕ) → m.begun n ≡ true → IsNodeOf g.plan (here_in g (m.last_plan n) n) (m.tables n)
+  are : (t : ℕ) → t < length g.plan.rows → AreNodes g m t (nodes_at g before t)
 
--- the node of the happening goes on in each tenant's part, and the others stay
-step_are : (plan : CheckedPlan) (old new : AllNodes) (n t : ℕ) (nodes after : Nodes) → AreNodes plan old t nodes → ((m : ℕ) → m ≢ n → (new.tables m ≡ old.tables m) × (new.kept m ≡ old.kept m)) →
-    ((m : ℕ) → m ≢ n → (after.local m ≡ nodes.local m) × (after.facts m ≡ nodes.facts m)) → Agrees (new.tables n) t (after.local n) → those_of t (facts_said plan (new.kept n)) ≡ after.facts n → AreNodes plan new t after
-step_are plan old new n t nodes after are stay same here facts = record {
-  parts = λ m there. elim (cases_eq m n) [
-    | inl is ↦ (subst (λ x. Agrees (new.tables x) t (after.local x)) (sym is) here)
-    | inr other ↦ (subst (λ w. Agrees w t (after.local m)) (sym (stay m other).0) (subst (Agrees (old.tables m) t) (sym (same m other).0) (are.parts m there)))
+-- what the node of the happening has in each tenant's part, by the law
+record ItHas (g : GridPlans) (n t : ℕ) (new : AllNodes) (after : Nodes) : Type 0 where
+  begun : new.begun n ≡ after.begun n
+  first_plan : new.first_plan n ≡ after.first_plan n
+  last_plan : new.last_plan n ≡ after.last_plan n
+  part : Agrees (new.tables n) t (after.local n)
+  facts : those_of t (facts_said g.plan (new.kept n)) ≡ after.facts n
+
+-- and the others stay
+record TheyStay (m : ℕ) (nodes after : Nodes) : Type 0 where
+  local : after.local m ≡ nodes.local m
+  facts : after.facts m ≡ nodes.facts m
+  plans : SamePlans m nodes after
+
+step_are : (g : GridPlans) (old new : AllNodes) (n t : ℕ) (nodes after : Nodes) → AreNodes g old t nodes → ((m : ℕ) → m ≢ n → Stays m old new) → ((m : ℕ) → m ≢ n → TheyStay m nodes after) → ItHas g n t new after → AreNodes g new t after
+step_are g old new n t nodes after are stay same has = record {
+  begun = λ m. elim (cases_eq m n) [
+    | inl is ↦ (subst (λ x. new.begun x ≡ after.begun x) (sym is) has.begun)
+    | inr other ↦ ((stay m other).begun ∙ are.begun m ∙ sym (same m other).plans.begun)
   ];
-  facts = λ m there. elim (cases_eq m n) [
-    | inl is ↦ (subst (λ x. those_of t (facts_said plan (new.kept x)) ≡ after.facts x) (sym is) facts)
-    | inr other ↦ (ap (λ k. those_of t (facts_said plan k)) (stay m other).1 ∙ are.facts m there ∙ sym (same m other).1)
+  first_plan = λ m begun. elim (cases_eq m n) [
+    | inl is ↦ (subst (λ x. new.first_plan x ≡ after.first_plan x) (sym is) has.first_plan)
+    | inr other ↦ ((stay m other).first_plan ∙ are.first_plan m (sym (stay m other).begun ∙ begun) ∙ sym (same m other).plans.first_plan)
+  ];
+  last_plan = λ m begun. elim (cases_eq m n) [
+    | inl is ↦ (subst (λ x. new.last_plan x ≡ after.last_plan x) (sym is) has.last_plan)
+    | inr other ↦ ((stay m other).last_plan ∙ are.last_plan m (sym (stay m other).begun ∙ begun) ∙ sym (same m other).plans.last_plan)
+  ];
+  parts = λ m begun. elim (cases_eq m n) [
+    | inl is ↦ (subst (λ x. Agrees (new.tables x) t (after.local x)) (sym is) has.part)
+    | inr other ↦ (subst (λ w. Agrees w t (after.local m)) (sym (stay m other).tables) (subst (Agrees (old.tables m) t) (sym (same m other).local) (are.parts m (sym (stay m other).begun ∙ begun))))
+  ];
+  facts = λ m. elim (cases_eq m n) [
+    | inl is ↦ (subst (λ x. those_of t (facts_said g.plan (new.kept x)) ≡ after.facts x) (sym is) has.facts)
+    | inr other ↦ (ap (λ k. those_of t (facts_said g.plan k)) (stay m other).kept ∙ are.facts m ∙ sym (same m other).facts)
   ];
 }
 
-record OneHolds (plan : CheckedPlan) (volumes : ℕ → List VolumeRow) (before : List Happening) (h : Happening) (new : AllNodes) : Type 0 where
-  holds : Holds plan volumes (before ++ h ∷ []) new
-  told : TellsAt plan volumes before h
+record OneHolds (g : GridPlans) (before : List Happening) (h : Happening) (new : AllNodes) : Type 0 where
+  holds : Holds g (before ++ h ∷ []) new
+  told : TellsAt g before h
 
-other_nodes : (plan : CheckedPlan) (n : ℕ) (old new : AllNodes) → ((m : ℕ) → m < node_count plan → IsNodeOf plan m (old.tables m)) → ((m : ℕ) → m ≢ n → (new.tables m ≡ old.tables m) × (new.kept m ≡ old.kept m)) →
-    IsNodeOf plan n (new.tables n) → (m : ℕ) → m < node_count plan → IsNodeOf plan m (new.tables m)
-other_nodes plan n old new was stay here m there = elim (cases_eq m n) [
-  | inl is ↦ (subst (λ x. IsNodeOf plan x (new.tables x)) (sym is) here)
-  | inr other ↦ (subst (IsNodeOf plan m) (sym (stay m other).0) (was m there))
+other_nodes : (g : GridPlans) (n : ℕ) (old new : AllNodes) → ((m : ℕ) → old.begun m ≡ true → IsNodeOf g.plan (here_in g (old.last_plan m) m) (old.tables m)) → ((m : ℕ) → m ≢ n → Stays m old new) →
+    IsNodeOf g.plan (here_in g (new.last_plan n) n) (new.tables n) → (m : ℕ) → new.begun m ≡ true → IsNodeOf g.plan (here_in g (new.last_plan m) m) (new.tables m)
+other_nodes g n old new was stay here m begun = elim (cases_eq m n) [
+  | inl is ↦ (subst (λ x. IsNodeOf g.plan (here_in g (new.last_plan x) x) (new.tables x)) (sym is) here)
+  | inr other ↦ (
+      let s : Stays m old new = stay m other in
+      subst (λ p. IsNodeOf g.plan (here_in g p m) (new.tables m)) (sym s.last_plan) (subst (IsNodeOf g.plan (here_in g (old.last_plan m) m)) (sym s.tables) (was m (sym s.begun ∙ begun))))
 ]
 
-one_holds : (plan : CheckedPlan) (volumes : ℕ → List VolumeRow) (before : List Happening) (h : Happening) (old new : AllNodes) → IsPlan plan → Holds plan volumes before old → Happens plan volumes old h new → OneHolds plan volumes before h new
-one_holds plan volumes before (Took n did) old new sound holds happens = record {
+one_holds : (g : GridPlans) (before : List Happening) (h : Happening) (old new : AllNodes) → IsPlan g.plan → Holds g before old → Happens g old h new → OneHolds g before h new
+one_holds g before (Took n p did) old new sound holds happens = record {
   holds = record {
-    node = other_nodes plan n old new holds.node happens.others one.node;
-    are = λ t within. subst (AreNodes plan new t) (sym (more_nodes plan volumes before (Took n did) t)) (at t within);
+    node = other_nodes g n old new holds.node happens.others (subst (λ q. IsNodeOf g.plan (here_in g q n) (new.tables n)) (sym goes.still.last_plan) one.node);
+    are = λ t within. subst (AreNodes g new t) (sym (more_nodes g before (Took n p did) t)) (at t within);
   };
   told = one.told_is;
 }
   where
-    parts : ℕ → Local
-    parts t = (nodes_at plan volumes before t).local n
+    goes : TakesStep n p did old new
+    goes = happens.goes
 
-    was : IsNodeOf plan n (old.tables n)
-    was = holds.node n happens.there
+    here : Here
+    here = here_in g p n
+
+    parts : ℕ → Local
+    parts t = (nodes_at g before t).local n
+
+    was : IsNodeOf g.plan here (old.tables n)
+    was = subst (λ q. IsNodeOf g.plan (here_in g q n) (old.tables n)) goes.plan (holds.node n goes.begun)
 
     agree : AllAgree (old.tables n) parts
-    agree t within = (holds.are t (subst (λ (p : CheckedPlan). t < length p.rows) was.plan_is within)).parts n happens.there
+    agree t within = (holds.are t (subst (λ (plan : CheckedPlan). t < length plan.rows) was.plan_is within)).parts n goes.begun
 
-    one : StepByParts plan n parts did.line did.facts did.told (new.tables n)
-    one = step_by_parts plan n (old.tables n) (new.tables n) parts did.line did.facts did.told was agree happens.goes.0
+    one : StepByParts g.plan here parts did.line did.facts did.told (new.tables n)
+    one = step_by_parts g.plan here (old.tables n) (new.tables n) parts did.line did.facts did.told was agree goes.step
 
-    at : (t : ℕ) → t < length plan.rows → AreNodes plan new t (nodes_after (setting_at plan volumes t) (nodes_at plan volumes before t) (events_of plan t (Took n did)))
+    at : (t : ℕ) → t < length g.plan.rows → AreNodes g new t (nodes_after (world_at g t) (nodes_at g before t) (events_of g t (Took n p did)))
     at t within =
-        let s : Setting = setting_at plan volumes t in
-        let nodes : Nodes = nodes_at plan volumes before t in
-        let inputs : List Input = line_inputs plan n did.line t in
-        let a : AfterAll s n nodes (nodes_after s nodes (map (event_at n) inputs)) inputs = after_inputs s n nodes inputs in
-        let here : Agrees (new.tables n) t (after_all (site_of plan n t) (parts t) inputs) = one.agree t (subst (λ (p : CheckedPlan). t < length p.rows) (sym one.node.plan_is) within) in
-        let own : those_of t (facts_said plan did.facts) ≡ own_facts (site_of plan n t) (parts t) inputs =
-        ap (λ ls. those_of t (facts_said plan ls)) one.lines_are ∙ ap (those_of t) (said_back plan sound (facts_by plan n parts (line_inputs plan n did.line)) one.fit) ∙ those-by plan n t parts (line_inputs plan n did.line) within in
-        let facts : those_of t (facts_said plan (new.kept n)) ≡ nodes.facts n ++ own_facts (site_of plan n t) (parts t) inputs =
-        ap (λ ls. those_of t (facts_said plan ls)) happens.goes.1
-        ∙ ap (those_of t) (said-append plan (old.kept n) did.facts)
-        ∙ those-append t (facts_said plan (old.kept n)) (facts_said plan did.facts)
-        ∙ ap (λ z. z ++ those_of t (facts_said plan did.facts)) ((holds.are t within).facts n happens.there)
+        let w : NodeWorld = world_at g t in
+        let nodes : Nodes = nodes_at g before t in
+        let are : AreNodes g old t nodes = holds.are t within in
+        let inputs : List Input = line_inputs g.plan here did.line t in
+        let after : Nodes = nodes_after w nodes (events_of g t (Took n p did)) in
+        let a : AfterAll w p n nodes after inputs = after_came g p n t nodes (incoming_of g.plan n did.line) (sym (are.last_plan n goes.begun) ∙ goes.plan) in
+        let now : Agrees (new.tables n) t (after_all (site_of g.plan here t) (parts t) inputs) = one.agree t (subst (λ (plan : CheckedPlan). t < length plan.rows) (sym one.node.plan_is) within) in
+        let own : those_of t (facts_said g.plan did.facts) ≡ own_facts (site_of g.plan here t) (parts t) inputs =
+        ap (λ ls. those_of t (facts_said g.plan ls)) one.lines_are ∙ ap (those_of t) (said_back g.plan sound (facts_by g.plan here parts (line_inputs g.plan here did.line)) one.fit) ∙ those-by g.plan here t parts (line_inputs g.plan here did.line) within in
+        let local : after.local n ≡ after_all (site_of g.plan here t) (parts t) inputs = a.local ∙ ap (λ site. after_all site (parts t) inputs) (same_site g p n t) in
+        let given : after.facts n ≡ nodes.facts n ++ own_facts (site_of g.plan here t) (parts t) inputs = a.facts ∙ ap (λ site. nodes.facts n ++ own_facts site (parts t) inputs) (same_site g p n t) in
+        let facts : those_of t (facts_said g.plan (new.kept n)) ≡ nodes.facts n ++ own_facts (site_of g.plan here t) (parts t) inputs =
+        ap (λ ls. those_of t (facts_said g.plan ls)) goes.kept
+        ∙ ap (those_of t) (said-append g.plan (old.kept n) did.facts)
+        ∙ those-append t (facts_said g.plan (old.kept n)) (facts_said g.plan did.facts)
+        ∙ ap (λ z. z ++ those_of t (facts_said g.plan did.facts)) (are.facts n)
         ∙ ap (λ z. nodes.facts n ++ z) own in
-        step_are plan old new n t nodes (nodes_after s nodes (map (event_at n) inputs)) (holds.are t within) happens.others a.others (subst (Agrees (new.tables n) t) (sym a.local) here) (facts ∙ sym a.facts)
-one_holds plan volumes before (Restarted n) old new sound holds happens = record {
+        step_are g old new n t nodes after are happens.others (λ m other. record { local = (a.others m other).0; facts = (a.others m other).1; plans = a.plans m }) (record {
+          begun = goes.still.begun ∙ sym goes.begun ∙ are.begun n ∙ sym (a.plans n).begun;
+          first_plan = goes.still.first_plan ∙ are.first_plan n goes.begun ∙ sym (a.plans n).first_plan;
+          last_plan = goes.still.last_plan ∙ sym goes.plan ∙ are.last_plan n goes.begun ∙ sym (a.plans n).last_plan;
+          part = subst (Agrees (new.tables n) t) (sym local) now;
+          facts = facts ∙ sym given;
+        })
+one_holds g before (Starts n p) old new sound holds happens = record {
   holds = record {
-    node = other_nodes plan n old new holds.node happens.others (record { plan_is = stays.plan_is ∙ r.is_new.node.plan_is; server_is = stays.server_is ∙ r.is_new.node.server_is });
-    are = λ t within. subst (AreNodes plan new t) (sym (more_nodes plan volumes before (Restarted n) t)) (at t within);
+    node = other_nodes g n old new holds.node happens.others (subst (λ q. IsNodeOf g.plan (here_in g q n) (new.tables n)) (sym goes.started.last_plan)
+        (record { plan_is = stays.plan_is ∙ r.is_new.node.plan_is; here_is = stays.here_is ∙ r.is_new.node.here_is }));
+    are = λ t within. subst (AreNodes g new t) (sym (more_nodes g before (Starts n p) t)) (at t within);
   };
   told = tt;
 }
   where
-    r : StartsBy plan volumes n (old.kept n) (new.tables n)
-    r = happens.goes.0
+    goes : TakesStart g n p old new
+    goes = happens.goes
 
-    stays : IsNodeOf r.blank.plan r.blank.server (new.tables n)
+    first : ℕ
+    first = first_of old n p
+
+    r : StartsBy g first p n (old.kept n) (new.tables n)
+    r = goes.starts
+
+    stays : IsNodeOf r.blank.plan r.blank.here (new.tables n)
     stays = same_node (old.kept n) r.blank (new.tables n) r.reads
 
-    at : (t : ℕ) → t < length plan.rows → AreNodes plan new t (nodes_after (setting_at plan volumes t) (nodes_at plan volumes before t) (Started n ∷ []))
+    at : (t : ℕ) → t < length g.plan.rows → AreNodes g new t (nodes_after (world_at g t) (nodes_at g before t) (Started n p ∷ []))
     at t within =
-        let s : Setting = setting_at plan volumes t in
-        let nodes : Nodes = nodes_at plan volumes before t in
-        let fresh : Local = new_local plan.grid n (volumes t) in
-        let doing : Doing = record { local = started s n (nodes.facts n); answer = None; letters = []; fact = None } in
-        let read : Agrees (new.tables n) t (recall_all (site_of plan n t) fresh (those_of t (facts_said plan (old.kept n)))) = (all_recalled plan n t fresh (old.kept n) r.blank (new.tables n) r.is_new.node (r.is_new.parts t within) r.reads).agrees in
-        let here : Agrees (new.tables n) t (started s n (nodes.facts n)) = subst (λ fs. Agrees (new.tables n) t (recall_all (site_of plan n t) fresh fs)) ((holds.are t within).facts n happens.there) read in
-        let facts : those_of t (facts_said plan (new.kept n)) ≡ (after_doing nodes n doing).facts n =
-        ap (λ ls. those_of t (facts_said plan ls)) happens.goes.1 ∙ (holds.are t within).facts n happens.there ∙ sym (append-nil (nodes.facts n)) ∙ sym (doing_facts nodes n doing) in
-        step_are plan old new n t nodes (after_doing nodes n doing) (holds.are t within) happens.others (doing_others nodes n doing) (subst (Agrees (new.tables n) t) (sym (doing_local nodes n doing)) here) facts
+        let w : NodeWorld = world_at g t in
+        let nodes : Nodes = nodes_at g before t in
+        let are : AreNodes g old t nodes = holds.are t within in
+        let after : Nodes = after_start w nodes n p in
+        let same_first : law_first nodes n p ≡ first = by nodes are (old.begun n) refl in
+        let read : Agrees (new.tables n) t (started w first p n (those_of t (facts_said g.plan (old.kept n)))) =
+        subst (λ site. Agrees (new.tables n) t (recall_all site (begun_local site (volumes_in g p t) (g.count first t)) (those_of t (facts_said g.plan (old.kept n))))) (sym (same_site g p n t))
+        (all_recalled g.plan (here_in g p n) t (begun_local (site_of g.plan (here_in g p n) t) (volumes_in g p t) (g.count first t)) (old.kept n) r.blank (new.tables n) r.is_new.node (r.is_new.parts t within) r.reads).agrees in
+        let facts : those_of t (facts_said g.plan (new.kept n)) ≡ nodes.facts n = ap (λ ls. those_of t (facts_said g.plan ls)) goes.kept ∙ are.facts n in
+        let now : Agrees (new.tables n) t (started w (law_first nodes n p) p n (nodes.facts n)) =
+        subst (λ q. Agrees (new.tables n) t (started w q p n (nodes.facts n))) (sym same_first) (subst (λ fs. Agrees (new.tables n) t (started w first p n fs)) (are.facts n) read) in
+        step_are g old new n t nodes after are happens.others (λ m other. record {
+          local = rw (ne_eqb m n other) refl;
+          facts = refl;
+          plans = record { begun = rw (ne_eqb m n other) refl; first_plan = rw (ne_eqb m n other) refl; last_plan = rw (ne_eqb m n other) refl };
+        }) (record {
+          begun = goes.started.begun ∙ (rw (eq-eqb n n refl) refl);
+          first_plan = goes.started.first_plan ∙ sym same_first ∙ (rw (eq-eqb n n refl) refl);
+          last_plan = goes.started.last_plan ∙ (rw (eq-eqb n n refl) refl);
+          part = rw (eq-eqb n n refl) now;
+          facts = facts;
+        })
+      where
+        by : (nodes : Nodes) → AreNodes g old t nodes → (b : Bool) → old.begun n ≡ b → law_first nodes n p ≡ first_of old n p
+        by nodes are true is = let law : nodes.begun n ≡ true = sym (are.begun n) ∙ is in rw (is, law) (sym (are.first_plan n is))
+        by nodes are false is = let law : nodes.begun n ≡ false = sym (are.begun n) ∙ is in rw (is, law) refl
 
 -- ---- all happenings
 
-record AllHold (plan : CheckedPlan) (volumes : ℕ → List VolumeRow) (before hs : List Happening) (last : AllNodes) : Type 0 where
-  holds : Holds plan volumes (before ++ hs) last
-  told : TellsAll plan volumes before hs
+record AllHold (g : GridPlans) (before hs : List Happening) (last : AllNodes) : Type 0 where
+  holds : Holds g (before ++ hs) last
+  told : TellsAll g before hs
 
-all_hold : (plan : CheckedPlan) (volumes : ℕ → List VolumeRow) (hs before : List Happening) (first last : AllNodes) → IsPlan plan → Holds plan volumes before first → AllHappen plan volumes first hs last → AllHold plan volumes before hs last
-all_hold plan volumes [] before first last sound holds same = record {
-  holds = subst (Holds plan volumes (before ++ [])) same (subst (λ b. Holds plan volumes b first) (sym (append-nil before)) holds);
+all_hold : (g : GridPlans) (hs before : List Happening) (first last : AllNodes) → IsPlan g.plan → Holds g before first → AllHappen g first hs last → AllHold g before hs last
+all_hold g [] before first last sound holds same = record {
+  holds = subst (Holds g (before ++ [])) same (subst (λ b. Holds g b first) (sym (append-nil before)) holds);
   told = tt;
 }
-all_hold plan volumes (h ∷ hs) before first last sound holds happen =
-    let one : OneHolds plan volumes before h happen.0 = one_holds plan volumes before h first happen.0 sound holds happen.1 in
-    let rest : AllHold plan volumes (before ++ h ∷ []) hs last = all_hold plan volumes hs (before ++ h ∷ []) happen.0 last sound one.holds happen.2 in
+all_hold g (h ∷ hs) before first last sound holds happen =
+    let one : OneHolds g before h happen.0 = one_holds g before h first happen.0 sound holds happen.1 in
+    let rest : AllHold g (before ++ h ∷ []) hs last = all_hold g hs (before ++ h ∷ []) happen.0 last sound one.holds happen.2 in
     record {
-      holds = subst (λ b. Holds plan volumes b last) (append_assoc before (h ∷ []) hs) rest.holds;
+      holds = subst (λ b. Holds g b last) (append_assoc before (h ∷ []) hs) rest.holds;
       told = (one.told, rest.told);
     }
 
+-- ---- sessions, and where they are at home
+
+few_places : (plan : CheckedPlan) → IsPlan plan → plan.grid.rows * plan.grid.cols ≤ most_places
+few_places plan is =
+    let rows : plan.grid.rows ≤ 8 = leb-true plan.grid.rows 8 (and_parts _ _ is.rows).1 in
+    let cols : plan.grid.cols ≤ 8 = leb-true plan.grid.cols 8 (and_parts _ _ is.cols).1 in
+    let one : plan.grid.rows * plan.grid.cols ≤ plan.grid.rows * 8 = mul-le-mul_left plan.grid.rows cols in
+    let two : plan.grid.rows * 8 ≤ 8 * 8 = mul-le-mul_right 8 rows in
+    omega (arith, one, two)
+
+home_within : (plan : CheckedPlan) (t place : ℕ) → 1 < plan.grid.rows * plan.grid.cols → home_place plan t place < plan.grid.rows * plan.grid.cols
+home_within plan t place many = mod-lt _ (omega (arith, many))
+
+record HomeIs (plan : CheckedPlan) (t k : ℕ) : Type 0 where
+  place : place_of (home_of plan t k) ≡ home_place plan t (seat_place k)
+  turn : generation (home_of plan t k) ≡ session_generation k
+
+home_is : (plan : CheckedPlan) (t k : ℕ) → IsPlan plan → 1 < plan.grid.rows * plan.grid.cols → HomeIs plan t k
+home_is plan t k is many =
+    let few : home_place plan t (seat_place k) < most_places = omega (arith, home_within plan t (seat_place k) many, few_places plan is) in
+    record { place = mod-mul-add (session_generation k) most_places (home_place plan t (seat_place k)) few; turn = div-mul-add (session_generation k) most_places (home_place plan t (seat_place k)) few }
+
+homes_stand : (g : GridPlans) (t : ℕ) → AreSound g → HomesStand g.plan.grid (home_of g.plan t)
+homes_stand g t sound k =
+    subst (λ n. n < g.plan.grid.rows * g.plan.grid.cols) (sym (home_is g.plan t k sound.plan sound.servers).place) (home_within g.plan t (seat_place k) sound.servers)
+
+-- a session of a plan is one of a later plan that has its home
+sessions_stay : (g : GridPlans) (t : ℕ) → AreSound g → SessionsStay (world_at g t)
+sessions_stay g t sound p q k later has is =
+    let home : HomeIs g.plan t k = home_is g.plan t k sound.plan sound.servers in
+    let inside : nat_lt (seat_place k) (row_at g.plan t).sessions ≡ true = (and_parts _ _ is).0 in
+    let turn : session_generation k ≡ times (plans_of g t q) (home_place g.plan t (seat_place k)) =
+    sym home.turn ∙ eqb-true (generation (home_of g.plan t k)) (times (plans_of g t q) (place_of (home_of g.plan t k))) has ∙ ap (times (plans_of g t q)) home.place in
+    rw (inside, eq-eqb (session_generation k) (times (plan_in (g.lost q)) (home_place g.plan t (seat_place k))) turn) refl
+
+-- each file is one register
+is_right : (g : GridPlans) (t : ℕ) (events : List Event) → AreSound g → AllCanCome (world_at g t) (new_nodes (world_at g t)) events → AllOpen (numbered (row_at g.plan t)) [] (g.opens t) →
+    StepsEnough (numbered (row_at g.plan t)) (g.opens t) (steps_with g t (g.opens t) events) → IsRight g.plan.grid (numbered (row_at g.plan t)) (home_of g.plan t) (g.opens t) (steps_with g t (g.opens t) events)
+is_right g t events sound can opens enough = subst P volumes served can enough
+  where
+    grid : Grid
+    grid = g.plan.grid
+
+    row : TenantRow
+    row = numbered (row_at g.plan t)
+
+    P : List VolumeRow → Type 0
+    P vs = AllCanCome (world_with g t vs) (new_nodes (world_with g t vs)) events → StepsEnough row (g.opens t) (steps_with g t vs events) → IsRight grid row (home_of g.plan t) (g.opens t) (steps_with g t vs events)
+
+    volumes : (setting_of grid row (home_of g.plan t) (g.opens t)).volumes ≡ g.opens t
+    volumes = all_volumes_open grid row (home_of g.plan t) (g.opens t) opens (omega (arith, enough))
+
+    served : P (setting_of grid row (home_of g.plan t) (g.opens t)).volumes
+    served may many =
+        all_nodes_serve grid row (home_of g.plan t) (g.opens t) (plans_of g t) (λ p. (row_at g.plan t).sessions) (λ p k. is_of_plan g.plan (here_in g p 0) t k) (λ p. home_place g.plan t 0) events
+        (homes_stand g t sound) (sound.chain t) (sessions_stay g t sound) sound.servers (few_places g.plan sound.plan) may many
+
+-- ---- the whole
+
 pub all_by_law : AllByLaw
-all_by_law plan volumes first last hs sound new happen =
-    let start : Holds plan volumes [] first = record {
-      node = λ n there. (new n there).0.node;
-      are = λ t within. record { parts = λ n there. (new n there).0.parts t within; facts = λ n there. ap (λ ls. those_of t (facts_said plan ls)) (new n there).1 };
+all_by_law g first last hs sound new happen =
+    let start : Holds g [] first = record {
+      node = λ n begun. absurd (let none = (new n).0 in cc);
+      are = λ t within. record {
+        begun = λ n. (new n).0;
+        first_plan = λ n begun. absurd (let none = (new n).0 in cc);
+        last_plan = λ n begun. absurd (let none = (new n).0 in cc);
+        parts = λ n begun. absurd (let none = (new n).0 in cc);
+        facts = λ n. ap (λ ls. those_of t (facts_said g.plan ls)) (new n).1;
+      };
     } in
-    let all : AllHold plan volumes [] hs last = all_hold plan volumes hs [] first last sound start happen in
+    let all : AllHold g [] hs last = all_hold g hs [] first last sound.plan start happen in
     record {
       told = all.told;
       nodes = all.holds.are;
-      follow = λ t can. all_nodes_follow (setting_at plan volumes t) (all_events plan t hs) can;
+      follow = λ t within can. record {
+        follows = all_nodes_follow (world_at g t) (all_events g t hs) (sound.chain t) (sessions_stay g t sound) sound.servers (few_places g.plan sound.plan) can;
+        right = λ opens enough. is_right g t (all_events g t hs) sound can opens enough;
+      };
     }

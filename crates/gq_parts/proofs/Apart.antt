@@ -5,38 +5,41 @@ use Rattle.gq_desk.specs.CheckedPlan.{CheckedPlan}
 use Rattle.gq_keeper.specs.Runs.{lines_of}
 use Rattle.gq_node.specs.Inputs.{Input, after_all}
 use Rattle.gq_node.specs.Local.{Local}
-use Rattle.gq_node.specs.Sites.{site_of}
+use Rattle.gq_node.specs.Sites.{Here, site_of}
 use Rattle.gq_node.specs.Tables.{Tables, Agrees}
 use Rattle.gq_facts.specs.Laws.{FitsFact}
 use Rattle.gq_parts.specs.Inputs.{line_inputs, lines_inputs}
-use Rattle.gq_parts.specs.Texts.{written_for, written_by, facts_by, parts_after}
+use Rattle.gq_parts.specs.Texts.{written_for, written_by, facts_by, parts_after, line_text_of}
 use Rattle.gq_parts.specs.Steps.{AllAgree, fact_lines, TakesAll, StepsTo}
 use Rattle.gq_parts.specs.Resting.{IsNodeOf}
 use Rattle.gq_parts.specs.Laws.{GoesByParts, AllRunsByParts, AllTextsByParts, AllTenantsApart}
 use Rattle.gq_parts.proofs.Taking.{after_more, written_more}
 
 -- one step, of a node of this plan and number
-pub record StepByParts (plan : CheckedPlan) (here : ℕ) (parts : ℕ → Local) (line : List ℕ) (lines : List (List ℕ)) (told : List ℕ) (new : Tables) : Type 0 where
+pub record StepByParts (plan : CheckedPlan) (here : Here) (parts : ℕ → Local) (line : List ℕ) (lines : List (List ℕ)) (told : List ℕ) (new : Tables) : Type 0 where
   pub node : IsNodeOf plan here new
-  pub told_is : told ≡ written_by plan here parts (line_inputs plan here line)
+  pub told_is : told ≡ written_by plan here parts (line_inputs plan here line) ++ line_text_of plan here line (parts_after plan here parts (line_inputs plan here line))
   pub lines_are : lines ≡ fact_lines plan (facts_by plan here parts (line_inputs plan here line))
   pub fit : All (FitsFact plan) (facts_by plan here parts (line_inputs plan here line))
   pub agree : AllAgree new (parts_after plan here parts (line_inputs plan here line))
 
-pub step_by_parts : (plan : CheckedPlan) (here : ℕ) (old new : Tables) (parts : ℕ → Local) (line : List ℕ) (lines : List (List ℕ)) (told : List ℕ) →
+pub step_by_parts : (plan : CheckedPlan) (here : Here) (old new : Tables) (parts : ℕ → Local) (line : List ℕ) (lines : List (List ℕ)) (told : List ℕ) →
     IsNodeOf plan here old → AllAgree old parts → StepsTo old line lines told new → StepByParts plan here parts line lines told new
 step_by_parts plan here old new parts line lines told node agree step =
-    let P : CheckedPlan → ℕ → Type 0 = λ p h. StepByParts p h parts line lines told new in
-    let takes : TakesAll old (line_inputs old.plan old.server line) step.facts told new = step.takes in
-    let facts : step.facts ≡ facts_by old.plan old.server parts (line_inputs old.plan old.server line) = takes.gives parts agree in
-    let own : P old.plan old.server = record {
-      node = record { plan_is = takes.plan; server_is = takes.server };
-      told_is = takes.tells parts agree;
+    let P : CheckedPlan → Here → Type 0 = λ p h. StepByParts p h parts line lines told new in
+    let takes : TakesAll old (line_inputs old.plan old.here line) step.facts step.tenants new = step.takes in
+    let after : ℕ → Local = parts_after old.plan old.here parts (line_inputs old.plan old.here line) in
+    let behind : AllAgree new after =
+    λ t within. (let inside : t < length old.plan.rows = subst (λ (p : CheckedPlan). t < length p.rows) takes.plan within in takes.parts t inside (parts t) (agree t inside)) in
+    let facts : step.facts ≡ facts_by old.plan old.here parts (line_inputs old.plan old.here line) = takes.gives parts agree in
+    let own : P old.plan old.here = record {
+      node = record { plan_is = takes.plan; here_is = takes.here };
+      told_is = step.told_is after behind ∙ ap (λ z. z ++ line_text_of old.plan old.here line after) (takes.tells parts agree);
       lines_are = step.lines_are ∙ ap (fact_lines old.plan) facts;
       fit = subst (All (FitsFact old.plan)) facts takes.fit;
-      agree = λ t within. (let inside : t < length old.plan.rows = subst (λ (p : CheckedPlan). t < length p.rows) takes.plan within in takes.parts t inside (parts t) (agree t inside));
+      agree = behind;
     } in
-    subst (λ p. P p here) node.plan_is (subst (λ h. P old.plan h) node.server_is own)
+    subst (λ p. P p here) node.plan_is (subst (λ h. P old.plan h) node.here_is own)
 
 pub runs_by_parts : AllRunsByParts
 runs_by_parts plan here first last parts [] node agree runs = record {

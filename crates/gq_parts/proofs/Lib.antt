@@ -1,8 +1,8 @@
-pub mod AllNodes
 pub mod Apart
 pub mod Knowing
-pub mod Letters
+pub mod Lacking
 pub mod Readable
 pub mod Reading
 pub mod Resting
 pub mod Taking
+pub mod AllNodes

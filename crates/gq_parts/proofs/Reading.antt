@@ -8,7 +8,7 @@ use Rattle.std.proofs.lemmas.Grind.{flat_map-append}
 use Rattle.gq_desk.specs.CheckedPlan.{CheckedPlan}
 use Rattle.gq_text.specs.AnswerText.{spaced}
 use Rattle.gq_text.specs.Canonical.{IsPlan}
-use Rattle.gq_cluster.specs.Facts.{OwnFact, Begun, Numbered, Kept}
+use Rattle.gq_cluster.specs.Facts.{OwnFact, Begun, Numbered, Kept, Had}
 use Rattle.gq_keeper.specs.Plans.{is_head, are_facts}
 use Rattle.gq_keeper.specs.Runs.{lines_of, facts_of}
 use Rattle.gq_keeper.specs.Starting.{RecallsAll}
@@ -17,7 +17,7 @@ use Rattle.gq_node.specs.Inputs.{Input, after_all}
 use Rattle.gq_node.specs.Local.{Local, recalls}
 use Rattle.gq_node.specs.Recalling.{tenant_of, own_fact}
 use Rattle.gq_node.specs.Resting.{recall_one, recall_all, those_of}
-use Rattle.gq_node.specs.Sites.{site_of}
+use Rattle.gq_node.specs.Sites.{Here, site_of}
 use Rattle.gq_node.specs.Tables.{Tables, Agrees, fact_of}
 use Rattle.gq_facts.specs.Facts.{verb_of, fact_words, fact_of_line}
 use Rattle.gq_facts.specs.Laws.{FitsFact}
@@ -44,6 +44,7 @@ its_fact : (t : ℕ) (fact : OwnFact) → own_fact (fact_of t fact) ≡ fact
 its_fact t (Begun k op) = refl
 its_fact t (Numbered k number) = refl
 its_fact t (Kept file copy) = refl
+its_fact t (Had file copy) = refl
 
 those-own : (t : ℕ) (facts : List OwnFact) → those_of t (map (fact_of t) facts) ≡ facts
 those-own t [] = refl
@@ -75,7 +76,7 @@ its_own g t a (suc n) low high none = elim (cases_eq a t) [
       ∙ its_own g t (a + 1) n (omega arith) (omega arith) none)
 ]
 
-pub those-by : (plan : CheckedPlan) (here t : ℕ) (parts : ℕ → Local) (inputs : ℕ → List Input) → t < length plan.rows → those_of t (facts_by plan here parts inputs) ≡ own_facts (site_of plan here t) (parts t) (inputs t)
+pub those-by : (plan : CheckedPlan) (here : Here) (t : ℕ) (parts : ℕ → Local) (inputs : ℕ → List Input) → t < length plan.rows → those_of t (facts_by plan here parts inputs) ≡ own_facts (site_of plan here t) (parts t) (inputs t)
 those-by plan here t parts inputs within =
     its_own (λ u. facts_for plan here u (parts u) (inputs u)) t 0 (length plan.rows) (omega arith) (omega arith) (λ u other. those-other t u (own_facts (site_of plan here u) (parts u) (inputs u)) other)
     ∙ those-own t (own_facts (site_of plan here t) (parts t) (inputs t))
@@ -110,6 +111,7 @@ no_head : (own : OwnFact) (rest : List ℕ) → is_head (verb_of own ++ rest) �
 no_head (Begun s o) rest = refl
 no_head (Numbered s n) rest = refl
 no_head (Kept file copy) rest = refl
+no_head (Had file copy) rest = refl
 
 pub lines_are_facts : (plan : CheckedPlan) → IsPlan plan → (facts : List Fact) → All (FitsFact plan) facts → are_facts (fact_lines plan facts) ≡ true
 lines_are_facts plan is [] fit = refl
@@ -122,20 +124,20 @@ gives_facts old line facts told new step = ap are_facts step.lines_are ∙ lines
 -- ---- a start reads lines
 
 -- the node, and its part of the tenant at place t, after these facts
-pub record Recalled (plan : CheckedPlan) (here t : ℕ) (start : Local) (facts : List Fact) (new : Tables) : Type 0 where
+pub record Recalled (plan : CheckedPlan) (here : Here) (t : ℕ) (start : Local) (facts : List Fact) (new : Tables) : Type 0 where
   pub node : IsNodeOf plan here new
   pub agrees : Agrees new t (recall_all (site_of plan here t) start (those_of t facts))
 
-one_recalled : (plan : CheckedPlan) (here t : ℕ) (start : Local) (fact : Option Fact) (old new : Tables) → IsNodeOf plan here old → Agrees old t start →
+one_recalled : (plan : CheckedPlan) (here : Here) (t : ℕ) (start : Local) (fact : Option Fact) (old new : Tables) → IsNodeOf plan here old → Agrees old t start →
     RecallsFact old fact new → Recalled plan here t start (option_to_list fact) new
 one_recalled plan here t start None old new node agrees never = absurd never
 one_recalled plan here t start (Some fact) old new node agrees read = record {
-  node = record { plan_is = read.leads.plan ∙ node.plan_is; server_is = read.leads.server ∙ node.server_is };
+  node = record { plan_is = read.leads.plan ∙ node.plan_is; here_is = read.leads.here ∙ node.here_is };
   agrees = elim (cases_eq (tenant_of fact) t) [
     | inl same ↦ (
         let at : Agrees old (tenant_of fact) start = subst (λ n. Agrees old n start) (sym same) agrees in
-        let P : CheckedPlan → ℕ → Type 0 = λ p h. Agrees new (tenant_of fact) (recalls (own_fact fact) (site_of p h (tenant_of fact)) start).local in
-        let one : P plan here = subst (λ p. P p here) node.plan_is (subst (λ h. P old.plan h) node.server_is (read.leads.own start at)) in
+        let P : CheckedPlan → Here → Type 0 = λ p h. Agrees new (tenant_of fact) (recalls (own_fact fact) (site_of p h (tenant_of fact)) start).local in
+        let one : P plan here = subst (λ p. P p here) node.plan_is (subst (λ h. P old.plan h) node.here_is (read.leads.own start at)) in
         let two : Agrees new t (recall_one (site_of plan here t) start (own_fact fact)) = subst (λ n. Agrees new n (recalls (own_fact fact) (site_of plan here n) start).local) same one in
         let is : those_of t (fact ∷ []) ≡ own_fact fact ∷ [] = rw (eq-eqb (tenant_of fact) t same) refl in
         subst (λ z. Agrees new t (recall_all (site_of plan here t) start z)) (sym is) two)
@@ -145,7 +147,7 @@ one_recalled plan here t start (Some fact) old new node agrees read = record {
   ];
 }
 
-pub all_recalled : (plan : CheckedPlan) (here t : ℕ) (start : Local) (lines : List (List ℕ)) (old new : Tables) → IsNodeOf plan here old → Agrees old t start →
+pub all_recalled : (plan : CheckedPlan) (here : Here) (t : ℕ) (start : Local) (lines : List (List ℕ)) (old new : Tables) → IsNodeOf plan here old → Agrees old t start →
     RecallsAll RecallsTo old lines new → Recalled plan here t start (facts_said plan lines) new
 all_recalled plan here t start [] old new node agrees same = record {
   node = subst (IsNodeOf plan here) same node;
@@ -170,16 +172,16 @@ pub starts_by_parts : AllStartsByParts
 starts_by_parts plan here t start lines old new node agrees reads = (all_recalled plan here t start lines old new node agrees reads).agrees
 
 -- the plan and the number stay
-pub same_node : (lines : List (List ℕ)) (old new : Tables) → RecallsAll RecallsTo old lines new → IsNodeOf old.plan old.server new
-same_node [] old new same = record { plan_is = ap (λ (w : Tables). w.plan) (sym same); server_is = ap (λ (w : Tables). w.server) (sym same) }
+pub same_node : (lines : List (List ℕ)) (old new : Tables) → RecallsAll RecallsTo old lines new → IsNodeOf old.plan old.here new
+same_node [] old new same = record { plan_is = ap (λ (w : Tables). w.plan) (sym same); here_is = ap (λ (w : Tables). w.here) (sym same) }
 same_node (line ∷ lines) old new reads =
-    let one : IsNodeOf old.plan old.server reads.0 = by (fact_of_line old.plan line) old reads.0 reads.1 in
-    let more : IsNodeOf reads.0.plan reads.0.server new = same_node lines reads.0 new reads.2 in
-    record { plan_is = more.plan_is ∙ one.plan_is; server_is = more.server_is ∙ one.server_is }
+    let one : IsNodeOf old.plan old.here reads.0 = by (fact_of_line old.plan line) old reads.0 reads.1 in
+    let more : IsNodeOf reads.0.plan reads.0.here new = same_node lines reads.0 new reads.2 in
+    record { plan_is = more.plan_is ∙ one.plan_is; here_is = more.here_is ∙ one.here_is }
   where
-    by : (fact : Option Fact) (a b : Tables) → RecallsFact a fact b → IsNodeOf a.plan a.server b
+    by : (fact : Option Fact) (a b : Tables) → RecallsFact a fact b → IsNodeOf a.plan a.here b
     by None a b never = absurd never
-    by (Some fact) a b read = record { plan_is = read.leads.plan; server_is = read.leads.server }
+    by (Some fact) a b read = record { plan_is = read.leads.plan; here_is = read.leads.here }
 
 -- a machine that has tables reads lines as they do
 pub on_tables : {M : Type 0} (tables : M → Tables) (recalls_line : M → List ℕ → M → Type 0) → ((a b : M) (line : List ℕ) → recalls_line a line b → RecallsTo (tables a) line (tables b)) →

@@ -1,6 +1,6 @@
 -- What a node's calls give is what its tenants' parts give, one input after another.
-use Rattle.std.proofs.Common.{◌≡◌, ◌≢◌, ◌∙◌, ℕ, zero, suc, ◌+◌, ◌<◌, ◌≤◌, true, false, List, [], ◌∷◌, ◌++◌, length, map, Option, Some, None, refl, sym, ap, subst, arith, inl, inr, append_assoc, append-nil}
-use Rattle.std.specs.Prelude.{Result, Ok, Err, OnOk, option_map, nat_lt, ◌==◌, All, IfSome, if◌then◌else◌}
+use Rattle.std.proofs.Common.{◌≡◌, ◌≢◌, ◌∙◌, ℕ, zero, suc, ◌+◌, ◌<◌, ◌≤◌, Bool, true, false, List, [], ◌∷◌, ◌++◌, length, map, Option, Some, None, refl, sym, ap, subst, arith, inl, inr, append_assoc, append-nil}
+use Rattle.std.specs.Prelude.{Result, Ok, Err, OnOk, option_map, nat_lt, ◌==◌, ◌&&◌, All, IfSome, if◌then◌else◌}
 use Rattle.std.specs.List.{flat_map, range_with_len}
 use Rattle.std.specs.Option.{option_to_list}
 use Rattle.std.proofs.lemmas.Bool.{cases_eq, cases_Bool, eq-eqb, ne_eqb, lt-ltb, ltb-true}
@@ -8,27 +8,29 @@ use Rattle.std.proofs.lemmas.Grind.{flat_map-append}
 use Rattle.std.proofs.lemmas.List.{map-append}
 use Rattle.std.proofs.lemmas.List.Elements.{All-append, All-nil}
 use Rattle.gq_tag.specs.declared.Message.{Message}
+use Rattle.gq_tag.specs.Tag.{OwnMessage, message_of}
 use Rattle.gq_desk.specs.CheckedPlan.{CheckedPlan}
 use Rattle.gq_text.specs.Canonical.{IsPlan}
 use Rattle.gq_text.specs.AnswerText.{spaced}
-use Rattle.gq_cluster.specs.Facts.{OwnFact, Begun, Numbered, Kept}
+use Rattle.gq_cluster.specs.Facts.{OwnFact, Begun, Numbered, Kept, Had}
 use Rattle.gq_journal.specs.Batches.{ended_line, lines_text, are_batch_lines}
 use Rattle.gq_keeper.specs.Runs.{Takes}
 use Rattle.gq_node.specs.declared.output.Output.{Output}
 use Rattle.gq_node.specs.declared.output.Fact.{Fact}
-use Rattle.gq_node.specs.Inputs.{Input, does, after_one, after_all}
-use Rattle.gq_node.specs.Local.{Local, Doing}
+use Rattle.gq_node.specs.Inputs.{Input, Joined as HeardJoined, does, after_one, after_all}
+use Rattle.gq_node.specs.Local.{Local, Doing, Parcel, Wants, Brings}
 use Rattle.gq_node.specs.Recalling.{tenant_of, own_fact}
 use Rattle.gq_node.specs.Resting.{AllOfPlan}
-use Rattle.gq_node.specs.Sites.{Site, site_of}
-use Rattle.gq_node.specs.Tables.{Tables, Agrees, Acts, Gives, Stands, AllStand, fact_of}
+use Rattle.gq_node.specs.Sites.{Here, Site, site_of, is_new, has_node}
+use Rattle.gq_node.specs.Tables.{Tables, Agrees, Acts, Gives, LeadsAll, Stands, AllStand, fact_of, parcel_of}
 use Rattle.gq_facts.specs.Facts.{verb_of, fact_words, fact_line, fact_text}
 use Rattle.gq_facts.specs.Laws.{FitsFact}
 use Rattle.gq_facts.proofs.FactsBack.{facts_stand_in_batches}
-use Rattle.gq_parts.specs.Inputs.{asked_in, line_inputs, ticks_of}
-use Rattle.gq_parts.specs.Texts.{step_text, doing_text, written_for, own_facts, facts_for, written_by, facts_by}
-use Rattle.gq_parts.specs.Steps.{fact_lines, TakesAll, StepsTo, HasAddress, Appended, TakesOf, TookOf, TookAll}
-use Rattle.gq_parts.proofs.Letters.{IsCounted, counted_have, does_counted}
+use Rattle.gq_wire.specs.declared.incoming.Incoming.{Incoming}
+use Rattle.gq_wire.specs.Incoming.{incoming_of}
+use Rattle.gq_parts.specs.Inputs.{asked_in, inputs_of, ticks_of}
+use Rattle.gq_parts.specs.Texts.{step_text, doing_text, written_for, own_facts, facts_for, written_by, facts_by, node_text}
+use Rattle.gq_parts.specs.Steps.{fact_lines, TakesAll, StepsTo, HasAddress, IsOfPlan, Appended, TakesOf, TookOf, TookAll, TookIncoming}
 
 -- what holds where a call gave Ok leads on
 pub on_ok : {T E : Type 0} (r : Result T E) {P Q : Type 0} → (P → Q) → OnOk r P → OnOk r Q
@@ -66,7 +68,7 @@ pub after_more : (site : Site) (local : Local) (xs ys : List Input) → after_al
 after_more site local [] ys = refl
 after_more site local (x ∷ xs) ys = after_more site (after_one site local x) xs ys
 
-pub written_more : (plan : CheckedPlan) (here t : ℕ) (local : Local) (xs ys : List Input) →
+pub written_more : (plan : CheckedPlan) (here : Here) (t : ℕ) (local : Local) (xs ys : List Input) →
     written_for plan here t local (xs ++ ys) ≡ written_for plan here t local xs ++ written_for plan here t (after_all (site_of plan here t) local xs) ys
 written_more plan here t local [] ys = refl
 written_more plan here t local (x ∷ xs) ys =
@@ -79,7 +81,7 @@ own_more site local (x ∷ xs) ys =
     ap (λ z. option_to_list (does x site local).fact ++ z) (own_more site (does x site local).local xs ys)
     ∙ sym (append_assoc (option_to_list (does x site local).fact) (own_facts site (does x site local).local xs) (own_facts site (after_all site local (x ∷ xs)) ys))
 
-facts_more : (plan : CheckedPlan) (here t : ℕ) (local : Local) (xs ys : List Input) →
+facts_more : (plan : CheckedPlan) (here : Here) (t : ℕ) (local : Local) (xs ys : List Input) →
     facts_for plan here t local (xs ++ ys) ≡ facts_for plan here t local xs ++ facts_for plan here t (after_all (site_of plan here t) local xs) ys
 facts_more plan here t local xs ys =
     ap (map (fact_of t)) (own_more (site_of plan here t) local xs ys)
@@ -91,56 +93,75 @@ pub its_tenant : (t : ℕ) (fact : OwnFact) → tenant_of (fact_of t fact) ≡ t
 its_tenant t (Begun k op) = refl
 its_tenant t (Numbered k number) = refl
 its_tenant t (Kept file copy) = refl
+its_tenant t (Had file copy) = refl
 
 -- the fact is the tenant's
 pub fact_own : (old : Tables) (t : ℕ) (x : Input) (out : Output) (new : Tables) → AllStand old → t < length old.plan.rows → Acts old t (does x) out new → IfSome out.fact (λ fact. tenant_of fact < length old.plan.rows)
 fact_own old t x out new stand within acts =
     let s : Stands old t = stand t within in
-    let g : Gives t (does x (site_of old.plan old.server t) s.local) out = acts.gives s.local s.agrees in
+    let g : Gives t (does x (site_of old.plan old.here t) s.local) out = acts.gives s.local s.agrees in
     let P : Option Fact → Type 0 = λ o. IfSome o (λ fact. tenant_of fact < length old.plan.rows) in
-    subst P (sym g.fact) (own (does x (site_of old.plan old.server t) s.local).fact)
+    subst P (sym g.fact) (own (does x (site_of old.plan old.here t) s.local).fact)
   where
     own : (o : Option OwnFact) → IfSome (option_map (fact_of t) o) (λ fact. tenant_of fact < length old.plan.rows)
     own None = tt
     own (Some fact) = subst (λ n. n < length old.plan.rows) (sym (its_tenant t fact)) within
 
--- each letter is of a session of the tenant
-pub letters_have : (old : Tables) (t : ℕ) (x : Input) (out : Output) (new : Tables) → AllStand old → t < length old.plan.rows → IsCounted x → Acts old t (does x) out new → All (HasAddress old.plan) out.letters.items
-letters_have old t x out new stand within counted acts =
+-- each letter is of the tenant
+pub letters_have : (old : Tables) (t : ℕ) (x : Input) (out : Output) (new : Tables) → AllStand old → t < length old.plan.rows → Acts old t (does x) out new → All (HasAddress old.plan) out.letters.items
+letters_have old t x out new stand within acts =
     let s : Stands old t = stand t within in
-    let g : Gives t (does x (site_of old.plan old.server t) s.local) out = acts.gives s.local s.agrees in
+    let g : Gives t (does x (site_of old.plan old.here t) s.local) out = acts.gives s.local s.agrees in
     let P : List Message → Type 0 = λ ms. All (HasAddress old.plan) ms in
-    subst P (sym g.letters) (counted_have old.plan t within (does x (site_of old.plan old.server t) s.local).letters (does_counted x (site_of old.plan old.server t) s.local counted))
+    subst P (sym g.letters) (own (does x (site_of old.plan old.here t) s.local).letters)
+  where
+    own : (ms : List OwnMessage) → All (HasAddress old.plan) (map (message_of t) ms)
+    own [] k d inside = absurd (omega arith)
+    own (m ∷ ms) zero d inside = within
+    own (m ∷ ms) (suc k) d inside = own ms k d (omega arith)
+
+-- the parcel is of a file of the tenant
+pub parcel_has : (old : Tables) (t : ℕ) (x : Input) (out : Output) (new : Tables) → AllStand old → t < length old.plan.rows → Acts old t (does x) out new → IsOfPlan old.plan out.parcel
+parcel_has old t x out new stand within acts =
+    let s : Stands old t = stand t within in
+    let g : Gives t (does x (site_of old.plan old.here t) s.local) out = acts.gives s.local s.agrees in
+    subst (IsOfPlan old.plan) (sym g.parcel) (own (does x (site_of old.plan old.here t) s.local).parcel)
+  where
+    own : (o : Option Parcel) → IsOfPlan old.plan (option_map (parcel_of t) o)
+    own None = tt
+    own (Some (Wants to file)) = within
+    own (Some (Brings to file copy)) = within
 
 map_option : {A B : Type 0} (f : A → B) (o : Option A) → option_to_list (option_map f o) ≡ map f (option_to_list o)
 map_option f None = refl
 map_option f (Some x) = refl
 
 one_takes : (old : Tables) (t : ℕ) (x : Input) (out : Output) (new : Tables) → Acts old t (does x) out new → All (FitsFact old.plan) (option_to_list out.fact) →
-    TakesOf old t (x ∷ []) (option_to_list out.fact) (step_text old.plan old.server t (asked_in x) out.answer out.letters.items) new
+    TakesOf old t (x ∷ []) (option_to_list out.fact) (step_text old.plan old.here t (asked_in x) out.answer out.letters.items out.parcel) new
 one_takes old t x out new acts fit = record {
   plan = acts.leads.plan;
-  server = acts.leads.server;
+  here = acts.leads.here;
   own = acts.leads.own;
   others = acts.leads.others;
-  gives = λ local agrees. (let doing : Doing = does x (site_of old.plan old.server t) local in
+  gives = λ local agrees. (let doing : Doing = does x (site_of old.plan old.here t) local in
       ap option_to_list (acts.gives local agrees).fact ∙ map_option (fact_of t) doing.fact ∙ ap (map (fact_of t)) (sym (append-nil (option_to_list doing.fact))));
-  tells = λ local agrees. (let doing : Doing = does x (site_of old.plan old.server t) local in
+  tells = λ local agrees. (let doing : Doing = does x (site_of old.plan old.here t) local in
       let g : Gives t doing out = acts.gives local agrees in
-      ap (λ z. step_text old.plan old.server t (asked_in x) z out.letters.items) g.answer
-      ∙ ap (λ z. step_text old.plan old.server t (asked_in x) doing.answer z) g.letters
-      ∙ sym (append-nil (doing_text old.plan old.server t x doing)));
+      ap (λ z. step_text old.plan old.here t (asked_in x) z out.letters.items out.parcel) g.answer
+      ∙ ap (λ z. step_text old.plan old.here t (asked_in x) doing.answer z out.parcel) g.letters
+      ∙ ap (λ z. step_text old.plan old.here t (asked_in x) doing.answer (map (message_of t) doing.letters) z) g.parcel
+      ∙ sym (append-nil (doing_text old.plan old.here t x doing)));
   fit = fit;
 }
 
 pub one_took : (old : Tables) (t : ℕ) (x : Input) (out : Output) (new : Tables) (f0 f1 t0 t1 : List ℕ) → Acts old t (does x) out new → All (FitsFact new.plan) (option_to_list out.fact) →
-    Appended new.plan (option_to_list out.fact) (step_text new.plan new.server t (asked_in x) out.answer out.letters.items) f0 f1 t0 t1 → TookOf old t (x ∷ []) f0 f1 t0 t1 new
+    Appended new.plan (option_to_list out.fact) (step_text new.plan new.here t (asked_in x) out.answer out.letters.items out.parcel) f0 f1 t0 t1 → TookOf old t (x ∷ []) f0 f1 t0 t1 new
 one_took old t x out new f0 f1 t0 t1 acts fit appended =
-    let P : CheckedPlan → ℕ → Type 0 = λ p s. All (FitsFact p) (option_to_list out.fact) × Appended p (option_to_list out.fact) (step_text p s t (asked_in x) out.answer out.letters.items) f0 f1 t0 t1 in
-    let h : P old.plan old.server = subst (λ p. P p old.server) acts.leads.plan (subst (λ s. P new.plan s) acts.leads.server (fit, appended)) in
+    let P : CheckedPlan → Here → Type 0 = λ p s. All (FitsFact p) (option_to_list out.fact) × Appended p (option_to_list out.fact) (step_text p s t (asked_in x) out.answer out.letters.items out.parcel) f0 f1 t0 t1 in
+    let h : P old.plan old.here = subst (λ p. P p old.here) acts.leads.plan (subst (λ s. P new.plan s) acts.leads.here (fit, appended)) in
     record {
       facts = option_to_list out.fact;
-      told = step_text old.plan old.server t (asked_in x) out.answer out.letters.items;
+      told = step_text old.plan old.here t (asked_in x) out.answer out.letters.items out.parcel;
       takes = one_takes old t x out new acts h.0;
       appended = h.1;
     }
@@ -151,33 +172,33 @@ pub none_took : (w : Tables) (t : ℕ) (f told : List ℕ) → TookOf w t [] f f
 none_took w t f told = record {
   facts = [];
   told = [];
-  takes = record { plan = refl; server = refl; own = λ local agrees. agrees; others = λ u other local agrees. agrees; gives = λ local agrees. refl; tells = λ local agrees. refl; fit = All-nil (FitsFact w.plan) };
+  takes = record { plan = refl; here = refl; own = λ local agrees. agrees; others = λ u other local agrees. agrees; gives = λ local agrees. refl; tells = λ local agrees. refl; fit = All-nil (FitsFact w.plan) };
   appended = appended_none w.plan f told;
 }
 
 -- what the second of two calls did, by the plan and the number that the first had
-record TakesThen (plan : CheckedPlan) (here : ℕ) (m : Tables) (t : ℕ) (ys : List Input) (b : List Fact) (y : List ℕ) (new : Tables) : Type 0 where
+record TakesThen (plan : CheckedPlan) (here : Here) (m : Tables) (t : ℕ) (ys : List Input) (b : List Fact) (y : List ℕ) (new : Tables) : Type 0 where
   own : (local : Local) → Agrees m t local → Agrees new t (after_all (site_of plan here t) local ys)
   gives : (local : Local) → Agrees m t local → b ≡ facts_for plan here t local ys
   tells : (local : Local) → Agrees m t local → y ≡ written_for plan here t local ys
   fit : All (FitsFact plan) b
 
-takes_then : (old m new : Tables) (t : ℕ) (ys : List Input) (b : List Fact) (y : List ℕ) → m.plan ≡ old.plan → m.server ≡ old.server → TakesOf m t ys b y new → TakesThen old.plan old.server m t ys b y new
-takes_then old m new t ys b y plan server q =
-    subst (λ p. TakesThen p old.server m t ys b y new) plan
-    (subst (λ h. TakesThen m.plan h m t ys b y new) server (record { own = q.own; gives = q.gives; tells = q.tells; fit = q.fit }))
+takes_then : (old m new : Tables) (t : ℕ) (ys : List Input) (b : List Fact) (y : List ℕ) → m.plan ≡ old.plan → m.here ≡ old.here → TakesOf m t ys b y new → TakesThen old.plan old.here m t ys b y new
+takes_then old m new t ys b y plan here q =
+    subst (λ p. TakesThen p old.here m t ys b y new) plan
+    (subst (λ h. TakesThen m.plan h m t ys b y new) here (record { own = q.own; gives = q.gives; tells = q.tells; fit = q.fit }))
 
 takes_more : (old m new : Tables) (t : ℕ) (xs ys : List Input) (a b : List Fact) (x y : List ℕ) → TakesOf old t xs a x m → TakesOf m t ys b y new → TakesOf old t (xs ++ ys) (a ++ b) (x ++ y) new
 takes_more old m new t xs ys a b x y p q =
-    let site : Site = site_of old.plan old.server t in
-    let h : TakesThen old.plan old.server m t ys b y new = takes_then old m new t ys b y p.plan p.server q in
+    let site : Site = site_of old.plan old.here t in
+    let h : TakesThen old.plan old.here m t ys b y new = takes_then old m new t ys b y p.plan p.here q in
     record {
       plan = q.plan ∙ p.plan;
-      server = q.server ∙ p.server;
+      here = q.here ∙ p.here;
       own = λ local agrees. subst (Agrees new t) (sym (after_more site local xs ys)) (h.own (after_all site local xs) (p.own local agrees));
       others = λ u other local agrees. q.others u other local (p.others u other local agrees);
-      gives = λ local agrees. ap (λ z. z ++ b) (p.gives local agrees) ∙ ap (λ z. facts_for old.plan old.server t local xs ++ z) (h.gives (after_all site local xs) (p.own local agrees)) ∙ sym (facts_more old.plan old.server t local xs ys);
-      tells = λ local agrees. ap (λ z. z ++ y) (p.tells local agrees) ∙ ap (λ z. written_for old.plan old.server t local xs ++ z) (h.tells (after_all site local xs) (p.own local agrees)) ∙ sym (written_more old.plan old.server t local xs ys);
+      gives = λ local agrees. ap (λ z. z ++ b) (p.gives local agrees) ∙ ap (λ z. facts_for old.plan old.here t local xs ++ z) (h.gives (after_all site local xs) (p.own local agrees)) ∙ sym (facts_more old.plan old.here t local xs ys);
+      tells = λ local agrees. ap (λ z. z ++ y) (p.tells local agrees) ∙ ap (λ z. written_for old.plan old.here t local xs ++ z) (h.tells (after_all site local xs) (p.own local agrees)) ∙ sym (written_more old.plan old.here t local xs ys);
       fit = All-append (FitsFact old.plan) a b p.fit h.fit;
     }
 
@@ -228,7 +249,7 @@ none_took_all w f told = record {
   told = [];
   takes = record {
     plan = refl;
-    server = refl;
+    here = refl;
     parts = λ t within local agrees. agrees;
     gives = λ parts agree. sym (none_from (λ (t : ℕ). let z : List Fact = [] in z) 0 (length w.plan.rows) (λ u above. refl));
     tells = λ parts agree. sym (none_from (λ (t : ℕ). let z : List ℕ = [] in z) 0 (length w.plan.rows) (λ u above. refl));
@@ -241,28 +262,28 @@ none_took_all w f told = record {
 takes_next : (old m new : Tables) (inputs : ℕ → List Input) (t : ℕ) (xs : List Input) (a b : List Fact) (x y : List ℕ) → t < length old.plan.rows → ((u : ℕ) → t ≤ u → inputs u ≡ []) →
     TakesAll old inputs a x m → TakesOf m t xs b y new → TakesAll old (with_inputs inputs t xs) (a ++ b) (x ++ y) new
 takes_next old m new inputs t xs a b x y within none p q =
-    let h : TakesThen old.plan old.server m t xs b y new = takes_then old m new t xs b y p.plan p.server q in
-    let still : (local : Local) → Agrees old t local → Agrees m t local = λ local agrees. subst (λ z. Agrees m t (after_all (site_of old.plan old.server t) local z)) (none t (omega arith)) (p.parts t within local agrees) in
+    let h : TakesThen old.plan old.here m t xs b y new = takes_then old m new t xs b y p.plan p.here q in
+    let still : (local : Local) → Agrees old t local → Agrees m t local = λ local agrees. subst (λ z. Agrees m t (after_all (site_of old.plan old.here t) local z)) (none t (omega arith)) (p.parts t within local agrees) in
     record {
       plan = q.plan ∙ p.plan;
-      server = q.server ∙ p.server;
+      here = q.here ∙ p.here;
       parts = λ u inside local agrees. elim (cases_eq u t) [
         | inl same ↦ (
             let at : Agrees old t local = subst (λ z. Agrees old z local) same agrees in
-            let to : Agrees new t (after_all (site_of old.plan old.server t) local (with_inputs inputs t xs t)) = subst (λ z. Agrees new t (after_all (site_of old.plan old.server t) local z)) (sym (with_same inputs t xs)) (h.own local (still local at)) in
-            subst (λ z. Agrees new z (after_all (site_of old.plan old.server z) local (with_inputs inputs t xs z))) (sym same) to)
-        | inr other ↦ (subst (λ z. Agrees new u (after_all (site_of old.plan old.server u) local z)) (sym (with_other inputs t xs u other)) (q.others u other _ (p.parts u inside local agrees)))
+            let to : Agrees new t (after_all (site_of old.plan old.here t) local (with_inputs inputs t xs t)) = subst (λ z. Agrees new t (after_all (site_of old.plan old.here t) local z)) (sym (with_same inputs t xs)) (h.own local (still local at)) in
+            subst (λ z. Agrees new z (after_all (site_of old.plan old.here z) local (with_inputs inputs t xs z))) (sym same) to)
+        | inr other ↦ (subst (λ z. Agrees new u (after_all (site_of old.plan old.here u) local z)) (sym (with_other inputs t xs u other)) (q.others u other _ (p.parts u inside local agrees)))
       ];
       gives = λ parts agree.
           ap (λ z. z ++ b) (p.gives parts agree)
-          ∙ ap (λ z. facts_by old.plan old.server parts inputs ++ z) (h.gives (parts t) (still (parts t) (agree t within)) ∙ ap (facts_for old.plan old.server t (parts t)) (sym (with_same inputs t xs)))
-          ∙ sym (last_place (λ u. facts_for old.plan old.server u (parts u) (inputs u)) (λ u. facts_for old.plan old.server u (parts u) (with_inputs inputs t xs u)) t 0 (length old.plan.rows) (omega arith) (omega arith)
-          (λ u above. ap (facts_for old.plan old.server u (parts u)) (none u above)) (λ u other. ap (facts_for old.plan old.server u (parts u)) (with_other inputs t xs u other)));
+          ∙ ap (λ z. facts_by old.plan old.here parts inputs ++ z) (h.gives (parts t) (still (parts t) (agree t within)) ∙ ap (facts_for old.plan old.here t (parts t)) (sym (with_same inputs t xs)))
+          ∙ sym (last_place (λ u. facts_for old.plan old.here u (parts u) (inputs u)) (λ u. facts_for old.plan old.here u (parts u) (with_inputs inputs t xs u)) t 0 (length old.plan.rows) (omega arith) (omega arith)
+          (λ u above. ap (facts_for old.plan old.here u (parts u)) (none u above)) (λ u other. ap (facts_for old.plan old.here u (parts u)) (with_other inputs t xs u other)));
       tells = λ parts agree.
           ap (λ z. z ++ y) (p.tells parts agree)
-          ∙ ap (λ z. written_by old.plan old.server parts inputs ++ z) (h.tells (parts t) (still (parts t) (agree t within)) ∙ ap (written_for old.plan old.server t (parts t)) (sym (with_same inputs t xs)))
-          ∙ sym (last_place (λ u. written_for old.plan old.server u (parts u) (inputs u)) (λ u. written_for old.plan old.server u (parts u) (with_inputs inputs t xs u)) t 0 (length old.plan.rows) (omega arith) (omega arith)
-          (λ u above. ap (written_for old.plan old.server u (parts u)) (none u above)) (λ u other. ap (written_for old.plan old.server u (parts u)) (with_other inputs t xs u other)));
+          ∙ ap (λ z. written_by old.plan old.here parts inputs ++ z) (h.tells (parts t) (still (parts t) (agree t within)) ∙ ap (written_for old.plan old.here t (parts t)) (sym (with_same inputs t xs)))
+          ∙ sym (last_place (λ u. written_for old.plan old.here u (parts u) (inputs u)) (λ u. written_for old.plan old.here u (parts u) (with_inputs inputs t xs u)) t 0 (length old.plan.rows) (omega arith) (omega arith)
+          (λ u above. ap (written_for old.plan old.here u (parts u)) (none u above)) (λ u other. ap (written_for old.plan old.here u (parts u)) (with_other inputs t xs u other)));
       fit = All-append (FitsFact old.plan) a b p.fit h.fit;
     }
 
@@ -291,12 +312,12 @@ took_same old new inputs others f0 f1 t0 t1 same p = record {
   told = p.told;
   takes = record {
     plan = p.takes.plan;
-    server = p.takes.server;
-    parts = λ u inside local agrees. subst (λ z. Agrees new u (after_all (site_of old.plan old.server u) local z)) (same u inside) (p.takes.parts u inside local agrees);
+    here = p.takes.here;
+    parts = λ u inside local agrees. subst (λ z. Agrees new u (after_all (site_of old.plan old.here u) local z)) (same u inside) (p.takes.parts u inside local agrees);
     gives = λ parts agree. p.takes.gives parts agree
-        ∙ same_places (λ u. facts_for old.plan old.server u (parts u) (inputs u)) (λ u. facts_for old.plan old.server u (parts u) (others u)) 0 (length old.plan.rows) (λ u below. ap (facts_for old.plan old.server u (parts u)) (same u (omega arith)));
+        ∙ same_places (λ u. facts_for old.plan old.here u (parts u) (inputs u)) (λ u. facts_for old.plan old.here u (parts u) (others u)) 0 (length old.plan.rows) (λ u below. ap (facts_for old.plan old.here u (parts u)) (same u (omega arith)));
     tells = λ parts agree. p.takes.tells parts agree
-        ∙ same_places (λ u. written_for old.plan old.server u (parts u) (inputs u)) (λ u. written_for old.plan old.server u (parts u) (others u)) 0 (length old.plan.rows) (λ u below. ap (written_for old.plan old.server u (parts u)) (same u (omega arith)));
+        ∙ same_places (λ u. written_for old.plan old.here u (parts u) (inputs u)) (λ u. written_for old.plan old.here u (parts u) (others u)) 0 (length old.plan.rows) (λ u below. ap (written_for old.plan old.here u (parts u)) (same u (omega arith)));
     fit = p.takes.fit;
   };
   appended = p.appended;
@@ -305,18 +326,18 @@ took_same old new inputs others f0 f1 t0 t1 same p = record {
 -- ---- a tick of the node
 
 -- the tenants below this place were given their ticks
-abbrev pub ticks_below : CheckedPlan → (n t : ℕ) → List Input
-ticks_below plan n t = if nat_lt t n then ticks_of plan t else []
+abbrev pub ticks_below : CheckedPlan → Here → (n t : ℕ) → List Input
+ticks_below plan here n t = if nat_lt t n then ticks_of plan here t else []
 
-pub below-none : (plan : CheckedPlan) (n t : ℕ) → n ≤ t → ticks_below plan n t ≡ []
-below-none plan n t above = elim (cases_Bool (nat_lt t n)) [
+pub below-none : (plan : CheckedPlan) (here : Here) (n t : ℕ) → n ≤ t → ticks_below plan here n t ≡ []
+below-none plan here n t above = elim (cases_Bool (nat_lt t n)) [
   | inl below ↦ (absurd (let h : t < n = ltb-true t n below in omega arith))
   | inr is ↦ (rw is refl)
 ]
 
-pub below-more : (plan : CheckedPlan) (n t : ℕ) → with_inputs (ticks_below plan n) n (ticks_of plan n) t ≡ ticks_below plan (n + 1) t
-below-more plan n t = elim (cases_eq t n) [
-  | inl same ↦ (let one : nat_lt t (n + 1) ≡ true = lt-ltb t (n + 1) (omega arith) in rw (eq-eqb t n same, one) (ap (ticks_of plan) (sym same)))
+pub below-more : (plan : CheckedPlan) (here : Here) (n t : ℕ) → with_inputs (ticks_below plan here n) n (ticks_of plan here n) t ≡ ticks_below plan here (n + 1) t
+below-more plan here n t = elim (cases_eq t n) [
+  | inl same ↦ (let one : nat_lt t (n + 1) ≡ true = lt-ltb t (n + 1) (omega arith) in rw (eq-eqb t n same, one) (ap (ticks_of plan here) (sym same)))
   | inr other ↦ (elim (cases_Bool (nat_lt t n)) [
     | inl below ↦ (let h : t < n = ltb-true t n below in let one : nat_lt t (n + 1) ≡ true = lt-ltb t (n + 1) (omega arith) in rw (ne_eqb t n other, below, one) refl)
     | inr above ↦ (elim (cases_Bool (nat_lt t (n + 1))) [
@@ -332,8 +353,22 @@ below-more plan n t = elim (cases_eq t n) [
       | inr not ↦ (omega arith)
     ]
 
-pub below-all : (plan : CheckedPlan) (n t : ℕ) → t < n → ticks_below plan n t ≡ ticks_of plan t
-below-all plan n t below = rw (lt-ltb t n below) refl
+pub below-all : (plan : CheckedPlan) (here : Here) (n t : ℕ) → t < n → ticks_below plan here n t ≡ ticks_of plan here t
+below-all plan here n t below = rw (lt-ltb t n below) refl
+
+-- nothing is given
+pub record GivesNothing (site : Site) (local : Local) (x : Input) (doing : Doing) : Type 0 where
+  pub answer : doing.answer ≡ None
+  pub letters : doing.letters ≡ []
+  pub parcel : doing.parcel ≡ None
+  pub fact : doing.fact ≡ None
+
+pub joined_silent : (from losses : ℕ) (site : Site) (local : Local) → GivesNothing site local (HeardJoined from losses) (does (HeardJoined from losses) site local)
+joined_silent from losses site local = by (is_new site && has_node site from && losses == site.losses) refl
+  where
+    by : (b : Bool) → (is_new site && has_node site from && losses == site.losses) ≡ b → GivesNothing site local (HeardJoined from losses) (does (HeardJoined from losses) site local)
+    by true is = rw is (record { answer = refl; letters = refl; parcel = refl; fact = refl })
+    by false is = rw is (record { answer = refl; letters = refl; parcel = refl; fact = refl })
 
 -- ---- the step of a machine that has the tables
 
@@ -343,16 +378,53 @@ lines_stand plan is (fact ∷ facts) fit =
     rw (facts_stand_in_batches plan fact is (fit 0 fact (omega arith)), lines_stand plan is facts (λ i d below. fit (suc i) d (omega arith))) refl
 
 pub takes_line : {M : Type 0} (tables : M → Tables) → (old new : M) (line f0 f1 t0 t1 : List ℕ) → IsPlan (tables old).plan → AllStand (tables old) →
-    TookAll (tables old) (line_inputs (tables old).plan (tables old).server line) f0 f1 t0 t1 (tables new) →
+    TookIncoming (tables old) (incoming_of (tables old).plan (tables old).here.node line) f0 f1 t0 t1 (tables new) →
     Takes (λ a l lines told b. StepsTo (tables a) l lines told (tables b)) old line f0 f1 t0 t1 new
 takes_line tables old new line f0 f1 t0 t1 is stand took = record {
-  lines = fact_lines (tables old).plan took.facts;
-  text = took.told;
-  step = record { sound = is; stand = stand; facts = took.facts; takes = took.takes; lines_are = refl };
-  facts = took.appended.facts_are;
-  told = took.appended.told_is;
-  opened = lines_stand (tables old).plan is took.facts took.takes.fit;
+  lines = fact_lines (tables old).plan took.took.facts;
+  text = took.took.told ++ took.own;
+  step = record {
+    sound = is;
+    stand = stand;
+    facts = took.took.facts;
+    tenants = took.took.told;
+    takes = took.took.takes;
+    lines_are = refl;
+    told_is = λ parts agree. ap (λ z. took.took.told ++ z) (took.own_is parts agree);
+  };
+  facts = took.took.appended.facts_are;
+  told = took.told_is ∙ ap (λ z. z ++ took.own) took.took.appended.told_is ∙ append_assoc t0 took.took.told took.own;
+  opened = lines_stand (tables old).plan is took.took.facts took.took.takes.fit;
 }
+
+-- ---- what comes to no tenant, and to each
+
+-- nothing is written to other nodes
+pub all_took : (old new : Tables) (incoming : Incoming) (f0 f1 t0 t1 : List ℕ) → TookAll old (inputs_of old.plan old.here incoming) f0 f1 t0 t1 new → ((parts : ℕ → Local) → node_text old.plan old.here incoming parts ≡ []) →
+    TookIncoming old incoming f0 f1 t0 t1 new
+all_took old new incoming f0 f1 t0 t1 took silent = record { between = t1; took = took; own = []; told_is = sym (append-nil t1); own_is = λ parts agree. sym (silent parts) }
+
+-- each part takes one input, by which nothing is given
+pub leads_took : (old new : Tables) (x : Input) (f told : List ℕ) → LeadsAll old (does x) new → ((site : Site) (local : Local) → GivesNothing site local x (does x site local)) → TookAll old (λ t. x ∷ []) f f told told new
+leads_took old new x f told leads silent = record {
+  facts = [];
+  told = [];
+  takes = record {
+    plan = leads.plan;
+    here = leads.here;
+    parts = leads.parts;
+    gives = λ parts agree. sym (none_from (λ t. facts_for old.plan old.here t (parts t) (x ∷ [])) 0 (length old.plan.rows) (λ u above. no_facts u (parts u)));
+    tells = λ parts agree. sym (none_from (λ t. written_for old.plan old.here t (parts t) (x ∷ [])) 0 (length old.plan.rows) (λ u above. no_text u (parts u)));
+    fit = All-nil (FitsFact old.plan);
+  };
+  appended = appended_none old.plan f told;
+}
+  where
+    no_facts : (u : ℕ) (local : Local) → facts_for old.plan old.here u local (x ∷ []) ≡ []
+    no_facts u local = let s = silent (site_of old.plan old.here u) local in rw s.fact refl
+
+    no_text : (u : ℕ) (local : Local) → written_for old.plan old.here u local (x ∷ []) ≡ []
+    no_text u local = let s = silent (site_of old.plan old.here u) local in rw (s.answer, s.letters, s.parcel) refl
 
 -- ---- the facts that a start needs
 

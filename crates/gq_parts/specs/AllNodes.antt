@@ -1,122 +1,203 @@
--- All nodes of a plan, as lines come to them and as they start again.
-use Rattle.std.specs.Prelude.{◌≡◌, ◌≢◌, ℕ, ◌*◌, ◌<◌, List, [], ◌∷◌, ◌++◌, length, map}
+-- All nodes of a grid, as lines come to them and as they start, with plans by which nodes are lost and replaced and volumes are opened.
+use Rattle.std.specs.Prelude.{◌≡◌, ◌≢◌, ℕ, ◌*◌, ◌<◌, List, [], ◌∷◌, ◌++◌, Bool, true, false, length, map, take, if◌then◌else◌}
 use Rattle.std.specs.List.{flat_map}
 use Rattle.gq_desk.specs.CheckedPlan.{CheckedPlan, row_at}
 use Rattle.gq_desk.specs.declared.volumes.VolumeRow.{VolumeRow}
 use Rattle.gq_text.specs.Canonical.{IsPlan}
 use Rattle.gq_keeper.specs.Runs.{Did}
 use Rattle.gq_keeper.specs.Starting.{RecallsAll}
-use Rattle.gq_cluster.specs.Cluster.{Setting, new_cluster}
-use Rattle.gq_node.specs.Inputs.{Input, Asked, AskedPlan, Brought, Ticked}
-use Rattle.gq_node.specs.Nodes.{Nodes, Event, LineCame, PlanCame, LetterCame, TickCame, Started, new_nodes, nodes_after, AllCanCome, Follows}
+use Rattle.gq_cluster.specs.Cluster.{NodeStep}
+use Rattle.gq_cluster.specs.Laws.{StepsEnough}
+use Rattle.gq_replace.specs.Fleet.{new_fleet, all_node_steps}
+use Rattle.gq_replace.specs.Laws.{IsRight}
+use Rattle.gq_replace.specs.Plans.{Plan, IsChain}
+use Rattle.gq_node.specs.Nodes.{NodeWorld, Nodes, Event, Came, AskedToJoin, Started, new_nodes, nodes_after, all_steps, AllCanCome, Follows, AllOpen}
 use Rattle.gq_node.specs.Resting.{those_of}
-use Rattle.gq_node.specs.Sites.{home_of}
+use Rattle.gq_node.specs.Sites.{Here, numbered, home_of, home_place, is_of_plan}
 use Rattle.gq_node.specs.Tables.{Tables, Agrees}
-use Rattle.gq_parts.specs.Inputs.{line_inputs}
-use Rattle.gq_parts.specs.Texts.{written_by}
+use Rattle.gq_wire.specs.declared.incoming.Incoming.{Incoming}
+use Rattle.gq_wire.specs.declared.incoming.Incoming.TheVariants.{Joins}
+use Rattle.gq_wire.specs.Incoming.{incoming_of}
+use Rattle.gq_parts.specs.Inputs.{inputs_of, line_inputs}
+use Rattle.gq_parts.specs.Texts.{written_by, parts_after, line_text_of}
 use Rattle.gq_parts.specs.Recalls.{RecallsTo, facts_said}
 use Rattle.gq_parts.specs.Resting.{IsNewNode}
 use Rattle.gq_parts.specs.Steps.{StepsTo}
 
--- of each node its tables, and the lines of all facts that it gave, in order
+-- ---- the plans of a grid
+
+-- The plans, from the first on: the grid and its tenants are those of all, and so are the volumes that a tenant ever has, in order. Each plan says which
+-- nodes were lost, and how many of a tenant's volumes it opens.
+pub record GridPlans : Type 0 where
+  pub plan : CheckedPlan
+  pub opens : (t : ℕ) → List VolumeRow
+  pub lost : (p : ℕ) → List ℕ
+  pub count : (p t : ℕ) → ℕ
+
+-- the node of this number with plan p; the tenant's volumes in that plan
+abbrev pub here_in : GridPlans → (p n : ℕ) → Here
+here_in g p n = record { node = n; lost = g.lost p }
+
+abbrev pub volumes_in : GridPlans → (p t : ℕ) → List VolumeRow
+volumes_in g p t = take (g.count p t) (g.opens t)
+
+-- what the plans say, as the law of nodes has it
+abbrev pub plans_of : GridPlans → (t : ℕ) → ℕ → Plan
+plans_of g t p = record { lost = g.lost p; volumes = g.count p t }
+
+-- the tenant at place t, as the law has it, with these volumes, and with its own
+abbrev pub world_with : GridPlans → (t : ℕ) → List VolumeRow → NodeWorld
+world_with g t volumes = record {
+  world = record { setting = record { grid = g.plan.grid; row = numbered (row_at g.plan t); home = home_of g.plan t; volumes = volumes }; plans = plans_of g t };
+  sessions = λ p. (row_at g.plan t).sessions;
+  is_of_plan = λ p k. is_of_plan g.plan (here_in g p 0) t k;
+  first_home = λ p. home_place g.plan t 0;
+}
+
+abbrev pub world_at : GridPlans → (t : ℕ) → NodeWorld
+world_at g t = world_with g t (g.opens t)
+
+-- The plan is sound, and of a grid of two servers or more, since nobody could give a copy to the only one. No plan takes back what an earlier one says.
+pub record AreSound (g : GridPlans) : Type 0 where
+  pub plan : IsPlan g.plan
+  pub servers : 1 < g.plan.grid.rows * g.plan.grid.cols
+  pub chain : (t : ℕ) → IsChain (plans_of g t)
+
+-- ---- the nodes
+
+-- of each node whether it was started, with which plan first and last, its tables, and the lines of all facts that it gave, in order
 pub record AllNodes : Type 0 where
+  pub begun : ℕ → Bool
+  pub first_plan : ℕ → ℕ
+  pub last_plan : ℕ → ℕ
   pub tables : ℕ → Tables
   pub kept : ℕ → List (List ℕ)
 
--- how many nodes there are
-abbrev pub node_count : CheckedPlan → ℕ
-node_count plan = plan.grid.rows * plan.grid.cols
-
--- none was ever started, and each has these volumes open
-abbrev pub AllNew : CheckedPlan → (volumes : ℕ → List VolumeRow) → AllNodes → Type 0
-AllNew plan volumes nodes = (n : ℕ) → n < node_count plan → IsNewNode plan n volumes (nodes.tables n) × (nodes.kept n ≡ [])
+-- none was ever started
+abbrev pub AllNew : AllNodes → Type 0
+AllNew nodes = (n : ℕ) → (nodes.begun n ≡ false) × (nodes.kept n ≡ [])
 
 -- ---- what happens
 
 pub data Happening : Type 0 where
-  -- a line came to the node, which gave these lines of facts and told this
-  Took : (node : ℕ) (did : Did) → Happening
-  -- the node started again
-  Restarted : (node : ℕ) → Happening
+  -- a line came to the node, which was started with plan p, gave these lines of facts and told this
+  Took : (node p : ℕ) (did : Did) → Happening
+  -- the node is started, for the first time or again, with plan p
+  Starts : (node p : ℕ) → Happening
 
 -- the node
 abbrev pub node_in : Happening → ℕ
-node_in (Took n did) = n
-node_in (Restarted n) = n
+node_in (Took n p did) = n
+node_in (Starts n p) = n
 
--- a start: a node that was never started reads these lines
-pub record StartsBy (plan : CheckedPlan) (volumes : ℕ → List VolumeRow) (n : ℕ) (kept : List (List ℕ)) (new : Tables) : Type 0 where
+-- a start: a node that was never started reads these lines. It lacks the volumes of the plan that it was started with first, if it is a new one
+pub record StartsBy (g : GridPlans) (first p n : ℕ) (kept : List (List ℕ)) (new : Tables) : Type 0 where
   pub blank : Tables
-  pub is_new : IsNewNode plan n volumes blank
+  pub is_new : IsNewNode g.plan (here_in g p n) (volumes_in g p) (g.count first) blank
   pub reads : RecallsAll RecallsTo blank kept new
 
+-- the plan that it was started with first
+abbrev pub first_of : AllNodes → (n p : ℕ) → ℕ
+first_of nodes n p = if nodes.begun n then nodes.first_plan n else p
+
+-- the node is started from then on, with these plans
+pub record IsStarted (n first p : ℕ) (new : AllNodes) : Type 0 where
+  pub begun : new.begun n ≡ true
+  pub first_plan : new.first_plan n ≡ first
+  pub last_plan : new.last_plan n ≡ p
+
 -- what the node does: it takes a step, and its facts are kept; or it starts by what it kept
-abbrev pub GoesBy : CheckedPlan → (volumes : ℕ → List VolumeRow) → Happening → (old : Tables) → (kept : List (List ℕ)) → (new : Tables) → (after : List (List ℕ)) → Type 0
-GoesBy plan volumes (Took n did) old kept new after = StepsTo old did.line did.facts did.told new × (after ≡ kept ++ did.facts)
-GoesBy plan volumes (Restarted n) old kept new after = StartsBy plan volumes n kept new × (after ≡ kept)
+pub record TakesStep (n p : ℕ) (did : Did) (old new : AllNodes) : Type 0 where
+  pub begun : old.begun n ≡ true
+  pub plan : old.last_plan n ≡ p
+  pub step : StepsTo (old.tables n) did.line did.facts did.told (new.tables n)
+  pub kept : new.kept n ≡ old.kept n ++ did.facts
+  pub still : IsStarted n (old.first_plan n) p new
+
+pub record TakesStart (g : GridPlans) (n p : ℕ) (old new : AllNodes) : Type 0 where
+  pub starts : StartsBy g (first_of old n p) p n (old.kept n) (new.tables n)
+  pub kept : new.kept n ≡ old.kept n
+  pub started : IsStarted n (first_of old n p) p new
+
+abbrev pub GoesBy : GridPlans → Happening → (old new : AllNodes) → Type 0
+GoesBy g (Took n p did) old new = TakesStep n p did old new
+GoesBy g (Starts n p) old new = TakesStart g n p old new
+
+-- a node stays as it is
+pub record Stays (m : ℕ) (old new : AllNodes) : Type 0 where
+  pub begun : new.begun m ≡ old.begun m
+  pub first_plan : new.first_plan m ≡ old.first_plan m
+  pub last_plan : new.last_plan m ≡ old.last_plan m
+  pub tables : new.tables m ≡ old.tables m
+  pub kept : new.kept m ≡ old.kept m
 
 -- the node goes on; all others stay
-pub record Happens (plan : CheckedPlan) (volumes : ℕ → List VolumeRow) (old : AllNodes) (h : Happening) (new : AllNodes) : Type 0 where
-  pub there : node_in h < node_count plan
-  pub others : (m : ℕ) → m ≢ node_in h → (new.tables m ≡ old.tables m) × (new.kept m ≡ old.kept m)
-  pub goes : GoesBy plan volumes h (old.tables (node_in h)) (old.kept (node_in h)) (new.tables (node_in h)) (new.kept (node_in h))
+pub record Happens (g : GridPlans) (old : AllNodes) (h : Happening) (new : AllNodes) : Type 0 where
+  pub others : (m : ℕ) → m ≢ node_in h → Stays m old new
+  pub goes : GoesBy g h old new
 
-abbrev pub AllHappen : CheckedPlan → (volumes : ℕ → List VolumeRow) → AllNodes → List Happening → AllNodes → Type 0
-AllHappen plan volumes first [] last = first ≡ last
-AllHappen plan volumes first (h ∷ hs) last = (next : AllNodes) × Happens plan volumes first h next × AllHappen plan volumes next hs last
+abbrev pub AllHappen : GridPlans → AllNodes → List Happening → AllNodes → Type 0
+AllHappen g first [] last = first ≡ last
+AllHappen g first (h ∷ hs) last = (next : AllNodes) × Happens g first h next × AllHappen g next hs last
 
 -- ---- of one tenant
 
--- the tenant at place t, as the law of nodes has it
-abbrev pub setting_at : CheckedPlan → (volumes : ℕ → List VolumeRow) → ℕ → Setting
-setting_at plan volumes t = record { grid = plan.grid; row = row_at plan t; home = home_of plan t; volumes = volumes t }
+-- what comes to the node, as events of the tenant at place t
+abbrev pub came_events : GridPlans → (p n t : ℕ) → Incoming → List Event
+came_events g p n t (Joins from losses) = AskedToJoin n from losses ∷ []
+came_events g p n t incoming = map (λ input. Came n input) (inputs_of g.plan (here_in g p n) incoming t)
 
--- its inputs at a node are events there
-abbrev pub event_at : ℕ → Input → Event
-event_at n (Asked op line) = LineCame n op line
-event_at n AskedPlan = PlanCame n
-event_at n (Brought from letter) = LetterCame n from letter
-event_at n (Ticked session) = TickCame n session
+abbrev pub events_of : GridPlans → (t : ℕ) → Happening → List Event
+events_of g t (Took n p did) = came_events g p n t (incoming_of g.plan n did.line)
+events_of g t (Starts n p) = Started n p ∷ []
 
-abbrev pub events_of : CheckedPlan → ℕ → Happening → List Event
-events_of plan t (Took n did) = map (event_at n) (line_inputs plan n did.line t)
-events_of plan t (Restarted n) = Started n ∷ []
-
-abbrev pub all_events : CheckedPlan → ℕ → List Happening → List Event
-all_events plan t hs = flat_map (events_of plan t) hs
+abbrev pub all_events : GridPlans → (t : ℕ) → List Happening → List Event
+all_events g t hs = flat_map (events_of g t) hs
 
 -- what all nodes have of it after that, by the law of nodes
-abbrev pub nodes_at : CheckedPlan → (volumes : ℕ → List VolumeRow) → List Happening → ℕ → Nodes
-nodes_at plan volumes hs t = nodes_after (setting_at plan volumes t) (new_nodes (setting_at plan volumes t)) (all_events plan t hs)
+abbrev pub nodes_at : GridPlans → List Happening → (t : ℕ) → Nodes
+nodes_at g hs t = nodes_after (world_at g t) (new_nodes (world_at g t)) (all_events g t hs)
 
 -- ---- what all that comes to
 
--- each node has of the tenant what the law says, and its facts of the tenant are those of the law
-pub record AreNodes (plan : CheckedPlan) (nodes : AllNodes) (t : ℕ) (by_law : Nodes) : Type 0 where
-  pub parts : (n : ℕ) → n < node_count plan → Agrees (nodes.tables n) t (by_law.local n)
-  pub facts : (n : ℕ) → n < node_count plan → those_of t (facts_said plan (nodes.kept n)) ≡ by_law.facts n
+-- each node that was started has of the tenant what the law says, and its facts of the tenant are those of the law
+pub record AreNodes (g : GridPlans) (nodes : AllNodes) (t : ℕ) (by_law : Nodes) : Type 0 where
+  pub begun : (n : ℕ) → nodes.begun n ≡ by_law.begun n
+  pub first_plan : (n : ℕ) → nodes.begun n ≡ true → nodes.first_plan n ≡ by_law.first_plan n
+  pub last_plan : (n : ℕ) → nodes.begun n ≡ true → nodes.last_plan n ≡ by_law.last_plan n
+  pub parts : (n : ℕ) → nodes.begun n ≡ true → Agrees (nodes.tables n) t (by_law.local n)
+  pub facts : (n : ℕ) → those_of t (facts_said g.plan (nodes.kept n)) ≡ by_law.facts n
 
--- what a line tells, after these happenings, is what is written for the tenants by the parts that its node then has by the law
-abbrev pub TellsAt : CheckedPlan → (volumes : ℕ → List VolumeRow) → List Happening → Happening → Type 0
-TellsAt plan volumes before (Took n did) = did.told ≡ written_by plan n (λ t. (nodes_at plan volumes before t).local n) (line_inputs plan n did.line)
-TellsAt plan volumes before (Restarted n) = Unit {0}
+-- What a line tells, after these happenings, is what is written for the tenants by the parts that its node then has by the law, and behind it what the
+-- node itself writes to other nodes.
+abbrev pub TellsAt : GridPlans → List Happening → Happening → Type 0
+TellsAt g before (Took n p did) =
+    did.told
+    ≡ written_by g.plan (here_in g p n) (λ t. (nodes_at g before t).local n) (line_inputs g.plan (here_in g p n) did.line)
+    ++ line_text_of g.plan (here_in g p n) did.line (parts_after g.plan (here_in g p n) (λ t. (nodes_at g before t).local n) (line_inputs g.plan (here_in g p n) did.line))
+TellsAt g before (Starts n p) = Unit {0}
 
-abbrev pub TellsAll : CheckedPlan → (volumes : ℕ → List VolumeRow) → (before hs : List Happening) → Type 0
-TellsAll plan volumes before [] = Unit {0}
-TellsAll plan volumes before (h ∷ hs) = TellsAt plan volumes before h × TellsAll plan volumes (before ++ h ∷ []) hs
+abbrev pub TellsAll : GridPlans → (before hs : List Happening) → Type 0
+TellsAll g before [] = Unit {0}
+TellsAll g before (h ∷ hs) = TellsAt g before h × TellsAll g (before ++ h ∷ []) hs
 
--- the events of a tenant, of which each letter was written before, are steps of the law of clusters
-abbrev pub FollowsIf : CheckedPlan → (volumes : ℕ → List VolumeRow) → List Happening → ℕ → Type 0
-FollowsIf plan volumes hs t = AllCanCome (setting_at plan volumes t) (new_nodes (setting_at plan volumes t)) (all_events plan t hs) →
-    Follows (setting_at plan volumes t) (new_nodes (setting_at plan volumes t)) new_cluster (all_events plan t hs)
+-- the steps that the law makes of all that, where the tenant has these volumes
+abbrev pub steps_with : GridPlans → (t : ℕ) → List VolumeRow → List Event → List NodeStep
+steps_with g t volumes events = all_node_steps (world_with g t volumes).world new_fleet (all_steps (world_with g t volumes) (new_nodes (world_with g t volumes)) events)
 
--- all lines told what the law says, all nodes are left as it says, and each tenant's events follow the law of clusters
-pub record IsByLaw (plan : CheckedPlan) (volumes : ℕ → List VolumeRow) (hs : List Happening) (last : AllNodes) : Type 0 where
-  pub told : TellsAll plan volumes [] hs
-  pub nodes : (t : ℕ) → t < length plan.rows → AreNodes plan last t (nodes_at plan volumes hs t)
-  pub follow : (t : ℕ) → FollowsIf plan volumes hs t
+-- The events of a tenant, of which each letter was written before and no node that is gone takes a step, are steps of the law of nodes that are lost and
+-- replaced; and each file is one register, where each of the tenant's volumes may be opened behind those before it and the tenant has steps enough.
+pub record FollowsLaw (g : GridPlans) (hs : List Happening) (t : ℕ) : Type 0 where
+  pub follows : Follows (world_at g t) (new_nodes (world_at g t)) new_fleet (all_events g t hs)
+  pub right : AllOpen (numbered (row_at g.plan t)) [] (g.opens t) → StepsEnough (numbered (row_at g.plan t)) (g.opens t) (steps_with g t (g.opens t) (all_events g t hs)) →
+      IsRight g.plan.grid (numbered (row_at g.plan t)) (home_of g.plan t) (g.opens t) (steps_with g t (g.opens t) (all_events g t hs))
 
--- whatever lines come to the nodes of a plan, of which none was ever started, and whenever one starts again
+-- all lines told what the law says, all nodes are left as it says, and each tenant's events follow the law
+pub record IsByLaw (g : GridPlans) (hs : List Happening) (last : AllNodes) : Type 0 where
+  pub told : TellsAll g [] hs
+  pub nodes : (t : ℕ) → t < length g.plan.rows → AreNodes g last t (nodes_at g hs t)
+  pub follow : (t : ℕ) → t < length g.plan.rows → AllCanCome (world_at g t) (new_nodes (world_at g t)) (all_events g t hs) → FollowsLaw g hs t
+
+-- whatever lines come to the nodes of a grid, of which none was ever started, and whenever one is lost and replaced, or starts again
 abbrev pub AllByLaw : Type 0
-AllByLaw = (plan : CheckedPlan) (volumes : ℕ → List VolumeRow) (first last : AllNodes) (hs : List Happening) →
-    IsPlan plan → AllNew plan volumes first → AllHappen plan volumes first hs last → IsByLaw plan volumes hs last
+AllByLaw = (g : GridPlans) (first last : AllNodes) (hs : List Happening) → AreSound g → AllNew first → AllHappen g first hs last → IsByLaw g hs last

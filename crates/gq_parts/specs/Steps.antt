@@ -1,18 +1,25 @@
 -- What a line does to a node.
-use Rattle.std.specs.Prelude.{◌≡◌, ◌≢◌, ℕ, ◌<◌, ◌≤◌, List, ◌++◌, length, map, All}
+use Rattle.std.specs.List.{list_any}
+use Rattle.std.specs.Prelude.{◌≡◌, ◌≢◌, ℕ, ◌<◌, nat_lt, Bool, List, ◌++◌, length, map, Option, Some, None, All}
 use Rattle.gq_tag.specs.declared.Message.{Message}
 use Rattle.gq_desk.specs.CheckedPlan.{CheckedPlan}
 use Rattle.gq_text.specs.Canonical.{IsPlan}
 use Rattle.gq_journal.specs.Batches.{lines_text}
 use Rattle.gq_node.specs.declared.output.Fact.{Fact}
+use Rattle.gq_node.specs.declared.output.Parcel.{Parcel}
 use Rattle.gq_node.specs.Inputs.{Input, after_all}
 use Rattle.gq_node.specs.Local.{Local}
 use Rattle.gq_node.specs.Sites.{site_of}
-use Rattle.gq_node.specs.Tables.{Tables, Agrees, AllStand}
+use Rattle.gq_desk.specs.Volumes.{account_at}
+use Rattle.gq_node.specs.Joining.{lacked_files}
+use Rattle.gq_node.specs.Tables.{Tables, Agrees, AllStand, lacks_at}
 use Rattle.gq_facts.specs.Facts.{fact_line}
+use Rattle.gq_wire.specs.Texts.{parcel_file}
+use Rattle.gq_wire.specs.declared.incoming.Incoming.{Incoming}
+use Rattle.gq_wire.specs.declared.incoming.Incoming.TheVariants.{Tick}
 use Rattle.gq_facts.specs.Laws.{FitsFact}
-use Rattle.gq_parts.specs.Inputs.{line_inputs}
-use Rattle.gq_parts.specs.Texts.{written_for, facts_for, written_by, facts_by}
+use Rattle.gq_parts.specs.Inputs.{inputs_of, line_inputs}
+use Rattle.gq_parts.specs.Texts.{written_for, facts_for, written_by, facts_by, places, node_text, line_text_of}
 
 -- the tables have these parts of the node for the tenants
 abbrev pub AllAgree : Tables → (ℕ → Local) → Type 0
@@ -26,26 +33,42 @@ fact_lines plan facts = map (fact_line plan) facts
 -- the node the tables have, the facts are those that the parts give, and what is told is what is written for them.
 pub record TakesAll (old : Tables) (inputs : ℕ → List Input) (facts : List Fact) (told : List ℕ) (new : Tables) : Type 0 where
   pub plan : new.plan ≡ old.plan
-  pub server : new.server ≡ old.server
-  pub parts : (t : ℕ) → t < length old.plan.rows → (local : Local) → Agrees old t local → Agrees new t (after_all (site_of old.plan old.server t) local (inputs t))
-  pub gives : (parts : ℕ → Local) → AllAgree old parts → facts ≡ facts_by old.plan old.server parts inputs
-  pub tells : (parts : ℕ → Local) → AllAgree old parts → told ≡ written_by old.plan old.server parts inputs
+  pub here : new.here ≡ old.here
+  pub parts : (t : ℕ) → t < length old.plan.rows → (local : Local) → Agrees old t local → Agrees new t (after_all (site_of old.plan old.here t) local (inputs t))
+  pub gives : (parts : ℕ → Local) → AllAgree old parts → facts ≡ facts_by old.plan old.here parts inputs
+  pub tells : (parts : ℕ → Local) → AllAgree old parts → told ≡ written_by old.plan old.here parts inputs
   pub fit : All (FitsFact old.plan) facts
 
--- The step of a node, whose tables are these, on a line without its newline: the lines of its facts, what is told, and the tables
--- after it. The plan is sound, and the tables have some part of the node for each tenant.
+-- The step of a node, whose tables are these, on a line without its newline: the lines of its facts, what is told, which is what is written for the
+-- tenants and then what the node itself writes to other nodes, and the tables after it. The plan is sound, and the tables have some part of the node for each tenant.
 pub record StepsTo (old : Tables) (line : List ℕ) (lines : List (List ℕ)) (told : List ℕ) (new : Tables) : Type 0 where
   pub sound : IsPlan old.plan
   pub stand : AllStand old
   pub facts : List Fact
-  pub takes : TakesAll old (line_inputs old.plan old.server line) facts told new
+  pub tenants : List ℕ
+  pub takes : TakesAll old (line_inputs old.plan old.here line) facts tenants new
   pub lines_are : lines ≡ fact_lines old.plan facts
+  pub told_is : (parts : ℕ → Local) → AllAgree new parts → told ≡ tenants ++ line_text_of old.plan old.here line parts
 
 -- ---- as the code goes
 
--- the letter is of a session of a tenant of the plan
+-- the letter is of a tenant of the plan; and so is the file of the parcel
 abbrev pub HasAddress : CheckedPlan → Message → Type 0
-HasAddress plan m = (m.tenant < length plan.rows) × (1 ≤ m.session)
+HasAddress plan m = m.tenant < length plan.rows
+
+abbrev pub IsOfPlan : CheckedPlan → Option Parcel → Type 0
+IsOfPlan plan None = Unit {0}
+IsOfPlan plan (Some parcel) = (parcel_file parcel).tenant < length plan.rows
+
+-- whether the server lacks a file of some tenant
+abbrev pub some_lacks : Tables → Bool
+some_lacks w = list_any (λ t. nat_lt 0 (lacked_files (lacks_at w t) (account_at w.desk t).volumes)) (places w.plan)
+
+-- what is written to other nodes at a tick was appended, whatever parts of the node the tables have
+pub record AskedToJoin (w : Tables) (told_before told_after : List ℕ) : Type 0 where
+  pub own : List ℕ
+  pub told_is : told_after ≡ told_before ++ own
+  pub own_is : (parts : ℕ → Local) → AllAgree w parts → own ≡ node_text w.plan w.here Tick parts
 
 -- the lines of the facts were appended, and what was told
 pub record Appended (plan : CheckedPlan) (facts : List Fact) (told facts_before facts_after told_before told_after : List ℕ) : Type 0 where
@@ -55,11 +78,11 @@ pub record Appended (plan : CheckedPlan) (facts : List Fact) (told facts_before 
 -- the node takes these inputs of the tenant at place t; the parts of all others stay
 pub record TakesOf (old : Tables) (t : ℕ) (inputs : List Input) (facts : List Fact) (told : List ℕ) (new : Tables) : Type 0 where
   pub plan : new.plan ≡ old.plan
-  pub server : new.server ≡ old.server
-  pub own : (local : Local) → Agrees old t local → Agrees new t (after_all (site_of old.plan old.server t) local inputs)
+  pub here : new.here ≡ old.here
+  pub own : (local : Local) → Agrees old t local → Agrees new t (after_all (site_of old.plan old.here t) local inputs)
   pub others : (u : ℕ) → u ≢ t → (local : Local) → Agrees old u local → Agrees new u local
-  pub gives : (local : Local) → Agrees old t local → facts ≡ facts_for old.plan old.server t local inputs
-  pub tells : (local : Local) → Agrees old t local → told ≡ written_for old.plan old.server t local inputs
+  pub gives : (local : Local) → Agrees old t local → facts ≡ facts_for old.plan old.here t local inputs
+  pub tells : (local : Local) → Agrees old t local → told ≡ written_for old.plan old.here t local inputs
   pub fit : All (FitsFact old.plan) facts
 
 -- it took them, and appended what that gave: the inputs of one tenant, and those of all
@@ -74,3 +97,11 @@ pub record TookAll (old : Tables) (inputs : ℕ → List Input) (facts_before fa
   pub told : List ℕ
   pub takes : TakesAll old inputs facts told new
   pub appended : Appended old.plan facts told facts_before facts_after told_before told_after
+
+-- it took what came: it took the inputs of all, and appended behind what that gave what it writes to other nodes
+pub record TookIncoming (old : Tables) (incoming : Incoming) (facts_before facts_after told_before told_after : List ℕ) (new : Tables) : Type 0 where
+  pub between : List ℕ
+  pub took : TookAll old (inputs_of old.plan old.here incoming) facts_before facts_after told_before between new
+  pub own : List ℕ
+  pub told_is : told_after ≡ between ++ own
+  pub own_is : (parts : ℕ → Local) → AllAgree new parts → own ≡ node_text old.plan old.here incoming parts

@@ -1,6 +1,6 @@
 -- What a node writes for a tenant, and what it must not forget, by what comes to the tenant's part.
-use Rattle.std.specs.Prelude.{ℕ, List, [], ◌∷◌, ◌++◌, length, map, Option, Some, None}
-use Rattle.std.specs.List.{flat_map, range_with_len}
+use Rattle.std.specs.Prelude.{ℕ, List, [], ◌∷◌, ◌++◌, length, map, Bool, nat_lt, Option, Some, None, option_map, if◌then◌else◌}
+use Rattle.std.specs.List.{flat_map, range_with_len, list_any}
 use Rattle.std.specs.Option.{option_to_list}
 use Rattle.gq_tag.specs.declared.Message.{Message}
 use Rattle.gq_tag.specs.Tag.{message_of}
@@ -11,32 +11,42 @@ use Rattle.gq_node.specs.declared.output.Answer.{Answer}
 use Rattle.gq_node.specs.declared.output.Fact.{Fact}
 use Rattle.gq_node.specs.Inputs.{Input, does, after_all, doings}
 use Rattle.gq_node.specs.Local.{Local, Doing}
-use Rattle.gq_node.specs.Sites.{Site, site_of, address_of}
-use Rattle.gq_node.specs.Tables.{fact_of}
-use Rattle.gq_wire.specs.Texts.{told_line, letter_line}
+use Rattle.gq_node.specs.declared.output.Parcel.{Parcel}
+use Rattle.gq_node.specs.Joining.{tells_joined, awaited, lacked_files}
+use Rattle.gq_node.specs.Sites.{Here, Site, site_of, address_of}
+use Rattle.gq_node.specs.Tables.{fact_of, parcel_of}
+use Rattle.gq_wire.specs.declared.incoming.Incoming.{Incoming}
+use Rattle.gq_wire.specs.declared.incoming.Incoming.TheVariants.{Joins, Tick}
+use Rattle.gq_wire.specs.Incoming.{incoming_of}
+use Rattle.gq_wire.specs.Texts.{told_line, letter_line, parcel_line, joins_line, joined_line}
 use Rattle.gq_parts.specs.Inputs.{asked_in}
 
 -- ---- by one step, for the tenant at place t
 
 -- the line that tells the tenant the answer to that request, if there is one
-abbrev pub answer_text : CheckedPlan → (here t : ℕ) → Line → Option Answer → List ℕ
+abbrev pub answer_text : CheckedPlan → Here → (t : ℕ) → Line → Option Answer → List ℕ
 answer_text plan here t asked None = []
-answer_text plan here t asked (Some answer) = told_line plan here t asked answer
+answer_text plan here t asked (Some answer) = told_line plan here.node t asked answer
 
 -- the line of a letter, to the node that it goes to
-abbrev pub sent_line : CheckedPlan → (here : ℕ) → Message → List ℕ
-sent_line plan here m = letter_line plan (address_of plan m) here m
+abbrev pub sent_line : CheckedPlan → Here → Message → List ℕ
+sent_line plan here m = letter_line plan (address_of plan here m) here.node m
 
--- the line to the tenant first, then the letters
-abbrev pub step_text : CheckedPlan → (here t : ℕ) → Line → Option Answer → List Message → List ℕ
-step_text plan here t asked answer letters = answer_text plan here t asked answer ++ flat_map (sent_line plan here) letters
+-- the line of a parcel, if there is one
+abbrev pub parcel_text : CheckedPlan → Here → Option Parcel → List ℕ
+parcel_text plan here None = []
+parcel_text plan here (Some parcel) = parcel_line plan here.node parcel
 
-abbrev pub doing_text : CheckedPlan → (here t : ℕ) → Input → Doing → List ℕ
-doing_text plan here t input doing = step_text plan here t (asked_in input) doing.answer (map (message_of t) doing.letters)
+-- the line to the tenant first, then the letters and the parcel
+abbrev pub step_text : CheckedPlan → Here → (t : ℕ) → Line → Option Answer → List Message → Option Parcel → List ℕ
+step_text plan here t asked answer letters parcel = answer_text plan here t asked answer ++ (flat_map (sent_line plan here) letters ++ parcel_text plan here parcel)
+
+abbrev pub doing_text : CheckedPlan → Here → (t : ℕ) → Input → Doing → List ℕ
+doing_text plan here t input doing = step_text plan here t (asked_in input) doing.answer (map (message_of t) doing.letters) (option_map (parcel_of t) doing.parcel)
 
 -- ---- by all inputs of the tenant, in order
 
-abbrev pub written_for : CheckedPlan → (here t : ℕ) → Local → List Input → List ℕ
+abbrev pub written_for : CheckedPlan → Here → (t : ℕ) → Local → List Input → List ℕ
 written_for plan here t local [] = []
 written_for plan here t local (input ∷ rest) =
     doing_text plan here t input (does input (site_of plan here t) local) ++ written_for plan here t (does input (site_of plan here t) local).local rest
@@ -44,7 +54,7 @@ written_for plan here t local (input ∷ rest) =
 abbrev pub own_facts : Site → Local → List Input → List OwnFact
 own_facts site local inputs = flat_map (λ doing. option_to_list doing.fact) (doings site local inputs)
 
-abbrev pub facts_for : CheckedPlan → (here t : ℕ) → Local → List Input → List Fact
+abbrev pub facts_for : CheckedPlan → Here → (t : ℕ) → Local → List Input → List Fact
 facts_for plan here t local inputs = map (fact_of t) (own_facts (site_of plan here t) local inputs)
 
 -- ---- by the inputs of all tenants: one tenant after another, in plan order
@@ -53,12 +63,39 @@ facts_for plan here t local inputs = map (fact_of t) (own_facts (site_of plan he
 abbrev pub places : CheckedPlan → List ℕ
 places plan = range_with_len 0 (length plan.rows)
 
-abbrev pub written_by : CheckedPlan → (here : ℕ) → (ℕ → Local) → (ℕ → List Input) → List ℕ
+abbrev pub written_by : CheckedPlan → Here → (ℕ → Local) → (ℕ → List Input) → List ℕ
 written_by plan here parts inputs = flat_map (λ t. written_for plan here t (parts t) (inputs t)) (places plan)
 
-abbrev pub facts_by : CheckedPlan → (here : ℕ) → (ℕ → Local) → (ℕ → List Input) → List Fact
+abbrev pub facts_by : CheckedPlan → Here → (ℕ → Local) → (ℕ → List Input) → List Fact
 facts_by plan here parts inputs = flat_map (λ t. facts_for plan here t (parts t) (inputs t)) (places plan)
 
 -- the parts after that
-abbrev pub parts_after : CheckedPlan → (here : ℕ) → (ℕ → Local) → (ℕ → List Input) → ℕ → Local
+abbrev pub parts_after : CheckedPlan → Here → (ℕ → Local) → (ℕ → List Input) → ℕ → Local
 parts_after plan here parts inputs t = after_all (site_of plan here t) (parts t) (inputs t)
+
+-- ---- by the node itself, to other nodes
+
+-- whether its server lacks a file of some tenant
+abbrev pub lacks_of : Local → Bool
+lacks_of local = nat_lt 0 (lacked_files local.lacks local.volumes)
+
+abbrev pub lacks_some : CheckedPlan → (ℕ → Local) → Bool
+lacks_some plan parts = list_any (λ t. lacks_of (parts t)) (places plan)
+
+-- the question to each node that has not joined whether its plan has this one
+abbrev pub joins_text : CheckedPlan → Here → (nodes : List ℕ) → List ℕ
+joins_text plan here nodes = flat_map (λ node. joins_line node here.node (length here.lost)) nodes
+
+-- the answer to such a question, where the plan has the node, and so many losses or more
+abbrev pub joined_text : CheckedPlan → Here → (from losses : ℕ) → List ℕ
+joined_text plan here from losses = if tells_joined from losses (site_of plan here 0) then joined_line from here.node losses else []
+
+-- What it writes behind what it writes for the tenants, whose parts are these then: at a tick, while its server lacks a file, the question to the nodes
+-- that have not joined; and the answer to such a question.
+abbrev pub node_text : CheckedPlan → Here → Incoming → (parts : ℕ → Local) → List ℕ
+node_text plan here Tick parts = if lacks_some plan parts then joins_text plan here (awaited (site_of plan here 0) (parts 0).joined) else []
+node_text plan here (Joins from losses) parts = joined_text plan here from losses
+node_text plan here _ parts = []
+
+abbrev pub line_text_of : CheckedPlan → Here → List ℕ → (parts : ℕ → Local) → List ℕ
+line_text_of plan here line parts = node_text plan here (incoming_of plan here.node line) parts

@@ -19,10 +19,11 @@ pub fn starts_apart()
     ensures facts { AllFactsByParts }
 {}
 
-/// Whatever lines come to the nodes of a plan, and whenever one starts again by the facts that it gave: of each tenant each node has
-/// what the law of nodes (`gq_node::laws::nodes`) says of this tenant's requests, letters, ticks and starts, and what is told is what
-/// is written for these parts. And where each letter that came for the tenant was written before, all this is a run of the law of
-/// clusters.
+/// Whatever lines come to the nodes of a grid, and whenever one starts with this plan or a later one, is lost and replaced, or starts again by
+/// the facts that it gave: of each tenant each node has what the law of nodes (`gq_node::laws::nodes`) says of this tenant's requests,
+/// letters, ticks and starts, and what is told is what is written for these parts. And where what came for the tenant was written
+/// before, and no node that is gone takes a step, all this is a run of the law of nodes that are lost and replaced, and each file is one
+/// register.
 pub fn all_nodes()
     ensures { AllByLaw }
 {}

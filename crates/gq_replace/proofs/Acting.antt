@@ -14,7 +14,7 @@ use Rattle.gq_model.specs.declared.events.Line.TheVariants.{Write, Read, List as
 use Rattle.gq_model.specs.Told.{Replied}
 use Rattle.gq_model.specs.Trace.{State, Session, Deed, Elsewhere, Begins, Hears, Moves, Ends, Leaps, new_session, deed, operation_with, session_by, serves, stored_by}
 use Rattle.gq_model.specs.Lone.{Step, is_refusal, asked_step, hear_step, reply_to}
-use Rattle.gq_cluster.specs.Facts.{OwnFact, Begun, Numbered, Kept, Reserved, none_reserved, reserving, with_reserved, replaced_in}
+use Rattle.gq_cluster.specs.Facts.{OwnFact, Begun, Numbered, Kept, Had, Reserved, none_reserved, reserving, with_reserved, replaced_in}
 use Rattle.gq_cluster.specs.Cluster.{Setting, Cluster, Part, Act, Asks, Comes, everyone, aim_of, act_entry, copy_in, state_of, session_named, IsOfSession, step_of, step_in, fact_in, fact_of, node_of, part_after, parts_after, with_held, after_act}
 use Rattle.gq_cluster.proofs.Parts.{act_deed, refused_part}
 
@@ -140,6 +140,7 @@ reserved_same None p q k same = same
 reserved_same (Some (Begun j op)) p q k same = λ i. if j == k then record (same i) { op = op } else same i
 reserved_same (Some (Numbered j number)) p q k same = λ i. if j == k then record (same i) { floor = number } else same i
 reserved_same (Some (Kept file copy)) p q k same = same
+reserved_same (Some (Had file copy)) p q k same = same
 
 -- behind such an act both have the same of each session of which they had the same
 pub after_same : (s : Setting) (n m : ℕ) (p q : Part) (act : Act) → SameAct s p q act → (k : ℕ) → Same p q k → Same (part_after s n p act) (part_after s m q act) k

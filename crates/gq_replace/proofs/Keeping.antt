@@ -1,17 +1,20 @@
 -- From its first plan and its facts alone a node knows again what must not be forgotten.
 use Rattle.std.proofs.Common.{◌≡◌, ◌≢◌, ◌⊎◌, ℕ, Bool, true, false, ◌&&◌, not, List, [], ◌∷◌, refl, sym, ap, ◌∙◌, subst, inl, inr, Option, Some, None, eqb}
-use Rattle.std.specs.Prelude.{option_map, fold, if◌then◌else◌}
+use Rattle.std.specs.Prelude.{fold, if◌then◌else◌}
 use Rattle.std.proofs.lemmas.Bool.{cases_eq, eq-eqb, ne_eqb, true≢false}
 use Rattle.gq_tag.specs.declared.StoredCopy.{StoredCopy}
-use Rattle.gq_tag.specs.Tag.{File, is_file, first_copy, greatest, newer_of, to_server}
+use Rattle.gq_tag.specs.Tag.{File, is_file, is_less, first_copy, greatest, newer_of, to_server}
 use Rattle.gq_laws.proofs.Holding.{greatest-push}
-use Rattle.gq_cluster.specs.Facts.{OwnFact}
-use Rattle.gq_cluster.specs.Cluster.{Part, Act, Asks, Comes, given_part, node_of, fact_of, part_after}
+use Rattle.gq_tag.specs.declared.Body.{Body}
+use Rattle.gq_tag.specs.declared.Body.TheVariants.{Store}
+use Rattle.gq_cluster.specs.Facts.{OwnFact, Begun, Numbered, Kept, Had, replaced_in}
+use Rattle.gq_cluster.specs.Cluster.{Setting, Part, Act, Asks, Comes, given_part, node_of, copy_in, fact_in, fact_of, part_after, session_named}
 use Rattle.gq_cluster.specs.Keeping.{kept_of, with_fact}
 use Rattle.gq_cluster.proofs.Keeping.{all_acts_keep}
+use Rattle.gq_cluster.proofs.Reserving.{IsOfNumbers, reserves_numbers}
 use Rattle.gq_replace.specs.Plans.{place_of}
 use Rattle.gq_replace.specs.Fleet.{World, Fleet, FleetStep, Begins, StartsAgain, Does, Answers, Hears, Gives, Takes, new_fleet, first_part, is_ready_by, after_fleet_step, MayDo, MayHappen, AllMayHappen}
-use Rattle.gq_replace.specs.Keeping.{Own, Had, KeptFiles, files_of_part, with_fleet_fact, fleet_fact, fleet_facts, AllFleetFactsSuffice}
+use Rattle.gq_replace.specs.Keeping.{files_of_part, lacks_behind, with_fleet_fact, fleet_fact, fleet_facts, AllFleetFactsSuffice}
 use Rattle.gq_replace.proofs.Acting.{reserved_after, lacks_after, asked_brings, heard_brings}
 use Rattle.gq_replace.proofs.Moving.{does_here}
 
@@ -42,10 +45,41 @@ act_keeps w u n (Comes letter aim) (from, within, may) = by (to_server letter.bo
         same_kept w (place_of n) n (u.part n) (Comes letter aim) (λ k file. heard_brings w.setting k (u.part n) letter aim file reply)
         ∙ all_acts_keep w.setting n (u.part n) (Comes letter aim) at
 
--- a fact of a cluster is one here
-own_fact : (files : KeptFiles) (fact : Option OwnFact) → record { kept = with_fact files.kept fact; lacks = files.lacks } ≡ with_fleet_fact files (option_map Own fact)
-own_fact files None = refl
-own_fact files (Some fact) = refl
+-- an act gives no file back
+numbers_lack : (k : ℕ) (fact : Option OwnFact) (lacks : File → Bool) (f : File) → IsOfNumbers k fact → lacks_behind fact lacks f ≡ lacks f
+numbers_lack k None lacks f its = refl
+numbers_lack k (Some (Begun j op)) lacks f its = refl
+numbers_lack k (Some (Numbered j number)) lacks f its = refl
+numbers_lack k (Some (Kept file copy)) lacks f its = refl
+numbers_lack k (Some (Had file copy)) lacks f its = absurd its
+
+replaced_lack : (held : StoredCopy) (file : File) (body : Body) (lacks : File → Bool) (f : File) → lacks_behind (replaced_in held file body) lacks f ≡ lacks f
+replaced_lack held file (Store copy) lacks f = by (is_less held.tag copy.tag)
+  where
+    by : (b : Bool) → lacks_behind (if b then Some (Kept file copy) else None) lacks f ≡ lacks f
+    by true = refl
+    by false = refl
+replaced_lack held file body lacks f = refl
+
+act_lacks : (s : Setting) (part : Part) (act : Act) (lacks : File → Bool) (f : File) → lacks_behind (fact_of s part act) lacks f ≡ lacks f
+act_lacks s part (Asks line aim) lacks f = numbers_lack (session_named line) (fact_of s part (Asks line aim)) lacks f (reserves_numbers (session_named line) (part.reserved (session_named line)) _ _)
+act_lacks s part (Comes m aim) lacks f = by (to_server m.body) refl
+  where
+    served : Bool → Option OwnFact
+    served b = if b then None else replaced_in (copy_in part m.file) m.file m.body
+
+    heard : Option OwnFact
+    heard = fact_in s part (Comes m aim) m.session
+
+    at_server : (b : Bool) → lacks_behind (served b) lacks f ≡ lacks f
+    at_server true = refl
+    at_server false = replaced_lack (copy_in part m.file) m.file m.body lacks f
+
+    by : (b : Bool) → to_server m.body ≡ b → lacks_behind (fact_of s part (Comes m aim)) lacks f ≡ lacks f
+    by true goes = let its : fact_of s part (Comes m aim) ≡ served (part.lacks m.file) = rw goes refl in ap (λ z. lacks_behind z lacks f) its ∙ at_server (part.lacks m.file)
+    by false goes =
+        let its : fact_of s part (Comes m aim) ≡ heard = rw goes refl in
+        ap (λ z. lacks_behind z lacks f) its ∙ numbers_lack m.session heard lacks f (reserves_numbers m.session (part.reserved m.session) _ _)
 
 -- ---- a step
 
@@ -63,16 +97,18 @@ step_keeps w u n (StartsAgain node plan) begun may = by (cases_eq n node)
     by (inr ne) = rw (ne_eqb n node ne) refl
 step_keeps w u n (Does node act) begun may = by (cases_eq n node)
   where
-    here : files_of_part ((after_fleet_step w u (Does node act)).part node) ≡ with_fleet_fact (files_of_part (u.part node)) (option_map Own (fact_of w.setting (u.part node) act))
+    here : files_of_part ((after_fleet_step w u (Does node act)).part node) ≡ with_fleet_fact (files_of_part (u.part node)) (fact_of w.setting (u.part node) act)
     here =
         ap files_of_part (does_here w node act u)
-        ∙ (λ i. record { kept = act_keeps w u node act may.1 i; lacks = λ file. lacks_after w.setting (place_of node) (u.part node) act file i })
-        ∙ own_fact (files_of_part (u.part node)) (fact_of w.setting (u.part node) act)
+        ∙ (λ i. record {
+          kept = act_keeps w u node act may.1 i;
+          lacks = λ file. (lacks_after w.setting (place_of node) (u.part node) act file ∙ sym (act_lacks w.setting (u.part node) act (u.part node).lacks file)) i;
+        })
 
     by : (n ≡ node) ⊎ (n ≢ node) → files_of_part ((after_fleet_step w u (Does node act)).part n) ≡ with_fleet_fact (files_of_part (u.part n)) (fleet_fact w u n (Does node act))
     by (inl same) =
         let P : ℕ → Type 0 = λ z. files_of_part ((after_fleet_step w u (Does node act)).part z) ≡ with_fleet_fact (files_of_part (u.part z)) (fleet_fact w u z (Does node act)) in
-        let its : fleet_fact w u node (Does node act) ≡ option_map Own (fact_of w.setting (u.part node) act) = rw (eq-eqb node node refl) refl in
+        let its : fleet_fact w u node (Does node act) ≡ fact_of w.setting (u.part node) act = rw (eq-eqb node node refl) refl in
         subst P (sym same) (here ∙ ap (with_fleet_fact (files_of_part (u.part node))) (sym its))
     by (inr ne) = rw (ne_eqb n node ne) refl
 step_keeps w u n (Answers node new) begun may = refl

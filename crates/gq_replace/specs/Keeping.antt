@@ -1,17 +1,10 @@
 -- What a node must not forget where nodes are replaced.
-use Rattle.std.specs.Prelude.{◌≡◌, ℕ, List, [], ◌∷◌, Bool, true, ◌==◌, ◌&&◌, not, Option, Some, None, option_map, fold, if◌then◌else◌}
-use Rattle.gq_tag.specs.declared.StoredCopy.{StoredCopy}
-use Rattle.gq_tag.specs.Tag.{File, is_file, first_copy, newer_of}
-use Rattle.gq_cluster.specs.Facts.{OwnFact}
+use Rattle.std.specs.Prelude.{◌≡◌, ℕ, List, [], ◌∷◌, Bool, true, ◌==◌, ◌&&◌, not, Option, Some, None, fold, if◌then◌else◌}
+use Rattle.gq_tag.specs.Tag.{File, is_file}
+use Rattle.gq_cluster.specs.Facts.{OwnFact, Had}
 use Rattle.gq_cluster.specs.Cluster.{Part, fact_of}
 use Rattle.gq_cluster.specs.Keeping.{KeptPart, kept_of, with_fact}
 use Rattle.gq_replace.specs.Fleet.{World, Fleet, FleetStep, Does, Takes, new_fleet, first_part, after_fleet_step, fleet_after, AllMayHappen}
-
-pub data FleetFact : Type 0 where
-  -- what a node of a cluster must not forget
-  Own : (fact : OwnFact) → FleetFact
-  -- the node was given this copy of a file that it lacked
-  Had : (file : File) (copy : StoredCopy) → FleetFact
 
 -- what is kept of a part, and which files it lacks
 pub record KeptFiles : Type 0 where
@@ -21,23 +14,22 @@ pub record KeptFiles : Type 0 where
 abbrev pub files_of_part : Part → KeptFiles
 files_of_part part = record { kept = kept_of part; lacks = part.lacks }
 
--- what is kept after one fact more, if there is one
-abbrev pub with_fleet_fact : KeptFiles → Option FleetFact → KeptFiles
-with_fleet_fact files None = files
-with_fleet_fact files (Some (Own fact)) = record files { kept = with_fact files.kept (Some fact) }
-with_fleet_fact files (Some (Had file copy)) = record {
-  kept = record files.kept { copy = λ f. if is_file file f then newer_of first_copy copy else files.kept.copy f };
-  lacks = λ f. files.lacks f && not (is_file file f);
-}
+-- what is kept after one fact more, if there is one: a node that was given a file has it
+abbrev pub lacks_behind : Option OwnFact → (File → Bool) → File → Bool
+lacks_behind (Some (Had file copy)) lacks f = lacks f && not (is_file file f)
+lacks_behind _ lacks f = lacks f
+
+abbrev pub with_fleet_fact : KeptFiles → Option OwnFact → KeptFiles
+with_fleet_fact files fact = record { kept = with_fact files.kept fact; lacks = λ f. lacks_behind fact files.lacks f }
 
 -- the fact of a step at node n, none where the step is another's
-abbrev pub fleet_fact : World → Fleet → (n : ℕ) → FleetStep → Option FleetFact
-fleet_fact w u n (Does node act) = if n == node then option_map Own (fact_of w.setting (u.part node) act) else None
+abbrev pub fleet_fact : World → Fleet → (n : ℕ) → FleetStep → Option OwnFact
+fleet_fact w u n (Does node act) = if n == node then fact_of w.setting (u.part node) act else None
 fleet_fact w u n (Takes node mate file copy) = if n == node then Some (Had file copy) else None
 fleet_fact w u n _ = None
 
 -- the facts of steps at node n, in order
-abbrev pub fleet_facts : World → Fleet → (n : ℕ) → List FleetStep → List (Option FleetFact)
+abbrev pub fleet_facts : World → Fleet → (n : ℕ) → List FleetStep → List (Option OwnFact)
 fleet_facts w u n [] = []
 fleet_facts w u n (step ∷ steps) = fleet_fact w u n step ∷ fleet_facts w (after_fleet_step w u step) n steps
 

@@ -1,20 +1,29 @@
 -- A node that was never started, with volumes that are opened one after another.
-use Rattle.std.proofs.Common.{◌≡◌, ◌≢◌, ◌∙◌, ℕ, zero, suc, ◌+◌, ◌<◌, ◌≤◌, List, [], ◌∷◌, ◌++◌, length, take, Bool, true, false, refl, sym, ap, subst, arith, inl, inr, get_or, append_assoc, append-nil, None}
-use Rattle.std.specs.Prelude.{◌==◌, map, slice_set, Option, Some, IfSome}
-use Rattle.std.proofs.lemmas.Bool.{cases_Bool, cases_eq, eq-eqb, ne_eqb, eqb-true}
+use Rattle.std.proofs.Common.{◌≡◌, ◌≢◌, ◌∙◌, ℕ, zero, suc, ◌+◌, ◌<◌, ◌≤◌, List, [], ◌∷◌, ◌++◌, length, take, Bool, true, false, refl, sym, ap, subst, arith, inl, inr, get_or, length-append, append_assoc, append-nil, None}
+use Rattle.std.specs.Prelude.{◌==◌, nat_le, map, slice_set, Result, Ok, Err, IsErr, OnOk, MatchOption, Option, Some, IfSome}
+use Rattle.std.proofs.lemmas.Bool.{cases_Bool, cases_eq, cases_lt, and_parts, leb-false, eq-eqb, ne_eqb, eqb-true}
 use Rattle.std.proofs.lemmas.List.{take_more, take_all, length-set, get_or-map, get_or-set_same, get_or-set_other}
 use Rattle.std.proofs.lemmas.Option.{unwrap_or-slice_get}
 use Rattle.gq_desk.specs.CheckedPlan.{CheckedPlan, nobody, row_at}
-use Rattle.gq_desk.specs.Volumes.{Account, account_at, no_account, open_fault, with_volume, account_with, new_account}
+use Rattle.gq_desk.specs.declared.limits.TheConstants.{MOST_VOLUMES}
+use Rattle.gq_desk.specs.Volumes.{Account, account_at, no_account, is_sized, WrongSize, NoVolumeLeft, open_fault, with_volume, account_with, new_account}
 use Rattle.gq_desk.specs.declared.plans.TenantRow.{TenantRow}
 use Rattle.gq_desk.specs.declared.volumes.VolumeRow.{VolumeRow}
+use Rattle.gq_journal.specs.Batches.{Line, batches_of}
+use Rattle.gq_keeper.specs.Plans.{begins_with_plan, first_plan}
+use Rattle.gq_replace.specs.Plans.{place_of}
 use Rattle.gq_node.specs.Local.{new_local}
-use Rattle.gq_node.specs.Opening.{Opens}
+use Rattle.gq_node.specs.Opening.{Bereaves, Opens}
+use Rattle.gq_node.specs.Resting.{begun_local}
+use Rattle.gq_node.specs.Sites.{Here, site_of}
 use Rattle.gq_node.specs.Tables.{Tables, Agrees}
-use Rattle.gq_parts.specs.Resting.{IsNewNode}
+use Rattle.gq_parts.specs.Resting.{IsNodeOf, IsNewNode, HasVolumes}
+use Rattle.gq_parts.proofs.Resting.{its_volumes}
 use Rattle.gq_setup.specs.declared.openings.Opening.{Opening}
-use Rattle.gq_setup.specs.Setups.{Setup, volume_of, accounts_of, after_opening, after_openings, opening_fault, CanOpen}
-use Rattle.gq_service.specs.Serving.{volumes_in, IsNewFor}
+use Rattle.gq_setup.specs.Setups.{Setup, SetupReading, holdings, volume_of, accounts_of, after_opening, after_openings, opening_fault, CanOpen}
+use Rattle.gq_setup.specs.Laws.{here_of}
+use Rattle.gq_setup.specs.Texts.{volumes_read, volumes_of_lines, OpensFor}
+use Rattle.gq_service.specs.Serving.{volumes_in, volumes_of_read, first_volumes, is_its_journal, IsOpen, IsNewFor}
 
 -- ---- what tenants have
 
@@ -88,29 +97,29 @@ other_more t (o ∷ openings) opening differs = elim (cases_Bool (o.tenant == t)
 ]
 
 -- the node of this number, never started, with these volumes open
-abbrev pub HasOpen : CheckedPlan → ℕ → List Opening → Tables → Type 0
-HasOpen plan here openings w = IsNewNode plan here (λ t. volumes_in t openings) w
+abbrev pub HasOpen : CheckedPlan → Here → List Opening → Tables → Type 0
+HasOpen plan here openings w = IsOpen plan here (λ t. volumes_in t openings) w
 
-pub none_open : (plan own : CheckedPlan) (here : ℕ) (w : Tables) → own ≡ plan → w.plan ≡ own → w.server ≡ here → ((t : ℕ) → t < length own.rows → Agrees w t (new_local own.grid here [])) → HasOpen plan here [] w
-none_open plan own here w same is server parts =
-    subst (λ (p : CheckedPlan). HasOpen p here [] w) same (record { node = record { plan_is = is; server_is = server }; parts = parts })
+pub none_open : (plan own : CheckedPlan) (here : Here) (w : Tables) → own ≡ plan → w.plan ≡ own → w.here ≡ here → ((t : ℕ) → t < length own.rows → Agrees w t (new_local own.grid (place_of here.node) [])) → HasOpen plan here [] w
+none_open plan own here w same is its parts =
+    subst (λ (p : CheckedPlan). HasOpen p here [] w) same (record { node = record { plan_is = is; here_is = its }; parts = parts })
 
-more_open : (plan : CheckedPlan) (here : ℕ) (openings : List Opening) (opening : Opening) (old new : Tables) → HasOpen plan here openings old → Opens old opening.tenant (volume_of opening) new → HasOpen plan here (openings ++ opening ∷ []) new
+more_open : (plan : CheckedPlan) (here : Here) (openings : List Opening) (opening : Opening) (old new : Tables) → HasOpen plan here openings old → Opens old opening.tenant (volume_of opening) new → HasOpen plan here (openings ++ opening ∷ []) new
 more_open plan here openings opening old new has opens = record {
-  node = record { plan_is = opens.plan ∙ has.node.plan_is; server_is = opens.server ∙ has.node.server_is };
+  node = record { plan_is = opens.plan ∙ has.node.plan_is; here_is = opens.here ∙ has.node.here_is };
   parts = λ t within. elim (cases_eq opening.tenant t) [
     | inl same ↦ (
-        let before : Agrees old opening.tenant (new_local plan.grid here (volumes_in t openings)) = subst (λ u. Agrees old u (new_local plan.grid here (volumes_in t openings))) (sym same) (has.parts t within) in
-        let after : Agrees new opening.tenant (new_local plan.grid here (volumes_in t openings ++ volume_of opening ∷ [])) = opens.own (new_local plan.grid here (volumes_in t openings)) before in
-        let at : Agrees new t (new_local plan.grid here (volumes_in t openings ++ volume_of opening ∷ [])) = subst (λ u. Agrees new u (new_local plan.grid here (volumes_in t openings ++ volume_of opening ∷ []))) same after in
-        subst (λ vs. Agrees new t (new_local plan.grid here vs)) (sym (one_more t openings opening same)) at)
+        let before : Agrees old opening.tenant (new_local plan.grid (place_of here.node) (volumes_in t openings)) = subst (λ u. Agrees old u (new_local plan.grid (place_of here.node) (volumes_in t openings))) (sym same) (has.parts t within) in
+        let after : Agrees new opening.tenant (new_local plan.grid (place_of here.node) (volumes_in t openings ++ volume_of opening ∷ [])) = opens.own (new_local plan.grid (place_of here.node) (volumes_in t openings)) before in
+        let at : Agrees new t (new_local plan.grid (place_of here.node) (volumes_in t openings ++ volume_of opening ∷ [])) = subst (λ u. Agrees new u (new_local plan.grid (place_of here.node) (volumes_in t openings ++ volume_of opening ∷ []))) same after in
+        subst (λ vs. Agrees new t (new_local plan.grid (place_of here.node) vs)) (sym (one_more t openings opening same)) at)
     | inr other ↦ (
-        let at : Agrees new t (new_local plan.grid here (volumes_in t openings)) = opens.others t (λ e. other (sym e)) (new_local plan.grid here (volumes_in t openings)) (has.parts t within) in
-        subst (λ vs. Agrees new t (new_local plan.grid here vs)) (sym (other_more t openings opening other)) at)
+        let at : Agrees new t (new_local plan.grid (place_of here.node) (volumes_in t openings)) = opens.others t (λ e. other (sym e)) (new_local plan.grid (place_of here.node) (volumes_in t openings)) (has.parts t within) in
+        subst (λ vs. Agrees new t (new_local plan.grid (place_of here.node) vs)) (sym (other_more t openings opening other)) at)
   ];
 }
 
-pub next_open : (plan : CheckedPlan) (here : ℕ) (openings all : List Opening) (i : ℕ) (d : Opening) (old new : Tables) → openings ≡ all → i < length openings → HasOpen plan here (take i all) old →
+pub next_open : (plan : CheckedPlan) (here : Here) (openings all : List Opening) (i : ℕ) (d : Opening) (old new : Tables) → openings ≡ all → i < length openings → HasOpen plan here (take i all) old →
     Opens old (get_or openings i d).tenant (volume_of (get_or openings i d)) new → HasOpen plan here (take (i + 1) all) new
 next_open plan here openings all i d old new are within has opens =
     let before : HasOpen plan here (take i openings) old = subst (λ xs. HasOpen plan here (take i xs) old) (sym are) has in
@@ -127,7 +136,7 @@ rows-length : (rows : List TenantRow) → length (map new_account rows) ≡ leng
 rows-length [] = refl
 rows-length (row ∷ rows) = ap suc (rows-length rows)
 
-next_at : (plan : CheckedPlan) (here : ℕ) (done : List Opening) (opening : Opening) (w : Tables) → HasOpen plan here done w → CanOpenAt (after_openings (accounts_of plan) done) opening → NextCanOpen w opening
+next_at : (plan : CheckedPlan) (here : Here) (done : List Opening) (opening : Opening) (w : Tables) → HasOpen plan here done w → CanOpenAt (after_openings (accounts_of plan) done) opening → NextCanOpen w opening
 next_at plan here done opening w has can =
     let within : opening.tenant < length plan.rows = subst (λ n. opening.tenant < n) (after-length done (accounts_of plan) ∙ rows-length plan.rows) can.within in
     let rows : length (accounts_of plan) ≡ length plan.rows = rows-length plan.rows in
@@ -140,15 +149,140 @@ next_at plan here done opening w has can =
       sound = ap (λ a. open_fault a (volume_of opening)) (open_here ∙ sym counted) ∙ can.sound;
     }
 
-pub next_can : (plan : CheckedPlan) (here : ℕ) (openings all : List Opening) (i : ℕ) (d : Opening) (w : Tables) → openings ≡ all → i < length openings → HasOpen plan here (take i all) w →
+pub next_can : (plan : CheckedPlan) (here : Here) (openings all : List Opening) (i : ℕ) (d : Opening) (w : Tables) → openings ≡ all → i < length openings → HasOpen plan here (take i all) w →
     CanOpen (accounts_of plan) openings → NextCanOpen w (get_or openings i d)
 next_can plan here openings all i d w are within has can =
     next_at plan here (take i openings) (get_or openings i d) w (subst (λ xs. HasOpen plan here (take i xs) w) (sym are) has) (can_at openings (accounts_of plan) i d within can)
 
--- ---- the end
+-- ---- all are open
 
-pub all_open : (setup : Setup) (here : ℕ) (openings : List Opening) (i : ℕ) (w : Tables) → openings ≡ setup.openings → length openings ≤ i → HasOpen setup.plan here (take i setup.openings) w → IsNewFor setup here w
-all_open setup here openings i w are past has = subst (λ xs. HasOpen setup.plan here xs w) (take_all i setup.openings (subst (λ xs. length xs ≤ i) are past)) has
+pub all_open : (plan : CheckedPlan) (here : Here) (openings all : List Opening) (i : ℕ) (w : Tables) → openings ≡ all → length openings ≤ i → HasOpen plan here (take i all) w → HasOpen plan here all w
+all_open plan here openings all i w are past has = subst (λ xs. HasOpen plan here xs w) (take_all i all (subst (λ xs. length xs ≤ i) are past)) has
+
+-- ---- what is lacked
+
+-- the tenants below this place lack so many first volumes, and the others none
+pub record Bereft (plan : CheckedPlan) (here : Here) (openings : List Opening) (lost : ℕ → ℕ) (n : ℕ) (w : Tables) : Type 0 where
+  pub node : IsNodeOf plan here w
+  pub done : (t : ℕ) → t < n → t < length plan.rows → Agrees w t (begun_local (site_of plan here t) (volumes_in t openings) (lost t))
+  pub rest : (t : ℕ) → n ≤ t → t < length plan.rows → Agrees w t (new_local plan.grid (place_of here.node) (volumes_in t openings))
+
+pub none_bereft : (plan : CheckedPlan) (here : Here) (openings : List Opening) (lost : ℕ → ℕ) (w : Tables) → HasOpen plan here openings w → Bereft plan here openings lost 0 w
+none_bereft plan here openings lost w has = record { node = has.node; done = λ t below within. absurd (omega arith); rest = λ t above within. has.parts t within }
+
+-- the next tenant is new
+pub next_new : (plan : CheckedPlan) (here : Here) (openings : List Opening) (lost : ℕ → ℕ) (n : ℕ) (w : Tables) → Bereft plan here openings lost n w → n < length plan.rows →
+    Agrees w n (new_local w.plan.grid (place_of w.here.node) (account_at w.desk n).volumes)
+next_new plan here openings lost n w b within =
+    let agrees : Agrees w n (new_local plan.grid (place_of here.node) (volumes_in n openings)) = b.rest n (omega arith) within in
+    let P : CheckedPlan → Here → List VolumeRow → Type 0 = λ p h v. Agrees w n (new_local p.grid (place_of h.node) v) in
+    subst (λ v. P w.plan w.here v) (sym (its_volumes w n (new_local plan.grid (place_of here.node) (volumes_in n openings)) agrees))
+    (subst (λ p. P p w.here (volumes_in n openings)) (sym b.node.plan_is) (subst (λ h. P plan h (volumes_in n openings)) (sym b.node.here_is) agrees))
+
+pub more_bereft : (plan : CheckedPlan) (here : Here) (openings : List Opening) (lost : ℕ → ℕ) (n many : ℕ) (old new : Tables) → Bereft plan here openings lost n old → n < length plan.rows → many ≡ lost n → Bereaves old n many new →
+    Bereft plan here openings lost (n + 1) new
+more_bereft plan here openings lost n many old new b within is bereaves = record {
+  node = record { plan_is = bereaves.plan ∙ b.node.plan_is; here_is = bereaves.here ∙ b.node.here_is };
+  done = λ t below inside. elim (cases_eq t n) [
+    | inl same ↦ (
+        let agrees : Agrees old n (new_local plan.grid (place_of here.node) (volumes_in n openings)) = b.rest n (omega arith) within in
+        let P : CheckedPlan → Here → List VolumeRow → ℕ → Type 0 = λ p h v m. Agrees new n (begun_local (site_of p h n) v m) in
+        let own : P plan here (volumes_in n openings) (lost n) =
+        subst (λ p. P p here (volumes_in n openings) (lost n)) b.node.plan_is (subst (λ h. P old.plan h (volumes_in n openings) (lost n)) b.node.here_is
+        (subst (λ v. P old.plan old.here v (lost n)) (its_volumes old n (new_local plan.grid (place_of here.node) (volumes_in n openings)) agrees) (subst (λ m. P old.plan old.here (account_at old.desk n).volumes m) is bereaves.own))) in
+        subst (λ u. Agrees new u (begun_local (site_of plan here u) (volumes_in u openings) (lost u))) (sym same) own)
+    | inr other ↦ (bereaves.others t other (begun_local (site_of plan here t) (volumes_in t openings) (lost t)) (b.done t (below_of t below other) inside))
+  ];
+  rest = λ t above inside. bereaves.others t (λ e. omega arith) (new_local plan.grid (place_of here.node) (volumes_in t openings)) (b.rest t (omega arith) inside);
+}
+  where
+    below_of : (t : ℕ) → t < n + 1 → t ≢ n → t < n
+    below_of t below other = elim (cases_eq t n) [ inl same ↦ (absurd (other same)) | inr not ↦ (omega arith) ]
+
+-- as many volumes, said in another way
+pub same_lost : (plan : CheckedPlan) (here : Here) (volumes : ℕ → List VolumeRow) (lost other : ℕ → ℕ) (w : Tables) → ((t : ℕ) → lost t ≡ other t) → IsNewNode plan here volumes lost w → IsNewNode plan here volumes other w
+same_lost plan here volumes lost other w same new = record { node = new.node; parts = λ t within. subst (λ n. Agrees w t (begun_local (site_of plan here t) (volumes t) n)) (same t) (new.parts t within) }
+
+pub all_bereft : (plan : CheckedPlan) (here : Here) (openings : List Opening) (lost : ℕ → ℕ) (n : ℕ) (w : Tables) → Bereft plan here openings lost n w → length plan.rows ≤ n → IsNewNode plan here (λ t. volumes_in t openings) lost w
+all_bereft plan here openings lost n w b past = record { node = b.node; parts = λ t within. b.done t (omega arith) within }
+
+-- ---- how many volumes a setup that was read has
+
+-- behind its tenants nobody has one
+none_beyond : (accounts : List Account) (t : ℕ) → length accounts ≤ t → account_at accounts t ≡ no_account
+none_beyond [] t past = refl
+none_beyond (a ∷ accounts) zero past = absurd (omega arith)
+none_beyond (a ∷ accounts) (suc t) past = none_beyond accounts t (omega arith)
+
+pub no_volume_beyond : (setup : Setup) (t : ℕ) → length setup.plan.rows ≤ t → 0 ≡ length (account_at (holdings setup) t).volumes
+no_volume_beyond setup t past =
+    let counted : length (holdings setup) ≡ length setup.plan.rows = after-length setup.openings (accounts_of setup.plan) ∙ rows-length setup.plan.rows in
+    sym (ap (λ (a : Account). length a.volumes) (none_beyond (holdings setup) t (subst (λ n. n ≤ t) (sym counted) past)))
+
+-- and each has at most the most volumes
+one_few : (account : Account) (v : VolumeRow) → open_fault account v ≡ None → length (with_volume v account).volumes ≤ MOST_VOLUMES
+one_few account v sound = sized (is_sized account.most_blocks v) refl
+  where
+    room : (b : Bool) → nat_le MOST_VOLUMES (length account.volumes) ≡ b → is_sized account.most_blocks v ≡ true → length (with_volume v account).volumes ≤ MOST_VOLUMES
+    room true full size = absurd (let e : open_fault account v ≡ Some NoVolumeLeft = rw (size, full) refl in cc)
+    room false some size = omega (arith, length-append account.volumes (v ∷ []), leb-false MOST_VOLUMES (length account.volumes) some)
+
+    sized : (b : Bool) → is_sized account.most_blocks v ≡ b → length (with_volume v account).volumes ≤ MOST_VOLUMES
+    sized true size = room (nat_le MOST_VOLUMES (length account.volumes)) refl size
+    sized false wrong = absurd (let e : open_fault account v ≡ Some WrongSize = rw wrong refl in cc)
+
+few_after : (openings : List Opening) (accounts : List Account) (t : ℕ) → length (account_at accounts t).volumes ≤ MOST_VOLUMES → CanOpen accounts openings → length (account_at (after_openings accounts openings) t).volumes ≤ MOST_VOLUMES
+few_after [] accounts t few can = few
+few_after (o ∷ openings) accounts t few can = few_after openings (after_opening accounts o) t next can.2
+  where
+    opened : Account
+    opened = with_volume (volume_of o) (account_at accounts o.tenant)
+
+    next : length (account_at (after_opening accounts o) t).volumes ≤ MOST_VOLUMES
+    next = elim (cases_eq o.tenant t) [
+      | inl same ↦ (
+          let now : account_at (slice_set accounts o.tenant opened) o.tenant ≡ opened = its_account accounts o.tenant opened can.0 in
+          let own : length (account_at (slice_set accounts o.tenant opened) o.tenant).volumes ≤ MOST_VOLUMES = subst (λ (a : Account). length a.volumes ≤ MOST_VOLUMES) (sym now) (one_few (account_at accounts o.tenant) (volume_of o) can.1) in
+          subst (λ u. length (account_at (slice_set accounts o.tenant opened) u).volumes ≤ MOST_VOLUMES) same own)
+      | inr differs ↦ (subst (λ (a : Account). length a.volumes ≤ MOST_VOLUMES) (sym (other_account accounts o.tenant t opened differs)) few)
+    ]
+
+pub few_volumes : (plan : CheckedPlan) (openings : List Opening) (t : ℕ) → CanOpen (accounts_of plan) openings → length (account_at (after_openings (accounts_of plan) openings) t).volumes ≤ MOST_VOLUMES
+few_volumes plan openings t can = few_after openings (accounts_of plan) t first can
+  where
+    first : length (account_at (accounts_of plan) t).volumes ≤ MOST_VOLUMES
+    first = elim (cases_lt t (length plan.rows)) [
+      | inl within ↦ (subst (λ (a : Account). length a.volumes ≤ MOST_VOLUMES) (sym (first_account plan t within)) (omega arith))
+      | inr past ↦ (subst (λ (a : Account). length a.volumes ≤ MOST_VOLUMES) (sym (none_beyond (accounts_of plan) t (subst (λ n. n ≤ t) (sym (rows-length plan.rows)) past))) (omega arith))
+    ]
+
+-- of a node of the setup: those that it opens
+pub own_volumes : (setup : Setup) (number : ℕ) (lost : ℕ → ℕ) (w : Tables) → IsNewFor setup number lost w → HasVolumes (volumes_read (Ok setup)) w
+own_volumes setup number lost w new t within =
+    let inside : t < length setup.plan.rows = subst (λ (p : CheckedPlan). t < length p.rows) new.node.plan_is within in
+    let rows : length (accounts_of setup.plan) ≡ length setup.plan.rows = rows-length setup.plan.rows in
+    let held : account_at (holdings setup) t ≡ account_with (row_at setup.plan t) (volumes_in t setup.openings) =
+    accounts_after setup.openings (accounts_of setup.plan) t (row_at setup.plan t) [] (subst (λ n. t < n) (sym rows) inside) (first_account setup.plan t inside) in
+    ap (λ (v : List VolumeRow). length v) (its_volumes w t (begun_local (site_of setup.plan (here_of number setup) t) (volumes_in t setup.openings) (lost t)) (new.parts t inside)) ∙ sym (ap (λ (a : Account). length a.volumes) held)
+
+-- as many by its plan's lines
+pub is_of_plan : (lines : List Line) (setup : Setup) (w : Tables) → OpensFor lines setup → HasVolumes (volumes_read (Ok setup)) w → HasVolumes (volumes_of_lines lines) w
+is_of_plan lines setup w opens has t within = has t within ∙ sym (opens t)
+
+-- what was read, and what the text tells
+pub read_is : (reading : SetupReading Setup) (read : Option Setup) → MatchOption read (IsErr reading) (λ setup. reading ≡ Ok setup) → (t : ℕ) → volumes_of_read read t ≡ volumes_read reading t
+read_is (Ok setup) None is t = absurd (let e = is in cc)
+read_is (Err fault) None is t = refl
+read_is reading (Some setup) is t = ap (λ (r : SetupReading Setup). volumes_read r t) (sym is)
+
+-- a journal of the node begins with a plan, whose volumes were lost
+pub found_volumes : (setup : Setup) (number : ℕ) (journal : List ℕ) → is_its_journal setup number journal ≡ true → first_volumes setup journal ≡ volumes_of_lines (first_plan (batches_of journal))
+found_volumes setup number journal its = let begins : begins_with_plan (batches_of journal) ≡ true = (and_parts _ _ its).0 in rw begins refl
+
+-- two things that hold where a call gave Ok
+pub both_ok : {T E : Type 0} (r : Result T E) {P Q R : Type 0} → (P → Q → R) → OnOk r P → OnOk r Q → OnOk r R
+both_ok (Ok x) f p q = f p q
+both_ok (Err e) f p q = tt
 
 pub some_of : {A : Type 0} (o : Option A) (x : A) (P : A → Type 0) → o ≡ Some x → IfSome o P → P x
 some_of o x P is holds = subst (λ m. IfSome m P) is holds

@@ -1,21 +1,26 @@
 -- What a node's process writes, by the journal that it found and the lines that came.
-use Rattle.std.specs.Prelude.{◌≡◌, ◌⊎◌, ◌≤◌, ℕ, ◌==◌, List, [], ◌∷◌, Bool, true, false, Option, IfSome, if◌then◌else◌}
+use Rattle.std.specs.Prelude.{◌≡◌, ◌⊎◌, ◌*◌, ◌<◌, ℕ, ◌==◌, List, [], ◌∷◌, length, Bool, true, false, Ok, Option, Some, None, IfSome, if◌then◌else◌}
 use Rattle.std.specs.List.{list_all}
 use Rattle.gq_desk.specs.declared.volumes.VolumeRow.{VolumeRow}
 use Rattle.gq_journal.specs.Batches.{Line, whole_lines, batches_of}
 use Rattle.gq_keeper.specs.Durable.{Durable}
 use Rattle.gq_keeper.specs.Lines.{short_lines}
-use Rattle.gq_keeper.specs.Plans.{is_of}
+use Rattle.gq_keeper.specs.Plans.{begins_with_plan, first_plan, is_of}
 use Rattle.gq_keeper.specs.Starting.{RecallsAll, IsDamaged, facts_read}
-use Rattle.gq_node.specs.Tables.{Tables}
+use Rattle.gq_desk.specs.CheckedPlan.{CheckedPlan}
+use Rattle.gq_replace.specs.Plans.{place_of}
+use Rattle.gq_node.specs.Local.{new_local}
+use Rattle.gq_node.specs.Sites.{Here}
+use Rattle.gq_node.specs.Tables.{Tables, Agrees}
 use Rattle.gq_wire.specs.Incoming.{longest_line}
-use Rattle.gq_parts.specs.Resting.{IsNewNode}
+use Rattle.gq_parts.specs.Resting.{IsNodeOf, IsNewNode}
 use Rattle.gq_machine.specs.declared.machine.NodeMachine.{NodeMachine}
 use Rattle.gq_machine.specs.Machines.{tables_of, MachineSteps, MachineRecalls, machine_reads, MachineIsBlank, MachineRests}
 use Rattle.gq_setup.specs.declared.openings.Opening.{Opening}
-use Rattle.gq_setup.specs.Setups.{Setup, setup_of, volume_of}
+use Rattle.gq_setup.specs.Setups.{Setup, has_node, volume_of}
+use Rattle.gq_setup.specs.Laws.{here_of}
 use Rattle.gq_setup.specs.GoingOn.{goes_on_from_read}
-use Rattle.gq_setup.specs.Texts.{node_text, behind_first}
+use Rattle.gq_setup.specs.Texts.{node_text, setup_of_node_text, volumes_read, volumes_of_lines}
 use Rattle.gq_service.specs.declared.fault.NodeFault.{NodeFault}
 use Rattle.gq_service.specs.declared.fault.NodeFault.TheVariants.{NoServer, Damaged, Another}
 
@@ -26,14 +31,28 @@ abbrev pub volumes_in : ℕ → List Opening → List VolumeRow
 volumes_in t [] = []
 volumes_in t (opening ∷ openings) = if opening.tenant == t then volume_of opening ∷ volumes_in t openings else volumes_in t openings
 
--- the node of this number was never started, and has the volumes of the setup open
-abbrev pub IsNewFor : Setup → (number : ℕ) → Tables → Type 0
-IsNewFor setup number w = IsNewNode setup.plan number (λ t. volumes_in t setup.openings) w
+-- the node of this number was never started, has these volumes open, and lacks none of their files
+pub record IsOpen (plan : CheckedPlan) (here : Here) (volumes : ℕ → List VolumeRow) (w : Tables) : Type 0 where
+  pub node : IsNodeOf plan here w
+  pub parts : (t : ℕ) → t < length plan.rows → Agrees w t (new_local plan.grid (place_of here.node) (volumes t))
+
+-- The node of this number was never started, and has the volumes of the setup open. If it is a new one, it lacks the files of so many first ones.
+abbrev pub IsNewFor : Setup → (number : ℕ) → (lost : ℕ → ℕ) → Tables → Type 0
+IsNewFor setup number lost w = IsNewNode setup.plan (here_of number setup) (λ t. volumes_in t setup.openings) lost w
+
+-- how many volumes the tenant at place t has by a setup, if one was read
+abbrev pub volumes_of_read : Option Setup → (t : ℕ) → ℕ
+volumes_of_read None t = 0
+volumes_of_read (Some setup) t = volumes_read (Ok setup) t
+
+-- how many volumes of each tenant the plan opens with which the node's journal begins: that of the journal that is found, or its own where none is
+abbrev pub first_volumes : Setup → (journal : List ℕ) → ℕ → ℕ
+first_volumes setup journal = if begins_with_plan (batches_of journal) then volumes_of_lines (first_plan (batches_of journal)) else volumes_read (Ok setup)
 
 -- the node started from this journal: one that was never started read its facts
 pub record IsStarted (setup : Setup) (number : ℕ) (journal : List ℕ) (m : NodeMachine) : Type 0 where
   pub new : NodeMachine
-  pub is_new : IsNewFor setup number (tables_of new)
+  pub is_new : IsNewFor setup number (first_volumes setup journal) (tables_of new)
   pub reads : RecallsAll MachineRecalls new (facts_read journal) m
 
 -- the journal that is found: none, where it is to be begun
@@ -75,14 +94,14 @@ pub record ServesSomehow (number : ℕ) (input : Option (List ℕ)) (base shown 
 
 -- ---- faults
 
--- where it is told that the grid has so many servers, there is none of this number
-abbrev pub TellsNoServer : (number servers : ℕ) → NodeFault → Type 0
-TellsNoServer number servers (NoServer told) = (told ≡ servers) × (servers ≤ number)
-TellsNoServer number servers _ = Unit {0}
+-- where it is told that the grid has so many servers, its plan has no node of this number
+abbrev pub TellsNoServer : Setup → (number : ℕ) → NodeFault → Type 0
+TellsNoServer setup number (NoServer told) = (told ≡ setup.plan.grid.rows * setup.plan.grid.cols) × (has_node setup number ≡ false)
+TellsNoServer setup number _ = Unit {0}
 
 -- whether the journal is of the node of this number, and of a plan from which this setup goes on
 abbrev pub is_its_journal : Setup → (number : ℕ) → List ℕ → Bool
-is_its_journal setup number journal = is_of (λ last. goes_on_from_read (setup_of (behind_first last)) setup) (node_text number setup) (batches_of journal)
+is_its_journal setup number journal = is_of (λ last. goes_on_from_read (setup_of_node_text last) setup) (node_text number setup) (batches_of journal)
 
 -- where damage is told, the journal is damaged at that place
 abbrev pub TellsDamage : (journal : List ℕ) → NodeFault → Type 0
@@ -92,7 +111,7 @@ TellsDamage journal _ = Unit {0}
 -- a line of the journal says no fact that fits in the node of this number, never started
 pub record IsStrange (setup : Setup) (number : ℕ) (journal : List ℕ) : Type 0 where
   pub new : NodeMachine
-  pub is_new : IsNewFor setup number (tables_of new)
+  pub is_new : IsNewFor setup number (volumes_of_lines (first_plan (batches_of journal))) (tables_of new)
   pub strange : list_all (machine_reads new) (facts_read journal) ≡ false
 
 -- where it is told that the journal is of another node or plan, it is, or one of its lines is strange

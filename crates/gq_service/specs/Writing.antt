@@ -4,25 +4,27 @@ use Rattle.std.specs.Prelude.{◌≡◌, ℕ, List, ◌++◌}
 use Rattle.gq_journal.specs.Batches.{Line}
 use Rattle.gq_keeper.specs.Runs.{Did, lines_of, told_of}
 use Rattle.gq_keeper.specs.Starting.{facts_read}
-use Rattle.gq_node.specs.Local.{Local, new_local}
-use Rattle.gq_node.specs.Resting.{recall_all, those_of}
-use Rattle.gq_node.specs.Sites.{site_of}
+use Rattle.gq_node.specs.Local.{Local}
+use Rattle.gq_node.specs.Resting.{recall_all, those_of, begun_local}
+use Rattle.gq_node.specs.Sites.{Site, site_of}
 use Rattle.gq_parts.specs.Laws.{TellsEach}
 use Rattle.gq_parts.specs.Recalls.{facts_said}
 use Rattle.gq_setup.specs.Setups.{Setup}
-use Rattle.gq_service.specs.Serving.{Serves, volumes_in}
+use Rattle.gq_setup.specs.Laws.{here_of}
+use Rattle.gq_service.specs.Serving.{Serves, volumes_in, first_volumes}
 
 -- the part of the tenant at place t of the node that started from the journal: what this tenant's facts alone make of it
 abbrev pub started_part : Setup → (number : ℕ) → (journal : List ℕ) → ℕ → Local
 started_part setup number journal t =
-    recall_all (site_of setup.plan number t) (new_local setup.plan.grid number (volumes_in t setup.openings)) (those_of t (facts_said setup.plan (facts_read journal)))
+    let site : Site = site_of setup.plan (here_of number setup) t in
+    recall_all site (begun_local site (volumes_in t setup.openings) (first_volumes setup journal t)) (those_of t (facts_said setup.plan (facts_read journal)))
 
 -- what is shown behind `base` is what is written for the tenants, line by line, by their parts, from those of the start on
 pub record TellsByParts (setup : Setup) (number : ℕ) (journal : List ℕ) (lines : List Line) (base shown : List ℕ) : Type 0 where
   pub dids : List Did
   pub took : lines_of dids ≡ lines
   pub told : shown ≡ base ++ told_of dids
-  pub tells : TellsEach setup.plan number (started_part setup number journal) dids
+  pub tells : TellsEach setup.plan (here_of number setup) (started_part setup number journal) dids
 
 abbrev pub AllServedByParts : Type 0
 AllServedByParts = (setup : Setup) (number : ℕ) (journal : List ℕ) (lines : List Line) (base synced shown : List ℕ) →

@@ -13,8 +13,11 @@ pub trait Console {
     /// A wrong end of the journal was cut off at this byte.
     fn is_cut(&self, at: usize);
 
-    /// The node takes lines: it is the server of this number of the grid, and so many facts were read.
-    fn is_ready(&self, number: u8, rows: usize, cols: usize, facts: u64);
+    /// The node of this number takes lines. So many facts were read, and its server lacks so many files.
+    fn is_ready(&self, number: u16, rows: usize, cols: usize, facts: u64, lacked: usize);
+
+    /// The server of the node of this number lacked files, and has all now.
+    fn has_all(&self, number: u16);
 }
 
 /// The standard streams themselves, of a node whose journal has this path.
@@ -59,7 +62,19 @@ impl<I: AsFd + Drop, O: AsFd + Drop, E: AsFd + Eprint + Drop> Console for Standa
         let _ = eprintln!(self.errors; "gridfs: {journal}: cut at byte {at}");
     }
 
-    fn is_ready(&self, number: u8, rows: usize, cols: usize, facts: u64) {
-        let _ = eprintln!(self.errors; "gridfs: node {number} of {rows} by {cols}: {facts} facts");
+    fn is_ready(&self, number: u16, rows: usize, cols: usize, facts: u64, lacked: usize) {
+        if lacked == 0 {
+            let _ = eprintln!(self.errors;
+                "gridfs: node {number} of {rows} by {cols}: {facts} facts"
+            );
+        } else {
+            let _ = eprintln!(self.errors;
+                "gridfs: node {number} of {rows} by {cols}: {facts} facts, lacks {lacked} files"
+            );
+        }
+    }
+
+    fn has_all(&self, number: u16) {
+        let _ = eprintln!(self.errors; "gridfs: node {number}: has all files");
     }
 }

@@ -33,7 +33,7 @@ pub enum NodeFault {
     Plan(SetupFault),
     /// The plan's text may not stand in a journal. No setup has such a text; that is not proved.
     PlanText,
-    /// The grid has so many servers, and none of the number.
+    /// The grid has so many servers, and its plan has no node of the number.
     NoServer(usize),
     /// Another process has the journal.
     InUse,

@@ -4,6 +4,7 @@
 
 mod console;
 mod fault;
+mod filling;
 mod finding;
 pub mod laws;
 mod locking;

@@ -1,16 +1,19 @@
 //! A node that was never started.
 
-ghost use Rattle.std.specs.Prelude.{◌≡◌, ◌<◌, IfOk, None, false, length};
+ghost use Rattle.std.specs.Prelude.{◌≡◌, ◌<◌, ◌≤◌, IfOk, None, false, length};
 ghost use Rattle.gq_desk.specs.Volumes.{account_at, open_fault};
+ghost use Rattle.gq_desk.specs.declared.limits.TheConstants.{MOST_VOLUMES};
 ghost use Rattle.gq_node.specs.Opening.{Opens};
 ghost use Rattle.gq_setup.specs.Setups.{volume_of};
-ghost use Rattle.gq_service.specs.Serving.{IsNewFor};
+ghost use Rattle.gq_setup.specs.Texts.{setup_of_node_text, volumes_read};
+ghost use Rattle.gq_setup.specs.Laws.{here_of};
+ghost use Rattle.gq_service.specs.Serving.{IsNewFor, IsOpen, volumes_in, volumes_of_read};
 
 use crate::this_node::ThisNode;
 use gq_desk::OpenRefused;
 use gq_memory::OutOfMemory;
 use gq_node::Node;
-use gq_setup::Opening;
+use gq_setup::{Opening, Setup, read_node_plan};
 use std::alloc::Global;
 
 // The node with one volume more, which no cause refuses.
@@ -30,14 +33,55 @@ fn with_volume(node: Node, opening: Opening) -> Result<Node, OutOfMemory>
     }
 }
 
-/// The node of this number, never started, with the volumes of its plan open.
-pub(crate) fn new_node(alloc: Global, this: &ThisNode) -> Result<Node, OutOfMemory>
-    ensures { IfOk result (λ node. IsNewFor this.now.plan.setup this.now.number node.tables) }
+// The node, never started, with the volumes of its plan open, and no file lacked.
+fn open_node(alloc: Global, this: &ThisNode) -> Result<Node, OutOfMemory>
+    ensures node { IfOk result (λ node. IsOpen this.now.plan.setup.plan (here_of this.now.number this.now.plan.setup) (λ t. volumes_in t this.now.plan.setup.openings) node.tables) }
+    ensures goes { IfOk result (λ node. node.ended ≡ false) }
 {
     let setup = this.plan.setup();
-    let mut node = Node::new(alloc, setup.plan().copy()?, this.number)?;
+    let lost = setup.lost().copy(alloc)?;
+    let mut node = Node::new(alloc, setup.plan().copy()?, lost, this.number)?;
     for opening in setup.openings() {
         node = with_volume(node, *opening)?;
     }
     Ok(node)
+}
+
+// How many volumes the tenant at that place has by the setup that was read, if one was.
+fn volumes_before(read: &Option<Setup>, tenant: u8) -> usize
+    ensures count { result ≡ volumes_of_read read.now tenant }
+    ensures few { result ≤ MOST_VOLUMES }
+{
+    let Some(setup) = read else {
+        return 0;
+    };
+    if tenant as usize >= setup.plan().tenants() {
+        return 0;
+    }
+    let _each_can_be_opened = setup.openings();
+    setup.volumes(tenant)
+}
+
+// The node, if it is a new one, whose server lacks the files of all volumes of the setup that was read.
+fn bereft_node(node: Node, this: &ThisNode, before: &Option<Setup>) -> Result<Node, OutOfMemory>
+    requires open { IsOpen this.now.plan.setup.plan (here_of this.now.number this.now.plan.setup) (λ t. volumes_in t this.now.plan.setup.openings) node.tables }
+    requires goes { node.ended ≡ false }
+    ensures { IfOk result (λ new. IsNewFor this.now.plan.setup this.now.number (volumes_of_read before.now) new.tables) }
+{
+    let mut node = node;
+    let tenants = this.plan.setup().plan().tenants();
+    for place in 0..tenants {
+        node.lack(place as u8, volumes_before(before, place as u8))?;
+    }
+    Ok(node)
+}
+
+/// The node, never started, with the volumes of its plan open. If it is a new one, its server lacks the files of all volumes of the plan
+/// of this text, with which its journal begins.
+pub(crate) fn new_node(alloc: Global, this: &ThisNode, first: &[u8]) -> Result<Node, OutOfMemory>
+    ensures { IfOk result (λ node. IsNewFor this.now.plan.setup this.now.number (volumes_read (setup_of_node_text first.now)) node.tables) }
+{
+    let node = open_node(alloc, this)?;
+    let before = read_node_plan(alloc, first)?;
+    bereft_node(node, this, &before)
 }

@@ -1,21 +1,26 @@
 //! A node over its journal, from its start to the end of its input.
 
-ghost use Rattle.std.specs.Prelude.{◌≡◌, ◌++◌, ℕ, List, true, false, IfOk, IfErr, OnOk, if◌then◌else◌};
-ghost use Rattle.gq_journal.specs.Batches.{whole_lines, has_right_batch};
+ghost use Rattle.std.specs.Prelude.{◌≡◌, ◌++◌, ℕ, List, true, false, Ok, IfOk, IfErr, OnOk, if◌then◌else◌};
+ghost use Rattle.gq_journal.specs.Batches.{whole_lines, lines_text, batches_of, has_right_batch};
+ghost use Rattle.gq_keeper.specs.Plans.{first_plan};
 ghost use Rattle.gq_wire.specs.Texts.{first_text};
 ghost use Rattle.gq_keeper.specs.Durable.{AllSealed};
 ghost use Rattle.gq_keeper.specs.Restarting.{Restarts};
 ghost use Rattle.gq_keeper.specs.Starting.{RecallsAll, behind, facts_read};
-ghost use Rattle.gq_machine.specs.Machines.{tables_of, MachineRecalls, machine_reads, MachineIsBlank, MachineRests};
+ghost use Rattle.gq_machine.specs.Machines.{tables_of, MachineRecalls, machine_reads, MachineIsBlank, MachineIsOf, MachineRests};
+ghost use Rattle.gq_setup.specs.Setups.{Setup};
+ghost use Rattle.gq_setup.specs.Texts.{volumes_read, volumes_of_lines};
 ghost use Rattle.gq_service.specs.Faults.{as_fault};
 ghost use Rattle.gq_service.specs.Serving.{IsNewFor, IsStarted, IsDurable, ServesInput, TellsDamage, TellsAnother, LeavesJournal, journal_found, is_its_journal};
 
 use crate::console::Console;
 use crate::fault::NodeFault;
+use crate::filling::Filling;
 use crate::new_node::new_node;
 use crate::this_node::ThisNode;
-use gq_keeper::{Disk, Fault, Output, Plan, Started, renew, serve, start};
+use gq_keeper::{Disk, Output, Plan, Started, first_plan, renew, serve, start};
 use gq_machine::NodeMachine;
+use gq_memory::OutOfMemory;
 use gq_wire::longest_line;
 use std::alloc::Global;
 use std::io::Read;
@@ -27,6 +32,7 @@ fn begin<D: Disk>(
     machine: &NodeMachine,
     disk: &mut D,
 ) -> Result<u64, NodeFault>
+    requires { MachineIsOf (whole_lines node.now.plan.text.items) machine.now }
     ensures sealed { IfOk result (λ next. AllSealed (D.seen disk.new) (D.synced disk.new) next) }
     ensures restarts { OnOk result (Restarts MachineRecalls machine_reads MachineIsBlank MachineRests (whole_lines node.now.plan.text.items) machine.now (D.synced disk.new)) }
     ensures damaged { IfErr result (λ fault. (journal : List ℕ) → TellsDamage journal fault) }
@@ -38,13 +44,18 @@ fn begin<D: Disk>(
 fn go_on<D: Disk, C: Console>(
     alloc: Global,
     node: &ThisNode,
+    journal: &[u8],
     console: &C,
     machine: &mut NodeMachine,
     disk: &mut D,
 ) -> Result<u64, NodeFault>
-    requires { IsNewFor node.now.plan.setup node.now.number (tables_of machine.old) }
+    requires read { journal.now ≡ D.seen disk.old }
+    requires synced { D.synced disk.old ≡ D.seen disk.old }
+    requires new { IsNewFor node.now.plan.setup node.now.number (volumes_of_lines (first_plan (batches_of (D.seen disk.old)))) (tables_of machine.old) }
+    requires of_plan { MachineIsOf (whole_lines node.now.plan.text.items) machine.old }
     ensures sealed { IfOk result (λ next. AllSealed (D.seen disk.new) (D.synced disk.new) next) }
     ensures restarts { OnOk result (Restarts MachineRecalls machine_reads MachineIsBlank MachineRests (whole_lines node.now.plan.text.items) machine.new (D.synced disk.new)) }
+    ensures of_plan { OnOk result (MachineIsOf (whole_lines node.now.plan.text.items) machine.new) }
     ensures recalled { OnOk result (RecallsAll MachineRecalls machine.old (facts_read (D.seen disk.old)) machine.new) }
     ensures its { OnOk result (is_its_journal node.now.plan.setup node.now.number (D.seen disk.old) ≡ true) }
     ensures whole { OnOk result (has_right_batch (behind (D.seen disk.old)) ≡ false) }
@@ -52,7 +63,7 @@ fn go_on<D: Disk, C: Console>(
     ensures another { IfErr result (TellsAnother node.now.plan.setup node.now.number (D.seen disk.old)) }
     ensures same { IfErr result (LeavesJournal (D.seen disk.new ≡ D.seen disk.old)) }
 {
-    match start(alloc, machine, disk, &node.plan)? {
+    match start(alloc, machine, disk, &node.plan, journal)? {
         Started::Ready(recovered) => {
             tell_cut(console, recovered.cut);
             Ok(recovered.number)
@@ -70,9 +81,9 @@ fn tell_cut<C: Console>(console: &C, cut: Option<usize>) {
 }
 
 // Tells that the node takes lines.
-fn tell_ready<C: Console>(console: &C, node: &ThisNode, facts: u64) {
+fn tell_ready<C: Console>(console: &C, node: &ThisNode, facts: u64, lacked: usize) {
     let grid = node.plan.setup().plan().grid();
-    console.is_ready(node.number, grid.rows(), grid.cols(), facts);
+    console.is_ready(node.number, grid.rows(), grid.cols(), facts, lacked);
 }
 
 // Begins a journal, or goes on from the one that is there. Answers the number of the next batch.
@@ -80,13 +91,19 @@ fn begin_or_go_on<D: Disk, C: Console>(
     alloc: Global,
     node: &ThisNode,
     is_new: bool,
+    journal: &[u8],
     console: &C,
     machine: &mut NodeMachine,
     disk: &mut D,
 ) -> Result<u64, NodeFault>
-    requires { IsNewFor node.now.plan.setup node.now.number (tables_of machine.old) }
+    requires read { is_new ≡ false → journal.now ≡ D.seen disk.old }
+    requires synced { is_new ≡ false → D.synced disk.old ≡ D.seen disk.old }
+    requires begun { is_new ≡ true → IsNewFor node.now.plan.setup node.now.number (volumes_read (Ok node.now.plan.setup)) (tables_of machine.old) }
+    requires found { is_new ≡ false → IsNewFor node.now.plan.setup node.now.number (volumes_of_lines (first_plan (batches_of (D.seen disk.old)))) (tables_of machine.old) }
+    requires of_plan { MachineIsOf (whole_lines node.now.plan.text.items) machine.old }
     ensures sealed { IfOk result (λ next. AllSealed (D.seen disk.new) (D.synced disk.new) next) }
     ensures restarts { OnOk result (Restarts MachineRecalls machine_reads MachineIsBlank MachineRests (whole_lines node.now.plan.text.items) machine.new (D.synced disk.new)) }
+    ensures of_plan { OnOk result (MachineIsOf (whole_lines node.now.plan.text.items) machine.new) }
     ensures started { OnOk result (IsStarted node.now.plan.setup node.now.number (journal_found is_new (D.seen disk.old)) machine.new) }
     ensures its { is_new ≡ false → OnOk result (is_its_journal node.now.plan.setup node.now.number (D.seen disk.old) ≡ true) }
     ensures whole { is_new ≡ false → OnOk result (has_right_batch (behind (D.seen disk.old)) ≡ false) }
@@ -97,8 +114,38 @@ fn begin_or_go_on<D: Disk, C: Console>(
     if is_new {
         begin(alloc, node, machine, disk)
     } else {
-        go_on(alloc, node, console, machine, disk)
+        go_on(alloc, node, journal, console, machine, disk)
     }
+}
+
+// The journal that is there, once it is made sure of, or none where one is to be begun.
+fn journal_text<D: Disk>(alloc: Global, is_new: bool, disk: &mut D) -> Result<Vec<u8>, NodeFault>
+    ensures found { is_new ≡ false → IfOk result (λ text. text.items ≡ D.seen disk.old) }
+    ensures synced { is_new ≡ false → OnOk result (D.synced disk.new ≡ D.seen disk.new) }
+    ensures seen { D.seen disk.new ≡ D.seen disk.old }
+    ensures damaged { IfErr result (λ fault. (journal : List ℕ) → TellsDamage journal fault) }
+    ensures another { IfErr result (λ fault. (setup : Setup) (number : ℕ) (journal : List ℕ) → TellsAnother setup number journal fault) }
+{
+    if is_new {
+        return Ok(Vec::new(alloc));
+    }
+    Ok(disk.read(alloc)?)
+}
+
+// The text of the plan with which the node's journal begins: of the one that is there, or of one that is to be begun.
+fn first_text<'x>(
+    alloc: Global,
+    node: &'x ThisNode,
+    is_new: bool,
+    journal: &'x [u8],
+) -> Result<&'x [u8], OutOfMemory>
+    ensures new { is_new ≡ true → IfOk result (λ text. text.now ≡ node.now.plan.text.items) }
+    ensures found { is_new ≡ false → IfOk result (λ text. text.now ≡ lines_text (first_plan (batches_of journal.now))) }
+{
+    if is_new {
+        return Ok(node.plan.text());
+    }
+    first_plan(alloc, journal)
 }
 
 // Starts the machine, which was never started, and takes the lines of the input.
@@ -106,13 +153,18 @@ fn serve_machine<D: Disk, I: Read, O: Output, C: Console>(
     alloc: Global,
     node: &ThisNode,
     is_new: bool,
+    journal: &[u8],
     console: &C,
     machine: &mut NodeMachine,
     disk: &mut D,
     input: &mut I,
     out: &mut O,
 ) -> Result<(), NodeFault>
-    requires new { IsNewFor node.now.plan.setup node.now.number (tables_of machine.old) }
+    requires read { is_new ≡ false → journal.now ≡ D.seen disk.old }
+    requires synced { is_new ≡ false → D.synced disk.old ≡ D.seen disk.old }
+    requires begun { is_new ≡ true → IsNewFor node.now.plan.setup node.now.number (volumes_read (Ok node.now.plan.setup)) (tables_of machine.old) }
+    requires found { is_new ≡ false → IsNewFor node.now.plan.setup node.now.number (volumes_of_lines (first_plan (batches_of (D.seen disk.old)))) (tables_of machine.old) }
+    requires of_plan { MachineIsOf (whole_lines node.now.plan.text.items) machine.old }
     requires durable { (synced shown : List ℕ) → IsDurable node.now.number (O.shown out.old ++ first_text) synced shown → O.allows synced shown }
     ensures served { OnOk result (ServesInput node.now.plan.setup node.now.number (journal_found is_new (D.seen disk.old)) (I.remaining input.old) (O.shown out.old ++ first_text) (D.synced disk.new) (O.shown out.new)) }
     ensures its { is_new ≡ false → OnOk result (is_its_journal node.now.plan.setup node.now.number (D.seen disk.old) ≡ true) }
@@ -120,8 +172,10 @@ fn serve_machine<D: Disk, I: Read, O: Output, C: Console>(
     ensures damaged { IfErr result (TellsDamage (D.seen disk.old)) }
     ensures another { is_new ≡ false → IfErr result (TellsAnother node.now.plan.setup node.now.number (D.seen disk.old)) }
 {
-    let number = begin_or_go_on(alloc, node, is_new, console, machine, disk)?;
-    tell_ready(console, node, machine.facts);
+    let number = begin_or_go_on(alloc, node, is_new, journal, console, machine, disk)?;
+    let lacked = machine.lacked();
+    tell_ready(console, node, machine.facts, lacked);
+    let mut filling = Filling::new(console, node.number, lacked > 0);
     let longest = longest_line(node.plan.setup().plan());
     serve(
         alloc,
@@ -131,6 +185,7 @@ fn serve_machine<D: Disk, I: Read, O: Output, C: Console>(
         input,
         disk,
         out,
+        &mut filling,
         number,
     )?;
     Ok(())
@@ -157,6 +212,22 @@ pub fn serve_node<D: Disk, I: Read, O: Output, C: Console>(
     ensures damaged { IfErr result (TellsDamage (D.seen disk.old)) }
     ensures another { is_new ≡ false → IfErr result (TellsAnother node.now.plan.setup node.now.number (D.seen disk.old)) }
 {
-    let mut machine = NodeMachine::new(alloc, new_node(alloc, node)?);
-    serve_machine(alloc, node, is_new, console, &mut machine, disk, input, out)
+    let journal = match journal_text(alloc, is_new, disk) {
+        Ok(journal) => journal,
+        Err(fault) => return Err(fault),
+    };
+    let first = first_text(alloc, node, is_new, journal.as_slice())?;
+    let blank = new_node(alloc, node, first)?;
+    let mut machine = NodeMachine::new(alloc, blank);
+    serve_machine(
+        alloc,
+        node,
+        is_new,
+        journal.as_slice(),
+        console,
+        &mut machine,
+        disk,
+        input,
+        out,
+    )
 }

@@ -4,7 +4,7 @@ use gq_desk::{Name, Plan, TenantRow};
 use gq_grid::Grid;
 use gq_keeper::{Lasting, Machine, Unread};
 use gq_machine::NodeMachine;
-use gq_node::Node;
+use gq_node::{Lost, Node};
 use std::alloc::Global;
 use std::process::Abort;
 use std::test::Fail;
@@ -23,7 +23,8 @@ fn machine(rt: &impl Abort, alloc: Global) -> NodeMachine {
     let grid = Grid::new(1, 1).expect(rt, "a grid");
     let rows = [row(rt, b"ann"), row(rt, b"bob")];
     let plan = Plan::check(alloc, grid, 16, &rows).expect(rt, "a plan");
-    let node = Node::new(alloc, plan, 0).expect(rt, "memory");
+    let lost = Lost::none(alloc).expect(rt, "memory");
+    let node = Node::new(alloc, plan, lost, 0).expect(rt, "memory");
     let node = node.open(0, 2, 1).expect(rt, "a volume");
     NodeMachine::new(alloc, node)
 }

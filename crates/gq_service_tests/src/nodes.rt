@@ -37,6 +37,8 @@ struct Watch {
     is_open: bool,
     cut: Cell<Option<usize>>,
     facts: Cell<Option<u64>>,
+    lacked: Cell<usize>,
+    filled: Cell<Option<u16>>,
 }
 
 impl Watch {
@@ -45,6 +47,8 @@ impl Watch {
             is_open: true,
             cut: Cell::new(None),
             facts: Cell::new(None),
+            lacked: Cell::new(0),
+            filled: Cell::new(None),
         }
     }
 }
@@ -62,8 +66,13 @@ impl Console for Watch {
         self.cut.set(Some(at));
     }
 
-    fn is_ready(&self, _number: u8, _rows: usize, _cols: usize, facts: u64) {
+    fn is_ready(&self, _number: u16, _rows: usize, _cols: usize, facts: u64, lacked: usize) {
         self.facts.set(Some(facts));
+        self.lacked.set(lacked);
+    }
+
+    fn has_all(&self, number: u16) {
+        self.filled.set(Some(number));
     }
 }
 
@@ -147,6 +156,41 @@ fn starts_again_from_its_journal(rt: HostRuntime) -> Result<(), Fail> {
     Ok(())
 }
 
+// A plan in which the node at place 1 was lost.
+const LOST: &str = "grid 2 1\nblocks 16\ntenant ann 8 2 100\ngo\nann open 2 1\nreplace 1\n";
+
+// What comes to the new node: the other one has joined, and gives both files.
+const GIVEN: &[u8] =
+    b"65 65 tick\n65 0 joined 1\n65 65 tick\n65 0 ann fetched 0 0 1 1 ab\n65 0 ann fetched 0 1 0 0 -\n";
+
+#[test]
+fn a_new_node_is_given_what_it_lacks(rt: HostRuntime) -> Result<(), Fail> {
+    fs::write(&rt, "lost", LOST)?;
+    let _ = fs::remove_file(&rt, "new");
+    let mut asked = node("new", true);
+    asked.plan = "lost";
+    // the node that was lost is none of the plan
+    asked.number = 1;
+    is_refused(&rt, rt.alloc(), &asked, &Watch::new(), "node 1: of 2", 1)?;
+    asked.number = 65;
+    // without any line it lacks what its plan opens, also when it starts again
+    let watch = Watch::new();
+    writes(&rt, rt.alloc(), &asked, &watch, b"", " ?\n")?;
+    assert_eq!(&rt; watch.lacked.get(), 2);
+    asked.is_new = false;
+    let watch = Watch::new();
+    let text = " ?\n0 65 joins 1\n0 65 ann fetch 0 0\n0 65 ann fetch 0 1\n";
+    writes(&rt, rt.alloc(), &asked, &watch, GIVEN, text)?;
+    assert_eq!(&rt; watch.lacked.get(), 2);
+    assert_eq!(&rt; watch.filled.get(), Some(65));
+    let watch = Watch::new();
+    writes(&rt, rt.alloc(), &asked, &watch, b"65 65 tick\n", " ?\n")?;
+    assert_eq!(&rt; watch.facts.get(), Some(2));
+    assert_eq!(&rt; watch.lacked.get(), 0);
+    assert_eq!(&rt; watch.filled.get(), None);
+    Ok(())
+}
+
 #[test]
 fn tells_each_fault(rt: HostRuntime) -> Result<(), Fail> {
     fs::write(&rt, "plan", PLAN)?;
@@ -160,6 +204,8 @@ fn tells_each_fault(rt: HostRuntime) -> Result<(), Fail> {
         is_open: false,
         cut: Cell::new(None),
         facts: Cell::new(None),
+        lacked: Cell::new(0),
+        filled: Cell::new(None),
     };
     let mut asked = NodeRequest {
         number: 1,

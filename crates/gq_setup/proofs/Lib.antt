@@ -1,4 +1,6 @@
 pub mod LineByLine
+pub mod Losing
+pub mod WholeLines
 pub mod Comparing
 pub mod Reading
 pub mod Accounts

@@ -1,17 +1,16 @@
--- The openings of lines, one behind another.
-use Rattle.std.proofs.Common.{◌≡◌, ℕ, suc, ◌+◌, ◌<◌, ◌≤◌, List, [], ◌∷◌, ◌++◌, length, Option, Some, None, Ok, Err, refl, sym, ap, ◌∙◌, subst, arith, append_assoc, append-nil}
+-- What lines behind a plan tell, one behind another.
+use Rattle.std.proofs.Common.{◌≡◌, ℕ, suc, ◌+◌, ◌<◌, ◌≤◌, List, [], ◌∷◌, ◌++◌, length, Some, None, Ok, refl, sym, ap, ◌∙◌, subst, arith}
 use Rattle.std.specs.Prelude.{map}
 use Rattle.std.proofs.Math.ListN.{length-set}
 use Rattle.gq_desk.specs.CheckedPlan.{CheckedPlan}
 use Rattle.gq_desk.specs.declared.plans.TenantRow.{TenantRow}
 use Rattle.gq_desk.specs.Volumes.{Account, new_account}
 use Rattle.gq_text.specs.Lines.{lines_of}
-use Rattle.gq_text.specs.Input.{event_of}
 use Rattle.gq_setup.specs.declared.openings.Opening.{Opening}
 use Rattle.gq_setup.specs.declared.openings.SetupFault.{SetupFault}
-use Rattle.gq_setup.specs.declared.openings.SetupFault.TheVariants.{Plan, Live, Open, Memory}
-use Rattle.gq_setup.specs.Setups.{SetupReading, accounts_of, after_opening, after_openings, opening_fault, CanOpen, event_opens, openings_then, first_opening, openings_in}
-use Rattle.gq_setup.specs.Faults.{IsFirstFault, IsLineFault}
+use Rattle.gq_setup.specs.declared.openings.SetupFault.TheVariants.{Plan, Live, Open, Replace, Memory}
+use Rattle.gq_setup.specs.Setups.{Setup, SetupReading, accounts_of, after_opening, after_openings, opening_fault, holdings, CanOpen, with_opening, opened, after_opens, after_line, then_told, after_lines}
+use Rattle.gq_setup.specs.Faults.{IsFirstFault}
 
 -- ---- accounts
 
@@ -26,7 +25,12 @@ rows-length (row ∷ rows) = ap suc (rows-length rows)
 pub accounts-length : (plan : CheckedPlan) → length (accounts_of plan) ≡ length plan.rows
 accounts-length plan = rows-length plan.rows
 
-one_opened : (accounts : List Account) (openings : List Opening) (o : Opening) → after_openings accounts (openings ++ o ∷ []) ≡ after_opening (after_openings accounts openings) o
+pub holdings-length : (plan : CheckedPlan) (openings : List Opening) → length (after_openings (accounts_of plan) openings) ≡ length plan.rows
+holdings-length plan openings = after_openings-length (accounts_of plan) openings ∙ accounts-length plan
+
+-- ---- one volume more
+
+pub one_opened : (accounts : List Account) (openings : List Opening) (o : Opening) → after_openings accounts (openings ++ o ∷ []) ≡ after_opening (after_openings accounts openings) o
 one_opened accounts [] o = refl
 one_opened accounts (x ∷ openings) o = one_opened (after_opening accounts x) openings o
 
@@ -34,69 +38,50 @@ one_can : (accounts : List Account) (openings : List Opening) (o : Opening) → 
 one_can accounts [] o can within sound = (within, sound, tt)
 one_can accounts (x ∷ openings) o can within sound = (can.0, can.1, one_can (after_opening accounts x) openings o can.2 within sound)
 
--- ---- what is told
+-- behind what may be open another may be, where no cause refuses it
+pub more_can : (plan : CheckedPlan) (openings : List Opening) (desk : List Account) (o : Opening) → desk ≡ after_openings (accounts_of plan) openings → CanOpen (accounts_of plan) openings → o.tenant < length plan.rows → opening_fault desk o ≡ None →
+    CanOpen (accounts_of plan) (openings ++ o ∷ [])
+more_can plan openings desk o is can within sound =
+    one_can (accounts_of plan) openings o can (subst (λ n. o.tenant < n) (sym (holdings-length plan openings)) within) (ap (λ a. opening_fault a o) (sym is) ∙ sound)
 
-before_none : (told : SetupReading (List Opening)) → told ≡ openings_then [] told
-before_none (Ok more) = refl
-before_none (Err fault) = refl
+-- what the tenants have then
+pub opened_desk : (plan : CheckedPlan) (openings now : List Opening) (desk next : List Account) (o : Opening) → desk ≡ after_openings (accounts_of plan) openings → next ≡ after_opening desk o → now ≡ openings ++ o ∷ [] → next ≡ after_openings (accounts_of plan) now
+opened_desk plan openings now desk next o is opens grown =
+    opens ∙ ap (λ a. after_opening a o) is ∙ sym (one_opened (accounts_of plan) openings o) ∙ ap (after_openings (accounts_of plan)) (sym grown)
 
-before_one : (openings : List Opening) (o : Opening) (told : SetupReading (List Opening)) → openings_then openings (openings_then (o ∷ []) told) ≡ openings_then (openings ++ o ∷ []) told
-before_one openings o (Ok more) = ap (λ os. Ok os) (sym (append_assoc openings (o ∷ []) more))
-before_one openings o (Err fault) = refl
+pub opens_is : (n : ℕ) (setup : Setup) (desk : List Account) (o : Opening) → desk ≡ holdings setup → opening_fault desk o ≡ None → after_opens n setup (Some o) ≡ Ok (with_opening setup o)
+opens_is n setup desk o is sound = ap (opened n setup o) (ap (λ a. opening_fault a o) (sym is) ∙ sound)
 
-first_is : (n : ℕ) (accounts : List Account) (opening : Option Opening) (o : Opening) (rest : Opening → SetupReading (List Opening)) → opening ≡ Some o → opening_fault accounts o ≡ None → first_opening n accounts opening rest ≡ openings_then (o ∷ []) (rest o)
-first_is n accounts opening o rest is sound = rw (is, sound) refl
+-- ---- one line more
 
--- of the text these were opened, and the rest is left
-pub record Opens (plan : CheckedPlan) (first : ℕ) (text rest : List ℕ) (number : ℕ) (openings : List Opening) (desk : List Account) : Type 0 where
-  pub told : openings_in first (accounts_of plan) (map (event_of plan) (lines_of text)) ≡ openings_then openings (openings_in number desk (map (event_of plan) (lines_of rest)))
-  pub desk_is : desk ≡ after_openings (accounts_of plan) openings
-  pub can : CanOpen (accounts_of plan) openings
+-- of the text this was taken, and the rest is left
+pub record Takes (first : ℕ) (start : Setup) (text rest : List ℕ) (number : ℕ) (setup : Setup) : Type 0 where
+  pub told : after_lines first start (lines_of text) ≡ after_lines number setup (lines_of rest)
   pub count : number + length rest ≤ first + length text
 
-pub opens_none : (plan : CheckedPlan) (first : ℕ) (text : List ℕ) (desk : List Account) → desk ≡ accounts_of plan → Opens plan first text text first [] desk
-opens_none plan first text desk is = record {
-  told = ap (λ a. openings_in first a (map (event_of plan) (lines_of text))) (sym is) ∙ before_none (openings_in first desk (map (event_of plan) (lines_of text)));
-  desk_is = is;
-  can = tt;
-  count = omega arith;
+pub takes_line : (first : ℕ) (start : Setup) (text rest line after : List ℕ) (number : ℕ) (setup next : Setup) → Takes first start text rest number setup → lines_of rest ≡ line ∷ lines_of after → length after < length rest →
+    after_line number setup line ≡ Ok next → Takes first start text after (number + 1) next
+takes_line first start text rest line after number setup next s lines less is = record {
+  told = s.told ∙ ap (after_lines number setup) lines ∙ ap (λ r. then_told r (λ x. after_lines (number + 1) x (lines_of after))) is;
+  count = omega (arith, s.count, less);
 }
-
-pub opens_more : (plan : CheckedPlan) (first : ℕ) (text rest line after : List ℕ) (number : ℕ) (openings now : List Opening) (desk next : List Account) (o : Opening) → Opens plan first text rest number openings desk →
-    lines_of rest ≡ line ∷ lines_of after → length after < length rest → event_opens (event_of plan line) ≡ Some o → o.tenant < length desk → opening_fault desk o ≡ None → next ≡ after_opening desk o → now ≡ openings ++ o ∷ [] → Opens plan first text after (number + 1) now next
-opens_more plan first text rest line after number openings now desk next o s lines less opens within sound is grown =
-    subst (λ (os : List Opening). Opens plan first text after (number + 1) os next) (sym grown) (record {
-      told = s.told ∙ ap (λ ls. openings_then openings (openings_in number desk (map (event_of plan) ls))) lines
-          ∙ ap (openings_then openings) (first_is number desk (event_opens (event_of plan line)) o (λ x. openings_in (number + 1) (after_opening desk x) (map (event_of plan) (lines_of after))) opens sound)
-          ∙ before_one openings o (openings_in (number + 1) (after_opening desk o) (map (event_of plan) (lines_of after)))
-          ∙ ap (λ a. openings_then (openings ++ o ∷ []) (openings_in (number + 1) a (map (event_of plan) (lines_of after)))) (sym is);
-      desk_is = is ∙ ap (λ a. after_opening a o) s.desk_is ∙ sym (one_opened (accounts_of plan) openings o);
-      can = one_can (accounts_of plan) openings o s.can (subst (λ (a : List Account). o.tenant < length a) s.desk_is within) (ap (λ a. opening_fault a o) (sym s.desk_is) ∙ sound);
-      count = omega (arith, s.count, less);
-    })
-
-pub opens_length : (plan : CheckedPlan) (first : ℕ) (text rest : List ℕ) (number : ℕ) (openings : List Opening) (desk : List Account) → Opens plan first text rest number openings desk → length desk ≡ length (accounts_of plan)
-opens_length plan first text rest number openings desk s = ap length s.desk_is ∙ after_openings-length (accounts_of plan) openings
 
 empty_of : (xs : List ℕ) → length xs ≡ 0 → xs ≡ []
 empty_of [] none = refl
 empty_of (x ∷ xs) none = absurd (omega arith)
 
-pub opens_all : (plan : CheckedPlan) (first : ℕ) (text rest : List ℕ) (number : ℕ) (openings : List Opening) (desk : List Account) → Opens plan first text rest number openings desk → length rest ≡ 0 →
-    openings_in first (accounts_of plan) (map (event_of plan) (lines_of text)) ≡ Ok openings
-opens_all plan first text rest number openings desk s none =
-    s.told ∙ ap (λ r. openings_then openings (openings_in number desk (map (event_of plan) (lines_of r)))) (empty_of rest none) ∙ ap (λ os. Ok os) (append-nil openings)
+pub takes_all : (first : ℕ) (start : Setup) (text rest : List ℕ) (number : ℕ) (setup : Setup) → Takes first start text rest number setup → length rest ≡ 0 → after_lines first start (lines_of text) ≡ Ok setup
+takes_all first start text rest number setup s none = s.told ∙ ap (λ r. after_lines number setup (lines_of r)) (empty_of rest none)
 
--- ---- faults
+fault_first : (fault : SetupFault) (told : SetupReading Setup) (next : Setup → SetupReading Setup) → IsFirstFault fault told → IsFirstFault fault (then_told told next)
+fault_first (Plan n fault) told next is = ap (λ r. then_told r next) is
+fault_first (Live n) told next is = ap (λ r. then_told r next) is
+fault_first (Open n) told next is = ap (λ r. then_told r next) is
+fault_first (Replace n) told next is = ap (λ r. then_told r next) is
+fault_first (Memory refused) told next is = tt
 
-fault_before : (fault : SetupFault) (openings : List Opening) (told : SetupReading (List Opening)) → IsFirstFault fault told → IsFirstFault fault (openings_then openings told)
-fault_before (Plan n fault) openings told is = ap (openings_then openings) is
-fault_before (Live n) openings told is = ap (openings_then openings) is
-fault_before (Open n) openings told is = ap (openings_then openings) is
-fault_before (Memory refused) openings told is = tt
-
-pub opens_fault : (plan : CheckedPlan) (first : ℕ) (text rest line after : List ℕ) (number : ℕ) (openings : List Opening) (desk : List Account) (fault : SetupFault) → Opens plan first text rest number openings desk →
-    lines_of rest ≡ line ∷ lines_of after → IsLineFault number desk (event_opens (event_of plan line)) fault → IsFirstFault fault (openings_in first (accounts_of plan) (map (event_of plan) (lines_of text)))
-opens_fault plan first text rest line after number openings desk fault s lines is =
-    subst (IsFirstFault fault) (sym (s.told ∙ ap (λ ls. openings_then openings (openings_in number desk (map (event_of plan) ls))) lines))
-    (fault_before fault openings (openings_in number desk (map (event_of plan) (line ∷ lines_of after))) (is (λ x. openings_in (number + 1) (after_opening desk x) (map (event_of plan) (lines_of after)))))
+pub takes_fault : (first : ℕ) (start : Setup) (text rest line after : List ℕ) (number : ℕ) (setup : Setup) (fault : SetupFault) → Takes first start text rest number setup → lines_of rest ≡ line ∷ lines_of after →
+    IsFirstFault fault (after_line number setup line) → IsFirstFault fault (after_lines first start (lines_of text))
+takes_fault first start text rest line after number setup fault s lines is =
+    subst (IsFirstFault fault) (sym (s.told ∙ ap (after_lines number setup) lines))
+    (fault_first fault (after_line number setup line) (λ x. after_lines (number + 1) x (lines_of after)) is)

@@ -1,34 +1,144 @@
 -- A setup's text tells it.
-use Rattle.std.proofs.Common.{◌≡◌, ℕ, zero, suc, ◌+◌, ◌<◌, List, [], ◌∷◌, length, get_or, Result, Ok, Err, refl, sym, ap, ◌∙◌, subst, arith}
-use Rattle.std.specs.Prelude.{map, OnOk}
-use Rattle.std.specs.List.{All}
+use Rattle.std.proofs.Common.{◌≡◌, ℕ, ◌+◌, ◌*◌, ◌<◌, ◌≤◌, ◌^◌, List, [], ◌∷◌, ◌++◌, length, get_or, zero, suc, Option, Some, None, Result, Ok, Err, Bool, true, false, cond, refl, sym, ap, ◌∙◌, subst, arith, append_assoc, append-nil}
+use Rattle.std.specs.Prelude.{map, OnOk, codes, decimal, nat_lt}
+use Rattle.std.specs.List.{All, flat_map}
+use Rattle.std.specs.Str.{bytes_eq}
+use Rattle.std.proofs.lemmas.Bool.{and_parts, ltb-true, leb-true}
+use Rattle.gq_grid.specs.Grid.{is_side}
+use Rattle.gq_grid.specs.declared.TheConstants.{MOST_SIDE}
 use Rattle.gq_desk.specs.CheckedPlan.{CheckedPlan}
 use Rattle.gq_desk.specs.Volumes.{Account}
 use Rattle.gq_model.specs.declared.events.Event.{Event}
+use Rattle.gq_model.specs.declared.events.Event.TheVariants.{Server}
+use Rattle.gq_model.specs.declared.events.Line.{Line}
 use Rattle.gq_model.specs.Events.{IsIn}
+use Rattle.gq_text.specs.Words.{Word, words_of}
 use Rattle.gq_text.specs.Lines.{lines_of}
-use Rattle.gq_text.specs.Input.{event_of}
-use Rattle.gq_text.specs.PlanText.{plan_of}
-use Rattle.gq_text.specs.Canonical.{script_text, IsScriptOf}
+use Rattle.gq_text.specs.Input.{line_of, server_line_of, one_number_of, two_numbers_of, three_numbers_of, file_content_of, place_named, tenant_event, event_of, event_of_words}
+use Rattle.gq_text.specs.AnswerText.{spaced}
+use Rattle.gq_text.specs.Canonical.{event_line, plan_text, script_text, IsScriptOf, IsPlan}
+use Rattle.gq_text.proofs.Numbers.{numbers_read_back}
+use Rattle.gq_text.proofs.Plain.{are_plain, decimal_plain, line_inner}
+use Rattle.gq_text.proofs.LinesBack.{words_back, line_back}
+use Rattle.gq_text.proofs.PlanNames.{ok_same}
+use Rattle.gq_text.proofs.PlanIs.{plan_is, small_grid}
+use Rattle.gq_text.proofs.ScriptBack.{plan_back}
 use Rattle.gq_setup.specs.declared.openings.Opening.{Opening}
-use Rattle.gq_setup.specs.Setups.{accounts_of, after_opening, CanOpen, openings_then, openings_in, first_behind, setup_with, behind_plan, setup_of}
-use Rattle.gq_setup.specs.Texts.{opening_event, setup_text}
-use Rattle.gq_setup.proofs.LineByLine.{after_openings-length, accounts-length}
+use Rattle.gq_setup.specs.Setups.{Setup, NotLost, accounts_of, after_opening, holdings, opening_fault, CanOpen, can_lose, CanLose, line_opens, event_opens, loss_word, with_opening, with_loss, after_opens, after_loses, after_told, after_line, then_told, after_lines, plan_alone, first_behind, behind_plan, setup_of}
+use Rattle.gq_setup.specs.Texts.{opening_event, loss_line, setup_text, node_text, setup_of_node_text}
+use Rattle.gq_setup.proofs.LineByLine.{after_openings-length, accounts-length, one_opened, opens_is}
+use Rattle.gq_setup.proofs.WholeLines.{events_whole, behind_line}
 
-openings_back : (n : ℕ) (accounts : List Account) (openings : List Opening) → CanOpen accounts openings → openings_in n accounts (map opening_event openings) ≡ Ok openings
-openings_back n accounts [] can = refl
-openings_back n accounts (o ∷ openings) can = rw can.1 (ap (openings_then (o ∷ [])) (openings_back (n + 1) (after_opening accounts o) openings can.2))
+-- ---- a line of two words opens no volume
 
-pub read_is : (text : List ℕ) (plan : CheckedPlan) (lines : List (List ℕ)) (openings : List Opening) (first : ℕ) → plan_of (lines_of text) ≡ Ok (plan, lines) → first ≡ first_behind plan →
-    openings_in first (accounts_of plan) (map (event_of plan) lines) ≡ Ok openings → setup_of text ≡ Ok (record { plan = plan; openings = openings })
-read_is text plan lines openings first read at told =
-    ap behind_plan read ∙ ap (setup_with plan) (ap (λ n. openings_in n (accounts_of plan) (map (event_of plan) lines)) (sym at) ∙ told)
+either : (t : ℕ) (b : Bool) (x y : Line) → line_opens t x ≡ None → line_opens t y ≡ None → line_opens t (cond b x y) ≡ None
+either t true x y one other = one
+either t false x y one other = other
 
-pub text_tells : (plan : CheckedPlan) (openings : List Opening) (events : List Event) → events ≡ map opening_event openings → CanOpen (accounts_of plan) openings → IsScriptOf (script_text plan events) plan events →
-    setup_of (setup_text (record { plan = plan; openings = openings })) ≡ Ok (record { plan = plan; openings = openings })
-text_tells plan openings events is can s =
-    ap (λ es. setup_of (script_text plan es)) (sym is)
-    ∙ read_is (script_text plan events) plan s.lines openings (first_behind plan) s.read refl (ap (openings_in (first_behind plan) (accounts_of plan)) (s.tell ∙ is) ∙ openings_back (first_behind plan) (accounts_of plan) openings can)
+one_word : (t : ℕ) (word : Word) → line_opens t (line_of (word ∷ [])) ≡ None
+unfolding line_of one_number_of two_numbers_of three_numbers_of file_content_of
+one_word t word =
+    either t (bytes_eq word (codes "quorum")) _ _ refl (either t (bytes_eq word (codes "open")) _ _ refl (either t (bytes_eq word (codes "volumes")) _ _ refl (
+    either t (bytes_eq word (codes "write")) _ _ refl (either t (bytes_eq word (codes "read")) _ _ refl (either t (bytes_eq word (codes "list")) _ _ refl (
+    either t (bytes_eq word (codes "deliver")) _ _ refl (either t (bytes_eq word (codes "lose")) _ _ refl (either t (bytes_eq word (codes "retry")) _ _ refl (
+    either t (bytes_eq word (codes "abandon")) _ _ refl refl)))))))))
+
+two_words : (plan : CheckedPlan) (a b : Word) → event_opens (event_of_words plan (a ∷ b ∷ [])) ≡ None
+unfolding event_of_words
+two_words plan a b = by (bytes_eq a (codes "server")) (place_named plan a)
+  where
+    by : (s : Bool) (place : Option ℕ) → event_opens (cond s (Server (server_line_of (b ∷ []))) (tenant_event place (b ∷ []))) ≡ None
+    by true place = refl
+    by false None = refl
+    by false (Some t) = one_word t b
+
+opens_none : (o : Opening) (read : Option Opening) → read ≡ None → read ≡ Some o → ⊥
+opens_none o read none some = cc
+
+no_loss : (plan : CheckedPlan) (words : List Word) (o : Opening) → event_opens (event_of_words plan words) ≡ Some o → loss_word words ≡ None
+no_loss plan [] o is = refl
+no_loss plan (a ∷ []) o is = refl
+no_loss plan (a ∷ b ∷ []) o is = absurd (opens_none o (event_opens (event_of_words plan (a ∷ b ∷ []))) (two_words plan a b) is)
+no_loss plan (a ∷ b ∷ c ∷ words) o is = refl
+
+-- ---- openings
+
+opens_line : (n : ℕ) (setup : Setup) (line : List ℕ) (o : Opening) → event_of setup.plan line ≡ opening_event o → opening_fault (holdings setup) o ≡ None → after_line n setup line ≡ Ok (with_opening setup o)
+opens_line n setup line o event sound =
+    let opens : event_opens (event_of setup.plan line) ≡ Some o = ap event_opens event in
+    ap (after_told n setup line) (no_loss setup.plan (words_of line) o opens) ∙ ap (after_opens n setup) opens ∙ opens_is n setup (holdings setup) o refl sound
+
+first_same : (a b : Event) (more others : List Event) → a ∷ more ≡ b ∷ others → (a ≡ b) × (more ≡ others)
+first_same a b more others same = (cc, cc)
+
+none_left : (a : Event) (more : List Event) → [] ≡ a ∷ more → ⊥
+none_left a more same = cc
+
+-- what is told behind lines that open these volumes
+record TellsOpen (n : ℕ) (setup : Setup) (openings : List Opening) (lines more : List (List ℕ)) : Type 0 where
+  number : ℕ
+  told : after_lines n setup (lines ++ more) ≡ after_lines number (record setup { openings = setup.openings ++ openings }) more
+
+openings_back : (n : ℕ) (setup : Setup) (openings : List Opening) (lines more : List (List ℕ)) → map (event_of setup.plan) lines ≡ map opening_event openings → CanOpen (holdings setup) openings → TellsOpen n setup openings lines more
+openings_back n setup [] [] more are can = record { number = n; told = ap (λ os. after_lines n (record setup { openings = os }) more) (sym (append-nil setup.openings)) }
+openings_back n setup [] (line ∷ lines) more are can = absurd (none_left (event_of setup.plan line) (map (event_of setup.plan) lines) (sym are))
+openings_back n setup (o ∷ openings) [] more are can = absurd (none_left (opening_event o) (map opening_event openings) are)
+openings_back n setup (o ∷ openings) (line ∷ lines) more are can =
+    let same = first_same (event_of setup.plan line) (opening_event o) (map (event_of setup.plan) lines) (map opening_event openings) are in
+    let next : CanOpen (holdings (with_opening setup o)) openings = subst (λ a. CanOpen a openings) (sym (one_opened (accounts_of setup.plan) setup.openings o)) can.2 in
+    let later = openings_back (n + 1) (with_opening setup o) openings lines more same.1 next in
+    record {
+      number = later.number;
+      told = ap (λ r. then_told r (λ x. after_lines (n + 1) x (lines ++ more))) (opens_line n setup line o same.0 can.1)
+          ∙ later.told
+          ∙ ap (λ os. after_lines later.number (record setup { openings = os }) more) (append_assoc setup.openings (o ∷ []) openings);
+    }
+
+-- ---- losses
+
+low_place : (plan : CheckedPlan) (lost : List ℕ) (place : ℕ) → plan.grid.rows * plan.grid.cols ≤ 64 → can_lose plan lost place ≡ true → place < 2 ^ 32
+low_place plan lost place small can =
+    let below = ltb-true place (plan.grid.rows * plan.grid.cols) (and_parts (nat_lt place (plan.grid.rows * plan.grid.cols)) _ can).0 in
+    omega (arith, below, small)
+
+lost_line : (n : ℕ) (setup : Setup) (place : ℕ) → place < 2 ^ 32 → can_lose setup.plan setup.lost place ≡ true → after_line n setup (codes "replace" ++ spaced (decimal place ∷ [])) ≡ Ok (with_loss setup place)
+lost_line n setup place low can =
+    let plain : are_plain (decimal place ∷ []) ≡ true = rw (decimal_plain place low) refl in
+    let line : List ℕ = codes "replace" ++ spaced (decimal place ∷ []) in
+    ap (λ ws. after_told n setup line (loss_word ws)) (words_back (codes "replace") (decimal place ∷ []) refl plain)
+    ∙ ap (after_loses n setup) (numbers_read_back place low)
+    ∙ ap (λ b. cond b (Ok (with_loss setup place)) (Err (n, NotLost))) can
+
+losses_back : (n : ℕ) (setup : Setup) (lost : List ℕ) → setup.plan.grid.rows * setup.plan.grid.cols ≤ 64 → CanLose setup.plan setup.lost lost →
+    after_lines n setup (lines_of (flat_map loss_line lost)) ≡ Ok (record setup { lost = setup.lost ++ lost })
+losses_back n setup [] small can = ap (λ ls. Ok (record setup { lost = ls })) (sym (append-nil setup.lost))
+losses_back n setup (place ∷ lost) small can =
+    let low : place < 2 ^ 32 = low_place setup.plan setup.lost place small can.0 in
+    let plain : are_plain (decimal place ∷ []) ≡ true = rw (decimal_plain place low) refl in
+    let more : List ℕ = flat_map loss_line lost in
+    ap (after_lines n setup) (line_back (codes "replace") (decimal place ∷ []) more refl plain)
+    ∙ ap (λ r. then_told r (λ x. after_lines (n + 1) x (lines_of more))) (lost_line n setup place low can.0)
+    ∙ losses_back (n + 1) (with_loss setup place) lost small can.1
+    ∙ ap (λ ls. Ok (record setup { lost = ls })) (append_assoc setup.lost (place ∷ []) lost)
+
+-- ---- the whole text
+
+pub text_tells : (plan : CheckedPlan) (openings : List Opening) (lost : List ℕ) (events : List Event) → events ≡ map opening_event openings → CanOpen (accounts_of plan) openings → CanLose plan [] lost →
+    IsScriptOf (script_text plan events) plan events → setup_of (setup_text (record { plan = plan; openings = openings; lost = lost })) ≡ Ok (record { plan = plan; openings = openings; lost = lost })
+text_tells plan openings lost events is can may s =
+    let sound : IsPlan plan = plan_is (lines_of (script_text plan events)) s.lines plan s.read in
+    let script : List ℕ = flat_map (event_line plan) events in
+    let losses : List ℕ = flat_map loss_line lost in
+    let both : (plan, s.lines) ≡ (plan, lines_of script) = ok_same (sym s.read ∙ plan_back plan sound script) in
+    let lines : s.lines ≡ lines_of script = ap (λ (x : CheckedPlan × List (List ℕ)). x.1) both in
+    let told : map (event_of plan) (lines_of script) ≡ map opening_event openings = ap (map (event_of plan)) (sym lines) ∙ s.tell ∙ is in
+    let back = openings_back (first_behind plan) (plan_alone plan) openings (lines_of script) (lines_of losses) told can in
+    ap (λ es. setup_of (script_text plan es ++ losses)) (sym is)
+    ∙ ap setup_of (append_assoc (plan_text plan) script losses)
+    ∙ ap behind_plan (plan_back plan sound (script ++ losses))
+    ∙ ap (after_lines (first_behind plan) (plan_alone plan)) (events_whole plan events losses)
+    ∙ back.told
+    ∙ losses_back back.number (record { plan = plan; openings = openings; lost = [] }) lost (small_grid plan sound) may
 
 in_from : (plan : CheckedPlan) (accounts : List Account) (openings : List Opening) → CanOpen accounts openings → length accounts ≡ length plan.rows → (k : ℕ) (d : Event) → k < length (map opening_event openings) → IsIn plan (get_or (map opening_event openings) k d)
 in_from plan accounts [] can same k d less = absurd (omega arith)
@@ -38,7 +148,23 @@ in_from plan accounts (o ∷ openings) can same (suc k) d less = in_from plan (a
 pub all_in : (plan : CheckedPlan) (openings : List Opening) (events : List Event) → events ≡ map opening_event openings → CanOpen (accounts_of plan) openings → All (IsIn plan) events
 all_in plan openings events is can = subst (All (IsIn plan)) (sym is) (in_from plan (accounts_of plan) openings can (accounts-length plan))
 
-pub written_tells : {T E : Type 0} (result : Result T E) (plan : CheckedPlan) (openings : List Opening) (events : List Event) → events ≡ map opening_event openings → CanOpen (accounts_of plan) openings →
-    OnOk result (IsScriptOf (script_text plan events) plan events) → OnOk result (setup_of (setup_text (record { plan = plan; openings = openings })) ≡ Ok (record { plan = plan; openings = openings }))
-written_tells (Ok done) plan openings events is can s = text_tells plan openings events is can s
-written_tells (Err fault) plan openings events is can s = tt
+pub on_ok : {T E P : Type 0} (result : Result T E) → P → OnOk result P
+on_ok (Ok done) holds = holds
+on_ok (Err fault) holds = tt
+
+-- ---- the text in a journal
+
+number_side : (n : ℕ) → is_side n ≡ true → n < 2 ^ 32
+number_side n is =
+    let few = leb-true n MOST_SIDE (and_parts _ _ is).1 in
+    omega (arith, few)
+
+pub node_tells : (node : ℕ) (setup : Setup) → node < 2 ^ 16 → is_side setup.plan.grid.rows ≡ true → is_side setup.plan.grid.cols ≡ true → setup_of (setup_text setup) ≡ Ok setup → setup_of_node_text (node_text node setup) ≡ Ok setup
+node_tells node setup low rows cols back =
+    let words : List Word = decimal node ∷ codes "of" ∷ decimal setup.plan.grid.rows ∷ codes "by" ∷ decimal setup.plan.grid.cols ∷ [] in
+    let plain : are_plain words ≡ true =
+    rw (decimal_plain node (omega arith), decimal_plain setup.plan.grid.rows (number_side setup.plan.grid.rows rows), decimal_plain setup.plan.grid.cols (number_side setup.plan.grid.cols cols)) refl in
+    let line : List ℕ = codes "node" ++ spaced words in
+    let text : node_text node setup ≡ line ++ 10 ∷ setup_text setup =
+    ap (λ x. x ++ setup_text setup) (sym (append_assoc (codes "node") (spaced words) (10 ∷ []))) ∙ append_assoc line (10 ∷ []) (setup_text setup) in
+    ap setup_of_node_text text ∙ ap setup_of (behind_line line (setup_text setup) (line_inner (codes "node") words refl plain)) ∙ back

@@ -1,5 +1,5 @@
--- Where a setup goes on from an older one, tenants, homes and volumes stay.
-use Rattle.std.proofs.Common.{◌≡◌, ℕ, zero, suc, ◌+◌, ◌-◌, ◌<◌, ◌≤◌, List, [], ◌∷◌, length, get_or, take, Some, Bool, true, refl, sym, ap, ◌∙◌, arith}
+-- Where a setup goes on from an older one, tenants, the places of homes, volumes and losses stay.
+use Rattle.std.proofs.Common.{◌≡◌, ℕ, zero, suc, ◌+◌, ◌<◌, ◌≤◌, List, [], ◌∷◌, ◌++◌, length, get_or, take, Some, Bool, true, refl, sym, ap, ◌∙◌, subst, arith}
 use Rattle.std.specs.Prelude.{◌==◌, ◌&&◌, nat_le, slice_get, fold, unwrap_or}
 use Rattle.std.specs.Str.{bytes_eq}
 use Rattle.std.proofs.lemmas.Bool.{and_parts, eqb-true}
@@ -9,11 +9,13 @@ use Rattle.gq_desk.specs.CheckedPlan.{nobody}
 use Rattle.gq_desk.specs.declared.plans.TenantRow.{TenantRow}
 use Rattle.gq_desk.specs.declared.volumes.VolumeRow.{VolumeRow}
 use Rattle.gq_desk.specs.Volumes.{Account, account_at, no_account}
-use Rattle.gq_node.specs.Sites.{number_of}
-use Rattle.gq_setup.specs.Setups.{Setup, accounts_of, holdings}
-use Rattle.gq_setup.specs.GoingOn.{come_first, row_goes_on, same_volume, account_goes_on, same_servers, tenants_go_on, goes_on}
-use Rattle.gq_setup.specs.Laws.{TenantsStay, HomesStay, VolumesStay}
-use Rattle.gq_setup.proofs.LineByLine.{after_openings-length, accounts-length}
+use Rattle.gq_replace.specs.Plans.{times, GoesOn}
+use Rattle.gq_replace.proofs.Chains.{times_grow}
+use Rattle.gq_node.specs.Sites.{plan_in, number_of, home_place}
+use Rattle.gq_setup.specs.Setups.{Setup, holdings}
+use Rattle.gq_setup.specs.GoingOn.{come_first, row_goes_on, same_volume, account_goes_on, same_servers, same_place, losses_go_on, tenants_go_on, goes_on}
+use Rattle.gq_setup.specs.Laws.{TenantsStay, HomesStay, VolumesStay, LossesStay, TimesGrow, NodesGrow, SessionsGrow}
+use Rattle.gq_setup.proofs.LineByLine.{holdings-length}
 
 -- ---- what comes first stands there, as the test wants it
 
@@ -27,11 +29,18 @@ come_first_at test (old ∷ olds) (new ∷ news) d (suc i) first within =
 
 -- ---- what going on says
 
-parts_of : (old new : Setup) → goes_on old new ≡ true → (same_servers old.plan new.plan ≡ true) × (come_first row_goes_on old.plan.rows new.plan.rows ≡ true) × (come_first account_goes_on (holdings old) (holdings new) ≡ true)
+record Parts (old new : Setup) : Type 0 where
+  servers : same_servers old.plan new.plan ≡ true
+  losses : losses_go_on old.lost new.lost ≡ true
+  rows : come_first row_goes_on old.plan.rows new.plan.rows ≡ true
+  accounts : come_first account_goes_on (holdings old) (holdings new) ≡ true
+
+parts_of : (old new : Setup) → goes_on old new ≡ true → Parts old new
 parts_of old new on =
-    let both = and_parts (same_servers old.plan new.plan) (tenants_go_on old new) on in
-    let tenants = and_parts (come_first row_goes_on old.plan.rows new.plan.rows) (come_first account_goes_on (holdings old) (holdings new)) both.1 in
-    (both.0, tenants.0, tenants.1)
+    let first = and_parts (same_servers old.plan new.plan) (losses_go_on old.lost new.lost && tenants_go_on old new) on in
+    let second = and_parts (losses_go_on old.lost new.lost) (tenants_go_on old new) first.1 in
+    let tenants = and_parts (come_first row_goes_on old.plan.rows new.plan.rows) (come_first account_goes_on (holdings old) (holdings new)) second.1 in
+    record { servers = first.0; losses = second.0; rows = tenants.0; accounts = tenants.1 }
 
 -- ---- tenants
 
@@ -44,7 +53,7 @@ name_stays old new on = sym ((bytes_eq-Decides old.name new.name).0 (and_parts (
 pub tenants_stay : TenantsStay
 tenants_stay old new t on within =
     ap (λ (row : TenantRow). row.name) (row_at_is new.plan.rows t)
-    ∙ name_stays (get_or old.plan.rows t nobody) (get_or new.plan.rows t nobody) (come_first_at row_goes_on old.plan.rows new.plan.rows nobody t (parts_of old new on).1 within).1
+    ∙ name_stays (get_or old.plan.rows t nobody) (get_or new.plan.rows t nobody) (come_first_at row_goes_on old.plan.rows new.plan.rows nobody t (parts_of old new on).rows within).1
     ∙ ap (λ (row : TenantRow). row.name) (sym (row_at_is old.plan.rows t))
 
 -- ---- homes
@@ -66,11 +75,11 @@ counts_stay (old ∷ olds) (new ∷ news) (suc t) n first within =
     ap (λ m. counted (n + m) (take t news)) (sessions_stay old new parts.0) ∙ counts_stay olds news t (n + old.sessions) parts.1 (omega arith)
 
 pub homes_stay : HomesStay
-homes_stay old new t k on within =
+homes_stay old new t place on within =
     let parts = parts_of old new on in
-    let grid = and_parts (old.plan.grid.rows == new.plan.grid.rows && old.plan.grid.cols == new.plan.grid.cols) (old.plan.blocks == new.plan.blocks) parts.0 in
+    let grid = and_parts (old.plan.grid.rows == new.plan.grid.rows && old.plan.grid.cols == new.plan.grid.cols) (old.plan.blocks == new.plan.blocks) parts.servers in
     let sides = and_parts (old.plan.grid.rows == new.plan.grid.rows) (old.plan.grid.cols == new.plan.grid.cols) grid.0 in
-    let number : number_of new.plan.rows t k ≡ number_of old.plan.rows t k = ap (λ n. (k - 1) + n) (counts_stay old.plan.rows new.plan.rows t 0 parts.1 (omega arith)) in
+    let number : number_of new.plan.rows t place ≡ number_of old.plan.rows t place = ap (λ n. place + n) (counts_stay old.plan.rows new.plan.rows t 0 parts.rows (omega arith)) in
     rw (number, ← (eqb-true old.plan.grid.rows new.plan.grid.rows sides.0), ← (eqb-true old.plan.grid.cols new.plan.grid.cols sides.1)) refl
 
 -- ---- volumes
@@ -92,12 +101,40 @@ rows_stay olds news v first within =
 account_at_is : (accounts : List Account) (t : ℕ) → account_at accounts t ≡ get_or accounts t no_account
 account_at_is accounts t = unwrap_or-slice_get accounts t no_account
 
-holdings-length : (setup : Setup) → length (holdings setup) ≡ length setup.plan.rows
-holdings-length setup = after_openings-length (accounts_of setup.plan) setup.openings ∙ accounts-length setup.plan
-
 volumes_first : (old new : Setup) (t : ℕ) → goes_on old new ≡ true → t < length old.plan.rows → come_first same_volume (account_at (holdings old) t).volumes (account_at (holdings new) t).volumes ≡ true
 volumes_first old new t on within =
-    rw (account_at_is (holdings old) t, account_at_is (holdings new) t) (come_first_at account_goes_on (holdings old) (holdings new) no_account t (parts_of old new on).2 (omega (arith, holdings-length old, within))).1
+    rw (account_at_is (holdings old) t, account_at_is (holdings new) t) (come_first_at account_goes_on (holdings old) (holdings new) no_account t (parts_of old new on).accounts (omega (arith, holdings-length old.plan old.openings, within))).1
 
 pub volumes_stay : VolumesStay
 volumes_stay old new t v on within less = rows_stay (account_at (holdings old) t).volumes (account_at (holdings new) t).volumes v (volumes_first old new t on within) less
+
+-- ---- losses
+
+places_first : (olds news : List ℕ) → losses_go_on olds news ≡ true → (more : List ℕ) × (news ≡ olds ++ more)
+places_first [] news first = (news, refl)
+places_first (old ∷ olds) [] first = cc
+places_first (old ∷ olds) (new ∷ news) first =
+    let parts = and_parts (same_place old new) (losses_go_on olds news) first in
+    let later = places_first olds news parts.1 in
+    (later.0, ap (λ place. place ∷ news) (sym (eqb-true old new parts.0)) ∙ ap (λ places. old ∷ places) later.1)
+
+pub losses_stay : LossesStay
+losses_stay old new on = places_first old.lost new.lost (parts_of old new on).losses
+
+goes_on_lost : (old new : Setup) → goes_on old new ≡ true → GoesOn (plan_in old.lost) (plan_in new.lost)
+goes_on_lost old new on =
+    let first = losses_stay old new on in
+    record { more = first.0; lost = first.1; volumes = omega arith }
+
+pub times_grow_on : TimesGrow
+times_grow_on old new place on = times_grow (plan_in old.lost) (plan_in new.lost) place (goes_on_lost old new on)
+
+pub nodes_grow : NodesGrow
+nodes_grow old new place on = let more = times_grow_on old new place on in omega (arith, more)
+
+pub sessions_grow : SessionsGrow
+sessions_grow old new node t place on within =
+    let stays = homes_stay old new t place on within in
+    let more : times (plan_in old.lost) (home_place old.plan t place) ≤ times (plan_in new.lost) (home_place new.plan t place) =
+    subst (λ home. times (plan_in old.lost) (home_place old.plan t place) ≤ times (plan_in new.lost) home) (sym stays) (times_grow_on old new (home_place old.plan t place) on) in
+    omega (arith, more)

@@ -1,5 +1,5 @@
--- When a setup goes on from an older one: no home and no volume moves.
-use Rattle.std.specs.Prelude.{List, [], ◌∷◌, Bool, true, false, ◌&&◌, ◌==◌, nat_le, Ok, Err}
+-- When a setup goes on from an older one: no home's place and no volume moves, and no loss is forgotten.
+use Rattle.std.specs.Prelude.{ℕ, List, [], ◌∷◌, Bool, true, false, ◌&&◌, ◌==◌, nat_le, Ok, Err}
 use Rattle.std.specs.Str.{bytes_eq}
 use Rattle.gq_desk.specs.CheckedPlan.{CheckedPlan}
 use Rattle.gq_desk.specs.declared.plans.TenantRow.{TenantRow}
@@ -27,13 +27,20 @@ account_goes_on old new = come_first same_volume old.volumes new.volumes
 abbrev pub same_servers : CheckedPlan → CheckedPlan → Bool
 same_servers old new = (old.grid.rows == new.grid.rows && old.grid.cols == new.grid.cols) && old.blocks == new.blocks
 
+-- the old losses come first
+abbrev pub same_place : ℕ → ℕ → Bool
+same_place old new = old == new
+
+abbrev pub losses_go_on : (olds news : List ℕ) → Bool
+losses_go_on olds news = come_first same_place olds news
+
 -- the old tenants come first, each with its old volumes first
 abbrev pub tenants_go_on : Setup → Setup → Bool
 tenants_go_on old new = come_first row_goes_on old.plan.rows new.plan.rows && come_first account_goes_on (holdings old) (holdings new)
 
--- the same grid and blocks of a server, and the old tenants first
+-- the same grid and blocks of a server, and the old losses and tenants first
 abbrev pub goes_on : Setup → Setup → Bool
-goes_on old new = same_servers old.plan new.plan && tenants_go_on old new
+goes_on old new = same_servers old.plan new.plan && (losses_go_on old.lost new.lost && tenants_go_on old new)
 
 -- the same of what a text tells, if it tells a setup
 abbrev pub goes_on_from_read : SetupReading Setup → Setup → Bool

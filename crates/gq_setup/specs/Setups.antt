@@ -1,5 +1,6 @@
--- What a node starts with: a plan, and the volumes that are opened at each start.
-use Rattle.std.specs.Prelude.{◌≡◌, ℕ, ◌+◌, ◌<◌, List, [], ◌∷◌, ◌++◌, length, map, slice_set, Option, Some, None, Result, Ok, Err}
+-- What a node starts with: a plan, the volumes that are opened at each start, and which nodes were lost.
+use Rattle.std.specs.Prelude.{◌≡◌, ℕ, ◌+◌, ◌*◌, ◌<◌, List, [], ◌∷◌, ◌++◌, length, map, slice_set, Option, Some, None, Result, Ok, Err, Bool, true, ◌&&◌, ◌==◌, nat_lt, codes, if◌then◌else◌}
+use Rattle.std.specs.Str.{bytes_eq}
 use Rattle.gq_desk.specs.CheckedPlan.{CheckedPlan}
 use Rattle.gq_desk.specs.Volumes.{Account, open_fault, OpenFault, with_volume, account_at, new_account}
 use Rattle.gq_desk.specs.declared.volumes.VolumeRow.{VolumeRow}
@@ -8,15 +9,21 @@ use Rattle.gq_model.specs.declared.events.Event.TheVariants.{Tenant, Server, Str
 use Rattle.gq_model.specs.declared.events.Line.{Line}
 use Rattle.gq_model.specs.declared.events.Line.TheVariants.{NewVolume}
 use Rattle.gq_text.specs.declared.plan_text.TextFault.{TextFault}
+use Rattle.gq_text.specs.Words.{Word, words_of, number_of}
 use Rattle.gq_text.specs.Lines.{lines_of}
 use Rattle.gq_text.specs.Input.{event_of}
 use Rattle.gq_text.specs.PlanText.{plan_of, Reading}
+use Rattle.gq_replace.specs.Plans.{times, node_at, place_of}
+use Rattle.gq_node.specs.declared.lost.TheConstants.{MOST_TIMES}
+use Rattle.gq_node.specs.Sites.{plan_in}
 use Rattle.gq_setup.specs.declared.openings.Opening.{Opening}
+use Rattle.gq_setup.specs.declared.openings.TheConstants.{MOST_LOSSES}
 
--- a plan, and the volumes that are opened, in order
+-- a plan, the volumes that are opened, and the places whose nodes were lost, both in order
 pub record Setup : Type 0 where
   pub plan : CheckedPlan
   pub openings : List Opening
+  pub lost : List ℕ
 
 -- ---- volumes
 
@@ -48,13 +55,31 @@ CanOpen accounts (opening ∷ openings) = (opening.tenant < length accounts) × 
 abbrev pub holdings : Setup → List Account
 holdings setup = after_openings (accounts_of setup.plan) setup.openings
 
+-- ---- nodes that were lost
+
+-- whether the node at the place may be lost, where these were before: there is such a place, its column has another one, and not too many
+-- nodes were lost, neither in all nor there
+abbrev pub can_lose : CheckedPlan → List ℕ → (place : ℕ) → Bool
+can_lose plan lost place =
+    nat_lt place (plan.grid.rows * plan.grid.cols) && (nat_lt 1 plan.grid.rows && (nat_lt (length lost) MOST_LOSSES && nat_lt (times (plan_in lost) place) MOST_TIMES))
+
+-- each may be lost, where those before it were
+abbrev pub CanLose : CheckedPlan → (before lost : List ℕ) → Type 0
+CanLose plan before [] = Unit {0}
+CanLose plan before (place ∷ lost) = (can_lose plan before place ≡ true) × CanLose plan (before ++ place ∷ []) lost
+
+-- whether it is a node of the plan: its place is one of the grid, and the plan has that node there
+abbrev pub has_node : Setup → (node : ℕ) → Bool
+has_node setup node = nat_lt (place_of node) (setup.plan.grid.rows * setup.plan.grid.cols) && node_at (plan_in setup.lost) (place_of node) == node
+
 -- ---- as a text says it
 
--- why a line is at fault: it is no line of a plan, it opens no volume, or the volume can't be opened
+-- why a line is at fault: it is no line of a plan, it opens no volume, the volume can't be opened, or the node can't be lost
 pub data Why : Type 0 where
   InPlan : TextFault → Why
   NoOpening : Why
   NotOpened : Why
+  NotLost : Why
 
 -- what lines tell, or the number of the first line at fault and why
 abbrev pub SetupReading : Type 0 → Type 0
@@ -70,39 +95,59 @@ event_opens (Tenant tenant line) = line_opens tenant line
 event_opens (Server line) = None
 event_opens Stray = None
 
--- openings, and then those that are read behind them
-abbrev pub openings_then : List Opening → SetupReading (List Opening) → SetupReading (List Opening)
-openings_then openings (Ok more) = Ok (openings ++ more)
-openings_then openings (Err fault) = Err fault
+-- the word that tells the place of a loss: the one behind `replace`, in a line of these two words
+abbrev pub loss_word : List Word → Option Word
+loss_word (verb ∷ word ∷ []) = if bytes_eq verb (codes "replace") then Some word else None
+loss_word _ = None
 
--- the opening of line n, unless it has a fault, and then those behind it
-abbrev pub unless : ℕ → Option OpenFault → Opening → SetupReading (List Opening) → SetupReading (List Opening)
-unless n None opening more = openings_then (opening ∷ []) more
-unless n (Some fault) opening more = Err (n, NotOpened)
+-- the setup with one volume more, and with one loss more
+abbrev pub with_opening : Setup → Opening → Setup
+with_opening setup opening = record setup { openings = setup.openings ++ opening ∷ [] }
 
--- the same, where the line opens a volume at all
-abbrev pub first_opening : ℕ → List Account → Option Opening → (Opening → SetupReading (List Opening)) → SetupReading (List Opening)
-first_opening n accounts None rest = Err (n, NoOpening)
-first_opening n accounts (Some opening) rest = unless n (opening_fault accounts opening) opening (rest opening)
+abbrev pub with_loss : Setup → (place : ℕ) → Setup
+with_loss setup place = record setup { lost = setup.lost ++ place ∷ [] }
 
--- the openings of events, of which the first is that of line n, where the tenants have this
-abbrev pub openings_in : ℕ → List Account → List Event → SetupReading (List Opening)
-openings_in n accounts [] = Ok []
-openings_in n accounts (event ∷ events) = first_opening n accounts (event_opens event) (λ opening. openings_in (n + 1) (after_opening accounts opening) events)
+-- the same by line n, unless it has a fault
+abbrev pub opened : ℕ → Setup → Opening → Option OpenFault → SetupReading Setup
+opened n setup opening None = Ok (with_opening setup opening)
+opened n setup opening (Some fault) = Err (n, NotOpened)
 
--- the number of the first line behind a plan
+abbrev pub after_opens : ℕ → Setup → Option Opening → SetupReading Setup
+after_opens n setup None = Err (n, NoOpening)
+after_opens n setup (Some opening) = opened n setup opening (opening_fault (holdings setup) opening)
+
+abbrev pub after_loses : ℕ → Setup → Option ℕ → SetupReading Setup
+after_loses n setup None = Err (n, NotLost)
+after_loses n setup (Some place) = if can_lose setup.plan setup.lost place then Ok (with_loss setup place) else Err (n, NotLost)
+
+-- the setup behind line n, a loss where it has such a word; and behind lines of which the first is line n
+abbrev pub after_told : ℕ → Setup → List ℕ → Option Word → SetupReading Setup
+after_told n setup line (Some word) = after_loses n setup (number_of word)
+after_told n setup line None = after_opens n setup (event_opens (event_of setup.plan line))
+
+abbrev pub after_line : ℕ → Setup → List ℕ → SetupReading Setup
+after_line n setup line = after_told n setup line (loss_word (words_of line))
+
+abbrev pub then_told : SetupReading Setup → (Setup → SetupReading Setup) → SetupReading Setup
+then_told (Ok setup) next = next setup
+then_told (Err fault) next = Err fault
+
+abbrev pub after_lines : ℕ → Setup → List (List ℕ) → SetupReading Setup
+after_lines n setup [] = Ok setup
+after_lines n setup (line ∷ lines) = then_told (after_line n setup line) (λ next. after_lines (n + 1) next lines)
+
+-- a plan alone, and the number of the first line behind it
+abbrev pub plan_alone : CheckedPlan → Setup
+plan_alone plan = record { plan = plan; openings = []; lost = [] }
+
 abbrev pub first_behind : CheckedPlan → ℕ
 first_behind plan = length plan.rows + 4
 
-abbrev pub setup_with : CheckedPlan → SetupReading (List Opening) → SetupReading Setup
-setup_with plan (Ok openings) = Ok (record { plan = plan; openings = openings })
-setup_with plan (Err fault) = Err fault
-
 -- the setup of a plan and the lines behind it
 abbrev pub behind_plan : Reading (CheckedPlan × List (List ℕ)) → SetupReading Setup
-behind_plan (Ok read) = setup_with read.0 (openings_in (first_behind read.0) (accounts_of read.0) (map (event_of read.0) read.1))
+behind_plan (Ok read) = after_lines (first_behind read.0) (plan_alone read.0) read.1
 behind_plan (Err fault) = Err (fault.0, InPlan fault.1)
 
--- the setup that a text tells: a plan, and behind `go` lines that open volumes and nothing else
+-- the setup that a text tells: a plan, and behind `go` lines that open volumes or tell losses, and nothing else
 abbrev pub setup_of : List ℕ → SetupReading Setup
 setup_of text = behind_plan (plan_of (lines_of text))

@@ -1,31 +1,57 @@
 -- The text of a setup, as a file has it and as a node's journal has it.
-use Rattle.std.specs.Prelude.{ℕ, List, [], ◌∷◌, ◌++◌, ◌==◌, map, codes, decimal, if◌then◌else◌}
+use Rattle.std.specs.Prelude.{◌≡◌, ℕ, List, [], ◌∷◌, ◌++◌, ◌==◌, map, length, codes, decimal, Ok, Err, if◌then◌else◌}
+use Rattle.std.specs.List.{flat_map}
+use Rattle.gq_desk.specs.Volumes.{account_at}
 use Rattle.gq_model.specs.declared.events.Event.{Event}
 use Rattle.gq_model.specs.declared.events.Event.TheVariants.{Tenant}
 use Rattle.gq_model.specs.declared.events.Line.TheVariants.{NewVolume}
 use Rattle.gq_text.specs.AnswerText.{line_text}
 use Rattle.gq_text.specs.Canonical.{script_text}
+use Rattle.gq_journal.specs.Batches.{Line, lines_text}
 use Rattle.gq_setup.specs.declared.openings.Opening.{Opening}
-use Rattle.gq_setup.specs.Setups.{Setup}
+use Rattle.gq_setup.specs.Setups.{Setup, SetupReading, holdings, setup_of}
 
 -- the line that opens the volume
 abbrev pub opening_event : Opening → Event
 opening_event opening = Tenant opening.tenant (NewVolume opening.files opening.blocks)
 
--- the canonical script of a plan and what it opens
+-- the line of a loss at the place
+abbrev pub loss_line : (place : ℕ) → List ℕ
+loss_line place = line_text (codes "replace") (decimal place ∷ [])
+
+-- the canonical script of a plan and what it opens, and behind it the losses
 abbrev pub setup_text : Setup → List ℕ
-setup_text setup = script_text setup.plan (map opening_event setup.openings)
+setup_text setup = script_text setup.plan (map opening_event setup.openings) ++ flat_map loss_line setup.lost
 
 -- the line `node N of R by C`
-abbrev pub head_text : ℕ → Setup → List ℕ
-head_text server setup =
-    line_text (codes "node") (decimal server ∷ codes "of" ∷ decimal setup.plan.grid.rows ∷ codes "by" ∷ decimal setup.plan.grid.cols ∷ [])
+abbrev pub head_text : (node : ℕ) → Setup → List ℕ
+head_text node setup =
+    line_text (codes "node") (decimal node ∷ codes "of" ∷ decimal setup.plan.grid.rows ∷ codes "by" ∷ decimal setup.plan.grid.cols ∷ [])
 
 -- the text of a node's plan in its journal
-abbrev pub node_text : ℕ → Setup → List ℕ
-node_text server setup = head_text server setup ++ setup_text setup
+abbrev pub node_text : (node : ℕ) → Setup → List ℕ
+node_text node setup = head_text node setup ++ setup_text setup
 
 -- what is behind the first line of a text
 abbrev pub behind_first : List ℕ → List ℕ
 behind_first [] = []
 behind_first (c ∷ text) = if c == 10 then text else behind_first text
+
+-- ---- what a plan in a journal says
+
+-- the setup that its text tells
+abbrev pub setup_of_node_text : List ℕ → SetupReading Setup
+setup_of_node_text text = setup_of (behind_first text)
+
+-- how many volumes the tenant at place t has, where a setup was read, and else none
+abbrev pub volumes_read : SetupReading Setup → (t : ℕ) → ℕ
+volumes_read (Ok setup) t = length (account_at (holdings setup) t).volumes
+volumes_read (Err fault) t = 0
+
+-- how many the plan opens that has these lines in a journal
+abbrev pub volumes_of_lines : List Line → (t : ℕ) → ℕ
+volumes_of_lines lines t = volumes_read (setup_of_node_text (lines_text lines)) t
+
+-- the plan that has these lines in a journal opens for each tenant as many volumes as it has by the setup
+abbrev pub OpensFor : List Line → Setup → Type 0
+OpensFor lines setup = (t : ℕ) → volumes_of_lines lines t ≡ length (account_at (holdings setup) t).volumes

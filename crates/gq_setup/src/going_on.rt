@@ -1,7 +1,7 @@
 //! Whether what an older setup has comes first.
 
 ghost use Rattle.std.specs.Prelude.{◌≡◌, ◌≤◌, length};
-ghost use Rattle.gq_setup.specs.GoingOn.{come_first, row_goes_on, same_volume, account_goes_on};
+ghost use Rattle.gq_setup.specs.GoingOn.{come_first, losses_go_on, row_goes_on, same_volume, account_goes_on};
 
 use gq_desk::{Desk, TenantRow, VolumeRow};
 
@@ -22,6 +22,21 @@ pub(crate) fn rows_go_on(olds: &[TenantRow], news: &[TenantRow]) -> bool
             return false;
         }
         if !row_goes_on(old, &news[place]) {
+            return false;
+        }
+    }
+    true
+}
+
+// Whether the old losses come first.
+pub(crate) fn losses_go_on(olds: &[u8], news: &[u8]) -> bool
+    ensures { result ≡ losses_go_on olds.now news.now }
+{
+    for (index, old) in olds.iter().enumerate() {
+        if index >= news.len() {
+            return false;
+        }
+        if *old != news[index] {
             return false;
         }
     }

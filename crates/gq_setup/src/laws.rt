@@ -1,13 +1,13 @@
 //! What stays where a setup goes on from an older one.
 
-ghost use Rattle.gq_setup.specs.Laws.{HomesStay, TenantsStay, VolumesStay};
+ghost use Rattle.gq_setup.specs.Laws.{HomesStay, LossesStay, NodesGrow, SessionsGrow, TenantsStay, TimesGrow, VolumesStay};
 
 /// An old tenant has its place in the plan.
 pub fn tenants_stay()
     ensures { TenantsStay }
 {}
 
-/// Each of its sessions has its home.
+/// The home of each of its sessions has its place.
 pub fn homes_stay()
     ensures { HomesStay }
 {}
@@ -15,4 +15,13 @@ pub fn homes_stay()
 /// Each of its old volumes has its number, its files and their blocks.
 pub fn volumes_stay()
     ensures { VolumesStay }
+{}
+
+/// The old losses are the first. So no place loses fewer nodes, and the node that stands there has no smaller number, nor has a session
+/// whose home is there.
+pub fn losses_stay()
+    ensures losses { LossesStay }
+    ensures times { TimesGrow }
+    ensures nodes { NodesGrow }
+    ensures sessions { SessionsGrow }
 {}

@@ -1,44 +1,56 @@
-//! A plan and the volumes that are opened at each start.
+//! A plan, the volumes that are opened at each start, and the nodes that were lost.
 
-ghost use Rattle.std.specs.Prelude.{◌≡◌, ◌++◌, ◌<◌, ◌&&◌, length, map, Ok, IfOk, IfErr, OnOk, OnErr};
-ghost use Rattle.std.specs.List.{All};
+ghost use Rattle.std.specs.Prelude.{◌≡◌, ◌++◌, ◌∷◌, ◌+◌, ◌<◌, ◌^◌, true, length, map, Ok, Some, [], IfOk, IfErr, OnOk, OnErr};
+ghost use Rattle.std.specs.List.{All, flat_map};
+ghost use Rattle.gq_desk.specs.Volumes.{account_at};
 ghost use Rattle.gq_model.specs.Events.{IsIn};
-ghost use Rattle.gq_setup.specs.Setups.{setup_of, accounts_of, CanOpen};
+ghost use Rattle.gq_text.specs.Words.{number_of};
+ghost use Rattle.gq_text.specs.Lines.{lines_of};
+ghost use Rattle.gq_text.specs.Pieces.{Extends};
+ghost use Rattle.gq_grid.specs.declared.TheConstants.{MOST_SERVERS};
+ghost use Rattle.gq_replace.specs.Plans.{times};
+ghost use Rattle.gq_node.specs.declared.lost.TheConstants.{MOST_TIMES};
+ghost use Rattle.gq_node.specs.Sites.{plan_in};
+ghost use Rattle.gq_setup.specs.Setups.{setup_of, accounts_of, holdings, CanOpen, CanLose, can_lose, has_node, plan_alone, after_opens, after_loses, after_line, after_lines};
 ghost use Rattle.gq_setup.specs.Faults.{IsFirstFault};
 ghost use Rattle.gq_setup.specs.GoingOn.{goes_on, same_servers, tenants_go_on};
-ghost use Rattle.gq_setup.specs.Texts.{opening_event, setup_text};
+ghost use Rattle.gq_setup.specs.Texts.{opening_event, loss_line, setup_text};
 
-use crate::going_on::{accounts_go_on, rows_go_on};
-use crate::openings::{Opening, SetupFault, openings_of};
-use gq_desk::{Desk, Plan};
-use gq_memory::{GrowVec, OutOfMemory};
+use crate::going_on::{accounts_go_on, losses_go_on, rows_go_on};
+use crate::openings::{MOST_LOSSES, Opening, SetupFault, loss_word, read_opening};
+use gq_desk::{Desk, OpenRefused, Plan};
+use gq_grid::MOST_SERVERS;
+use gq_memory::{GrowCopies, GrowVec, OutOfMemory, RoomInVec};
 use gq_model::{Event, Line};
-use gq_text::{PlanText, read_plan, write_script};
+use gq_node::{Lost, LostRefused, MOST_TIMES};
+use gq_text::{Piece, PlanText, first_line, number, put_words, read_plan, write_script};
 use std::alloc::Global;
 use std::marker::Model;
 
-/// What a node starts with: a plan, and the volumes that are opened at each start, each behind those before it.
+/// What a node starts with: a plan, the volumes that are opened at each start, each behind those before it, and the nodes that were lost.
 #[derive(Drop)]
 pub struct Setup {
     plan: Plan,
     openings: Vec<Opening>,
     // what the tenants have then
     desk: Desk,
+    lost: Lost,
 }
 
 impl Model for Setup {
-    ghost use Rattle.std.specs.Prelude.{◌≡◌};
-    ghost use Rattle.gq_setup.specs.Setups.{Setup as TheSetup, accounts_of, after_openings, CanOpen};
+    ghost use Rattle.std.specs.Prelude.{◌≡◌, []};
+    ghost use Rattle.gq_setup.specs.Setups.{Setup as TheSetup, accounts_of, after_openings, CanOpen, CanLose};
 
     ghost Value = { TheSetup };
 
-    ghost view = { λ s. record { plan = s.plan; openings = s.openings.items } };
+    ghost view = { λ s. record { plan = s.plan; openings = s.openings.items; lost = s.lost } };
 
-    ghost invariant = { λ s. (s.desk ≡ after_openings (accounts_of s.plan) s.openings.items) × CanOpen (accounts_of s.plan) s.openings.items };
+    ghost invariant = { λ s.
+        (s.desk ≡ after_openings (accounts_of s.plan) s.openings.items) × CanOpen (accounts_of s.plan) s.openings.items × CanLose s.plan [] s.lost };
 }
 
-/// The setup that a text tells: a plan, and behind `go` lines that open volumes and nothing else. Else the first line at fault is told;
-/// want of memory may come before it is found.
+/// The setup that a text tells: a plan, and behind `go` lines that open volumes or tell losses, and nothing else. Else the first line at
+/// fault is told; want of memory may come before it is found.
 pub fn read_setup(alloc: Global, text: &[u8]) -> Result<Setup, SetupFault>
     ensures ok { IfOk result (λ setup. setup_of text.now ≡ Ok setup) }
     ensures fault { IfErr result (λ e. IsFirstFault e (setup_of text.now)) }
@@ -49,15 +61,103 @@ pub fn read_setup(alloc: Global, text: &[u8]) -> Result<Setup, SetupFault>
         Err(PlanText::Memory(refused)) => return Err(SetupFault::Memory(refused)),
     };
     let first = plan.tenants() as u64 + 4;
-    let (openings, desk) = openings_of(alloc, &plan, &text[end..], first)?;
-    Ok(Setup {
-        plan,
-        openings,
-        desk,
-    })
+    let mut setup = Setup::plan_alone(alloc, plan)?;
+    setup.take_lines(alloc, &text[end..], first)?;
+    Ok(setup)
 }
 
 impl Setup {
+    // The plan alone.
+    fn plan_alone(alloc: Global, plan: Plan) -> Result<Setup, OutOfMemory>
+        ensures { IfOk result (λ setup. setup ≡ plan_alone plan) }
+    {
+        let desk = Desk::new(alloc, &plan)?;
+        let lost = Lost::none(alloc)?;
+        Ok(Setup {
+            plan,
+            openings: Vec::new(alloc),
+            desk,
+            lost,
+        })
+    }
+
+    // Opens the volume too, by line `number`.
+    fn open(&mut self, opening: Opening, number: u64) -> Result<(), SetupFault>
+        requires { opening.tenant < length self.old.plan.rows }
+        ensures ok { OnOk result (after_opens number self.old (Some opening) ≡ Ok self.new) }
+        ensures fault { IfErr result (λ e. IsFirstFault e (after_opens number self.old (Some opening))) }
+    {
+        self.openings.make_room(1)?;
+        match self
+            .desk
+            .open_volume(opening.tenant, opening.files, opening.blocks)
+        {
+            Ok(_) => {}
+            Err(OpenRefused::Memory(refused)) => return Err(SetupFault::Memory(refused)),
+            Err(_) => return Err(SetupFault::Open(number)),
+        }
+        self.openings.push_reserved(opening);
+        Ok(())
+    }
+
+    // Whether the node at the place may be lost too.
+    fn can_lose(&self, place: u32) -> bool
+        ensures can { result ≡ can_lose self.now.plan self.now.lost place }
+        ensures within { result ≡ true → place < MOST_SERVERS }
+    {
+        let grid = self.plan.grid();
+        if place as usize >= grid.servers() || grid.rows() <= 1 {
+            return false;
+        }
+        self.lost.places().len() < MOST_LOSSES && self.lost.times(place as usize) < MOST_TIMES
+    }
+
+    // The node at the place that the word tells is lost too, by line `number`.
+    fn lose(&mut self, word: &[u8], line: u64) -> Result<(), SetupFault>
+        ensures ok { OnOk result (after_loses line self.old (number_of word.now) ≡ Ok self.new) }
+        ensures fault { IfErr result (λ e. IsFirstFault e (after_loses line self.old (number_of word.now))) }
+    {
+        let Some(place) = number(word) else {
+            return Err(SetupFault::Replace(line));
+        };
+        if !self.can_lose(place) {
+            return Err(SetupFault::Replace(line));
+        }
+        add_loss(&mut self.lost, place as u8)?;
+        Ok(())
+    }
+
+    // Takes what line `number` says.
+    fn take_line(&mut self, alloc: Global, line: &[u8], number: u64) -> Result<(), SetupFault>
+        ensures ok { OnOk result (after_line number self.old line.now ≡ Ok self.new) }
+        ensures fault { IfErr result (λ e. IsFirstFault e (after_line number self.old line.now)) }
+    {
+        if let Some(word) = loss_word(line) {
+            return self.lose(word, number);
+        }
+        match read_opening(alloc, &self.plan, line)? {
+            Some(opening) => self.open(opening, number),
+            None => Err(SetupFault::Live(number)),
+        }
+    }
+
+    // Takes what the lines say, of which the first has that number.
+    fn take_lines(&mut self, alloc: Global, text: &[u8], first: u64) -> Result<(), SetupFault>
+        requires { first + length text.now < 2 ^ 64 }
+        ensures ok { OnOk result (after_lines first self.old (lines_of text.now) ≡ Ok self.new) }
+        ensures fault { IfErr result (λ e. IsFirstFault e (after_lines first self.old (lines_of text.now))) }
+    {
+        let mut rest = text;
+        let mut number = first;
+        while !rest.is_empty() {
+            let (line, after) = first_line(rest);
+            self.take_line(alloc, line, number)?;
+            rest = after;
+            number += 1;
+        }
+        Ok(())
+    }
+
     /// The plan.
     pub fn plan(&self) -> &Plan
         ensures { result.now ≡ self.now.plan }
@@ -73,14 +173,53 @@ impl Setup {
         self.openings.as_slice()
     }
 
+    /// The nodes that were lost, in order: each may be lost where those before it were.
+    pub fn lost(&self) -> &Lost
+        ensures lost { result.now ≡ self.now.lost }
+        ensures can { CanLose self.now.plan [] result.now }
+    {
+        &self.lost
+    }
+
+    /// Whether it is a node of the plan.
+    pub fn has_node(&self, number: u32) -> bool
+        ensures { result ≡ has_node self.now number }
+    {
+        let place = number as usize % MOST_SERVERS;
+        place < self.plan.grid().servers() && u32::from(self.lost.node_at(place)) == number
+    }
+
+    /// How many volumes the tenant has once all are opened.
+    pub fn volumes(&self, tenant: u8) -> usize
+        requires { tenant < length self.now.plan.rows }
+        ensures { result ≡ length (account_at (holdings self.now) tenant).volumes }
+    {
+        self.desk.volumes(tenant).len()
+    }
+
+    // Appends the lines of the canonical text.
+    fn put_lines(&self, alloc: Global, out: &mut Vec<u8>) -> Result<(), OutOfMemory>
+        ensures ok { OnOk result (out.new.items ≡ out.old.items ++ setup_text self.now) }
+        ensures back { OnOk result (setup_of (setup_text self.now) ≡ Ok self.now) }
+        ensures err { OnErr result (Extends out.old.items out.new.items) }
+    {
+        let events = events_of(alloc, self.openings.as_slice())?;
+        write_script(&self.plan, events.as_slice(), out)?;
+        put_losses(out, self.lost.places())
+    }
+
     /// Appends the canonical text, which tells the setup again, or nothing where memory is wanting.
     pub fn put_text(&self, alloc: Global, out: &mut Vec<u8>) -> Result<(), OutOfMemory>
         ensures ok { OnOk result (out.new.items ≡ out.old.items ++ setup_text self.now) }
         ensures back { OnOk result (setup_of (setup_text self.now) ≡ Ok self.now) }
         ensures err { OnErr result (out.new.items ≡ out.old.items) }
     {
-        let events = events_of(alloc, self.openings.as_slice())?;
-        write_script(&self.plan, events.as_slice(), out)
+        let start = out.len();
+        let done = self.put_lines(alloc, out);
+        if done.is_err() {
+            out.truncate(start);
+        }
+        done
     }
 
     // Whether the old tenants come first, each with its old volumes first.
@@ -98,12 +237,15 @@ impl Setup {
         )
     }
 
-    /// Whether a node of the old setup may start with this one: it has the same grid and blocks, the old tenants first, with as many
-    /// sessions and no smaller shares, and of each its old volumes first.
+    /// Whether a node of the old setup may start with this one: it has the same grid and blocks, the old losses first, and the old tenants
+    /// first, with as many sessions and no smaller shares, and of each its old volumes first.
     pub fn goes_on_from(&self, old: &Setup) -> bool
         ensures { result ≡ goes_on old.now self.now }
     {
         if !same_servers(&old.plan, &self.plan) {
+            return false;
+        }
+        if !losses_go_on(old.lost.places(), self.lost.places()) {
             return false;
         }
         self.tenants_go_on(old)
@@ -125,6 +267,40 @@ fn events_of(alloc: Global, openings: &[Opening]) -> Result<Vec<Event>, OutOfMem
         })?;
     }
     Ok(events)
+}
+
+// The node at the place is lost too, where not too many were.
+fn add_loss(lost: &mut Lost, place: u8) -> Result<(), OutOfMemory>
+    requires within { place < MOST_SERVERS }
+    requires few { times (plan_in lost.old) place < MOST_TIMES }
+    ensures added { OnOk result (lost.new ≡ lost.old ++ place ∷ []) }
+    ensures same { OnErr result (lost.new ≡ lost.old) }
+{
+    match lost.add(place) {
+        Ok(()) => Ok(()),
+        Err(LostRefused::TooOften) => unreachable!(),
+        Err(LostRefused::Memory(refused)) => Err(refused),
+    }
+}
+
+// Appends the line of a loss.
+fn put_loss(out: &mut Vec<u8>, place: u8) -> Result<(), OutOfMemory>
+    ensures ok { OnOk result (out.new.items ≡ out.old.items ++ loss_line place) }
+    ensures err { OnErr result (Extends out.old.items out.new.items) }
+{
+    out.grow_by(b"replace")?;
+    put_words(out, &[Piece::Number(u64::from(place))])
+}
+
+// Appends the lines of losses.
+fn put_losses(out: &mut Vec<u8>, places: &[u8]) -> Result<(), OutOfMemory>
+    ensures ok { OnOk result (out.new.items ≡ out.old.items ++ flat_map loss_line places.now) }
+    ensures err { OnErr result (Extends out.old.items out.new.items) }
+{
+    for place in places {
+        put_loss(out, *place)?;
+    }
+    Ok(())
 }
 
 // Whether the grid and its servers' blocks are the same.

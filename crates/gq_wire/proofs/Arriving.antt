@@ -1,21 +1,24 @@
 -- What arrives, word by word as it is read.
-use Rattle.std.proofs.Common.{◌≡◌, ◌∙◌, ℕ, ◌*◌, ◌<◌, List, [], ◌∷◌, option_map, Option, Some, None, Bool, true, false, not, eqb, refl, ap}
-use Rattle.std.specs.Prelude.{◌==◌, ◌&&◌}
-use Rattle.std.proofs.lemmas.Bool.{eq-eqb, lt-ltb, eqb-true, not-false}
+use Rattle.std.proofs.Common.{◌≡◌, ◌∙◌, ℕ, ◌<◌, List, [], ◌∷◌, option_map, cond, length, Option, Some, None, Bool, true, false, not, eqb, refl, sym, ap, subst}
+use Rattle.std.specs.Prelude.{Result, Ok, Err, IfOk, IfSome, codes}
+use Rattle.std.specs.Str.{bytes_eq}
+use Rattle.std.proofs.lemmas.Bool.{eq-eqb, eqb-true, not-false}
 use Rattle.std.specs.Option.{option_eq}
 use Rattle.gq_tag.specs.declared.Body.{Body}
+use Rattle.gq_tag.specs.declared.FileId.{FileId}
 use Rattle.gq_tag.specs.declared.Message.{Message}
+use Rattle.gq_tag.specs.declared.StoredCopy.{StoredCopy}
 use Rattle.gq_desk.specs.CheckedPlan.{CheckedPlan}
 use Rattle.gq_model.specs.declared.events.Line.{Line}
 use Rattle.gq_text.specs.Words.{Word, number_of}
-use Rattle.gq_text.specs.Input.{place_named}
-use Rattle.gq_wire.specs.declared.incoming.Incoming.TheVariants.{Letter}
+use Rattle.gq_text.specs.Input.{◌>>=◌}
 use Rattle.gq_wire.specs.declared.letters.Heading.{Heading}
-use Rattle.gq_wire.specs.Values.{number_then}
+use Rattle.gq_wire.specs.Values.{number_then, copy_of}
 use Rattle.gq_wire.specs.Requests.{line_by, request_by, request_of}
 use Rattle.gq_wire.proofs.Reading.{same_request}
-use Rattle.gq_wire.specs.Letters.{body_of_words, heading_then, message_from, in_round, letter_of_words}
-use Rattle.gq_wire.specs.Incoming.{is_tick, from_node, incoming_from, incoming_of_words}
+use Rattle.gq_wire.specs.Letters.{body_of_words, heading_then, is_of_round, message_from, in_round, letter_of_words}
+use Rattle.gq_wire.specs.Fetching.{file_then, only_file, fetch_of, with_copy, file_and_copy, fetched_of}
+use Rattle.gq_wire.specs.Incoming.{fetch_or, fetched_or, letter_or_nothing, behind_name, incoming_from, incoming_of_words, FitsPlan}
 
 -- a verb, a session, a number, and what is asked, or one of these wanting
 pub request_arrives : (words ws ks os : List Word) (verb : Word) (k op : ℕ) (line : Option Line) → words ≡ verb ∷ ws → number_then ws ≡ Some (k, ks) → number_then ks ≡ Some (op, os) → line_by verb k os ≡ line →
@@ -36,15 +39,92 @@ pub no_number : (words ws ks : List Word) (verb : Word) (k : ℕ) → words ≡ 
 unfolding request_by
 no_number words ws ks verb k first session number = (rw (first, session, number) refl) ∙ same_request words
 
--- a tenant, a heading and a body
-pub letter_arrives : (plan : CheckedPlan) (here from : ℕ) (words ws bs : List Word) (name : Word) (t : ℕ) (h : Heading) (body : Body) → words ≡ name ∷ ws → place_named plan name ≡ Some t → heading_then ws ≡ Some (h, bs) → body_of_words bs ≡ Some body
-    → in_round (message_from here from t h body) ≡ letter_of_words plan here from words
+-- a heading and a body
+pub letter_arrives : (here from t : ℕ) (words bs : List Word) (h : Heading) (body : Body) → heading_then words ≡ Some (h, bs) → body_of_words bs ≡ Some body
+    → in_round (message_from here from t h body) ≡ letter_of_words here from t words
 unfolding letter_of_words
-letter_arrives plan here from words ws bs name t h body first place heading last = rw (first, place, heading, last) refl
+letter_arrives here from t words bs h body heading last = rw (heading, last) refl
 
--- a letter from a node of the grid
-pub node_speaks : (plan : CheckedPlan) (here from : ℕ) (words : List Word) (m : Message) → from < plan.grid.rows * plan.grid.cols → (from == here && is_tick words) ≡ false → letter_of_words plan here from words ≡ Some m → Letter from m ≡ from_node plan here from words
-node_speaks plan here from words m within no_tick letter = rw (lt-ltb from (plan.grid.rows * plan.grid.cols) within, no_tick, letter) refl
+-- ---- whose it is
+
+named : (t volume file : ℕ) → FileId
+named t volume file = record { tenant = t; volume = volume; file = file }
+
+-- the file that is named is the tenant's
+then_own : (t : ℕ) (words : List Word) → IfSome (file_then t words) (λ x. x.0.tenant ≡ t)
+unfolding file_then named
+then_own t words = by (number_then words)
+  where
+    last : (v : ℕ) (f : Option (ℕ × List Word)) → IfSome {T = FileId × List Word} (f >>= λ (x : ℕ × List Word). Some (named t v x.0, x.1)) (λ x. x.0.tenant ≡ t)
+    last v None = tt
+    last v (Some f) = refl
+
+    by : (v : Option (ℕ × List Word)) → IfSome {T = FileId × List Word} (v >>= λ (x : ℕ × List Word). number_then x.1 >>= λ (y : ℕ × List Word). Some (named t x.0 y.0, y.1)) (λ x. x.0.tenant ≡ t)
+    by None = tt
+    by (Some v) = last v.0 (number_then v.1)
+
+only_own : (t : ℕ) (o : Option (FileId × List Word)) → IfSome o (λ x. x.0.tenant ≡ t) → IfSome (only_file o) (λ file. file.tenant ≡ t)
+only_own t None own = tt
+only_own t (Some (file, [])) own = own
+only_own t (Some (file, w ∷ words)) own = tt
+
+fetch_own : (t : ℕ) (words : List Word) → IfSome (fetch_of t words) (λ file. file.tenant ≡ t)
+fetch_own t [] = tt
+fetch_own t (verb ∷ words) = by (bytes_eq verb (codes "fetch"))
+  where
+    by : (b : Bool) → IfSome (cond b (only_file (file_then t words)) None) (λ file. file.tenant ≡ t)
+    by true = only_own t (file_then t words) (then_own t words)
+    by false = tt
+
+given_own : (t : ℕ) (o : Option (FileId × List Word)) → IfSome o (λ x. x.0.tenant ≡ t) → IfSome (file_and_copy o) (λ x. x.0.tenant ≡ t)
+given_own t None own = tt
+given_own t (Some (file, words)) own = by (copy_of words)
+  where
+    by : (o : Option StoredCopy) → IfSome (with_copy file o) (λ x. x.0.tenant ≡ t)
+    by None = tt
+    by (Some copy) = own
+
+fetched_own : (t : ℕ) (words : List Word) → IfSome (fetched_of t words) (λ x. x.0.tenant ≡ t)
+fetched_own t [] = tt
+fetched_own t (verb ∷ words) = by (bytes_eq verb (codes "fetched"))
+  where
+    by : (b : Bool) → IfSome (cond b (file_and_copy (file_then t words)) None) (λ x. x.0.tenant ≡ t)
+    by true = given_own t (file_then t words) (then_own t words)
+    by false = tt
+
+letter_own : (plan : CheckedPlan) (here from t : ℕ) (words : List Word) → t < length plan.rows → FitsPlan plan (letter_or_nothing from (letter_of_words here from t words))
+unfolding letter_of_words
+letter_own plan here from t words within = heading (heading_then words)
+  where
+    round : (b : Bool) (m : Message) → m.tenant ≡ t → m.file.tenant ≡ t → FitsPlan plan (letter_or_nothing from (cond b (Some m) None))
+    round true m own file = (subst (λ n. n < length plan.rows) (sym own) within, file ∙ sym own)
+    round false m own file = tt
+
+    body : (h : Heading) (o : Option Body) → FitsPlan plan (letter_or_nothing from (o >>= λ body. in_round (message_from here from t h body)))
+    body h None = tt
+    body h (Some b) = round (is_of_round h.round b) (message_from here from t h b) refl refl
+
+    heading : (o : Option (Heading × List Word)) → FitsPlan plan (letter_or_nothing from (o >>= λ (h : Heading × List Word). body_of_words h.1 >>= λ body. in_round (message_from here from t h.0 body)))
+    heading None = tt
+    heading (Some h) = body h.0 (body_of_words h.1)
+
+pub behind_fits : (plan : CheckedPlan) (here from t : ℕ) (words : List Word) → t < length plan.rows → FitsPlan plan (behind_name here from (Some t) words)
+behind_fits plan here from t words within = asked (fetch_of t words) (fetch_own t words)
+  where
+    given : (o : Option (FileId × StoredCopy)) → IfSome o (λ x. x.0.tenant ≡ t) → FitsPlan plan (fetched_or from o (letter_or_nothing from (letter_of_words here from t words)))
+    given None own = letter_own plan here from t words within
+    given (Some x) own = subst (λ n. n < length plan.rows) (sym own) within
+
+    asked : (o : Option FileId) → IfSome o (λ file. file.tenant ≡ t) → FitsPlan plan (fetch_or from o (fetched_or from (fetched_of t words) (letter_or_nothing from (letter_of_words here from t words))))
+    asked None own = given (fetched_of t words) (fetched_own t words)
+    asked (Some file) own = subst (λ n. n < length plan.rows) (sym own) within
+
+-- what was read is such, where what is such is so
+pub ok_more : {T E : Type 0} (r : Result T E) (P Q : T → Type 0) → ((x : T) → P x → Q x) → IfOk r P → IfOk r Q
+ok_more (Ok x) P Q more holds = more x holds
+ok_more (Err e) P Q more holds = tt
+
+-- ---- to whom
 
 -- a line to this node
 pub line_arrives : (plan : CheckedPlan) (here : ℕ) (words body : List Word) (to from : Word) → words ≡ to ∷ from ∷ body → number_of to ≡ Some here → incoming_from plan here (number_of from) from body ≡ incoming_of_words plan here words
@@ -57,7 +137,3 @@ line_arrives plan here words body to from first here_is = rw (first, here_is, eq
 pub is_some_of : (o : Option ℕ) (n : ℕ) → not (option_eq eqb o (Some n)) ≡ false → o ≡ Some n
 is_some_of None n is = cc
 is_some_of (Some m) n is = ap Some (eqb-true m n (not-false (eqb m n) is))
-
-pub both_not : (b c : Bool) → c ≡ false → (b && c) ≡ false
-both_not true c is = is
-both_not false c is = refl

@@ -40,7 +40,7 @@ content_length-le n (b ∷ bytes) short = omega (arith, length-encode_with lower
 pub one_more : (word : Word) (words : List Word) (n k : ℕ) → length word ≤ n → length (spaced words) ≤ k → length (spaced (word ∷ words)) ≤ n + 1 + k
 one_more word words n k first rest = omega (arith, length-append (32 ∷ word) (spaced words))
 
-copy_short : (n : ℕ) (copy : StoredCopy) → FitsCopy copy → length copy.bytes ≤ n → length (spaced (copy_words copy)) ≤ 34 + 2 * n
+pub copy_short : (n : ℕ) (copy : StoredCopy) → FitsCopy copy → length copy.bytes ≤ n → length (spaced (copy_words copy)) ≤ 34 + 2 * n
 copy_short n copy fits short =
     let content = one_more (content_word copy.bytes) [] (2 * n + 1) 0 (content_length-le n copy.bytes short) (omega arith) in
     let session = one_more (decimal copy.tag.session) (content_word copy.bytes ∷ []) 10 (2 * n + 2) (short_number copy.tag.session (omega (arith, fits.1))) (omega (arith, content)) in
@@ -67,7 +67,7 @@ words_short plan to from m is fits =
     let op = number_more m.op (decimal m.round ∷ decimal m.file.volume ∷ decimal m.file.file ∷ body_words m.body) (74 + 2 * n) fits.op (omega (arith, round)) in
     let session = number_more m.session (decimal m.op ∷ decimal m.round ∷ decimal m.file.volume ∷ decimal m.file.file ∷ body_words m.body) (85 + 2 * n) (omega (arith, fits.session)) (omega (arith, op)) in
     let name = one_more (row_at plan m.tenant).name (decimal m.session ∷ decimal m.op ∷ decimal m.round ∷ decimal m.file.volume ∷ decimal m.file.file ∷ body_words m.body) 16 (96 + 2 * n) (short_name (row_at plan m.tenant).name (name_at plan m.tenant is fits.tenant)) (omega (arith, session)) in
-    omega (arith, number_more from (letter_words plan m) (113 + 2 * n) fits.from_fits (omega (arith, name)))
+    omega (arith, number_more from (letter_words plan m) (113 + 2 * n) (omega (arith, fits.from_fits)) (omega (arith, name)))
 
 -- ---- what the plan allows
 

@@ -6,16 +6,14 @@ use Rattle.gq_desk.specs.CheckedPlan.{CheckedPlan, row_at}
 use Rattle.gq_text.specs.Words.{Word, words_of, number_of}
 use Rattle.gq_text.specs.AnswerText.{spaced}
 use Rattle.gq_text.proofs.Numbers.{numbers_read_back}
-use Rattle.gq_text.proofs.Plain.{is_plain, plain_parts}
+use Rattle.gq_text.proofs.Plain.{is_plain, plain_parts, decimal_plain}
 use Rattle.gq_wire.specs.Incoming.{longest_line}
 use Rattle.gq_wire.specs.declared.incoming.Incoming.{Incoming}
 use Rattle.gq_wire.specs.declared.incoming.Incoming.TheVariants.{Nothing}
-use Rattle.gq_wire.specs.Texts.{letter_words}
 use Rattle.gq_wire.specs.Incoming.{is_to, incoming_of_words}
-use Rattle.gq_wire.specs.Laws.{letter_text, PassesOver}
+use Rattle.gq_wire.specs.Laws.{PassesOver}
 use Rattle.gq_wire.proofs.ValuesBack.{name_at, name_is_plain}
 use Rattle.gq_wire.proofs.RequestsBack.{name_is_no_number}
-use Rattle.gq_wire.proofs.LettersBack.{letter_words_back}
 
 -- a first word, and other words or none
 word_first : (first : Word) (rest : List ℕ) → is_plain first ≡ true → words_of (first ++ 32 ∷ rest) ≡ first ∷ words_of rest
@@ -55,6 +53,7 @@ passes_over = record {
       let some = some_words name words (name_is_plain plan t is within) in
       let none : number_of name ≡ None = name_is_no_number name (name_at plan t is within) in
       passed_over plan here (name ++ spaced words) name some.0 some.1 (rw none refl);
-  others = λ plan here to from m is fits other.
-      passed_over plan here (letter_text plan to from m) (decimal to) (decimal from ∷ letter_words plan m) (letter_words_back plan to from m is fits) (rw (numbers_read_back to fits.to_fits, ne_eqb to here other) refl);
+  others = λ plan here to words fits other.
+      let some = some_words (decimal to) words (decimal_plain to fits) in
+      passed_over plan here (decimal to ++ spaced words) (decimal to) some.0 some.1 (rw (numbers_read_back to fits, ne_eqb to here other) refl);
 }

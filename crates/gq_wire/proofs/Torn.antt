@@ -1,11 +1,11 @@
 -- A line whose last word is `?` has no form.
-use Rattle.std.proofs.Common.{◌≡◌, ℕ, ◌*◌, List, [], ◌∷◌, ◌++◌, length, cond, Bool, Option, Some, None, true, false, refl, ap, sym, subst, ◌∙◌, append_assoc}
+use Rattle.std.proofs.Common.{◌≡◌, ℕ, List, [], ◌∷◌, ◌++◌, length, cond, Bool, Option, Some, None, true, false, refl, ap, sym, subst, ◌∙◌, append_assoc}
 use Rattle.std.specs.Prelude.{◌==◌, ◌&&◌, nat_lt, codes}
 use Rattle.std.specs.List.{onto_first}
 use Rattle.std.specs.Str.{bytes_eq}
 use Rattle.hex.proofs.HexLemmas.{decode_of-odd}
 use Rattle.gq_tag.specs.declared.Body.TheVariants.{Ask, Stored}
-use Rattle.gq_tag.specs.declared.Message.{Message}
+use Rattle.gq_tag.specs.declared.FileId.{FileId}
 use Rattle.gq_desk.specs.CheckedPlan.{CheckedPlan}
 use Rattle.gq_model.specs.declared.events.Line.{Line}
 use Rattle.gq_model.specs.declared.events.Line.TheVariants.{Read, List as ListFiles, Abandon}
@@ -17,8 +17,10 @@ use Rattle.gq_wire.specs.declared.incoming.Incoming.{Incoming}
 use Rattle.gq_wire.specs.declared.incoming.Incoming.TheVariants.{Tick, Nothing}
 use Rattle.gq_wire.specs.Values.{number_then, within_byte, byte_then, long_then, last_content, copy_of, alone}
 use Rattle.gq_wire.specs.Requests.{write_by, read_by, list_by, line_by, request_by, request_of}
-use Rattle.gq_wire.specs.Letters.{body_of_words, heading_then, message_from, in_round, letter_of_words}
-use Rattle.gq_wire.specs.Incoming.{from_tenant, is_only, incoming_from, is_to, incoming_of_words}
+use Rattle.gq_node.specs.declared.lost.TheConstants.{NODE_NUMBERS}
+use Rattle.gq_wire.specs.Letters.{body_of_words, heading_then, letter_of_words}
+use Rattle.gq_wire.specs.Fetching.{only_number, number_behind, file_then, only_file, fetch_of, with_copy, file_and_copy, fetched_of}
+use Rattle.gq_wire.specs.Incoming.{behind_name, node_words, from_tenant, is_only, incoming_from, is_to, incoming_of_words}
 use Rattle.gq_wire.specs.Laws.{is_formless, TornLinesHaveNoForm}
 use Rattle.gq_wire.proofs.Reading.{same_request}
 
@@ -120,18 +122,40 @@ body_fails (verb ∷ words) =
     rw (alone_fails words Ask, alone_fails words Stored, copy_fails words)
     (both (bytes_eq verb (codes "ask")) None _ None refl (both (bytes_eq verb (codes "store")) None _ None refl (both (bytes_eq verb (codes "copy")) None _ None refl (both (bytes_eq verb (codes "stored")) None None None refl refl))))
 
-letter_fails : (plan : CheckedPlan) (here from : ℕ) (words : List Word) → letter_of_words plan here from (marked words) ≡ None
-unfolding letter_of_words heading_then
-letter_fails plan here from [] = by (place_named plan (63 ∷ []))
-  where
-    by : (o : Option ℕ) → ◌>>=◌ {A = ℕ} {B = Message} o (λ t. None) ≡ None
-    by None = refl
-    by (Some t) = refl
-letter_fails plan here from (name ∷ words) = by (place_named plan name)
-  where
-    by : (o : Option ℕ) → (o >>= λ t. heading_then (marked words) >>= λ h. body_of_words h.1 >>= λ body. in_round (message_from here from t h.0 body)) ≡ None
-    by None = refl
-    by (Some t) = step_fails _ (λ h ws. rw (body_fails ws) refl) (heading_then (marked words)) (heading_marked words)
+letter_fails : (here from t : ℕ) (words : List Word) → letter_of_words here from t (marked words) ≡ None
+unfolding letter_of_words
+letter_fails here from t words = step_fails _ (λ h ws. rw (body_fails ws) refl) (heading_then (marked words)) (heading_marked words)
+
+file_marked : (t : ℕ) (words : List Word) → IsMarked (file_then t (marked words))
+unfolding IsMarked file_then
+file_marked t words = step_marked _ (λ v ws. step_marked _ (λ f vs. (vs, refl)) (number_then (marked ws)) (number_marked ws)) (number_then (marked words)) (number_marked words)
+
+only_file_fails : (o : Option (FileId × List Word)) → IsMarked o → only_file o ≡ None
+unfolding IsMarked
+only_file_fails None is = refl
+only_file_fails (Some x) is = ap (λ ws. alone ws x.0) is.1 ∙ alone_fails is.0 x.0
+
+fetch_fails : (t : ℕ) (words : List Word) → fetch_of t (marked words) ≡ None
+fetch_fails t [] = refl
+fetch_fails t (verb ∷ words) = both (bytes_eq verb (codes "fetch")) _ None None (only_file_fails (file_then t (marked words)) (file_marked t words)) refl
+
+copy_behind_fails : (o : Option (FileId × List Word)) → IsMarked o → file_and_copy o ≡ None
+unfolding IsMarked
+copy_behind_fails None is = refl
+copy_behind_fails (Some x) is = ap (with_copy x.0) (ap copy_of is.1 ∙ copy_fails is.0)
+
+fetched_fails : (t : ℕ) (words : List Word) → fetched_of t (marked words) ≡ None
+fetched_fails t [] = refl
+fetched_fails t (verb ∷ words) = both (bytes_eq verb (codes "fetched")) _ None None (copy_behind_fails (file_then t (marked words)) (file_marked t words)) refl
+
+only_number_fails : (words : List Word) → only_number (marked words) ≡ None
+unfolding number_up_to
+only_number_fails [] = refl
+only_number_fails (w ∷ []) = refl
+only_number_fails (w ∷ v ∷ words) = refl
+
+number_behind_fails : (verb word : Word) (words : List Word) → number_behind verb word (marked words) ≡ None
+number_behind_fails verb word words = both (bytes_eq word verb) _ None None (only_number_fails words) refl
 
 write_fails : (k : ℕ) (words : List Word) → write_by k (marked words) ≡ None
 write_fails k words =
@@ -178,14 +202,30 @@ chosen : (b : Bool) (x : Incoming) → is_formless x ≡ true → (is_formless (
 chosen true x is = (is, refl)
 chosen false x is = (refl, is)
 
-no_tick : (b : Bool) → is_formless (cond (b && false) Tick Nothing) ≡ true
-no_tick true = refl
-no_tick false = refl
+no_tick : (b : Bool) (x : Incoming) → is_formless x ≡ true → is_formless (cond (b && false) Tick x) ≡ true
+no_tick true x is = is
+no_tick false x is = is
+
+-- behind the name of a tenant, if there is one
+name_formless : (here from : ℕ) (o : Option ℕ) (words : List Word) → is_formless (behind_name here from o (marked words)) ≡ true
+name_formless here from None words = refl
+name_formless here from (Some t) words = rw (fetch_fails t words, fetched_fails t words, letter_fails here from t words) refl
+
+-- the mark alone names nobody, and is no verb
+mark_formless : (here from : ℕ) (o : Option ℕ) → is_formless (behind_name here from o []) ≡ true
+unfolding letter_of_words heading_then
+mark_formless here from None = refl
+mark_formless here from (Some t) = refl
+
+node_formless : (plan : CheckedPlan) (here from : ℕ) (words : List Word) → is_formless (node_words plan here from (marked words)) ≡ true
+node_formless plan here from [] = mark_formless here from (place_named plan (63 ∷ []))
+node_formless plan here from (word ∷ words) =
+    rw (number_behind_fails (codes "joins") word words, number_behind_fails (codes "joined") word words) (name_formless here from (place_named plan word) words)
 
 from_formless : (plan : CheckedPlan) (here : ℕ) (from : Option ℕ) (word : Word) (words : List Word) → is_formless (incoming_from plan here from word (marked words)) ≡ true
 from_formless plan here None word words = tenant_formless (place_named plan word) (marked words) (only_fails (codes "plan") refl words) (request_fails words)
 from_formless plan here (Some n) word words =
-    rw (only_fails (codes "tick") refl words, letter_fails plan here n words) (chosen (nat_lt n (plan.grid.rows * plan.grid.cols)) (cond (n == here && false) Tick Nothing) (no_tick (n == here))).0
+    rw (only_fails (codes "tick") refl words) (chosen (nat_lt n NODE_NUMBERS) (cond (n == here && false) Tick (node_words plan here n (marked words))) (no_tick (n == here) (node_words plan here n (marked words)) (node_formless plan here n words))).0
 
 words_formless : (plan : CheckedPlan) (here : ℕ) (words : List Word) → is_formless (incoming_of_words plan here (marked words)) ≡ true
 unfolding incoming_of_words number_up_to request_of

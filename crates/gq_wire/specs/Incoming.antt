@@ -1,18 +1,22 @@
 -- What a line `TO FROM BODY` is to a node.
 use Rattle.std.specs.Prelude.{◌≡◌, ℕ, ◌+◌, ◌*◌, ◌<◌, max, length, List, [], ◌∷◌, Bool, false, ◌&&◌, ◌==◌, nat_lt, codes, Option, Some, None, if◌then◌else◌}
 use Rattle.std.specs.Str.{bytes_eq}
+use Rattle.gq_tag.specs.declared.FileId.{FileId}
 use Rattle.gq_tag.specs.declared.Message.{Message}
+use Rattle.gq_tag.specs.declared.StoredCopy.{StoredCopy}
 use Rattle.gq_pool.specs.declared.TheConstants.{BLOCK_BYTES}
 use Rattle.gq_desk.specs.declared.plans.TenantRow.{TenantRow}
 use Rattle.gq_desk.specs.CheckedPlan.{CheckedPlan}
 use Rattle.gq_model.specs.declared.events.Line.{Line}
+use Rattle.gq_node.specs.declared.lost.TheConstants.{NODE_NUMBERS}
 use Rattle.gq_text.specs.Words.{Word, words_of, number_of}
 use Rattle.gq_text.specs.Input.{place_named}
 use Rattle.gq_wire.specs.declared.incoming.TheConstants.{MOST_LINE, BESIDE_CONTENT}
 use Rattle.gq_wire.specs.declared.incoming.Incoming.{Incoming}
-use Rattle.gq_wire.specs.declared.incoming.Incoming.TheVariants.{Request, Plan, Bad, Letter, Tick, Nothing}
+use Rattle.gq_wire.specs.declared.incoming.Incoming.TheVariants.{Request, Plan, Bad, Letter, Joins, Joined, Fetch, Fetched, Tick, Nothing}
 use Rattle.gq_wire.specs.Requests.{request_of}
 use Rattle.gq_wire.specs.Letters.{letter_of_words}
+use Rattle.gq_wire.specs.Fetching.{number_behind, fetch_of, fetched_of}
 
 -- ---- from a tenant
 
@@ -32,19 +36,44 @@ from_tenant None body = Nothing
 
 -- ---- from a node
 
+-- a new node asks whether the plan here has it, and so many losses or more; a node tells that its own has; or else the line is another
+abbrev pub joins_or : ℕ → Option ℕ → Incoming → Incoming
+joins_or from (Some losses) other = Joins from losses
+joins_or from None other = other
+
+abbrev pub joined_or : ℕ → Option ℕ → Incoming → Incoming
+joined_or from (Some losses) other = Joined from losses
+joined_or from None other = other
+
+-- a copy is asked for; one is given; or else the line is another
+abbrev pub fetch_or : ℕ → Option FileId → Incoming → Incoming
+fetch_or from (Some file) other = Fetch from file
+fetch_or from None other = other
+
+abbrev pub fetched_or : ℕ → Option (FileId × StoredCopy) → Incoming → Incoming
+fetched_or from (Some x) other = Fetched from x.0 x.1
+fetched_or from None other = other
+
 abbrev pub letter_or_nothing : ℕ → Option Message → Incoming
 letter_or_nothing from (Some message) = Letter from message
 letter_or_nothing from None = Nothing
 
+-- behind the name of the tenant at that place of the plan, if there is one
+abbrev pub behind_name : (here from : ℕ) → Option ℕ → List Word → Incoming
+behind_name here from None words = Nothing
+behind_name here from (Some t) words = fetch_or from (fetch_of t words) (fetched_or from (fetched_of t words) (letter_or_nothing from (letter_of_words here from t words)))
+
+abbrev pub node_words : CheckedPlan → (here from : ℕ) → List Word → Incoming
+node_words plan here from [] = Nothing
+node_words plan here from (word ∷ words) =
+    joins_or from (number_behind (codes "joins") word words) (joined_or from (number_behind (codes "joined") word words) (behind_name here from (place_named plan word) words))
+
 abbrev pub is_tick : List Word → Bool
 is_tick body = is_only (codes "tick") body
 
--- from the node of that number, if the grid has one; a node's tick is from itself
+-- from the node of that number, if one may have it; a node's tick is from itself
 abbrev pub from_node : CheckedPlan → (here from : ℕ) → List Word → Incoming
-from_node plan here from body =
-    if nat_lt from (plan.grid.rows * plan.grid.cols) then
-    (if from == here && is_tick body then Tick else letter_or_nothing from (letter_of_words plan here from body))
-    else Nothing
+from_node plan here from body = if nat_lt from NODE_NUMBERS then (if from == here && is_tick body then Tick else node_words plan here from body) else Nothing
 
 -- ---- the line
 
@@ -76,11 +105,15 @@ incoming_of plan here line = if nat_lt (longest_line plan) (length line) then No
 
 -- ---- what it names
 
--- a line that is acted on names a tenant of the plan, and a letter a node of the grid
+-- a line that is acted on names a tenant of the plan
 abbrev pub FitsPlan : CheckedPlan → Incoming → Type 0
 FitsPlan plan (Request tenant op line) = tenant < length plan.rows
 FitsPlan plan (Plan tenant) = tenant < length plan.rows
 FitsPlan plan (Bad tenant) = tenant < length plan.rows
-FitsPlan plan (Letter from m) = (from < plan.grid.rows * plan.grid.cols) × (m.tenant < length plan.rows) × (m.file.tenant ≡ m.tenant)
+FitsPlan plan (Letter from m) = (m.tenant < length plan.rows) × (m.file.tenant ≡ m.tenant)
+FitsPlan plan (Joins from losses) = Unit {0}
+FitsPlan plan (Joined from losses) = Unit {0}
+FitsPlan plan (Fetch from file) = file.tenant < length plan.rows
+FitsPlan plan (Fetched from file copy) = file.tenant < length plan.rows
 FitsPlan plan Tick = Unit {0}
 FitsPlan plan Nothing = Unit {0}

@@ -11,15 +11,19 @@ use Rattle.gq_pool.specs.declared.TheConstants.{BLOCK_BYTES}
 use Rattle.gq_desk.specs.CheckedPlan.{CheckedPlan, row_at}
 use Rattle.gq_model.specs.declared.events.Line.{Line}
 use Rattle.gq_model.specs.declared.events.Line.TheVariants.{Write, Read, List as ListFiles, Abandon}
+use Rattle.gq_node.specs.declared.lost.TheConstants.{NODE_NUMBERS}
+use Rattle.gq_node.specs.declared.output.Parcel.{Parcel}
+use Rattle.gq_node.specs.declared.output.Parcel.TheVariants.{Wants, Brings}
+use Rattle.gq_replace.specs.Plans.{place_of}
 use Rattle.gq_text.specs.Words.{Word}
 use Rattle.gq_text.specs.AnswerText.{spaced}
 use Rattle.gq_text.specs.Canonical.{IsPlan, IsNumber}
 use Rattle.gq_wire.specs.declared.incoming.Incoming.{Incoming}
-use Rattle.gq_wire.specs.declared.incoming.Incoming.TheVariants.{Request, Plan, Bad, Letter, Nothing}
+use Rattle.gq_wire.specs.declared.incoming.Incoming.TheVariants.{Request, Plan, Bad, Letter, Joins, Joined, Fetch, Fetched, Nothing}
 use Rattle.gq_wire.specs.Requests.{request_words}
 use Rattle.gq_wire.specs.Letters.{is_of_round}
 use Rattle.gq_wire.specs.Incoming.{incoming_of}
-use Rattle.gq_wire.specs.Texts.{first_text, letter_words, letter_line}
+use Rattle.gq_wire.specs.Texts.{first_text, letter_words, letter_line, parcel_file, parcel_to, parcel_words, parcel_line}
 
 -- the numbers of a copy fit in the words of a line
 abbrev pub FitsCopy : StoredCopy → Type 0
@@ -42,9 +46,8 @@ pub record FitsLetter (plan : CheckedPlan) (to from : ℕ) (m : Message) : Type 
   pub tenant : m.tenant < length plan.rows
   pub own : m.file.tenant ≡ m.tenant
   pub to_fits : to < 2 ^ 32
-  pub from_fits : from < 2 ^ 32
-  pub node : from < plan.grid.rows * plan.grid.cols
-  pub server : m.server ≡ (if to_server m.body then to else from)
+  pub from_fits : from < NODE_NUMBERS
+  pub server : m.server ≡ place_of (if to_server m.body then to else from)
   pub session : m.session < 256
   pub op : m.op < 2 ^ 32
   pub round : m.round < 2 ^ 32
@@ -67,6 +70,46 @@ abbrev pub LettersReadBack : Type 0
 LettersReadBack =
     (plan : CheckedPlan) (to from : ℕ) (m : Message) → IsPlan plan → FitsLetter plan to from m →
     (letter_line plan to from m ≡ letter_text plan to from m ++ 10 ∷ []) × (is_one_line (letter_text plan to from m) ≡ true) × (incoming_of plan to (letter_text plan to from m) ≡ Letter from m)
+
+-- ---- between a new node and others
+
+-- a line about a file of a tenant of the plan, whose numbers fit, and whose content is no longer than a file of the tenant may have
+abbrev pub FitsCopyOf : (blocks : ℕ) → StoredCopy → Type 0
+FitsCopyOf blocks copy = FitsCopy copy × (length copy.bytes ≤ BLOCK_BYTES * blocks)
+
+abbrev pub FitsGiven : (blocks : ℕ) → Parcel → Type 0
+FitsGiven blocks (Wants to file) = Unit {0}
+FitsGiven blocks (Brings to file copy) = FitsCopyOf blocks copy
+
+pub record FitsParcel (plan : CheckedPlan) (from : ℕ) (parcel : Parcel) : Type 0 where
+  pub tenant : (parcel_file parcel).tenant < length plan.rows
+  pub to_fits : parcel_to parcel < 2 ^ 32
+  pub from_fits : from < NODE_NUMBERS
+  pub volume : (parcel_file parcel).volume < 2 ^ 32
+  pub file : (parcel_file parcel).file < 2 ^ 32
+  pub given : FitsGiven (row_at plan (parcel_file parcel).tenant).most_blocks parcel
+
+abbrev pub parcel_text : CheckedPlan → (from : ℕ) → Parcel → List ℕ
+parcel_text plan from parcel = decimal (parcel_to parcel) ++ spaced (decimal from ∷ (row_at plan (parcel_file parcel).tenant).name ∷ parcel_words parcel)
+
+-- what it is to the node that it is for
+abbrev pub parcel_incoming : (from : ℕ) → Parcel → Incoming
+parcel_incoming from (Wants to file) = Fetch from file
+parcel_incoming from (Brings to file copy) = Fetched from file copy
+
+-- the line that one node writes about a file is read so by the other
+abbrev pub ParcelsReadBack : Type 0
+ParcelsReadBack =
+    (plan : CheckedPlan) (from : ℕ) (parcel : Parcel) → IsPlan plan → FitsParcel plan from parcel →
+    (parcel_line plan from parcel ≡ parcel_text plan from parcel ++ 10 ∷ []) × (is_one_line (parcel_text plan from parcel) ≡ true) × (incoming_of plan (parcel_to parcel) (parcel_text plan from parcel) ≡ parcel_incoming from parcel)
+
+-- so are the question whether a plan has a node, and its answer
+pub record JoinsReadBack (plan : CheckedPlan) (to from losses : ℕ) : Type 0 where
+  pub asked : incoming_of plan to (decimal to ++ spaced (decimal from ∷ codes "joins" ∷ decimal losses ∷ [])) ≡ Joins from losses
+  pub answered : incoming_of plan to (decimal to ++ spaced (decimal from ∷ codes "joined" ∷ decimal losses ∷ [])) ≡ Joined from losses
+
+abbrev pub AllJoinsReadBack : Type 0
+AllJoinsReadBack = (plan : CheckedPlan) (to from losses : ℕ) → IsNumber to → from < NODE_NUMBERS → IsNumber losses → JoinsReadBack plan to from losses
 
 -- ---- requests
 
@@ -105,15 +148,15 @@ PlansReadBack =
 
 -- ---- lines that are not for the node
 
--- a line that begins with a tenant's name is nothing to a node, and so is a letter to another node: of what nodes write, a node acts on
--- letters to it alone
+-- A line that begins with a tenant's name is nothing to a node, and so is one that begins with the number of another node: of what nodes write, a
+-- node acts on lines to it alone.
 pub record PassesOver : Type 0 where
   pub told : (plan : CheckedPlan) (here tenant : ℕ) (words : List Word) → IsPlan plan → tenant < length plan.rows → incoming_of plan here ((row_at plan tenant).name ++ spaced words) ≡ Nothing
-  pub others : (plan : CheckedPlan) (here to from : ℕ) (m : Message) → IsPlan plan → FitsLetter plan to from m → to ≢ here → incoming_of plan here (letter_text plan to from m) ≡ Nothing
+  pub others : (plan : CheckedPlan) (here to : ℕ) (words : List Word) → IsNumber to → to ≢ here → incoming_of plan here (decimal to ++ spaced words) ≡ Nothing
 
 -- ---- torn lines
 
--- the line is no request, no question, no letter and no tick
+-- the line is no request, no question, no line between nodes and no tick
 abbrev pub is_formless : Incoming → Bool
 is_formless (Bad tenant) = true
 is_formless Nothing = true

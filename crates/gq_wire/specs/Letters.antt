@@ -1,15 +1,15 @@
 -- What a node says to a node: `T S OP ROUND V F BODY`.
-use Rattle.std.specs.Prelude.{◌≡◌, ℕ, ◌<◌, List, [], ◌∷◌, Bool, not, codes, Option, Some, None, if◌then◌else◌}
+use Rattle.std.specs.Prelude.{ℕ, List, [], ◌∷◌, Bool, not, codes, Option, Some, None, if◌then◌else◌}
 use Rattle.std.specs.Str.{bytes_eq}
 use Rattle.gq_tag.specs.declared.StoredCopy.{StoredCopy}
 use Rattle.gq_tag.specs.declared.Body.{Body}
 use Rattle.gq_tag.specs.declared.Body.TheVariants.{Ask, Copy, Store, Stored}
 use Rattle.gq_tag.specs.declared.Message.{Message}
 use Rattle.gq_tag.specs.Tag.{to_server}
-use Rattle.gq_desk.specs.CheckedPlan.{CheckedPlan}
 use Rattle.gq_phase.specs.Phase.{is_collect}
+use Rattle.gq_replace.specs.Plans.{place_of}
 use Rattle.gq_text.specs.Words.{Word}
-use Rattle.gq_text.specs.Input.{◌>>=◌, place_named}
+use Rattle.gq_text.specs.Input.{◌>>=◌}
 use Rattle.gq_wire.specs.Values.{number_then, byte_then, copy_of, alone}
 use Rattle.gq_wire.specs.declared.letters.Heading.{Heading}
 
@@ -48,14 +48,14 @@ heading_then words = do
   f ← number_then v.1
   Some (record { session = s.0; op = o.0; round = r.0; volume = v.0; file = f.0 }, f.1)
 
--- the message of the tenant at place t between these two: the server is the one that the body is for, or that it is from
+-- the message of the tenant at place t between these two nodes: the server is that of the one that the body is for, or that it is from
 abbrev pub message_from : (here from t : ℕ) → Heading → Body → Message
 message_from here from t h body = record {
   tenant = t;
   session = h.session;
   op = h.op;
   round = h.round;
-  server = if to_server body then here else from;
+  server = place_of (if to_server body then here else from);
   file = record { tenant = t; volume = h.volume; file = h.file };
   body = body;
 }
@@ -63,18 +63,9 @@ message_from here from t h body = record {
 abbrev pub in_round : Message → Option Message
 in_round m = if is_of_round m.round m.body then Some m else None
 
--- the letter of these words to this node from that
-unfoldable pub letter_of_words : CheckedPlan → (here from : ℕ) → List Word → Option Message
-letter_of_words plan here from [] = None
-letter_of_words plan here from (name ∷ words) = do
-  t ← place_named plan name
+-- the letter about the tenant at place t, of the words behind its name, to this node from that
+unfoldable pub letter_of_words : (here from t : ℕ) → List Word → Option Message
+letter_of_words here from t words = do
   h ← heading_then words
   body ← body_of_words h.1
   in_round (message_from here from t h.0 body)
-
--- ---- what it names
-
--- the letter, if there is one, is of one of so many tenants, and so is its file
-abbrev pub Follows : ℕ → Option Message → Type 0
-Follows tenants None = Unit {0}
-Follows tenants (Some m) = (m.tenant < tenants) × (m.file.tenant ≡ m.tenant)

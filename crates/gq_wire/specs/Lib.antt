@@ -1,6 +1,7 @@
 pub mod Values
 pub mod Requests
 pub mod Letters
+pub mod Fetching
 pub mod Incoming
 pub mod Texts
 pub mod Laws

@@ -1,5 +1,6 @@
 -- The lines that a node writes.
 use Rattle.std.specs.Prelude.{ℕ, List, [], ◌∷◌, ◌++◌, codes, decimal, length, map, slice_index_or}
+use Rattle.gq_tag.specs.declared.FileId.{FileId}
 use Rattle.gq_tag.specs.declared.StoredCopy.{StoredCopy}
 use Rattle.gq_tag.specs.declared.Body.{Body}
 use Rattle.gq_tag.specs.declared.Body.TheVariants.{Ask, Copy, Store, Stored}
@@ -14,6 +15,8 @@ use Rattle.gq_text.specs.Words.{Word}
 use Rattle.gq_text.specs.AnswerText.{content_word, outcome_words, refusal_words, line_text}
 use Rattle.gq_node.specs.declared.output.Answer.{Answer}
 use Rattle.gq_node.specs.declared.output.Holding.{Holding}
+use Rattle.gq_node.specs.declared.output.Parcel.{Parcel}
+use Rattle.gq_node.specs.declared.output.Parcel.TheVariants.{Wants, Brings}
 use Rattle.gq_node.specs.declared.output.Answer.TheVariants.{Done, Gone, Refused, Old, Early, Busy, Away, Has, Bad}
 
 -- the first line that a node writes
@@ -41,6 +44,31 @@ letter_words plan m = headed plan m (body_words m.body)
 
 abbrev pub letter_line : CheckedPlan → (to from : ℕ) → Message → List ℕ
 letter_line plan to from m = line_text (decimal to) (decimal from ∷ letter_words plan m)
+
+-- ---- between a new node and others
+
+-- a line about the tenant's file, of which these are the words behind the verb
+abbrev pub parcel_file : Parcel → FileId
+parcel_file (Wants to file) = file
+parcel_file (Brings to file copy) = file
+
+abbrev pub parcel_to : Parcel → ℕ
+parcel_to (Wants to file) = to
+parcel_to (Brings to file copy) = to
+
+abbrev pub parcel_words : Parcel → List Word
+parcel_words (Wants to file) = codes "fetch" ∷ decimal file.volume ∷ decimal file.file ∷ []
+parcel_words (Brings to file copy) = codes "fetched" ∷ decimal file.volume ∷ decimal file.file ∷ copy_words copy
+
+abbrev pub parcel_line : CheckedPlan → (from : ℕ) → Parcel → List ℕ
+parcel_line plan from parcel = line_text (decimal (parcel_to parcel)) (decimal from ∷ (row_at plan (parcel_file parcel).tenant).name ∷ parcel_words parcel)
+
+-- a new node asks whether the plan of another has it, and so many losses or more; and that node answers that it has
+abbrev pub joins_line : (to from losses : ℕ) → List ℕ
+joins_line to from losses = line_text (decimal to) (decimal from ∷ codes "joins" ∷ decimal losses ∷ [])
+
+abbrev pub joined_line : (to from losses : ℕ) → List ℕ
+joined_line to from losses = line_text (decimal to) (decimal from ∷ codes "joined" ∷ decimal losses ∷ [])
 
 -- ---- a refusal
 
@@ -86,7 +114,7 @@ volume_word volume = decimal volume.files ++ codes "." ++ decimal volume.blocks
 
 abbrev pub holding_words : Holding → List Word
 holding_words has =
-    decimal has.servers ∷ decimal has.home ∷ decimal has.sessions ∷ decimal has.share ∷ decimal has.most_blocks ∷ map volume_word has.volumes
+    decimal has.servers ∷ decimal has.home ∷ decimal has.sessions ∷ decimal has.share ∷ decimal has.most_blocks ∷ map volume_word has.volumes ++ map decimal has.nodes
 
 -- ---- what a tenant is told
 

@@ -69,7 +69,7 @@ fn refusal_word(refusal: Refusal) -> &'static [u8]
 }
 
 // Appends to whom a line goes, and from which node.
-fn put_head(out: &mut Vec<u8>, plan: &Plan, from: u8, tenant: u8) -> Result<(), OutOfMemory>
+fn put_head(out: &mut Vec<u8>, plan: &Plan, from: u16, tenant: u8) -> Result<(), OutOfMemory>
     requires { tenant < length plan.now.rows }
     ensures ok { OnOk result (out.new.items ≡ out.old.items ++ (row_at plan.now tenant).name ++ 32 ∷ decimal from) }
     ensures err { OnErr result (Extends out.old.items out.new.items) }
@@ -83,7 +83,7 @@ fn put_head(out: &mut Vec<u8>, plan: &Plan, from: u8, tenant: u8) -> Result<(), 
 fn put_line(
     out: &mut Vec<u8>,
     plan: &Plan,
-    from: u8,
+    from: u16,
     tenant: u8,
     words: &[Piece],
 ) -> Result<(), OutOfMemory>
@@ -99,7 +99,7 @@ fn put_line(
 fn put_ended(
     out: &mut Vec<u8>,
     plan: &Plan,
-    from: u8,
+    from: u16,
     tenant: u8,
     outcome: &Outcome,
 ) -> Result<(), OutOfMemory>
@@ -115,7 +115,7 @@ fn put_ended(
 fn put_refused(
     out: &mut Vec<u8>,
     plan: &Plan,
-    from: u8,
+    from: u16,
     tenant: u8,
     session: u32,
     op: u32,
@@ -180,7 +180,7 @@ fn put_refused(
 fn put_last(
     out: &mut Vec<u8>,
     plan: &Plan,
-    from: u8,
+    from: u16,
     tenant: u8,
     word: &[u8],
     session: u32,
@@ -248,6 +248,17 @@ fn put_numbers(out: &mut Vec<u8>, numbers: &[u64]) -> Result<(), OutOfMemory>
     Ok(())
 }
 
+// Appends numbers of nodes, each after a space.
+fn put_nodes(out: &mut Vec<u8>, nodes: &[u16]) -> Result<(), OutOfMemory>
+    ensures ok { OnOk result (out.new.items ≡ out.old.items ++ spaced (map decimal nodes.now)) }
+    ensures err { OnErr result (Extends out.old.items out.new.items) }
+{
+    for node in nodes {
+        put_spaced(out, u64::from(*node))?;
+    }
+    Ok(())
+}
+
 // Appends what a tenant has.
 fn put_holding(out: &mut Vec<u8>, holding: &Holding) -> Result<(), OutOfMemory>
     ensures ok { OnOk result (out.new.items ≡ out.old.items ++ ended (codes "plan" ∷ holding_words holding.now)) }
@@ -263,6 +274,7 @@ fn put_holding(out: &mut Vec<u8>, holding: &Holding) -> Result<(), OutOfMemory>
     ];
     put_numbers(out, &numbers)?;
     put_volumes(out, holding.volumes.items.as_slice())?;
+    put_nodes(out, holding.nodes.items.as_slice())?;
     out.grow(b'\n')
 }
 
@@ -270,7 +282,7 @@ fn put_holding(out: &mut Vec<u8>, holding: &Holding) -> Result<(), OutOfMemory>
 fn put_has(
     out: &mut Vec<u8>,
     plan: &Plan,
-    from: u8,
+    from: u16,
     tenant: u8,
     holding: &Holding,
 ) -> Result<(), OutOfMemory>
@@ -287,7 +299,7 @@ fn put_has(
 pub fn put_told(
     out: &mut Vec<u8>,
     plan: &Plan,
-    from: u8,
+    from: u16,
     tenant: u8,
     asked: &Line,
     answer: &Answer,

@@ -1,17 +1,20 @@
 //! A line that comes to a node.
 
-ghost use Rattle.std.specs.Prelude.{◌≡◌, ◌*◌, ◌<◌, ◌≤◌, length, nat_lt, IfOk};
+ghost use Rattle.std.specs.Prelude.{◌≡◌, ◌*◌, ◌<◌, ◌≤◌, length, nat_lt, Some, IfOk};
 ghost use Rattle.gq_text.specs.Words.{words_of, words_after, number_of};
 ghost use Rattle.gq_text.specs.Input.{place_named};
-ghost use Rattle.gq_wire.specs.Incoming.{is_only, is_tick, from_node, from_tenant, incoming_from, incoming_of_words, incoming_of, most_blocks_of, longest_line, FitsPlan};
+ghost use Rattle.gq_node.specs.declared.lost.TheConstants.{NODE_NUMBERS};
+ghost use Rattle.gq_wire.specs.Incoming.{is_only, is_tick, behind_name, node_words, from_node, from_tenant, incoming_from, incoming_of_words, incoming_of, most_blocks_of, longest_line, FitsPlan};
 
+use crate::fetching::{fetch, fetched, number_behind};
 use crate::letters::letter;
 use crate::requests::request;
 use gq_desk::{Plan, TenantRow};
 use gq_memory::OutOfMemory;
 use gq_model::Line;
+use gq_node::NODE_NUMBERS;
 use gq_pool::BLOCK_BYTES;
-use gq_tag::Message;
+use gq_tag::{FileId, Message, StoredCopy};
 use gq_text::{first_word, is_end, next_word, number};
 use std::alloc::Global;
 
@@ -25,16 +28,48 @@ const BESIDE_CONTENT: usize = 255;
 #[derive(Debug, Drop)]
 pub enum Incoming {
     /// What the tenant at this place in the plan asks, and the number that its operation is to have.
-    Request { tenant: u8, op: u32, line: Line },
+    Request {
+        tenant: u8,
+        op: u32,
+        line: Line,
+    },
     /// That tenant asks what it has.
-    Plan { tenant: u8 },
+    Plan {
+        tenant: u8,
+    },
     /// A line of that tenant whose body has no form.
-    Bad { tenant: u8 },
+    Bad {
+        tenant: u8,
+    },
     /// A letter from the node of this number.
-    Letter { from: u8, message: Message },
+    Letter {
+        from: u16,
+        message: Message,
+    },
+    /// The node of this number, which is new, asks whether this one's plan has it, and so many losses or more.
+    Joins {
+        from: u16,
+        losses: u32,
+    },
+    /// The node of this number tells that its plan has this one, and so many losses.
+    Joined {
+        from: u16,
+        losses: u32,
+    },
+    /// The node of this number asks for this one's copy of the file.
+    Fetch {
+        from: u16,
+        file: FileId,
+    },
+    /// The node of this number gives its copy of the file.
+    Fetched {
+        from: u16,
+        file: FileId,
+        copy: StoredCopy,
+    },
     /// A tick.
     Tick,
-    /// It is passed over: it is for another node, from nobody of the plan, too long, or a letter without form.
+    /// It is passed over: it is for another node, from nobody of the plan, too long, or a line between nodes without form.
     Nothing,
 }
 
@@ -48,28 +83,73 @@ fn is_only(text: &[u8], only: &[u8]) -> bool
     }
 }
 
-// The line from the node of that number, if there is one, behind its addresses.
+// The line from the node of that number about the tenant, behind the tenant's name.
+fn behind_name(
+    alloc: Global,
+    from: u16,
+    tenant: u8,
+    text: &[u8],
+    here: u16,
+) -> Result<Incoming, OutOfMemory>
+    ensures { IfOk result (λ incoming. incoming ≡ behind_name here from (Some tenant) (words_after text.now)) }
+{
+    if let Some(file) = fetch(tenant, text) {
+        return Ok(Incoming::Fetch { from, file });
+    }
+    if let Some((file, copy)) = fetched(alloc, tenant, text)? {
+        return Ok(Incoming::Fetched { from, file, copy });
+    }
+    match letter(alloc, text, here, from, tenant)? {
+        Some(message) => Ok(Incoming::Letter { from, message }),
+        None => Ok(Incoming::Nothing),
+    }
+}
+
+// The line from the node of that number, behind its addresses, where it is no tick.
+fn node_words(
+    alloc: Global,
+    from: u16,
+    text: &[u8],
+    plan: &Plan,
+    here: u16,
+) -> Result<Incoming, OutOfMemory>
+    ensures incoming { IfOk result (λ incoming. incoming ≡ node_words plan.now here from (words_after text.now)) }
+    ensures fits { IfOk result (λ incoming. FitsPlan plan.now incoming) }
+{
+    let Some((word, rest)) = next_word(text) else {
+        return Ok(Incoming::Nothing);
+    };
+    if let Some(losses) = number_behind(b"joins", word, rest) {
+        return Ok(Incoming::Joins { from, losses });
+    }
+    if let Some(losses) = number_behind(b"joined", word, rest) {
+        return Ok(Incoming::Joined { from, losses });
+    }
+    match plan.find_word(word) {
+        Some(tenant) => behind_name(alloc, from, tenant, rest, here),
+        None => Ok(Incoming::Nothing),
+    }
+}
+
+// The line from the node of that number, if one may have it, behind its addresses.
 fn from_node(
     alloc: Global,
     from: u32,
     text: &[u8],
     plan: &Plan,
-    here: u8,
+    here: u16,
 ) -> Result<Incoming, OutOfMemory>
     ensures incoming { IfOk result (λ incoming. incoming ≡ from_node plan.now here from (words_after text.now)) }
     ensures fits { IfOk result (λ incoming. FitsPlan plan.now incoming) }
 {
-    if from as usize >= plan.grid().servers() {
+    if from >= NODE_NUMBERS {
         return Ok(Incoming::Nothing);
     }
-    let from = from as u8;
+    let from = from as u16;
     if from == here && is_only(text, b"tick") {
         return Ok(Incoming::Tick);
     }
-    match letter(alloc, text, plan, here, from)? {
-        Some(message) => Ok(Incoming::Letter { from, message }),
-        None => Ok(Incoming::Nothing),
-    }
+    node_words(alloc, from, text, plan, here)
 }
 
 // The line from the tenant of that name, if there is one, behind its addresses.
@@ -100,7 +180,7 @@ fn from_whom(
     word: &[u8],
     text: &[u8],
     plan: &Plan,
-    here: u8,
+    here: u16,
 ) -> Result<Incoming, OutOfMemory>
     ensures incoming { IfOk result (λ incoming. incoming ≡ incoming_from plan.now here (number_of word.now) word.now (words_after text.now)) }
     ensures fits { IfOk result (λ incoming. FitsPlan plan.now incoming) }
@@ -113,7 +193,7 @@ fn from_whom(
 
 // The line, however long it is.
 #[tactic(auto, unfolding(crate::specs::Incoming::incoming_of_words))]
-fn read_words(alloc: Global, line: &[u8], plan: &Plan, here: u8) -> Result<Incoming, OutOfMemory>
+fn read_words(alloc: Global, line: &[u8], plan: &Plan, here: u16) -> Result<Incoming, OutOfMemory>
     ensures incoming { IfOk result (λ incoming. incoming ≡ incoming_of_words plan.now here (words_of line.now)) }
     ensures fits { IfOk result (λ incoming. FitsPlan plan.now incoming) }
 {
@@ -163,7 +243,7 @@ pub fn read_incoming(
     alloc: Global,
     line: &[u8],
     plan: &Plan,
-    here: u8,
+    here: u16,
 ) -> Result<Incoming, OutOfMemory>
     ensures incoming { IfOk result (λ incoming. incoming ≡ incoming_of plan.now here line.now) }
     ensures fits { IfOk result (λ incoming. FitsPlan plan.now incoming) }

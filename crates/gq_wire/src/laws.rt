@@ -1,10 +1,17 @@
 //! What is read of the lines that are written.
 
-ghost use Rattle.gq_wire.specs.Laws.{LettersReadBack, PassesOver, PlansReadBack, RequestsReadBack, TornLinesHaveNoForm};
+ghost use Rattle.gq_wire.specs.Laws.{AllJoinsReadBack, LettersReadBack, ParcelsReadBack, PassesOver, PlansReadBack, RequestsReadBack, TornLinesHaveNoForm};
 
 /// The line of a letter, up to its newline, is read by the node that it is to as that letter.
 pub fn letters_read_back()
     ensures { LettersReadBack }
+{}
+
+/// The lines between a new node and others are read so by the node that they are to: a line about a file, the question whether a plan has
+/// the node, and its answer.
+pub fn parcels_read_back()
+    ensures parcels { ParcelsReadBack }
+    ensures joins { AllJoinsReadBack }
 {}
 
 /// The line of a request is read by the node that it is to as that request, with the number of its operation; and that by which a tenant
@@ -14,12 +21,12 @@ pub fn requests_read_back()
     ensures plans { PlansReadBack }
 {}
 
-/// A node passes over what nodes write to tenants, and letters to other nodes.
+/// A node passes over what nodes write to tenants, and to other nodes.
 pub fn passes_over()
     ensures { PassesOver }
 {}
 
-/// The first line that a node writes, with what a kill tore before it, is no request, no question, no letter and no tick.
+/// The first line that a node writes, with what a kill tore before it, is no request, no question, no line between nodes and no tick.
 pub fn torn_lines_have_no_form()
     ensures { TornLinesHaveNoForm }
 {}

@@ -1,13 +1,13 @@
 //! What a node says to a node.
 
-ghost use Rattle.std.specs.Prelude.{◌≡◌, Some, None, length, IfOk, MatchOption};
+ghost use Rattle.std.specs.Prelude.{◌≡◌, Some, None, IfOk, MatchOption};
 ghost use Rattle.gq_tag.specs.declared.Body.TheVariants.{Copy, Store};
 ghost use Rattle.gq_text.specs.Words.{words_after};
-ghost use Rattle.gq_wire.specs.Letters.{with_copy, body_of_words, heading_then, is_of_round, message_from, in_round, letter_of_words, Follows};
+ghost use Rattle.gq_wire.specs.Letters.{with_copy, body_of_words, heading_then, is_of_round, message_from, in_round, letter_of_words};
 
 use crate::values::{read_copy, take_byte, take_number};
-use gq_desk::Plan;
 use gq_memory::OutOfMemory;
+use gq_node::place_of;
 use gq_tag::{Body, FileId, Message, StoredCopy};
 use gq_text::{is_end, next_word};
 use std::alloc::Global;
@@ -102,7 +102,7 @@ fn is_of_round(round: u32, body: &Body) -> bool
 }
 
 // The message between these two.
-fn message(here: u8, from: u8, tenant: u8, h: Heading, body: Body) -> Message
+fn message(here: u16, from: u16, tenant: u8, h: Heading, body: Body) -> Message
     ensures { result ≡ message_from here from tenant h body }
 {
     let to_server = matches!(&body, Body::Ask | Body::Store(_));
@@ -111,7 +111,11 @@ fn message(here: u8, from: u8, tenant: u8, h: Heading, body: Body) -> Message
         session: h.session,
         op: h.op,
         round: h.round,
-        server: if to_server { here } else { from },
+        server: if to_server {
+            place_of(here)
+        } else {
+            place_of(from)
+        },
         file: FileId {
             tenant,
             volume: h.volume,
@@ -132,25 +136,18 @@ fn in_round(message: Message) -> Option<Message>
     }
 }
 
-/// The letter of the words to this node from that one. Only a copy's content takes memory.
+/// The letter about the tenant, of the words behind its name, to this node from that one. Only a copy's content takes memory.
 #[tactic(auto, unfolding(crate::specs::Letters::letter_of_words))]
 pub(crate) fn letter(
     alloc: Global,
     text: &[u8],
-    plan: &Plan,
-    here: u8,
-    from: u8,
+    here: u16,
+    from: u16,
+    tenant: u8,
 ) -> Result<Option<Message>, OutOfMemory>
-    ensures letter { IfOk result (λ letter. letter ≡ letter_of_words plan.now here from (words_after text.now)) }
-    ensures follows { IfOk result (λ letter. Follows (length plan.now.rows) letter) }
+    ensures { IfOk result (λ letter. letter ≡ letter_of_words here from tenant (words_after text.now)) }
 {
-    let Some((name, rest)) = next_word(text) else {
-        return Ok(None);
-    };
-    let Some(tenant) = plan.find_word(name) else {
-        return Ok(None);
-    };
-    let Some((h, rest)) = take_heading(rest) else {
+    let Some((h, rest)) = take_heading(text) else {
         return Ok(None);
     };
     match body(alloc, rest)? {

@@ -4,11 +4,13 @@ ghost use Rattle.std.specs.Prelude.{◌≡◌, [], ◌∷◌, ◌++◌, ◌<◌,
 ghost use Rattle.std.specs.List.{flat_map};
 ghost use Rattle.gq_text.specs.AnswerText.{line_text};
 ghost use Rattle.gq_text.specs.Pieces.{words_in, Extends};
-ghost use Rattle.gq_wire.specs.Texts.{copy_words, headed, letter_line, first_text};
+ghost use Rattle.gq_node.specs.declared.output.Parcel.TheVariants.{Wants, Brings};
+ghost use Rattle.gq_wire.specs.Texts.{copy_words, headed, letter_line, parcel_file, parcel_line, joins_line, joined_line, first_text};
 
 use gq_desk::Plan;
 use gq_memory::{GrowCopies, OutOfMemory};
-use gq_tag::{Body, Message, StoredCopy};
+use gq_node::Parcel;
+use gq_tag::{Body, FileId, Message, StoredCopy};
 use gq_text::{Piece, put_number, put_words};
 
 /// Appends the first line that a node writes: with it behind them, the bytes of a line that was torn before have no form.
@@ -20,7 +22,7 @@ pub fn put_first(out: &mut Vec<u8>) -> Result<(), OutOfMemory>
 }
 
 // Appends a line to that node.
-fn put_line(out: &mut Vec<u8>, to: u8, words: &[Piece]) -> Result<(), OutOfMemory>
+fn put_line(out: &mut Vec<u8>, to: u16, words: &[Piece]) -> Result<(), OutOfMemory>
     ensures ok { OnOk result (out.new.items ≡ out.old.items ++ line_text (decimal to) (flat_map words_in words.now)) }
     ensures err { OnErr result (Extends out.old.items out.new.items) }
 {
@@ -32,8 +34,8 @@ fn put_line(out: &mut Vec<u8>, to: u8, words: &[Piece]) -> Result<(), OutOfMemor
 fn put_bare<'x>(
     out: &mut Vec<u8>,
     plan: &'x Plan,
-    to: u8,
-    from: u8,
+    to: u16,
+    from: u16,
     message: &Message,
     word: &'x [u8],
 ) -> Result<(), OutOfMemory>
@@ -61,8 +63,8 @@ fn put_bare<'x>(
 fn put_with_copy<'x>(
     out: &mut Vec<u8>,
     plan: &'x Plan,
-    to: u8,
-    from: u8,
+    to: u16,
+    from: u16,
     message: &Message,
     word: &'x [u8],
     copy: &'x StoredCopy,
@@ -94,8 +96,8 @@ fn put_with_copy<'x>(
 pub fn put_letter(
     out: &mut Vec<u8>,
     plan: &Plan,
-    to: u8,
-    from: u8,
+    to: u16,
+    from: u16,
     message: &Message,
 ) -> Result<(), OutOfMemory>
     requires { message.now.tenant < length plan.now.rows }
@@ -108,4 +110,115 @@ pub fn put_letter(
         Body::Copy(copy) => put_with_copy(out, plan, to, from, message, b"copy", copy),
         Body::Stored => put_bare(out, plan, to, from, message, b"stored"),
     }
+}
+
+// Appends the line by which the node of that number is asked for its copy of the file.
+fn put_fetch<'x>(
+    out: &mut Vec<u8>,
+    plan: &'x Plan,
+    to: u16,
+    from: u16,
+    file: FileId,
+) -> Result<(), OutOfMemory>
+    requires { file.tenant < length plan.now.rows }
+    ensures ok { OnOk result (out.new.items ≡ out.old.items ++ parcel_line plan.now from (Wants to file)) }
+    ensures err { OnErr result (Extends out.old.items out.new.items) }
+{
+    put_line(
+        out,
+        to,
+        &[
+            Piece::Number(u64::from(from)),
+            Piece::Text(plan.row(file.tenant).name.as_bytes()),
+            Piece::Text(b"fetch"),
+            Piece::Number(u64::from(file.volume)),
+            Piece::Number(u64::from(file.file)),
+        ],
+    )
+}
+
+// Appends the line by which the node of that number is given the copy of the file.
+fn put_fetched<'x>(
+    out: &mut Vec<u8>,
+    plan: &'x Plan,
+    to: u16,
+    from: u16,
+    file: FileId,
+    copy: &'x StoredCopy,
+) -> Result<(), OutOfMemory>
+    requires { file.tenant < length plan.now.rows }
+    ensures ok { OnOk result (out.new.items ≡ out.old.items ++ parcel_line plan.now from (Brings to file copy.now)) }
+    ensures err { OnErr result (Extends out.old.items out.new.items) }
+{
+    put_line(
+        out,
+        to,
+        &[
+            Piece::Number(u64::from(from)),
+            Piece::Text(plan.row(file.tenant).name.as_bytes()),
+            Piece::Text(b"fetched"),
+            Piece::Number(u64::from(file.volume)),
+            Piece::Number(u64::from(file.file)),
+            Piece::Number(copy.tag.number),
+            Piece::Number(u64::from(copy.tag.session)),
+            Piece::Content(copy.bytes.as_slice()),
+        ],
+    )
+}
+
+/// Appends the line of a parcel from this node to the one that it is for, or a part of it where memory is refused.
+pub fn put_parcel(
+    out: &mut Vec<u8>,
+    plan: &Plan,
+    from: u16,
+    parcel: &Parcel,
+) -> Result<(), OutOfMemory>
+    requires { (parcel_file parcel.now).tenant < length plan.now.rows }
+    ensures ok { OnOk result (out.new.items ≡ out.old.items ++ parcel_line plan.now from parcel.now) }
+    ensures err { OnErr result (Extends out.old.items out.new.items) }
+{
+    match parcel {
+        Parcel::Wants { to, file } => put_fetch(out, plan, *to, from, *file),
+        Parcel::Brings { to, file, copy } => put_fetched(out, plan, *to, from, *file, copy),
+    }
+}
+
+// Appends a line to that node of this word and how many losses a plan tells of.
+fn put_losses(
+    out: &mut Vec<u8>,
+    to: u16,
+    from: u16,
+    word: &[u8],
+    losses: u64,
+) -> Result<(), OutOfMemory>
+    ensures ok { OnOk result (out.new.items ≡ out.old.items ++ line_text (decimal to) (decimal from ∷ word.now ∷ decimal losses ∷ [])) }
+    ensures err { OnErr result (Extends out.old.items out.new.items) }
+{
+    put_line(
+        out,
+        to,
+        &[
+            Piece::Number(u64::from(from)),
+            Piece::Text(word),
+            Piece::Number(losses),
+        ],
+    )
+}
+
+/// Appends the line by which the node `from`, which is new, asks the node `to` whether its plan has it, and so many losses or more, or a
+/// part of it where memory is refused.
+pub fn put_joins(out: &mut Vec<u8>, to: u16, from: u16, losses: u64) -> Result<(), OutOfMemory>
+    ensures ok { OnOk result (out.new.items ≡ out.old.items ++ joins_line to from losses) }
+    ensures err { OnErr result (Extends out.old.items out.new.items) }
+{
+    put_losses(out, to, from, b"joins", losses)
+}
+
+/// Appends the line by which the node `from` answers that of the number `to` that its plan has it, and so many losses or more, or a part
+/// of it where memory is refused.
+pub fn put_joined(out: &mut Vec<u8>, to: u16, from: u16, losses: u32) -> Result<(), OutOfMemory>
+    ensures ok { OnOk result (out.new.items ≡ out.old.items ++ joined_line to from losses) }
+    ensures err { OnErr result (Extends out.old.items out.new.items) }
+{
+    put_losses(out, to, from, b"joined", u64::from(losses))
 }

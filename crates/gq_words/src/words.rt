@@ -23,10 +23,10 @@ pub enum CommandLine<'a> {
     Node(NodeRequest<'a>),
 }
 
-/// Which server of a grid a process is asked to be.
+/// Which node of a grid a process is asked to be.
 #[derive(Clone, Copy, Debug, PartialEq, Eq)]
 pub struct NodeRequest<'a> {
-    /// The number of the server, from 0.
+    /// The number of the node, from 0.
     pub number: u32,
     /// The path of the plan's file.
     pub plan: &'a str,
@@ -224,9 +224,10 @@ goes to the home of its session, under the number that its operation is to have:
 A request may be sent again until it is answered, and takes effect once. `N N tick` has node N ask other servers where an
 operation waits. docs/FORMATS.md has all forms.
 
-The plan is that of `gridfs run`, and behind `go` it has lines `NAME open FILES BLOCKS` alone, which open the volumes at each
-start. What must not be forgotten is in the journal, and on disk, before anything that rests on it is written. `--new` begins the
-journal, at the grid's first start; a node whose journal is lost can't come back.
+The plan is that of `gridfs run`. Behind `go` it has lines `NAME open FILES BLOCKS`, which open the volumes at each start, and
+`replace PLACE`, one for each node that was lost, and no others. What must not be forgotten is in the journal, and on disk, before
+anything that rests on it is written. `--new` begins the journal, at the grid's first start or that of a new node. A node whose
+journal is lost can't come back: a new one, whose number is greater by 64, takes its place, and others give it the files.
 
     gridfs node 0 --plan plan --journal node0.journal --new < lines
 
@@ -364,7 +365,7 @@ fn node<'a>(alloc: Global) -> Result<Command<'a>, AllocError>
         "Be one server of a grid: take lines from standard input to its end, over a journal on disk",
         NODE,
     )
-    .arg(number(alloc, "NUMBER", "The number of the server, from 0"))?
+    .arg(number(alloc, "NUMBER", "The number of the node, from 0"))?
     .arg(file_option(
         alloc,
         "PLAN",

@@ -5,7 +5,7 @@ use Rattle.gq_keeper.specs.Plans.{last_plan}
 use Rattle.gq_keeper.specs.Restarting.{RestartsAsOne}
 use Rattle.gq_keeper.specs.Durable.{Durable}
 use Rattle.gq_keeper.proofs.Instants.{elapses_then}
-use Rattle.gq_keeper.proofs.Running.{runs_append}
+use Rattle.gq_keeper.proofs.Running.{runs_append, runs_keep}
 use Rattle.gq_keeper.proofs.Durability.{durable_none, durable_then}
 use Rattle.gq_keeper.proofs.Readings.{written_back, served_more, served_longer, as_one, of_turn, at_any}
 use Rattle.gq_keeper.proofs.serving.serve.Goals as goal
@@ -53,6 +53,10 @@ take_text-requires-clause-may g c =
     (durable_then g.M.Machine.steps g.M.Machine.recalls g.M.Machine.readable g.M.Lasting.blank g.M.Lasting.rests c.args.machine.now c.loop.machine last (whole_lines c.args.plan.now) _ lines _ _ _ synced shown c.loop.invariant.served.durable
     (subst (λ (p : List Line). Durable g.M.Machine.steps g.M.Machine.recalls g.M.Machine.readable g.M.Lasting.blank g.M.Lasting.rests c.loop.machine last p lines (g.O.Output.shown c.loop.out) synced shown) c.loop.invariant.served.durable.restarts.last d))
 
+pub renew_if_due-requires-clause-of_plan : goal.renew_if_due-requires-clause-of_plan
+renew_if_due-requires-clause-of_plan g c =
+    runs_keep g.M.Machine.steps (g.M.Lasting.is_of (whole_lines c.args.plan.now)) (λ old line facts told new step is. g.met.M.Lasting.keeps_plan (whole_lines c.args.plan.now) old line facts told new step is) c.loop.machine c.take_text.new.machine c.in_ok-rest.ensures.durable.dids c.in_ok-rest.ensures.durable.runs c.loop.invariant.of_plan
+
 pub loop-preserved-then-ends_no_line : goal.loop-preserved-then-ends_no_line
 loop-preserved-then-ends_no_line g c =
     let taken = take c.in_ok-count.count c.read_some.new.block in
@@ -64,6 +68,7 @@ loop-preserved-then-ends_no_line g c =
       served = served_longer c.args.longest g.M.Machine.steps g.M.Machine.recalls g.M.Machine.readable g.M.Lasting.blank g.M.Lasting.rests c.args.machine.now c.loop.machine (whole_lines c.args.plan.now) (g.O.Output.shown c.args.out.now) _ _ _ _ _ c.loop.held.items taken c.hold.new.held.items
           c.loop.invariant.served c.in_ok-count.ensures.bytes.0 (ap whole_lines (sym same) ∙ c.ends_no_line.ensures c.if-ends_no_line.true) c.in_ok-hold.ensures.none
           (λ more. c.in_ok-hold.ensures.same more ∙ ap (λ b. short_lines c.args.longest ((c.loop.held.items ++ b) ++ more)) same);
+      of_plan = c.loop.invariant.of_plan;
       crash = c.loop.invariant.crash;
       room = rw back (omega arith);
     }
@@ -78,6 +83,7 @@ loop-preserved g c =
       sealed = c.in_ok-renew_if_due.ensures.sealed;
       served = served_more c.args.longest g.M.Machine.steps g.M.Machine.recalls g.M.Machine.readable g.M.Lasting.blank g.M.Lasting.rests c.args.machine.now c.loop.machine c.take_text.new.machine (whole_lines c.args.plan.now) (g.O.Output.shown c.args.out.now) _ _ (g.D.Log.synced c.take_text.new.log) (g.O.Output.shown c.take_text.new.out) _ _ _ _ c.loop.held.items taken c.as_slice.result.now c.in_ok-rest.rest.now c.in_ok-held.held.items
           c.loop.invariant.served c.in_ok-count.ensures.bytes.0 (c.as_slice.ensures.value ∙ c.in_ok-grow_by.ensures.items ∙ ap (λ b. c.loop.held.items ++ b) (ap (take c.in_ok-count.count) (c.deref.ensures.value ∙ back))) (subst (λ (p : List Line). Durable g.M.Machine.steps g.M.Machine.recalls g.M.Machine.readable g.M.Lasting.blank g.M.Lasting.rests c.loop.machine c.take_text.new.machine p (short_lines c.args.longest c.as_slice.result.now) (g.O.Output.shown c.loop.out) (g.D.Log.synced c.take_text.new.log) (g.O.Output.shown c.take_text.new.out)) c.loop.invariant.served.durable.restarts.last c.in_ok-rest.ensures.durable) c.in_ok-renew_if_due.ensures.restarts c.in_ok-rest.ensures.behind c.in_ok-held.ensures.none c.in_ok-held.ensures.same;
+      of_plan = runs_keep g.M.Machine.steps (g.M.Lasting.is_of (whole_lines c.args.plan.now)) (λ old line facts told new step is. g.met.M.Lasting.keeps_plan (whole_lines c.args.plan.now) old line facts told new step is) c.loop.machine c.take_text.new.machine c.in_ok-rest.ensures.durable.dids c.in_ok-rest.ensures.durable.runs c.loop.invariant.of_plan;
       crash = elapses_then _ _ _ _ _ _ _ _ (RestartsAsOne g.M.Machine.steps g.M.Machine.recalls g.M.Machine.readable g.M.Lasting.blank g.M.Lasting.rests (whole_lines c.args.plan.now) c.args.machine.now) turned c.renew_if_due.ensures.crash (λ left x. x) (λ left r. as_one g.M.Machine.steps g.M.Machine.recalls g.M.Machine.readable g.M.Lasting.blank g.M.Lasting.rests (whole_lines c.args.plan.now) c.args.machine.now c.take_text.new.machine _ left (runs_append g.M.Machine.steps _ _ _ c.loop.invariant.served.durable.dids c.in_ok-rest.ensures.durable.dids c.loop.invariant.served.durable.runs c.in_ok-rest.ensures.durable.runs) r);
       room = rw back (omega arith);
     }

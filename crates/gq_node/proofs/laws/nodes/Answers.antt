@@ -1,5 +1,5 @@
--- Whatever comes to the nodes is a list of steps of the law of clusters, and so a run of the service.
-use Rattle.gq_node.proofs.Following.{all_nodes_follow, all_nodes_serve}
+-- Whatever comes to nodes is a run of the law, and volumes open.
+use Rattle.gq_node.proofs.Events.{all_nodes_follow, all_nodes_serve}
 use Rattle.gq_node.proofs.Volumes.{all_volumes_open}
 use Rattle.gq_node.proofs.laws.nodes.Goals as goal
 

@@ -1,3 +1,4 @@
+-- A request takes effect once.
 use Rattle.gq_node.proofs.Beginning.{begin_once}
 use Rattle.gq_node.proofs.Once.{again_leave, take_once}
 use Rattle.gq_node.proofs.laws.requests_once.Goals as goal

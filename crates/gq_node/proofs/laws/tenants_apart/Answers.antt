@@ -1,3 +1,4 @@
+-- Each tenant is apart.
 use Rattle.gq_node.proofs.Apart.{calls_by_parts, tenants_apart}
 use Rattle.gq_node.proofs.laws.tenants_apart.Goals as goal
 

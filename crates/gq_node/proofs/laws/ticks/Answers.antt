@@ -1,3 +1,4 @@
+-- Ticks lead a session on.
 use Rattle.gq_node.proofs.Progress.{all_rows_are_tried, all_columns_are_tried}
 use Rattle.gq_node.proofs.laws.ticks.Goals as goal
 

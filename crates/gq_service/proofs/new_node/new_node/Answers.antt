@@ -1,46 +1,16 @@
--- Volumes are opened one after another, and no cause refuses one.
-use Rattle.std.proofs.Common.{◌≡◌, ◌∙◌, List, ap, subst}
-use Rattle.gq_setup.specs.declared.openings.Opening.{Opening}
-use Rattle.gq_setup.specs.Setups.{Setup, accounts_of, CanOpen}
-use Rattle.gq_service.proofs.NewNodes.{none_open, next_open, next_can, all_open}
+-- What was read is what the text tells.
+use Rattle.gq_setup.specs.Laws.{here_of}
+use Rattle.gq_setup.specs.Setups.{Setup}
+use Rattle.gq_setup.specs.Texts.{setup_of_node_text, volumes_read}
+use Rattle.gq_wire.proofs.Arriving.{ok_more}
+use Rattle.gq_service.specs.Serving.{IsNewFor, volumes_in, volumes_of_read}
+use Rattle.gq_service.proofs.NewNodes.{read_is, same_lost}
 use Rattle.gq_service.proofs.new_node.new_node.Goals as goal
-
-pub loop-opening-init : goal.loop-opening-init
-loop-opening-init c = record {
-  has = none_open c.args.this.now.plan.setup.plan c.in_ok-copy.field-0 c.args.this.now.number c.in_ok-node.node.tables
-      (c.in_ok-copy.ensures ∙ c.plan.ensures ∙ ap (λ (s : Setup). s.plan) c.setup-setup.ensures) c.in_ok-node.ensures.plan c.in_ok-node.ensures.server c.in_ok-node.ensures.agrees;
-  goes = c.in_ok-node.ensures.goes;
-}
-
-pub with_volume-requires-clause-tenant : goal.with_volume-requires-clause-tenant
-with_volume-requires-clause-tenant c =
-    let setup : Setup = c.args.this.now.plan.setup in
-    let openings : List Opening = c.openings-opening-items.result.now in
-    let are : openings ≡ setup.openings = c.openings-opening-items.ensures.openings ∙ ap (λ (s : Setup). s.openings) c.setup-setup.ensures in
-    let none : Opening = record { tenant = 0; files = 0; blocks = 0 } in
-    let can : CanOpen (accounts_of setup.plan) openings = subst (λ (s : Setup). CanOpen (accounts_of s.plan) openings) c.setup-setup.ensures c.openings-opening-items.ensures.can in
-    (next_can setup.plan c.args.this.now.number openings setup.openings c.loop-opening.opening-index none c.loop-opening.node.tables are c.loop-opening-test.true c.loop-opening.invariant.has can).tenant
-
-pub with_volume-requires-clause-sound : goal.with_volume-requires-clause-sound
-with_volume-requires-clause-sound c =
-    let setup : Setup = c.args.this.now.plan.setup in
-    let openings : List Opening = c.openings-opening-items.result.now in
-    let are : openings ≡ setup.openings = c.openings-opening-items.ensures.openings ∙ ap (λ (s : Setup). s.openings) c.setup-setup.ensures in
-    let none : Opening = record { tenant = 0; files = 0; blocks = 0 } in
-    let can : CanOpen (accounts_of setup.plan) openings = subst (λ (s : Setup). CanOpen (accounts_of s.plan) openings) c.setup-setup.ensures c.openings-opening-items.ensures.can in
-    (next_can setup.plan c.args.this.now.number openings setup.openings c.loop-opening.opening-index none c.loop-opening.node.tables are c.loop-opening-test.true c.loop-opening.invariant.has can).sound
-
-pub loop-opening-preserved : goal.loop-opening-preserved
-loop-opening-preserved c =
-    let setup : Setup = c.args.this.now.plan.setup in
-    let openings : List Opening = c.openings-opening-items.result.now in
-    let are : openings ≡ setup.openings = c.openings-opening-items.ensures.openings ∙ ap (λ (s : Setup). s.openings) c.setup-setup.ensures in
-    record {
-      has = next_open setup.plan c.args.this.now.number openings setup.openings c.loop-opening.opening-index _ c.loop-opening.node.tables c.in_ok-node-2.node.tables are c.loop-opening-test.true c.loop-opening.invariant.has c.in_ok-node-2.ensures.opened;
-      goes = c.in_ok-node-2.ensures.goes;
-    }
 
 pub returns : goal.returns
 returns c =
-    all_open c.args.this.now.plan.setup c.args.this.now.number c.openings-opening-items.result.now c.loop-opening.opening-index c.loop-opening.node.tables
-    (c.openings-opening-items.ensures.openings ∙ ap (λ (s : Setup). s.openings) c.setup-setup.ensures) c.loop-opening-test.false c.loop-opening.invariant.has
+    let setup : Setup = c.args.this.now.plan.setup in
+    ok_more c.bereft_node.result _ (λ node. IsNewFor setup c.args.this.now.number (volumes_read (setup_of_node_text c.args.first.now)) node.tables)
+    (λ node new. same_lost setup.plan (here_of c.args.this.now.number setup) (λ t. volumes_in t setup.openings) (volumes_of_read c.in_ok-before.before) (volumes_read (setup_of_node_text c.args.first.now)) node.tables
+    (read_is (setup_of_node_text c.args.first.now) c.in_ok-before.before c.in_ok-before.ensures.setup) new)
+    c.bereft_node.ensures

@@ -4,4 +4,4 @@ use Rattle.gq_parts.specs.Texts.{sent_line}
 use Rattle.gq_machine.proofs.machine.NodeMachine.put_letters.Given as goal
 
 abbrev pub invariant-loop-letter : goal.invariant-loop-letter
-invariant-loop-letter l = l.told.items ≡ l.fn.told.items ++ flat_map (sent_line l.self.node.tables.plan l.self.node.tables.server) (take l.letter-index l.letters)
+invariant-loop-letter l = l.told.items ≡ l.fn.told.items ++ flat_map (sent_line l.self.node.tables.plan l.self.node.tables.here) (take l.letter-index l.letters)

@@ -1,10 +1,11 @@
+-- What the call gives is of the tenant, and is appended.
 use Rattle.std.proofs.Common.{◌<◌, length, sym, subst}
 use Rattle.std.specs.Prelude.{All, IfSome}
 use Rattle.gq_desk.specs.CheckedPlan.{CheckedPlan}
 use Rattle.gq_node.specs.Inputs.{Asked}
 use Rattle.gq_node.specs.Recalling.{tenant_of}
-use Rattle.gq_parts.specs.Steps.{HasAddress}
-use Rattle.gq_parts.proofs.Taking.{fact_own, letters_have, one_took}
+use Rattle.gq_parts.specs.Steps.{HasAddress, IsOfPlan}
+use Rattle.gq_parts.proofs.Taking.{fact_own, letters_have, parcel_has, one_took}
 use Rattle.gq_machine.proofs.machine.NodeMachine.request.Goals as goal
 
 pub put-requires-clause-fact : goal.put-requires-clause-fact
@@ -17,7 +18,13 @@ pub put-requires-clause-letters : goal.put-requires-clause-letters
 put-requires-clause-letters c =
     let acts = c.in-Ok.ensures.acts in
     let P : CheckedPlan → Type 0 = λ p. All (HasAddress p) c.in-Ok.out.letters.items in
-    subst P (sym acts.leads.plan) (letters_have c.args.self.now.node.tables c.args.tenant (Asked c.args.op c.args.line.now) c.in-Ok.out c.request.new.self.tables c.in_ok-goes.ensures c.requires tt acts)
+    subst P (sym acts.leads.plan) (letters_have c.args.self.now.node.tables c.args.tenant (Asked c.args.op c.args.line.now) c.in-Ok.out c.request.new.self.tables c.in_ok-goes.ensures c.requires acts)
+
+pub put-requires-clause-parcel : goal.put-requires-clause-parcel
+put-requires-clause-parcel c =
+    let acts = c.in-Ok.ensures.acts in
+    let P : CheckedPlan → Type 0 = λ p. IsOfPlan p c.in-Ok.out.parcel in
+    subst P (sym acts.leads.plan) (parcel_has c.args.self.now.node.tables c.args.tenant (Asked c.args.op c.args.line.now) c.in-Ok.out c.request.new.self.tables c.in_ok-goes.ensures c.requires acts)
 
 pub returns-in_ok-put-in-Ok : goal.returns-in_ok-put-in-Ok
 returns-in_ok-put-in-Ok c =

@@ -1,29 +1,24 @@
-use Rattle.std.proofs.Common.{◌≡◌, ◌+◌, ◌<◌, length, ◌∙◌, sym, subst, arith, ap, []}
+-- Each tenant's ticks, and behind them what is asked of other nodes.
+use Rattle.std.proofs.Common.{◌≡◌, subst}
 use Rattle.gq_desk.specs.CheckedPlan.{CheckedPlan}
-use Rattle.gq_parts.specs.Inputs.{ticks_of}
-use Rattle.gq_parts.specs.Steps.{TookOf}
-use Rattle.gq_parts.proofs.Taking.{ticks_below, below-none, below-more, below-all, with_inputs, none_took_all, took_next, took_same}
+use Rattle.gq_node.specs.Sites.{Here}
+use Rattle.gq_node.specs.Tables.{Tables}
+use Rattle.gq_wire.specs.declared.incoming.Incoming.TheVariants.{Tick}
+use Rattle.gq_parts.specs.Texts.{node_text}
 use Rattle.gq_machine.proofs.machine.NodeMachine.tick.Goals as goal
-
-pub loop-place-init : goal.loop-place-init
-loop-place-init c =
-    let w = c.args.self.now.node.tables in
-    took_same w w (λ t. []) (ticks_below w.plan 0) _ _ _ _ (λ u below. sym (below-none w.plan 0 u (omega arith))) (none_took_all w c.args.facts.now.items c.args.told.now.items)
-
-pub loop-place-preserved : goal.loop-place-preserved
-loop-place-preserved c =
-    let w = c.args.self.now.node.tables in
-    let m = c.loop-place.self.node.tables in
-    let n = c.loop-place.place in
-    let tenants : c.tenants-tenants.result ≡ length w.plan.rows = c.tenants-tenants.ensures.value ∙ ap (λ (p : CheckedPlan). length p.rows) c.plan.ensures in
-    let within : n < length w.plan.rows = omega arith in
-    let one : TookOf m n (ticks_of w.plan n) c.loop-place.facts.items c.tick_tenant.new.facts.items c.loop-place.told.items c.tick_tenant.new.told.items c.tick_tenant.new.self.node.tables =
-    subst (λ (p : CheckedPlan). TookOf m n (ticks_of p n) c.loop-place.facts.items c.tick_tenant.new.facts.items c.loop-place.told.items c.tick_tenant.new.told.items c.tick_tenant.new.self.node.tables) c.loop-place.invariant.takes.plan c.in_ok-tick_tenant.ensures in
-    took_same w c.tick_tenant.new.self.node.tables (with_inputs (ticks_below w.plan n) n (ticks_of w.plan n)) (ticks_below w.plan (n + 1)) _ _ _ _ (λ u below. below-more w.plan n u)
-    (took_next w m c.tick_tenant.new.self.node.tables (ticks_below w.plan n) n (ticks_of w.plan n) _ _ _ _ _ _ within (λ u above. below-none w.plan n u above) c.loop-place.invariant one)
 
 pub returns : goal.returns
 returns c =
-    let w = c.args.self.now.node.tables in
-    let tenants : c.tenants-tenants.result ≡ length w.plan.rows = c.tenants-tenants.ensures.value ∙ ap (λ (p : CheckedPlan). length p.rows) c.plan.ensures in
-    took_same w c.loop-place.self.node.tables (ticks_below w.plan c.loop-place.place) (ticks_of w.plan) _ _ _ _ (λ u below. below-all w.plan c.loop-place.place u (omega arith)) c.loop-place.invariant
+    let w : Tables = c.args.self.now.node.tables in
+    let m : Tables = c.tick_tenants.new.self.node.tables in
+    let took = c.in_ok-tick_tenants.ensures in
+    let asked = c.in_ok-ask_to_join.ensures in
+    record {
+      between = c.tick_tenants.new.told.items;
+      took = took;
+      own = asked.own;
+      told_is = asked.told_is;
+      own_is = λ parts agree.
+          let P : CheckedPlan → Here → Type 0 = λ plan here. asked.own ≡ node_text plan here Tick parts in
+          subst (λ plan. P plan w.here) took.takes.plan (subst (λ here. P m.plan here) took.takes.here (asked.own_is parts agree));
+    }

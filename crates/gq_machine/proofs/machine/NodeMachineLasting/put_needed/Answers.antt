@@ -14,6 +14,7 @@ use Rattle.gq_parts.proofs.Taking.{texts_are, all_of_plan}
 use Rattle.gq_parts.proofs.Reading.{lines_are_facts}
 use Rattle.gq_parts.proofs.Readable.{lines_read}
 use Rattle.gq_parts.proofs.Resting.{needed_rests}
+use Rattle.gq_setup.specs.Texts.{volumes_of_lines}
 use Rattle.gq_machine.specs.Machines.{reads}
 use Rattle.gq_machine.proofs.machine.NodeMachineLasting.put_needed.Goals as goal
 
@@ -24,10 +25,11 @@ put_facts-requires c =
     subst P (sym c.as_slice.ensures.value) (all_of_plan w c.in-Ok.needed.items c.in-Ok.ensures.needed.within)
 
 pub returns-in_ok-put_facts-in-Ok : goal.returns-in_ok-put_facts-in-Ok
-returns-in_ok-put_facts-in-Ok c =
+returns-in_ok-put_facts-in-Ok c = λ plan of.
     let w : Tables = c.args.self.now.node.tables in
     let facts : List Fact = c.in-Ok.needed.items in
     let old : List ℕ = c.args.facts.now.items in
+    let count : ℕ → ℕ = volumes_of_lines plan in
     let needed : Needed w facts = c.in-Ok.ensures.needed in
     let is : IsPlan w.plan = subst IsPlan c.plan.ensures c.plan_is_sound.ensures in
     let fit : All (FitsFact w.plan) facts = subst (All (FitsFact w.plan)) c.as_slice.ensures.value c.in_ok-put_facts-in-Ok.ensures.fit in
@@ -35,5 +37,8 @@ returns-in_ok-put_facts-in-Ok c =
       lines = fact_lines w.plan facts;
       text = c.in_ok-put_facts-in-Ok.ensures.facts ∙ ap (λ xs. old ++ flat_map (fact_text w.plan) xs) c.as_slice.ensures.value ∙ ap (λ z. old ++ z) (texts_are w.plan facts);
       facts = lines_are_facts w.plan is facts fit;
-      stands = record { read = λ new blank. lines_read w new.node.tables blank is facts fit needed.fit; again = λ new last blank read. needed_rests w facts is c.in_ok-goes.ensures needed fit new.node.tables last.node.tables blank (reads (fact_lines w.plan facts) new last read) };
+      stands = record {
+        read = λ new blank. lines_read count w new.node.tables blank is facts fit needed.fit;
+        again = λ new last blank read. needed_rests count w facts is c.in_ok-goes.ensures of needed fit new.node.tables last.node.tables blank (reads (fact_lines w.plan facts) new last read);
+      };
     }

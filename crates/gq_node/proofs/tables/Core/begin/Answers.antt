@@ -9,7 +9,7 @@ use Rattle.gq_node.proofs.tables.Core.begin.Goals as goal
 pub invariant_of-self : goal.invariant_of-self
 invariant_of-self c =
     let t : ℕ = c.args.tenant in
-    let v : Tables = record { plan = c.self.inside.plan; server = c.self.inside.server; desk = c.self.inside.desk; store = c.self.inside.store; seats = c.self.inside.seats.items } in
+    let v : Tables = record { plan = c.self.inside.plan; here = record { node = c.self.inside.node; lost = c.self.inside.lost }; desk = c.self.inside.desk; store = c.self.inside.store; given = c.self.inside.lacks.items; joined = c.self.inside.joined; mates = c.self.inside.mates.items; seats = c.self.inside.seats.items } in
     let shaped : IsShaped v = c.self.invariant in
     let within : t < length v.plan.rows = subst (λ (x : Tables). t < length x.plan.rows) (sym c.self.view_is) c.requires.tenant in
     let there : c.index_mut.result.now ≡ seats_at v.seats t = seats_read v t v.seats c.index_mut.result.now _ refl (tenant_there v t shaped within) c.index_mut.ensures.value in

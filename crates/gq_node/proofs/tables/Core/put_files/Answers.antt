@@ -1,3 +1,4 @@
+-- One file more.
 use Rattle.std.proofs.Common.{sym, subst, arith, inl, inr}
 use Rattle.std.proofs.lemmas.Bool.{cases_eq}
 use Rattle.gq_node.specs.Needing.{place_facts, PlaceReadable}

@@ -1,7 +1,7 @@
-use Rattle.std.proofs.Common.{◌≡◌, ◌∙◌, ◌+◌, ◌++◌, map, sym, ap, subst, arith, append-nil, Option}
+-- One session more.
+use Rattle.std.proofs.Common.{◌≡◌, ◌∙◌, ◌++◌, map, sym, ap, subst, arith, append-nil, Option}
 use Rattle.std.specs.Prelude.{unwrap_or}
-use Rattle.std.specs.List.{flat_map, range_with_len}
-use Rattle.gq_node.specs.Needing.{seat_facts}
+use Rattle.gq_node.specs.Needing.{place_numbers, seats_facts}
 use Rattle.gq_desk.specs.declared.plans.TenantRow.{TenantRow}
 use Rattle.gq_desk.specs.CheckedPlan.{nobody, row_at}
 use Rattle.gq_node.specs.Tables.{Tables, fact_of}
@@ -12,7 +12,7 @@ pub loop-place-init : goal.loop-place-init
 loop-place-init c = sym (append-nil c.args.facts.now.items)
 
 pub loop-place-preserved : goal.loop-place-preserved
-loop-place-preserved c = put_more c.args.tenant (seat_facts c.args.self.now c.args.tenant) 1 c.loop-place.place (c.loop-place.place + 1) c.args.facts.now.items c.loop-place.facts.items c.put_seat.new.facts.items (omega arith) c.loop-place.invariant c.in_ok-put_seat.ensures
+loop-place-preserved c = put_more c.args.tenant (place_numbers c.args.self.now c.args.tenant) 0 c.loop-place.place c.loop-place.place c.args.facts.now.items c.loop-place.facts.items c.put_seat.new.facts.items (omega arith) c.loop-place.invariant c.in_ok-put_seat.ensures
 
 pub returns : goal.returns
 returns c =
@@ -20,4 +20,4 @@ returns c =
     let rows : (row_at c.self.inside.plan t).sessions ≡ c.row.result.now.sessions = ap (λ (o : Option TenantRow). (unwrap_or o nobody).sessions) c.row.ensures.row in
     let end : c.loop-place.place ≡ c.row.result.now.sessions = omega arith in
     let same : c.loop-place.place ≡ (row_at c.args.self.now.plan t).sessions = end ∙ sym rows ∙ ap (λ (w : Tables). (row_at w.plan t).sessions) c.self.view_is in
-    subst (λ n. c.loop-place.facts.items ≡ c.args.facts.now.items ++ map (fact_of t) (flat_map (seat_facts c.args.self.now t) (range_with_len 1 n))) same c.loop-place.invariant
+    subst (λ n. c.loop-place.facts.items ≡ c.args.facts.now.items ++ map (fact_of t) (seats_facts c.args.self.now t n)) same c.loop-place.invariant

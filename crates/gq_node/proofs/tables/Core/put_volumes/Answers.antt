@@ -1,3 +1,4 @@
+-- One volume more.
 use Rattle.std.proofs.Common.{◌≡◌, ◌∙◌, ◌<◌, ℕ, sym, subst, arith, inl, inr}
 use Rattle.std.specs.Prelude.{map, ◌++◌}
 use Rattle.std.specs.List.{flat_map, range_with_len}

@@ -1,3 +1,4 @@
+-- The volumes so far.
 use Rattle.std.proofs.Common.{◌≡◌, ◌++◌, ◌<◌, ℕ, map}
 use Rattle.std.specs.List.{flat_map, range_with_len}
 use Rattle.gq_node.specs.Needing.{volume_facts, files_in, PlaceReadable}

@@ -1,0 +1,484 @@
+-- A new node's files: what it lacks, what it is given, and whom it asks.
+use Rattle.std.proofs.Common.{◌≡◌, ◌≢◌, ◌∙◌, ℕ, suc, ◌+◌, ◌-◌, ◌*◌, ◌<◌, ◌≤◌, Bool, true, false, List, [], ◌∷◌, ◌++◌, length, map, Option, Some, None, refl, sym, ap, subst, arith, inl, inr}
+use Rattle.std.specs.Prelude.{◌==◌, ◌&&◌, not, is_some, find, slice_set}
+use Rattle.std.specs.List.{range_with_len, flat_map}
+use Rattle.std.proofs.lemmas.Bool.{cases_eq, eq-eqb, and_parts, and_from, true≢false}
+use Rattle.std.proofs.lemmas.List.{get_or-set_same, get_or-set_other, length-set}
+use Rattle.gq_grid.specs.Grid.{with_server}
+use Rattle.gq_grid.specs.Sets.{servers}
+use Rattle.gq_grid.specs.declared.ServerSet.{ServerSet}
+use Rattle.gq_tag.specs.declared.FileId.{FileId}
+use Rattle.gq_tag.specs.declared.StoredCopy.{StoredCopy}
+use Rattle.gq_tag.specs.declared.Body.{Body}
+use Rattle.gq_tag.specs.declared.Body.TheVariants.{Store}
+use Rattle.gq_tag.specs.Tag.{File, is_file, file_of, file_place, message_of, newer_of}
+use Rattle.gq_desk.specs.declared.limits.TheConstants.{MOST_VOLUMES}
+use Rattle.gq_desk.specs.declared.volumes.VolumeRow.{VolumeRow}
+use Rattle.gq_desk.specs.Volumes.{Account, account_at, limit_of}
+use Rattle.gq_store.specs.Copies.{StoreCopies, copy_at, store_accounts}
+use Rattle.gq_model.specs.Trace.{files_of, limit_at}
+use Rattle.gq_cluster.specs.Cluster.{everyone, copy_in}
+use Rattle.gq_cluster.specs.Facts.{Had}
+use Rattle.gq_replace.specs.Plans.{place_of, node_at}
+use Rattle.gq_node.specs.declared.output.Fact.TheVariants.{Had as WasGiven}
+use Rattle.gq_node.specs.declared.output.Output.{Output}
+use Rattle.gq_node.specs.declared.output.Parcel.{Parcel as Code}
+use Rattle.gq_node.specs.declared.output.Parcel.TheVariants.{Wants as CodeWants, Brings as CodeBrings}
+use Rattle.gq_node.specs.Deciding.{joins_it, gives_it, takes_it}
+use Rattle.gq_node.specs.Joining.{hears_joined, all_joined, next_mate, files_in_volume, first_among, first_lacked, asks_mate, looks, is_mate, has_file, gives, takes}
+use Rattle.gq_node.specs.Lacks.{Given, lacks_in}
+use Rattle.gq_node.specs.Local.{Local, Doing, Wants, Brings, part_in, state_of, silently, file_fits, recalls, given as given_local}
+use Rattle.gq_node.specs.Seats.{GivesNothing}
+use Rattle.gq_node.specs.Shape.{IsShaped}
+use Rattle.gq_node.specs.Sites.{Site, plan_in, site_of}
+use Rattle.gq_node.specs.Tables.{Tables, Agrees, Leads, LeadsAll, Acts, Gives, given_at, lacks_at, mate_at}
+use Rattle.gq_node.proofs.Recalling.{copies_put, copies_elsewhere}
+use Rattle.gq_node.proofs.Seating.{same_leads}
+use Rattle.gq_node.proofs.Serving.{limit_is}
+
+-- ---- the server is given a file
+
+abbrev pub with_given : Tables → ℕ → StoreCopies → Given → Tables
+with_given w t store given = record w { store = store; given = slice_set w.given t given }
+
+-- what it lacks then
+pub record IsGiven (w : Tables) (file : FileId) (copy : StoredCopy) (store : StoreCopies) (given : Given) : Type 0 where
+  pub held : copy_at store file ≡ newer_of (copy_at w.store file) copy
+  pub others : (other : FileId) → other ≢ file → copy_at store other ≡ copy_at w.store other
+  pub lacks : (f : File) → lacks_in given f ≡ (lacks_at w file.tenant f && not (is_file (file_place file) f))
+
+lacks_here : (w : Tables) (t : ℕ) (store : StoreCopies) (given : Given) (f : File) → t < length w.given → lacks_at (with_given w t store given) t f ≡ lacks_in given f
+lacks_here w t store given f within = ap (λ g. lacks_in g f) (get_or-set_same w.given t given [] within)
+
+lacks_there : (w : Tables) (t u : ℕ) (store : StoreCopies) (given : Given) (f : File) → u ≢ t → lacks_at (with_given w t store given) u f ≡ lacks_at w u f
+lacks_there w t u store given f other = ap (λ g. lacks_in g f) (get_or-set_other w.given t u given [] other)
+
+pub given_leads : (w : Tables) (file : FileId) (copy : StoredCopy) (store : StoreCopies) (given : Given) → file.tenant < length w.given → IsGiven w file copy store given →
+    Leads w file.tenant (λ site local. silently (given_local (file_place file) copy local)) (with_given w file.tenant store given)
+given_leads w file copy store given within h =
+    let t : ℕ = file.tenant in
+    record {
+      plan = refl;
+      here = refl;
+      own = λ local agrees. record {
+        account = agrees.account;
+        copies = copies_put w file copy store local h.held h.others agrees;
+        lacks = λ f. lacks_here w t store given f within ∙ h.lacks f ∙ ap (λ b. b && not (is_file (file_place file) f)) (agrees.lacks f);
+        joined = agrees.joined;
+        mate = agrees.mate;
+        seats = agrees.seats;
+      };
+      others = λ u other local agrees. record {
+        account = agrees.account;
+        copies = copies_elsewhere w file store u local other h.others agrees;
+        lacks = λ f. lacks_there w t u store given f other ∙ agrees.lacks f;
+        joined = agrees.joined;
+        mate = agrees.mate;
+        seats = agrees.seats;
+      };
+    }
+
+pub given_shaped : (w : Tables) (file : FileId) (copy : StoredCopy) (store : StoreCopies) (given : Given) → IsShaped w → file.tenant < length w.given → IsGiven w file copy store given → length given ≡ length (given_at w file.tenant) → store_accounts store ≡ store_accounts w.store →
+    IsShaped (with_given w file.tenant store given)
+given_shaped w file copy store given shaped within h long accounts = record {
+  place = shaped.place;
+  few = shaped.few;
+  grid = shaped.grid;
+  desk = shaped.desk;
+  accounts = accounts ∙ shaped.accounts;
+  volumes = shaped.volumes;
+  given = length-set w.given t given ∙ shaped.given;
+  whole = λ old u f. elim (cases_eq u t) [
+    | inl same ↦ (ap (λ n. lacks_at new n f) same ∙ lacks_here w t store given f within ∙ h.lacks f ∙ ap (λ b. b && not (is_file (file_place file) f)) (shaped.whole old t f))
+    | inr other ↦ (lacks_there w t u store given f other ∙ shaped.whole old u f)
+  ];
+  bare = λ u f lacks. elim (cases_eq u t) [
+    | inl same ↦ (
+        let its : (lacks_at w t f && not (is_file (file_place file) f)) ≡ true = sym (h.lacks f) ∙ sym (lacks_here w t store given f within) ∙ ap (λ n. lacks_at new n f) (sym same) ∙ lacks in
+        let parts = and_parts (lacks_at w t f) (not (is_file (file_place file) f)) its in
+        let apart : file_of t f ≢ file = λ e. is_not (is_file (file_place file) f) (ap (is_file (file_place file)) (ap file_place e) ∙ same_here (file_place file)) parts.1 in
+        ap (λ n. copy_at store (file_of n f)) same ∙ h.others (file_of t f) apart ∙ shaped.bare t f parts.0)
+    | inr other ↦ (
+        let its : lacks_at w u f ≡ true = sym (lacks_there w t u store given f other) ∙ lacks in
+        h.others (file_of u f) (λ e. other (ap (λ (x : FileId). x.tenant) e)) ∙ shaped.bare u f its)
+  ];
+  few_given = λ u. elim (cases_eq u t) [
+    | inl same ↦ (subst (λ n. length (given_at new n) ≤ MOST_VOLUMES) (sym same) (subst (λ (g : Given). length g ≤ MOST_VOLUMES) (sym (get_or-set_same w.given t given [] within)) (subst (λ n. n ≤ MOST_VOLUMES) (sym long) (shaped.few_given t))))
+    | inr other ↦ (subst (λ (g : Given). length g ≤ MOST_VOLUMES) (sym (get_or-set_other w.given t u given [] other)) (shaped.few_given u))
+  ];
+  mates = shaped.mates;
+  grid_mates = shaped.grid_mates;
+  tenants = shaped.tenants;
+  seats = shaped.seats;
+  sessions = shaped.sessions;
+}
+  where
+    t : ℕ
+    t = file.tenant
+
+    new : Tables
+    new = with_given w file.tenant store given
+
+    same_here : (f : File) → is_file f f ≡ true
+    same_here f = and_from (f.volume == f.volume) (f.place == f.place) (eq-eqb f.volume f.volume refl) (eq-eqb f.place f.place refl)
+
+    is_not : (b : Bool) → b ≡ true → not b ≡ true → ⊥
+    is_not true is not' = cc
+    is_not false is not' = cc
+
+-- ---- the first file that the server lacks
+
+abbrev pub at_place : (volume : ℕ) → ℕ → File
+at_place volume place = record { volume = volume; place = place }
+
+-- what is left of a volume's files, and of all volumes
+pub first_in_more : (lacks : File → Bool) (v i n : ℕ) → i < n → lacks (at_place v i) ≡ false → find lacks (map (at_place v) (range_with_len (i + 1) (n - (i + 1)))) ≡ find lacks (map (at_place v) (range_with_len i (n - i)))
+first_in_more lacks v i n less none = let s : n - i ≡ suc (n - (i + 1)) = omega arith in rw (s, none) refl
+
+pub first_in_here : (lacks : File → Bool) (v i n : ℕ) → i < n → lacks (at_place v i) ≡ true → Some (at_place v i) ≡ find lacks (map (at_place v) (range_with_len i (n - i)))
+first_in_here lacks v i n less some = let s : n - i ≡ suc (n - (i + 1)) = omega arith in rw (s, some) refl
+
+pub first_in_none : (lacks : File → Bool) (v i n : ℕ) → n ≤ i → find lacks (map (at_place v) (range_with_len i (n - i))) ≡ None
+first_in_none lacks v i n past = let s : n - i ≡ 0 = omega arith in rw s refl
+
+find_behind : (lacks : File → Bool) (xs ys : List File) → find lacks xs ≡ None → find lacks (xs ++ ys) ≡ find lacks ys
+find_behind lacks [] ys none = refl
+find_behind lacks (x ∷ xs) ys none = by (lacks x) refl (find_behind lacks xs ys)
+  where
+    by : (b : Bool) → lacks x ≡ b → (find lacks xs ≡ None → find lacks (xs ++ ys) ≡ find lacks ys) → find lacks (x ∷ xs ++ ys) ≡ find lacks ys
+    by true is rest = let e : find lacks (x ∷ xs) ≡ Some x = rw is refl in let h : ◌≡◌ {A = Option File} (Some x) None = sym e ∙ none in absurd (cc)
+    by false is rest =
+        let e : find lacks (x ∷ xs) ≡ find lacks xs = rw is refl in
+        let f : find lacks (x ∷ xs ++ ys) ≡ find lacks (xs ++ ys) = rw is refl in
+        f ∙ rest (sym e ∙ none)
+
+find_before : (lacks : File → Bool) (xs ys : List File) (x : File) → find lacks xs ≡ Some x → find lacks (xs ++ ys) ≡ Some x
+find_before lacks [] ys x some = absurd (cc)
+find_before lacks (y ∷ xs) ys x some = by (lacks y) refl (find_before lacks xs ys x)
+  where
+    by : (b : Bool) → lacks y ≡ b → (find lacks xs ≡ Some x → find lacks (xs ++ ys) ≡ Some x) → find lacks (y ∷ xs ++ ys) ≡ Some x
+    by true is rest =
+        let e : find lacks (y ∷ xs) ≡ Some y = rw is refl in
+        let f : find lacks (y ∷ xs ++ ys) ≡ Some y = rw is refl in
+        f ∙ sym e ∙ some
+    by false is rest =
+        let e : find lacks (y ∷ xs) ≡ find lacks xs = rw is refl in
+        let f : find lacks (y ∷ xs ++ ys) ≡ find lacks (xs ++ ys) = rw is refl in
+        f ∙ rest (sym e ∙ some)
+
+pub first_more : (lacks : File → Bool) (g : ℕ → List File) (v n : ℕ) → v < n → find lacks (g v) ≡ None → find lacks (flat_map g (range_with_len (v + 1) (n - (v + 1)))) ≡ find lacks (flat_map g (range_with_len v (n - v)))
+first_more lacks g v n less none =
+    let s : n - v ≡ suc (n - (v + 1)) = omega arith in
+    sym (ap (λ m. find lacks (flat_map g (range_with_len v m))) s ∙ find_behind lacks (g v) (flat_map g (range_with_len (v + 1) (n - (v + 1)))) none)
+
+pub first_here : (lacks : File → Bool) (g : ℕ → List File) (v n : ℕ) (x : File) → v < n → find lacks (g v) ≡ Some x → find lacks (flat_map g (range_with_len v (n - v))) ≡ Some x
+first_here lacks g v n x less some =
+    let s : n - v ≡ suc (n - (v + 1)) = omega arith in
+    ap (λ m. find lacks (flat_map g (range_with_len v m))) s ∙ find_before lacks (g v) (flat_map g (range_with_len (v + 1) (n - (v + 1)))) x some
+
+pub first_none : (lacks : File → Bool) (g : ℕ → List File) (v n : ℕ) → n ≤ v → find lacks (flat_map g (range_with_len v (n - v))) ≡ None
+first_none lacks g v n past = let s : n - v ≡ 0 = omega arith in rw s refl
+
+-- the files of a volume of these
+abbrev pub volume_files : List VolumeRow → ℕ → List File
+volume_files volumes v = files_in_volume v (files_of volumes v)
+
+-- ---- whom it asks
+
+-- the tables in which the tenant's files were asked of that place last
+abbrev pub with_mate : Tables → (t place : ℕ) → Tables
+with_mate w t place = record w { mates = slice_set w.mates t place }
+
+pub mated_shaped : (w : Tables) (t place : ℕ) → IsShaped w → t < length w.mates → place < w.plan.grid.rows * w.plan.grid.cols → IsShaped (with_mate w t place)
+mated_shaped w t place shaped within inside = record {
+  place = shaped.place;
+  few = shaped.few;
+  grid = shaped.grid;
+  desk = shaped.desk;
+  accounts = shaped.accounts;
+  volumes = shaped.volumes;
+  given = shaped.given;
+  whole = shaped.whole;
+  bare = shaped.bare;
+  few_given = shaped.few_given;
+  mates = length-set w.mates t place ∙ shaped.mates;
+  grid_mates = λ u there. elim (cases_eq u t) [
+    | inl same ↦ (subst (λ n. mate_at (with_mate w t place) n < w.plan.grid.rows * w.plan.grid.cols) (sym same) (subst (λ n. n < w.plan.grid.rows * w.plan.grid.cols) (sym (get_or-set_same w.mates t place 0 within)) inside))
+    | inr other ↦ (subst (λ n. n < w.plan.grid.rows * w.plan.grid.cols) (sym (get_or-set_other w.mates t u place 0 other)) (shaped.grid_mates u there))
+  ];
+  tenants = shaped.tenants;
+  seats = shaped.seats;
+  sessions = shaped.sessions;
+}
+
+-- what the tables say of the first file that is lacked is what the part says
+pub first_is : (w : Tables) (t : ℕ) (local : Local) → Agrees w t local → first_among (lacks_at w t) (account_at w.desk t).volumes ≡ first_lacked local
+first_is w t local agrees = (λ i. first_among (λ f. agrees.lacks f i) (account_at w.desk t).volumes) ∙ ap (λ (a : Account). first_among local.lacks a.volumes) agrees.account
+
+asks_none : (site : Site) (local : Local) (place : ℕ) → first_lacked local ≡ None → asks_mate site local place ≡ silently local
+asks_none site local place is = rw is refl
+
+asks_some : (site : Site) (local : Local) (place : ℕ) (file : File) → first_lacked local ≡ Some file → asks_mate site local place ≡ record (silently (record local { mate = place })) { parcel = Some (Wants (site.node_at place) file) }
+asks_some site local place file is = rw is refl
+
+pub none_asked : (w : Tables) (t place : ℕ) (out : Output) → first_among (lacks_at w t) (account_at w.desk t).volumes ≡ None → GivesNothing out → Acts w t (λ site local. asks_mate site local place) out w
+none_asked w t place out is none =
+    let same : (local : Local) → Agrees w t local → asks_mate (site_of w.plan w.here t) local place ≡ silently local = λ local agrees. asks_none (site_of w.plan w.here t) local place (sym (first_is w t local agrees) ∙ is) in
+    record {
+      leads = same_leads w t (λ site local. asks_mate site local place) (λ local agrees. ap (λ (d : Doing). d.local) (same local agrees));
+      gives = λ local agrees. subst (λ (d : Doing). Gives t d out) (sym (same local agrees)) (record { answer = none.answer; letters = none.letters; parcel = none.parcel; fact = none.fact });
+    }
+
+-- the parcel alone is given
+pub record GivesParcel (parcel : Code) (out : Output) : Type 0 where
+  pub answer : out.answer ≡ None
+  pub letters : out.letters.items ≡ []
+  pub parcel_is : out.parcel ≡ Some parcel
+  pub fact : out.fact ≡ None
+
+pub some_asked : (w : Tables) (t place : ℕ) (file : FileId) (out : Output) → t < length w.mates → file.tenant ≡ t → first_among (lacks_at w t) (account_at w.desk t).volumes ≡ Some (file_place file) → GivesParcel (CodeWants (node_at (plan_in w.here.lost) place) file) out →
+    Acts w t (λ site local. asks_mate site local place) out (with_mate w t place)
+some_asked w t place file out within own is given =
+    let same : (local : Local) → Agrees w t local → asks_mate (site_of w.plan w.here t) local place ≡ record (silently (record local { mate = place })) { parcel = Some (Wants (node_at (plan_in w.here.lost) place) (file_place file)) } =
+    λ local agrees. asks_some (site_of w.plan w.here t) local place (file_place file) (sym (first_is w t local agrees) ∙ is) in
+    let its : file ≡ file_of t (file_place file) = λ i. record { tenant = own i; volume = file.volume; file = file.file } in
+    record {
+      leads = record {
+        plan = refl;
+        here = refl;
+        own = λ local agrees. subst (λ (d : Doing). Agrees (with_mate w t place) t d.local) (sym (same local agrees)) (record {
+          account = agrees.account;
+          copies = agrees.copies;
+          lacks = agrees.lacks;
+          joined = agrees.joined;
+          mate = get_or-set_same w.mates t place 0 within;
+          seats = agrees.seats;
+        });
+        others = λ u other local agrees. record {
+          account = agrees.account;
+          copies = agrees.copies;
+          lacks = agrees.lacks;
+          joined = agrees.joined;
+          mate = get_or-set_other w.mates t u place 0 other ∙ agrees.mate;
+          seats = agrees.seats;
+        };
+      };
+      gives = λ local agrees. subst (λ (d : Doing). Gives t d out) (sym (same local agrees)) (record {
+        answer = given.answer;
+        letters = given.letters;
+        parcel = given.parcel_is ∙ ap (λ (f : FileId). Some (CodeWants (node_at (plan_in w.here.lost) place) f)) its;
+        fact = given.fact;
+      });
+    }
+
+-- ---- a step that the tables decide
+
+-- nothing is done where this is so
+pub quiet_acts : (w : Tables) (t : ℕ) (step : Site → Local → Doing) (out : Output) → ((local : Local) → Agrees w t local → step (site_of w.plan w.here t) local ≡ silently local) → GivesNothing out → Acts w t step out w
+quiet_acts w t step out same none = record {
+  leads = same_leads w t step (λ local agrees. ap (λ (d : Doing). d.local) (same local agrees));
+  gives = λ local agrees. subst (λ (d : Doing). Gives t d out) (sym (same local agrees)) (record { answer = none.answer; letters = none.letters; parcel = none.parcel; fact = none.fact });
+}
+
+-- what the one step does the other does
+pub same_acts : (w new : Tables) (t : ℕ) (step other : Site → Local → Doing) (out : Output) → ((local : Local) → Agrees w t local → step (site_of w.plan w.here t) local ≡ other (site_of w.plan w.here t) local) → Acts w t other out new → Acts w t step out new
+same_acts w new t step other out same acts = record {
+  leads = record {
+    plan = acts.leads.plan;
+    here = acts.leads.here;
+    own = λ local agrees. subst (λ (d : Doing). Agrees new t d.local) (sym (same local agrees)) (acts.leads.own local agrees);
+    others = acts.leads.others;
+  };
+  gives = λ local agrees. subst (λ (d : Doing). Gives t d out) (sym (same local agrees)) (acts.gives local agrees);
+}
+
+-- ---- a tick, behind those of the sessions
+
+pub looks_not : (w : Tables) (t : ℕ) (out : Output) → ((u : ℕ) → all_joined (site_of w.plan w.here u) (servers w.joined) ≡ false) → GivesNothing out → Acts w t looks out w
+looks_not w t out not' none = quiet_acts w t looks out (λ local agrees. by local (ap (all_joined (site_of w.plan w.here t)) (sym agrees.joined) ∙ not' t)) none
+  where
+    by : (local : Local) → all_joined (site_of w.plan w.here t) local.joined ≡ false → looks (site_of w.plan w.here t) local ≡ silently local
+    by local is = rw is refl
+
+pub looks_on : (w new : Tables) (t place : ℕ) (out : Output) → ((u : ℕ) → all_joined (site_of w.plan w.here u) (servers w.joined) ≡ true) → ((u : ℕ) → place ≡ next_mate (site_of w.plan w.here u) (mate_at w t)) → Acts w t (λ site local. asks_mate site local place) out new → Acts w t looks out new
+looks_on w new t place out all next acts = same_acts w new t looks (λ site local. asks_mate site local place) out (λ local agrees. by local (ap (all_joined site) (sym agrees.joined) ∙ all t) ∙ ap (asks_mate site local) (ap (next_mate site) (sym agrees.mate) ∙ sym (next t))) acts
+  where
+    site : Site
+    site = site_of w.plan w.here t
+
+    by : (local : Local) → all_joined site local.joined ≡ true → looks site local ≡ asks_mate site local (next_mate site local.mate)
+    by local is = rw is refl
+
+-- ---- a mate asks for a file
+
+-- whether the file is there
+pub there_is : (w : Tables) (file : FileId) (local : Local) → Agrees w file.tenant local → is_some (limit_of w.desk file) ≡ is_some (limit_at (state_of everyone local) file.volume file.file)
+there_is w file local agrees = ap is_some (limit_is w file.tenant file local refl agrees)
+
+pub file_is : (w : Tables) (file : FileId) (local : Local) → Agrees w file.tenant local → has_file local (file_place file) ≡ (is_some (limit_of w.desk file) && not (lacks_at w file.tenant (file_place file)))
+file_is w file local agrees =
+    ap (λ b. b && not (local.lacks (file_place file))) (sym (there_is w file local agrees))
+    ∙ ap (λ b. is_some (limit_of w.desk file) && not b) (sym (agrees.lacks (file_place file)))
+
+given_by : (w : Tables) (from : ℕ) (file : FileId) (local : Local) → Agrees w file.tenant local → (b : Bool) → gives_it w from file ≡ b → (is_mate (site_of w.plan w.here file.tenant) from && has_file local (file_place file)) ≡ b
+given_by w from file local agrees b is = ap (λ h. is_mate (site_of w.plan w.here file.tenant) from && h) (file_is w file local agrees) ∙ is
+
+pub gives_not : (w : Tables) (from : ℕ) (file : FileId) (out : Output) → gives_it w from file ≡ false → GivesNothing out → Acts w file.tenant (gives from (file_place file)) out w
+gives_not w from file out not' none = quiet_acts w file.tenant (gives from (file_place file)) out (λ local agrees. by local (given_by w from file local agrees false not')) none
+  where
+    by : (local : Local) → (is_mate (site_of w.plan w.here file.tenant) from && has_file local (file_place file)) ≡ false → gives from (file_place file) (site_of w.plan w.here file.tenant) local ≡ silently local
+    by local is = rw is refl
+
+pub gives_so : (w : Tables) (from : ℕ) (file : FileId) (copy : StoredCopy) (out : Output) → gives_it w from file ≡ true → copy ≡ copy_at w.store file → GivesParcel (CodeBrings from file copy) out → Acts w file.tenant (gives from (file_place file)) out w
+gives_so w from file copy out is its given = record {
+  leads = same_leads w t (gives from (file_place file)) (λ local agrees. ap (λ (d : Doing). d.local) (same local agrees));
+  gives = λ local agrees. subst (λ (d : Doing). Gives t d out) (sym (same local agrees)) (record {
+    answer = given.answer;
+    letters = given.letters;
+    parcel = given.parcel_is ∙ ap (λ c. Some (CodeBrings from file c)) (its ∙ agrees.copies (file_place file));
+    fact = given.fact;
+  });
+}
+  where
+    t : ℕ
+    t = file.tenant
+
+    by : (local : Local) → (is_mate (site_of w.plan w.here t) from && has_file local (file_place file)) ≡ true →
+        gives from (file_place file) (site_of w.plan w.here t) local ≡ record (silently local) { parcel = Some (Brings from (file_place file) (copy_in (part_in local) (file_place file))) }
+    by local is = rw is refl
+
+    same : (local : Local) → Agrees w t local → gives from (file_place file) (site_of w.plan w.here t) local ≡ record (silently local) { parcel = Some (Brings from (file_place file) (copy_in (part_in local) (file_place file))) }
+    same local agrees = by local (given_by w from file local agrees true is)
+
+-- ---- a mate gives a file
+
+taken_by : (w : Tables) (from : ℕ) (file : FileId) (copy : StoredCopy) (local : Local) → Agrees w file.tenant local → (b : Bool) → takes_it w from file copy ≡ b →
+    (is_mate (site_of w.plan w.here file.tenant) from && local.lacks (file_place file) && file_fits (limit_at (state_of everyone local) file.volume file.file) (Store copy)) ≡ b
+taken_by w from file copy local agrees b is =
+    ap (λ l. is_mate (site_of w.plan w.here file.tenant) from && l && file_fits (limit_at (state_of everyone local) file.volume file.file) (Store copy)) (sym (agrees.lacks (file_place file)))
+    ∙ ap (λ o. is_mate (site_of w.plan w.here file.tenant) from && lacks_at w file.tenant (file_place file) && file_fits o (Store copy)) (sym (limit_is w file.tenant file local refl agrees))
+    ∙ is
+
+pub takes_not : (w : Tables) (from : ℕ) (file : FileId) (copy : StoredCopy) (out : Output) → takes_it w from file copy ≡ false → GivesNothing out → Acts w file.tenant (takes from (file_place file) copy) out w
+takes_not w from file copy out not' none = quiet_acts w file.tenant (takes from (file_place file) copy) out (λ local agrees. by local (taken_by w from file copy local agrees false not')) none
+  where
+    by : (local : Local) → (is_mate (site_of w.plan w.here file.tenant) from && local.lacks (file_place file) && file_fits (limit_at (state_of everyone local) file.volume file.file) (Store copy)) ≡ false →
+        takes from (file_place file) copy (site_of w.plan w.here file.tenant) local ≡ silently local
+    by local is = rw is refl
+
+-- the server has the file, and the next one is asked for
+pub takes_so : (w mid new : Tables) (from : ℕ) (file : FileId) (copy : StoredCopy) (asked out : Output) → takes_it w from file copy ≡ true → Leads w file.tenant (λ site local. silently (given_local (file_place file) copy local)) mid →
+    Acts mid file.tenant (λ site local. asks_mate site local (place_of from)) asked new → out.answer ≡ None → out.letters.items ≡ [] → out.parcel ≡ asked.parcel → out.fact ≡ Some (WasGiven file copy) → Acts w file.tenant (takes from (file_place file) copy) out new
+takes_so w mid new from file copy asked out is gets asks answer letters parcel fact = record {
+  leads = record {
+    plan = asks.leads.plan ∙ gets.plan;
+    here = asks.leads.here ∙ gets.here;
+    own = λ local agrees.
+        subst (λ (d : Doing). Agrees new t d.local) (sym (same local agrees))
+        (subst (λ (s : Site). Agrees new t (asks_mate s (after local) (place_of from)).local) site_is (asks.leads.own (after local) (gets.own local agrees)));
+    others = λ u other local agrees. asks.leads.others u other local (gets.others u other local agrees);
+  };
+  gives = λ local agrees.
+      let next : Gives t (asks_mate site (after local) (place_of from)) asked = subst (λ (s : Site). Gives t (asks_mate s (after local) (place_of from)) asked) site_is (asks.gives (after local) (gets.own local agrees)) in
+      subst (λ (d : Doing). Gives t d out) (sym (same local agrees)) (record {
+        answer = answer ∙ sym (asked_quiet (after local)).0;
+        letters = letters ∙ sym (ap (map (message_of t)) (asked_quiet (after local)).1);
+        parcel = parcel ∙ next.parcel;
+        fact = fact;
+      });
+}
+  where
+    t : ℕ
+    t = file.tenant
+
+    site : Site
+    site = site_of w.plan w.here t
+
+    after : Local → Local
+    after local = given_local (file_place file) copy local
+
+    site_is : site_of mid.plan mid.here t ≡ site
+    site_is = ap (λ p. site_of p mid.here t) gets.plan ∙ ap (λ x. site_of w.plan x t) gets.here
+
+    asked_quiet : (local : Local) → ((asks_mate site local (place_of from)).answer ≡ None) × ((asks_mate site local (place_of from)).letters ≡ [])
+    asked_quiet local = by (first_lacked local) refl
+      where
+        by : (o : Option File) → first_lacked local ≡ o → ((asks_mate site local (place_of from)).answer ≡ None) × ((asks_mate site local (place_of from)).letters ≡ [])
+        by None is = rw is (refl, refl)
+        by (Some f) is = rw is (refl, refl)
+
+    by : (local : Local) → (is_mate site from && local.lacks (file_place file) && file_fits (limit_at (state_of everyone local) file.volume file.file) (Store copy)) ≡ true →
+        takes from (file_place file) copy site local ≡ record (asks_mate site (after local) (place_of from)) { fact = Some (Had (file_place file) copy) }
+    by local is = rw is refl
+
+    same : (local : Local) → Agrees w t local → takes from (file_place file) copy site local ≡ record (asks_mate site (after local) (place_of from)) { fact = Some (Had (file_place file) copy) }
+    same local agrees = by local (taken_by w from file copy local agrees true is)
+
+-- ---- another node joins
+
+abbrev pub with_joined : Tables → ServerSet → Tables
+with_joined w set = record w { joined = set }
+
+pub joins_not : (w : Tables) (from losses : ℕ) → ((t : ℕ) → joins_it w from losses t ≡ false) → LeadsAll w (hears_joined from losses) w
+joins_not w from losses not' = record { plan = refl; here = refl; parts = λ t within local agrees. subst (Agrees w t) (sym (ap (λ (d : Doing). d.local) (by t local (not' t)))) agrees }
+  where
+    by : (t : ℕ) (local : Local) → joins_it w from losses t ≡ false → hears_joined from losses (site_of w.plan w.here t) local ≡ silently local
+    by t local is = rw is refl
+
+pub joins_so : (w : Tables) (from losses : ℕ) (set : ServerSet) → ((t : ℕ) → joins_it w from losses t ≡ true) → servers set ≡ with_server (place_of from) (servers w.joined) → LeadsAll w (hears_joined from losses) (with_joined w set)
+joins_so w from losses set is more = record {
+  plan = refl;
+  here = refl;
+  parts = λ t within local agrees. subst (Agrees (with_joined w set) t) (sym (ap (λ (d : Doing). d.local) (by t local (is t)))) (record {
+    account = agrees.account;
+    copies = agrees.copies;
+    lacks = agrees.lacks;
+    joined = more ∙ ap (with_server (place_of from)) agrees.joined;
+    mate = agrees.mate;
+    seats = agrees.seats;
+  });
+}
+  where
+    by : (t : ℕ) (local : Local) → joins_it w from losses t ≡ true → hears_joined from losses (site_of w.plan w.here t) local ≡ silently (record local { joined = with_server (place_of from) local.joined })
+    by t local is = rw is refl
+
+-- a file that is not there takes no copy
+pub fits_nowhere : (o : Option ℕ) (body : Body) → is_some o ≡ false → file_fits o body ≡ false
+fits_nowhere None body none = refl
+fits_nowhere (Some limit) body none = absurd (cc)
+
+-- what a start makes of the fact that the file was given
+pub recalls_given : (w new : Tables) (file : FileId) (copy : StoredCopy) → file_fits (limit_of w.desk file) (Store copy) ≡ true → Leads w file.tenant (λ site local. silently (given_local (file_place file) copy local)) new → Leads w file.tenant (recalls (Had (file_place file) copy)) new
+recalls_given w new file copy is gets = record {
+  plan = gets.plan;
+  here = gets.here;
+  own = λ local agrees. subst (λ (d : Doing). Agrees new file.tenant d.local) (sym (by local (ap (λ o. file_fits o (Store copy)) (sym (limit_is w file.tenant file local refl agrees)) ∙ is))) (gets.own local agrees);
+  others = gets.others;
+}
+  where
+    by : (local : Local) → file_fits (limit_at (state_of everyone local) file.volume file.file) (Store copy) ≡ true → recalls (Had (file_place file) copy) (site_of w.plan w.here file.tenant) local ≡ silently (given_local (file_place file) copy local)
+    by local fits = rw fits refl
+
+-- ---- what the server served leaves the files that it lacks
+
+pub stored_shaped : (w : Tables) (file : FileId) (store : StoreCopies) → IsShaped w → lacks_at w file.tenant (file_place file) ≡ false → ((other : FileId) → other ≢ file → copy_at store other ≡ copy_at w.store other) → store_accounts store ≡ store_accounts w.store →
+    IsShaped (record w { store = store })
+stored_shaped w file store shaped has others accounts = record {
+  place = shaped.place;
+  few = shaped.few;
+  grid = shaped.grid;
+  desk = shaped.desk;
+  accounts = accounts ∙ shaped.accounts;
+  volumes = shaped.volumes;
+  given = shaped.given;
+  whole = shaped.whole;
+  bare = λ u f lacks.
+      let apart : file_of u f ≢ file = λ e. true≢false (sym lacks ∙ (λ i. lacks_at w (e i).tenant (file_place (e i))) ∙ has) in
+      others (file_of u f) apart ∙ shaped.bare u f lacks;
+  few_given = shaped.few_given;
+  mates = shaped.mates;
+  grid_mates = shaped.grid_mates;
+  tenants = shaped.tenants;
+  seats = shaped.seats;
+  sessions = shaped.sessions;
+}

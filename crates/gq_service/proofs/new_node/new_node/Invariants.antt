@@ -1,9 +1,0 @@
-use Rattle.std.proofs.Common.{◌≡◌, false, take}
-use Rattle.gq_service.proofs.NewNodes.{HasOpen}
-use Rattle.gq_service.proofs.new_node.new_node.Given as goal
-
-abbrev pub invariant-loop-opening : goal.invariant-loop-opening
-invariant-loop-opening l = record {
-  has : HasOpen l.this.plan.setup.plan l.this.number (take l.opening-index l.this.plan.setup.openings) l.node.tables;
-  goes : l.node.ended ≡ false;
-}

@@ -1,0 +1,301 @@
+"""A node that stands in the place of one that was lost: the plan that says so, its faults and those of a start, journals with files that were
+given, and lines by which a new node joins and gets files, each with what is written for it; and what a client does whose session's home was
+lost."""
+
+import os
+import random
+import sys
+
+sys.path.insert(0, os.path.join(os.path.dirname(os.path.abspath(__file__)), "..", "..", "examples", "nodes"))
+from faults import OTHER, PLAN, Faults
+from journals import batches, sealed
+from processes import WRONG, get, put
+from tenant import Nodes, Session, homes, nodes_of
+
+LOST = PLAN + b"replace 3\n"
+FILES = 6  # of the plan, all of which node 67 lacks at first
+LACKS = b"gridfs: node 67 of 2 by 2: %d facts, lacks %d files\n"
+WHOLE = b"gridfs: node 67 of 2 by 2: %d facts\n"
+ALL = b"gridfs: node 67: has all files\n"
+FIRST = b" ?\n"
+GREATEST = 18_446_744_073_709_551_615
+# Plans with a loss that is at fault, and the line that is told.
+AT_FAULT = {
+    "a place that is not there": (PLAN + b"replace 4\n", 10),
+    "a number above 32 bits": (PLAN + b"replace 4294967296\n", 10),
+    "a place with no form": (PLAN + b"replace 03\n", 10),
+    "no number": (PLAN + b"replace three\n", 10),
+    "one row": (PLAN.replace(b"grid 2 2", b"grid 1 4") + b"replace 3\n", 10),
+    "the 15th node of one place": (PLAN + b"replace 3\n" * 15, 24),
+    "the second loss": (LOST + b"replace 9\n", 11),
+}
+OPENED = b"ann open 4 2\nbob open 1 1\nann open 1 1\n"
+# The same losses written otherwise, of which the canonical text is the first one.
+ALIKE = {
+    "a loss before the openings": PLAN.replace(OPENED, b"replace 3\n" + OPENED),
+    "a loss amid the openings": PLAN.replace(b"bob open", b"replace 3\nbob open"),
+    "no newline at the end": LOST[:-1],
+}
+# What goes on from the plan with the loss of node 3, and what does not.
+BEHIND = {
+    "another loss": LOST + b"replace 1\n",
+    "the new node is lost too": LOST + b"replace 3\n",
+    "a loss and a tenant more": LOST.replace(b"go\n", b"tenant cat 8 3 1\ngo\n") + b"cat open 2 1\nreplace 2\nreplace 3\n",
+}
+NOT_BEHIND = {"no loss": PLAN, "another loss in its place": PLAN + b"replace 2\n", "another loss before it": PLAN + b"replace 2\nreplace 3\n"}
+JOINS = b"0 67 joins 1\n1 67 joins 1\n2 67 joins 1\n"
+JOINED = b"67 0 joined 1\n67 1 joined 1\n67 2 joined 1\n"
+TICK = b"67 67 tick\n"
+FETCHES = b"1 67 ann fetch 0 0\n1 67 bob fetch 0 0\n"
+ASK = b"67 0 ann 1 1 1 0 0 ask\n"
+STORE = b"67 0 ann 1 1 2 0 0 store 9 1 ff\n"
+GIVEN = b"67 1 ann fetched 0 0 5 1 Aa\n"
+COPY = b"0 67 ann 1 1 1 0 0 copy 5 1 aa\n"
+NEXT = b"1 67 ann fetch 0 1\n"
+READ = b"67 ann read 20 1 0 0\n"
+ASKS = b"2 67 ann 20 1 1 0 0 ask\n67 67 ann 20 1 1 0 0 ask\n"
+ANN, BOB = [b"0 0", b"0 1", b"0 2", b"0 3", b"1 0"], [b"0 0"]
+ALL_GIVEN = b"".join(b"67 1 ann fetched %s 0 0 -\n" % file for file in ANN) + b"67 1 bob fetched 0 0 0 0 -\n"
+# Lines that a new node is given at its first start, and what it writes behind its first line.
+LINES = {
+    "what a tenant has": (b"67 ann plan\n", b"ann 67 plan 4 0 4 16 16 4.2 1.1 67\n"),
+    "a tick": (TICK, JOINS),
+    "some have joined": (b"67 1 joined 1\n" + TICK, b"0 67 joins 1\n2 67 joins 1\n"),
+    "all have joined": (JOINED + TICK, FETCHES),
+    "a word of fewer losses, and of more": (JOINED.replace(b"67 1 joined 1", b"67 1 joined 0") + b"67 1 joined 2\n" + TICK, b"1 67 joins 1\n"),
+    "a word of a node that is lost": (JOINED.replace(b"67 1 joined 1", b"67 3 joined 1") + TICK, b"1 67 joins 1\n"),
+    "a word of a tenant": (b"67 ann joined 1\n67 ann joins 1\n67 ann fetch 0 0\n67 ann fetched 0 0 5 1 aa\n", 4 * b"ann 67 refused bad\n"),
+    "words without a form": (JOINED.replace(b"67 1 joined 1", b"67 1 joined 01\n67 1 joined\n67 1 joined 1 \n67 1 joined -1") + TICK, b"1 67 joins 1\n"),
+    "it is asked whether it has joined": (b"67 0 joins 1\n67 0 joins 2\n67 0 joins 0\n67 3 joins 1\n67 131 joins 1\n", b"0 67 joined 1\n0 67 joined 0\n"),
+    "a file that it lacks": (ASK + STORE + b"67 1 ann fetch 0 0\n", b""),
+    "a file that it was given": (GIVEN + ASK, NEXT + COPY),
+    "a file that it was given, asked for by its mate": (GIVEN + b"67 1 ann fetch 0 0\n67 0 ann fetch 0 0\n67 2 ann fetch 0 0\n", NEXT + b"1 67 ann fetched 0 0 5 1 aa\n"),
+    "a file that it was given twice": (GIVEN + b"67 1 ann fetched 0 0 6 1 bb\n" + ASK, NEXT + COPY),
+    "a file that another column gives": (b"67 0 ann fetched 0 0 5 1 aa\n67 2 ann fetched 0 0 5 1 aa\n67 3 ann fetched 0 0 5 1 aa\n" + ASK, b""),
+    "a file that is not there": (b"67 1 ann fetched 0 4 5 1 aa\n67 1 ann fetched 2 0 5 1 aa\n67 1 zed fetched 0 0 5 1 aa\n", b""),
+    "a content that is too long": (b"67 1 ann fetched 0 0 5 1 %s\n" % (b"aa" * 129) + ASK, b""),
+    "the longest content": (b"67 1 ann fetched 0 0 5 1 %s\n" % (b"aa" * 128), NEXT),
+    "the greatest number": (b"67 1 ann fetched 0 0 %d 1 aa\n" % GREATEST + ASK, b""),
+    "the number below it": (b"67 1 ann fetched 0 0 %d 1 aa\n" % (GREATEST - 1), NEXT),
+    "files without a form": (b"67 1 ann fetched 0 0 5 1\n67 1 ann fetched 0 0 5 1 a\n67 1 ann fetched 0 0 5 256 aa\n67 1 ann fetch 0\n" + ASK, b""),
+    "the last file of a tenant": (b"67 1 bob fetched 0 0 5 1 aa\n", b""),
+    "all files": (ALL_GIVEN + TICK, b"".join(b"1 67 ann fetch %s\n" % file for file in ANN[1:])),
+    "a session that goes on there": (READ, ASKS),
+    "one of the node that was lost": (b"67 ann read 4 1 0 0\n67 ann read 36 1 0 0\n", b"ann 67 refused nosession 4 1\nann 67 refused nosession 36 1\n"),
+    "one whose home was not lost": (b"67 ann read 1 1 0 0\n67 ann read 17 1 0 0\n", b"ann 67 refused home 0 1 1\nann 67 refused nosession 17 1\n"),
+    "a letter of the node that was lost": (GIVEN + b"67 3 ann 4 1 1 0 0 ask\n67 0 ann 4 1 1 0 0 ask\n67 67 ann 4 1 1 0 0 ask\n", NEXT),
+    "a letter of its own": (GIVEN + b"67 67 ann 20 1 1 0 0 ask\n", NEXT + b"67 67 ann 20 1 1 0 0 copy 5 1 aa\n"),
+    "a late store": (GIVEN + STORE + b"67 0 ann 1 1 2 0 0 store 4 1 bb\n" + ASK, NEXT + 2 * b"0 67 ann 1 1 2 0 0 stored\n" + COPY.replace(b"5 1 aa", b"9 1 ff")),
+    "lines for the node that was lost": (b"3 ann plan\n3 0 joins 1\n3 3 tick\n", b""),
+}
+# The same of an old node, 0, which is started with the plan that says that 3 was lost; and with the one that does not.
+OF_AN_OLD_ONE = {
+    "what a tenant has": (b"0 ann plan\n", b"ann 0 plan 4 0 4 16 16 4.2 1.1 67\n"),
+    "a new node asks whether it has joined": (b"0 67 joins 1\n0 67 joins 0\n0 67 joins 2\n0 3 joins 1\n0 2 joins 1\n", b"67 0 joined 1\n67 0 joined 0\n2 0 joined 1\n"),
+    "a tick": (b"0 0 tick\n", b""),
+    "a node of another column wants a file": (b"0 67 ann fetch 0 0\n0 1 ann fetch 0 0\n0 2 ann fetch 0 0\n", b"2 0 ann fetched 0 0 0 0 -\n"),
+    "a file that it has is given": (b"0 2 ann fetched 0 0 5 1 aa\n0 0 ann 1 1 1 0 0 ask\n", b"0 0 ann 1 1 1 0 0 copy 0 0 -\n"),
+    "a session whose home was lost": (b"0 ann read 4 1 0 0\n0 ann read 20 1 0 0\n", b"ann 0 refused nosession 4 1\nann 0 refused home 67 20 1\n"),
+    "whom a session asks": (b"0 ann read 1 1 0 0\n0 0 tick\n0 0 tick\n", b"0 0 ann 1 1 1 0 0 ask\n1 0 ann 1 1 1 0 0 ask\n2 0 ann 1 1 1 0 0 ask\n67 0 ann 1 1 1 0 0 ask\n"),
+    "a letter of a session that was lost": (b"0 3 ann 4 1 1 0 0 ask\n0 67 ann 4 1 1 0 0 ask\n0 67 ann 20 1 1 0 0 ask\n", b"67 0 ann 20 1 1 0 0 copy 0 0 -\n"),
+}
+WITH_THE_OLD_PLAN = {
+    "a new node asks whether it has joined": (b"0 67 joins 1\n0 67 joins 0\n", b""),
+    "a letter of a new node": (b"0 67 ann 20 1 1 0 0 ask\n", b""),
+    "a session of a new node": (b"0 ann read 20 1 0 0\n", b"ann 0 refused nosession 20 1\n"),
+    "a mate wants a file": (b"0 2 ann fetch 0 0\n0 66 ann fetch 0 0\n", b"2 0 ann fetched 0 0 0 0 -\n"),
+}
+
+
+# A plan whose files have up to 40 blocks, so that a line has up to 128 * 40 + 255 bytes; and copies of the most bytes.
+ROOM = b"grid 2 2\nroom 5000\ntenant ann 80 1 1 40\ngo\nann open 2 40\nreplace 3\n"
+LONG = b"ab" * 2560
+LONG_LINES = {
+    "a copy of the most bytes": (b"67 1 ann fetched 0 0 %d 240 %s\n67 1 ann fetch 0 0\n" % (GREATEST - 1, LONG), b"%d 240 %s" % (GREATEST - 1, LONG)),
+    "a copy of one byte more": (b"67 1 ann fetched 0 0 5 1 %sab\n67 1 ann fetch 0 0\n" % LONG, None),
+}
+# Enough facts for a journal that is written anew: stores of two files, of which one was given, and one is of a later plan.
+LATER = LOST.replace(b"go\n", b"tenant cat 8 3 1\ngo\n") + b"cat open 2 2\n"
+MANY = b"".join(b"kept ann 0 0 %d 1 %s\nkept cat 0 0 %d 2 %s\n" % (at, b"ab" * 100, at, b"cd" * 100) for at in range(10, 2_600))
+NEEDED = [
+    b"had ann 0 0 2599 1 " + b"ab" * 100,
+    b"had cat 0 0 2599 2 " + b"cd" * 100,
+    b"had cat 0 1 0 0 -",
+    b"numbered ann 20 1024",
+]
+
+
+class NewNodes(Faults):
+    """Starts in one folder, of node 67 where no other is named."""
+
+    def node(self, given=b"", number=67, **more):
+        return super().node(given, number, **more)
+
+    def begin(self, text=LOST, **more):
+        """A first start: what it gives."""
+        if os.path.exists(self.at("journal")):
+            os.unlink(self.at("journal"))
+        put(self.at("plan"), text)
+        return self.node(is_new=True, **more)
+
+    def lines(self):
+        for name, (given, wanted) in LINES.items():
+            told = LACKS % (0, FILES) + ALL * (name == "all files")
+            self.held(name, self.begin(given=given), (0, told, FIRST + wanted))
+        for lines, text, what in (OF_AN_OLD_ONE, LOST, "of the new plan"), (WITH_THE_OLD_PLAN, PLAN, "of the old plan"):
+            for name, (given, wanted) in lines.items():
+                told = b"gridfs: node 0 of 2 by 2: 0 facts\n"
+                self.held(f"a node {what}: {name}", self.begin(text, number=0, given=given), (0, told, FIRST + wanted))
+
+    def journals(self):
+        """What is kept of files that were given, and what a start behind it knows."""
+        self.held("a first start", self.begin(), (0, LACKS % (0, FILES), FIRST))
+        first = b"node 67 of 2 by 2\n" + LOST
+        self.held("its journal", get(self.at("journal")), sealed(1, first))
+        self.node(GIVEN)
+        fact = b"had ann 0 0 5 1 aa\n"
+        self.held("a file that was given", get(self.at("journal")), sealed(1, first) + sealed(2, fact))
+        seen = self.node(ASK + JOINED + TICK)
+        self.held("a start behind it", seen, (0, LACKS % (1, FILES - 1), FIRST + COPY + NEXT + b"1 67 bob fetch 0 0\n"))
+        self.held("nobody has joined behind a start", self.node(TICK), (0, LACKS % (1, FILES - 1), FIRST + JOINS))
+        late = self.node(b"67 1 ann fetched 0 1 0 0 -\n")
+        self.held("a copy that comes late", late, (0, LACKS % (1, FILES - 1), FIRST + b"1 67 ann fetch 0 2\n"))
+        self.node(STORE)
+        facts = [fact, b"had ann 0 1 0 0 -\n", b"kept ann 0 0 9 1 ff\n"]
+        self.held("the journal behind a store", batches(get(self.at("journal")))[0][1:], facts)
+        status, told, _ = self.node(ALL_GIVEN)
+        self.held("the others are given", (status, told), (0, LACKS % (3, FILES - 2) + ALL))
+        self.held("a start with all files", self.node(ASK + TICK), (0, WHOLE % 7, FIRST + COPY.replace(b"5 1 aa", b"9 1 ff")))
+        put(self.at("plan"), LOST.replace(b"go\n", b"tenant cat 8 3 1\ngo\n") + b"cat open 2 1\nreplace 2\n")
+        seen = self.node(b"67 0 cat 2 1 1 0 0 ask\n67 66 joins 2\n")
+        self.held("a file of a later plan", seen, (0, WHOLE % 7, FIRST + b"0 67 cat 2 1 1 0 0 copy 0 0 -\n66 67 joined 2\n"))
+        put(self.at("journal"), sealed(1, first) + sealed(2, b"had ann 0 4 5 1 aa\n"))
+        put(self.at("plan"), LOST)
+        self.refused("a file that is not there was given", 1, OTHER)
+
+    def long_lines(self):
+        for name, (given, copy) in LONG_LINES.items():
+            wrote = FIRST + (b"1 67 ann fetch 0 1\n1 67 ann fetched 0 0 %s\n" % copy if copy else b"")
+            self.held(name, self.begin(ROOM, given=given), (0, LACKS % (0, 2), wrote))
+
+    def written_anew(self):
+        """A journal that is written anew has each file that the node has as one that was given, since the last plan is its first one then."""
+        head = b"node 67 of 2 by 2\n"
+        facts = b"had ann 0 0 5 1 aa\nnumbered ann 20 1024\n" + MANY
+        put(self.at("journal"), sealed(1, head + LOST) + sealed(2, head + LATER) + sealed(3, facts))
+        put(self.at("plan"), LATER)
+        status, told, wrote = self.node(b"67 0 ann 1 1 2 0 0 store 9 1 aa\n" + READ)
+        self.held("a long journal", (status, told, wrote), (0, LACKS % (2 + 2 * 2_590, FILES - 1), FIRST + b"0 67 ann 1 1 2 0 0 stored\n" + ASKS))
+        found, _ = batches(get(self.at("journal")))
+        self.held("it is written anew", len(get(self.at("journal"))) < 10_000, True)
+        self.held("its plan, with the losses behind", found[0], head + LATER.replace(b"replace 3\n", b"") + b"replace 3\n")
+        self.held("its facts", sorted(b"".join(found[1:]).split(b"\n")[:-1]), sorted([*NEEDED, b"began ann 20 1024"]))
+        status, told, wrote = self.node(ASK + b"67 0 cat 2 1 1 0 1 ask\n" + TICK)
+        copies = b"0 67 ann 1 1 1 0 0 copy 2599 1 %s\n0 67 cat 2 1 1 0 1 copy 0 0 -\n" % (b"ab" * 100)
+        self.held("a start behind it", (status, told, wrote), (0, LACKS % (5, FILES - 1), FIRST + copies + JOINS))
+
+    def plans(self):
+        for name, (text, line) in AT_FAULT.items():
+            put(self.at("wrong"), text)
+            told = b"gridfs: wrong: line %d: replace\n" % line
+            self.held(f"a plan with {name}", self.node(plan="wrong", journal="none", is_new=True), (1, told, b""))
+        put(self.at("most"), PLAN + b"replace 3\n" * 14)
+        told = b"gridfs: node 899 of 2 by 2: 0 facts, lacks 6 files\n"
+        self.held("the 14th node of one place is lost", self.node(number=899, plan="most", journal="most.journal", is_new=True), (0, told, FIRST))
+        named = PLAN.replace(b"tenant bob", b"tenant replace").replace(b"bob open", b"replace open") + b"replace 3\n"
+        put(self.at("named"), named)
+        told = LACKS % (0, FILES)
+        seen = self.node(b"67 replace plan\n", plan="named", journal="named.journal", is_new=True)
+        self.held("a tenant with that name", seen, (0, told, FIRST + b"replace 67 plan 4 0 2 16 16 1.1 67\n"))
+        for name, text in ALIKE.items():
+            self.begin(text)
+            self.held(name, get(self.at("journal")), sealed(1, b"node 67 of 2 by 2\n" + LOST))
+        wide = PLAN.replace(b"grid 2 2", b"grid 8 8").replace(b"blocks 64", b"blocks 640")
+        put(self.at("wide"), wide + b"".join(b"replace %d\n" % (at % 64) for at in range(255)))
+        told = b"gridfs: node 255 of 8 by 8: 0 facts, lacks 6 files\n"
+        self.held("255 nodes are lost", self.node(number=255, plan="wide", journal="wide.journal", is_new=True), (0, told, FIRST))
+        put(self.at("wide"), get(self.at("wide")) + b"replace 63\n")
+        told = b"gridfs: wide: line 265: replace\n"
+        self.held("256 nodes are lost", self.node(number=255, plan="wide", journal="wide.new", is_new=True), (1, told, b""))
+
+    def starts(self):
+        """Which numbers a plan has, and whose journal a start takes."""
+        for number in (3, 131, 66, 4, 68, 64):
+            told = b"gridfs: node %d: of 4\n" % number
+            self.held(f"node {number}", self.node(number=number, journal="none", is_new=True), (1, told, b""))
+        self.held("no journal of a new node", self.node(journal="none"), (1, b"gridfs: none: no journal\n", b""))
+        for number, text in (3, PLAN), (0, LOST), (131, LOST + b"replace 3\n"):
+            self.begin(text, number=number)
+            put(self.at("plan"), LOST)
+            self.refused(f"the journal of node {number}", 1, OTHER)
+        self.begin()
+        put(self.at("plan"), PLAN)
+        self.refused("the journal of the new node", 1, OTHER, number=3)
+        put(self.at("plan"), LOST)
+        self.refused("a journal that is there", 1, b"gridfs: journal: a journal\n", is_new=True)
+
+    def plans_that_go_on(self):
+        self.begin(PLAN, number=0)
+        put(self.at("plan"), LOST)
+        told = b"gridfs: node 0 of 2 by 2: 0 facts\n"
+        self.held("a plan with a loss", self.node(number=0), (0, told, FIRST))
+        text = get(self.at("journal"))
+        self.held("the journal behind it", text, sealed(1, b"node 0 of 2 by 2\n" + PLAN) + sealed(2, b"node 0 of 2 by 2\n" + LOST))
+        for name, plan in NOT_BEHIND.items():
+            put(self.at("next"), plan)
+            self.refused(f"behind a loss, {name}", 1, OTHER, number=0, plan="next")
+        for name, plan in BEHIND.items():
+            put(self.at("journal"), text)
+            put(self.at("next"), plan)
+            self.held(f"behind a loss, {name}", self.node(number=0, plan="next"), (0, told, FIRST))
+            self.refused(f"and not the plan before {name}", 1, OTHER, number=0)
+
+
+    # ---- clients
+
+    def clients(self):
+        """A session whose home was lost begins anew at the node that stands there: what was under way is gone, and a read is asked again."""
+        plan = LOST.decode() + "replace 3\nreplace 0\n"
+        count, home = homes(plan)
+        self.held("the nodes of a plan", (nodes_of(plan), count, home["ann", 4], home["bob", 1]), ([64, 1, 2, 131], 4, 131, 64))
+        self.held("losses that a plan can't have", nodes_of(PLAN.decode() + "replace 4\nreplace 03\nreplace\n"), [0, 1, 2, 3])
+        for kind, words in (b"read", [b"0", b"3"]), (b"write", [b"0", b"3", b"aa"]):
+            nodes, session, told, sent = Nodes(range(4)), Session("ann", 4, 3, random.Random(1), 6), [], []
+            session.ask(kind, words, told.append)
+            line = b"3 ann %s 4 7 %s" % (kind, b" ".join(words))
+            sent += nodes.due(session, 1)
+            self.held(f"{kind} is asked for", (sent, nodes.due(session, 1.1)), ([line], []))
+            asked = [b"%d ann plan" % (node + more) for node in range(4) for more in (0, 128)]
+            self.held("who stands there is asked where no answer comes", nodes.due(session, 3), [line, *asked])
+            for plan in (b"plan 4 0 4 16 16 4.2 1.1 67 64", b"plan 4 0 4 16 16 4.2 1.1", b"plan 4 0 4 16 16 4.2 1.1 65", b"plan of nobody"):
+                nodes.hear(plan)
+            self.held("what nodes tell", nodes.standing, [64, 65, 2, 67])
+            first = nodes.due(session, 4)
+            number = first[0].split(b" ")[-1]
+            self.held("the session begins anew there", first[0].rpartition(b" ")[0], b"67 ann abandon 20")
+            session.hear(b"done %s 4 7 tag 1 1 aa" % kind)
+            session.hear(b"refused early 20 %s 0" % number)
+            self.held("by a read", nodes.due(session, 5), [b"67 ann read 20 1 0 0"])
+            session.hear(b"done read 20 1 tag 1 1 aa")
+            again = nodes.due(session, 6)
+            if kind == b"read":
+                session.hear(b"done read 20 2 tag 1 1 aa")
+                self.held("a read is asked for again", (again, told), ([b"67 ann read 20 2 0 3"], [b"done read 20 2 tag 1 1 aa"]))
+            else:
+                self.held("a write is gone", (again, told), ([], [b"gone 4 7"]))
+        refused = Session("ann", 4, 3, random.Random(1), 6)
+        refused.ask(b"read", [b"0", b"3"], told.append)
+        refused.due(1)
+        refused.hear(b"refused nosession 4 7")
+        self.held("who stands there is asked where there is no such session", (refused.is_sought(), refused.unanswered()), (True, 1))
+
+
+def tell_new_nodes(program, folder):
+    """How many things were compared, and what is wrong."""
+    new = NewNodes(program, folder)
+    for part in (new.lines, new.long_lines, new.journals, new.written_anew, new.plans, new.starts, new.plans_that_go_on, new.clients):
+        try:
+            part()
+        except WRONG as fault:  # (a node that does not start leaves no journal)
+            new.wrong.append(f"{part.__name__}: {fault!r}")
+    return new.tried, new.wrong
