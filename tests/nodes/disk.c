@@ -109,15 +109,16 @@ static void name_of(int file, char *name) {
 
 static void beside(char *name, const char *path, const char *ending) { snprintf(name, PATH_MAX, "%.4000s%s", path, ending); }
 
+/* In one write over the number that stood there, so that who is killed here leaves one or the other. */
 static void note_synced(int file) {
     char name[PATH_MAX], path[PATH_MAX];
     struct stat is;
     name_of(file, path);
     beside(name, path, ".synced");
-    int note = open(name, O_WRONLY | O_CREAT | O_TRUNC, 0644);
+    int note = open(name, O_WRONLY | O_CREAT, 0644);
     if (note < 0 || fstat(file, &is)) return;
     char text[32];
-    int length = snprintf(text, sizeof text, "%lld", (long long)is.st_size);
+    int length = snprintf(text, sizeof text, "%020lld", (long long)is.st_size);
     syscall(SYS_write, note, text, length);
     close(note);
 }

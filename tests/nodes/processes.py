@@ -227,7 +227,8 @@ def lose_power(journal, draw):
 
 def lose_end(path, draw):
     text = get(path)
-    synced = int(get(path + ".synced")) if os.path.exists(path + ".synced") else 0
+    # (who was killed before its first note left the file empty)
+    synced = int(get(path + ".synced") or 0) if os.path.exists(path + ".synced") else 0
     synced = min(synced, len(text))
     kept = draw.randint(synced, len(text))
     other = draw.choice([b"", b"", bytes(len(text) - kept), draw.randbytes(len(text) - kept)])
