@@ -175,7 +175,9 @@ class Storm:
         return a_plan_behind(self.draw, self.plan)
 
     def write_plan(self):
-        put(os.path.join(self.folder, "plan"), self.plan.encode())
+        """Writes the plan to a file of its own: a node that was started may not have read the one before yet."""
+        self.plan_file = "plan" if self.later else "plan.later"
+        put(os.path.join(self.folder, self.plan_file), self.plan.encode())
 
     def add_clients(self):
         """Each session of the plan that has no client gets one."""
@@ -212,7 +214,7 @@ class Storm:
     def start(self, number):
         """Starts a node."""
         self.numbers.start(number, self.journal(number))
-        words = words_of(self.program, number, "plan", self.journal(number), not os.path.exists(self.journal(number)))
+        words = words_of(self.program, number, self.plan_file, self.journal(number), not os.path.exists(self.journal(number)))
         self.lives[number].append(Life(self.process(words, number, self.folder, self.environment()), self.plan))
 
     def environment(self):
