@@ -9,7 +9,8 @@
 
    How much of a file is synced stands in the file of its name with .synced behind. What a rename replaces is kept, as with .before behind,
    until the folder is synced; where it replaces nothing, that is marked, by .fresh. So who starts the node again can take away what a
-   loss of power would take away. */
+   loss of power would take away. While a rename or the sync of a folder is amid its steps the folder is locked (flock): who has that lock,
+   kills the process and looks at the files finds all of a call's steps done, or none. */
 #define _GNU_SOURCE
 #include <dirent.h>
 #include <errno.h>
@@ -19,6 +20,7 @@
 #include <stdio.h>
 #include <stdlib.h>
 #include <string.h>
+#include <sys/file.h>
 #include <sys/stat.h>
 #include <sys/syscall.h>
 #include <unistd.h>
@@ -128,15 +130,33 @@ static int ends_with(const char *name, const char *ending) {
     return length >= end && !strcmp(name + length - end, ending);
 }
 
+/* The lock of a folder, until it is closed. */
+static int lock_of(const char *folder) {
+    int lock = open(folder, O_RDONLY | O_DIRECTORY | O_CLOEXEC);
+    if (lock >= 0) flock(lock, LOCK_EX);
+    return lock;
+}
+
+/* The lock of the folder in which the file is. */
+static int lock_beside(const char *path) {
+    char folder[PATH_MAX];
+    snprintf(folder, sizeof folder, "%s", path);
+    char *last = strrchr(folder, '/');
+    if (last) *last = 0;
+    return lock_of(last ? folder : ".");
+}
+
 /* No rename in the folder can be undone any more, whoever made it. */
 static void note_folder(int file) {
     char path[PATH_MAX];
     name_of(file, path);
     DIR *folder = opendir(path);
     if (!folder) return;
+    int lock = lock_of(path);
     for (struct dirent *it; (it = readdir(folder));)
         if (ends_with(it->d_name, ".before") || ends_with(it->d_name, ".before.synced") || ends_with(it->d_name, ".fresh"))
             unlinkat(dirfd(folder), it->d_name, 0);
+    close(lock);
     closedir(folder);
 }
 
@@ -170,6 +190,7 @@ int rename(const char *from, const char *to) {
     int half, fails;
     begin('r', &half, &fails);
     if (fails) return refuse(ENOSPC);
+    int lock = lock_beside(to);
     beside(name, to, ".before");
     unlink(name);
     if (link(to, name)) {
@@ -184,6 +205,7 @@ int rename(const char *from, const char *to) {
     beside(other, to, ".synced");
     syscall(SYS_rename, name, other);
     int done = syscall(SYS_rename, from, to);
+    close(lock);
     end();
     return done;
 }

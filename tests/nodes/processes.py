@@ -1,6 +1,7 @@
 """Nodes as processes: run to the end of their input, or led step by step; and what a loss of power leaves of their files."""
 
 import contextlib
+import fcntl
 import multiprocessing
 import os
 import select
@@ -103,12 +104,23 @@ def ended(words, given=b"", **more):
     return done.returncode, done.stderr, done.stdout
 
 
+@contextlib.contextmanager
+def still(folder):
+    """As long as this lasts no process with disk.c is amid a rename in the folder, or amid its sync."""
+    lock = os.open(folder, os.O_RDONLY)
+    try:
+        fcntl.flock(lock, fcntl.LOCK_EX)
+        yield
+    finally:
+        os.close(lock)
+
+
 class Stepped:
     """A node's process that is given lines, of at most 65,000 bytes in all, and has done with them before it is given more. So what it
     does depends on these lines alone, also where disk.c stops it."""
 
     def __init__(self, words, number, folder, environment=None):
-        self.number, self.words = number, words
+        self.number, self.words, self.folder = number, words, folder
         self.end = MARKED % number
         self.told = open(os.path.join(folder, f"told{number}"), "ab")
         self.child = subprocess.Popen(words, stdin=subprocess.PIPE, stdout=subprocess.PIPE, stderr=self.told, bufsize=0, cwd=folder, env=environment)
@@ -146,13 +158,18 @@ class Stepped:
         """Gives the node lines, and kills it so long behind that: what it wrote until then, of which the last line may be torn."""
         os.write(self.given, lines)
         time.sleep(seconds)
-        self.child.send_signal(signal.SIGKILL)
+        self.end_now()
         return b"".join(iter(lambda: os.read(self.out, READ), b""))
 
+    def end_now(self):
+        """Ends the process (kill -9), between two calls of its disk or amid a write; its status, if it has ended before."""
+        with still(self.folder):
+            self.child.send_signal(signal.SIGKILL)
+            return self.child.wait()
+
     def kill(self):
-        """Ends the process now (kill -9); its status, if it has ended before."""
-        self.child.send_signal(signal.SIGKILL)
-        status = self.child.wait()
+        """Ends the process, and lets go of its streams. Its status."""
+        status = self.end_now()
         for file in (self.child.stdin, self.child.stdout, self.told):
             file.close()
         return status
@@ -201,28 +218,36 @@ class Streamed(Stepped):
                 wrote.append(os.read(self.out, READ))
                 if not wrote[-1]:
                     break
-        self.child.send_signal(signal.SIGKILL)
+        self.end_now()
         return b"".join([*wrote, *iter(lambda: os.read(self.out, READ), b"")])
 
 
 def lose_power(journal, draw):
     """Leaves of a dead node's files what a loss of power may leave: what was synced, any beginning of what was written behind it or
-    something else in its place; and a rename whose folder was not synced may not have been."""
-    before, fresh = journal + ".before", journal + ".fresh"
-    if draw.random() < 0.5 and (os.path.exists(before) or os.path.exists(fresh)):
-        os.replace(journal, journal + ".new")
-        if os.path.exists(journal + ".synced"):
-            os.replace(journal + ".synced", journal + ".new.synced")
-        if os.path.exists(before):
-            os.replace(before, journal)
-            if os.path.exists(before + ".synced"):
-                os.replace(before + ".synced", journal + ".synced")
-    for path in (before, before + ".synced", fresh):
-        with contextlib.suppress(FileNotFoundError):
-            os.unlink(path)
-    for path in (journal, journal + ".new"):
-        if os.path.exists(path):
-            lose_end(path, draw)
+    something else in its place; and a rename whose folder was not synced may not have been. Another node may sync the folder meanwhile."""
+    with still(os.path.dirname(journal)):
+        if draw.random() < 0.5:
+            undo_rename(journal)
+        for path in (journal + ".before", journal + ".before.synced", journal + ".fresh"):
+            with contextlib.suppress(FileNotFoundError):
+                os.unlink(path)
+        for path in (journal, journal + ".new"):
+            if os.path.exists(path):
+                lose_end(path, draw)
+
+
+def undo_rename(journal):
+    """Takes back the rename by which the journal came to its name, if the folder was not synced since."""
+    before = journal + ".before"
+    if not os.path.exists(before) and not os.path.exists(journal + ".fresh"):
+        return
+    os.replace(journal, journal + ".new")
+    if os.path.exists(journal + ".synced"):
+        os.replace(journal + ".synced", journal + ".new.synced")
+    if os.path.exists(before):
+        os.replace(before, journal)
+        if os.path.exists(before + ".synced"):
+            os.replace(before + ".synced", journal + ".synced")
 
 
 def lose_end(path, draw):
