@@ -17,7 +17,7 @@ ghost use Rattle.gq_facts.specs.Facts.{fact_text};
 ghost use Rattle.gq_facts.specs.Laws.{FitsFact};
 ghost use Rattle.gq_parts.specs.Inputs.{session_ticks, ticks_of};
 ghost use Rattle.gq_parts.specs.Texts.{answer_text, sent_line, parcel_text, step_text, joins_text, joined_text};
-ghost use Rattle.gq_parts.specs.Steps.{AskedToJoin, fact_lines, HasAddress, IsOfPlan, Appended, TookOf, TookAll, TookIncoming, some_lacks};
+ghost use Rattle.gq_parts.specs.Steps.{AskedToJoin, fact_lines, HasAddress, IsOfPlan, Appended, TookOf, TookAll, TookIncoming, some_lacks, all_lacked};
 
 use crate::ranges::{fact_fits, plan_is_sound};
 use gq_facts::{put_fact, read_fact};
@@ -330,25 +330,27 @@ impl NodeMachine {
         Ok(())
     }
 
-    // Whether the server lacks a file of some tenant.
-    fn lacks_some(&self) -> bool
-        ensures { result ≡ some_lacks self.now.node.tables }
+    /// Whether the server lacks a file of some tenant. It asks each volume once, however many files it was given.
+    pub fn lacks_some(&self) -> bool
+        ensures { result ≡ some_lacks (tables_of self.now) }
     {
         let tenants = self.node.plan().tenants();
         for place in 0..tenants {
-            if self.node.lacked(place as u8) > 0 {
+            if self.node.lacks_some(place as u8) {
                 return true;
             }
         }
         false
     }
 
-    /// How many files the server lacks.
-    pub fn lacked(&self) -> usize {
-        let mut lacked = 0usize;
+    /// How many files the server lacks, of all tenants. It looks at each file.
+    pub fn lacked(&self) -> usize
+        ensures { result ≡ all_lacked (tables_of self.now) }
+    {
+        let mut lacked = 0;
         let tenants = self.node.plan().tenants();
         for place in 0..tenants {
-            lacked = lacked.saturating_add(self.node.lacked(place as u8));
+            lacked += self.node.lacked(place as u8);
         }
         lacked
     }

@@ -1,7 +1,7 @@
 -- How often each place stands among the places whose nodes were lost; how many files are lacked.
-use Rattle.std.proofs.Common.{cond, ◌≡◌, ◌∙◌, ℕ, ◌+◌, ◌<◌, ◌≤◌, Bool, false, suc, List, [], ◌∷◌, ◌++◌, map, replicate, refl, sym, ap, subst, arith, inl, inr}
-use Rattle.std.specs.Prelude.{◌==◌, slice_set, slice_index_or}
-use Rattle.std.proofs.lemmas.Bool.{cases_eq, cases_lt, eq-eqb, ne_eqb}
+use Rattle.std.proofs.Common.{cond, ◌≡◌, ◌∙◌, ℕ, ◌+◌, ◌<◌, ◌≤◌, Bool, true, false, suc, List, [], ◌∷◌, ◌++◌, map, replicate, refl, sym, ap, subst, arith, inl, inr}
+use Rattle.std.specs.Prelude.{◌==◌, nat_lt, Some, is_some, find, slice_set, slice_index_or}
+use Rattle.std.proofs.lemmas.Bool.{cases_eq, cases_lt, eq-eqb, ne_eqb, lt-ltb}
 use Rattle.std.proofs.lemmas.List.{get_or-set_same, get_or-set_other, get_or-replicate, length-set, length-replicate, length-map, map-append, append-nil}
 use Rattle.std.specs.List.{count_by, flat_map, range_with_len}
 use Rattle.std.proofs.lemmas.List.Sums.{sum_by-append, count_by-le-length}
@@ -94,3 +94,23 @@ volumes_more lacks g v =
 pub none_such : {A : Type 0} (is_such : A → Bool) (xs : List A) → ((x : A) → is_such x ≡ false) → count_by is_such xs ≡ 0
 none_such is_such [] none = refl
 none_such is_such (x ∷ xs) none = rw (none x, none_such is_such xs none) refl
+
+-- one is found where there is one
+count_first : {A : Type 0} (is_such : A → Bool) (x : A) (xs : List A) → count_by is_such (x ∷ xs) ≡ cond (is_such x) 1 0 + count_by is_such xs
+count_first is_such x xs =
+    let all : count_by is_such (x ∷ xs) ≡ 0 + cond (is_such x) 1 0 + count_by is_such xs = sum_by-append (λ y. cond (is_such y) 1 0) (x ∷ []) xs in
+    all ∙ ap (λ n. n + count_by is_such xs) (zero_plus (cond (is_such x) 1 0))
+
+pub some_found : {A : Type 0} (is_such : A → Bool) (xs : List A) → is_some (find is_such xs) ≡ nat_lt 0 (count_by is_such xs)
+some_found is_such [] = refl
+some_found is_such (x ∷ xs) = by (is_such x) refl (some_found is_such xs)
+  where
+    by : (b : Bool) → is_such x ≡ b → is_some (find is_such xs) ≡ nat_lt 0 (count_by is_such xs) → is_some (find is_such (x ∷ xs)) ≡ nat_lt 0 (count_by is_such (x ∷ xs))
+    by true is rest =
+        let found : find is_such (x ∷ xs) ≡ Some x = rw is refl in
+        let counted : count_by is_such (x ∷ xs) ≡ 1 + count_by is_such xs = count_first is_such x xs ∙ ap (λ b. cond b 1 0 + count_by is_such xs) is in
+        ap is_some found ∙ sym (ap (nat_lt 0) counted ∙ lt-ltb 0 (1 + count_by is_such xs) (omega arith))
+    by false is rest =
+        let found : find is_such (x ∷ xs) ≡ find is_such xs = rw is refl in
+        let counted : count_by is_such (x ∷ xs) ≡ 0 + count_by is_such xs = count_first is_such x xs ∙ ap (λ b. cond b 1 0 + count_by is_such xs) is in
+        ap is_some found ∙ rest ∙ sym (ap (nat_lt 0) (counted ∙ zero_plus (count_by is_such xs)))

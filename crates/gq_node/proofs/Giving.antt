@@ -1,8 +1,8 @@
 -- A new node's files: what it lacks, what it is given, and whom it asks.
-use Rattle.std.proofs.Common.{◌≡◌, ◌≢◌, ◌∙◌, ℕ, suc, ◌+◌, ◌-◌, ◌*◌, ◌<◌, ◌≤◌, Bool, true, false, List, [], ◌∷◌, ◌++◌, length, map, Option, Some, None, refl, sym, ap, subst, arith, inl, inr}
+use Rattle.std.proofs.Common.{◌≡◌, ◌≢◌, ◌∙◌, ℕ, zero, suc, ◌+◌, ◌-◌, ◌*◌, ◌<◌, ◌≤◌, Bool, true, false, List, [], ◌∷◌, ◌++◌, length, map, Option, Some, None, refl, sym, ap, subst, arith, inl, inr}
 use Rattle.std.specs.Prelude.{◌==◌, ◌&&◌, not, is_some, find, slice_set}
 use Rattle.std.specs.List.{range_with_len, flat_map}
-use Rattle.std.proofs.lemmas.Bool.{cases_eq, eq-eqb, and_parts, and_from, true≢false}
+use Rattle.std.proofs.lemmas.Bool.{cases_eq, cases_lt, eq-eqb, and_parts, and_from, true≢false}
 use Rattle.std.proofs.lemmas.List.{get_or-set_same, get_or-set_other, length-set}
 use Rattle.gq_grid.specs.Grid.{with_server}
 use Rattle.gq_grid.specs.Sets.{servers}
@@ -140,6 +140,21 @@ first_in_here lacks v i n less some = let s : n - i ≡ suc (n - (i + 1)) = omeg
 
 pub first_in_none : (lacks : File → Bool) (v i n : ℕ) → n ≤ i → find lacks (map (at_place v) (range_with_len i (n - i))) ≡ None
 first_in_none lacks v i n past = let s : n - i ≡ 0 = omega arith in rw s refl
+
+-- from a place on before which none is lacked
+pub first_in_from : (lacks : File → Bool) (v i n : ℕ) → ((place : ℕ) → place < i → lacks (at_place v place) ≡ false) → find lacks (map (at_place v) (range_with_len i (n - i))) ≡ find lacks (map (at_place v) (range_with_len 0 n))
+first_in_from lacks v zero n none = let all : n - 0 ≡ n = omega arith in ap (λ m. find lacks (map (at_place v) (range_with_len 0 m))) all
+first_in_from lacks v (suc i) n none = elim (cases_lt i n) [
+  | inl less ↦ (
+      let next : i + 1 ≡ suc i = omega arith in
+      ap (λ m. find lacks (map (at_place v) (range_with_len m (n - m)))) (sym next)
+      ∙ first_in_more lacks v i n less (none i (omega arith))
+      ∙ first_in_from lacks v i n before)
+  | inr past ↦ (first_in_none lacks v (suc i) n (omega (arith, past)) ∙ sym (first_in_none lacks v i n past) ∙ first_in_from lacks v i n before)
+]
+  where
+    before : (place : ℕ) → place < i → lacks (at_place v place) ≡ false
+    before place low = none place (omega (arith, low))
 
 find_behind : (lacks : File → Bool) (xs ys : List File) → find lacks xs ≡ None → find lacks (xs ++ ys) ≡ find lacks ys
 find_behind lacks [] ys none = refl

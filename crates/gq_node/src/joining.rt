@@ -163,7 +163,8 @@ impl Core {
         ensures first { option_map file_place result ≡ find (lacks_at self.now tenant) (files_in_volume volume (files_of (account_at self.now.desk tenant).volumes volume)) }
         ensures tenant { IfSome result (λ file. file.tenant ≡ tenant) }
     {
-        for place in 0..self.files(tenant, volume) {
+        let first = self.lacks[usize::from(tenant)].next(volume);
+        for place in first..self.files(tenant, volume) {
             let file = FileId {
                 tenant,
                 volume,
@@ -219,10 +220,23 @@ impl Core {
         let _node = self.node;
     }
 
+    // Whether the server lacks a file of the tenant.
+    pub(crate) fn lacks_some(&self, tenant: u8) -> bool
+        requires { tenant < length self.now.plan.rows }
+        ensures { result ≡ nat_lt 0 (lacked_files (lacks_at self.now tenant) (account_at self.now.desk tenant).volumes) }
+    {
+        self.is_whole();
+        if !self.is_new() {
+            return false;
+        }
+        self.first_lacked(tenant).is_some()
+    }
+
     // How many files of the tenant the server lacks.
     pub(crate) fn lacked(&self, tenant: u8) -> usize
         requires { tenant < length self.now.plan.rows }
-        ensures { result ≡ lacked_files (lacks_at self.now tenant) (account_at self.now.desk tenant).volumes }
+        ensures lacked { result ≡ lacked_files (lacks_at self.now tenant) (account_at self.now.desk tenant).volumes }
+        ensures few { result ≤ MOST_VOLUMES * MOST_FILES }
     {
         self.is_whole();
         if !self.is_new() {

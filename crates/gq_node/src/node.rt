@@ -1,6 +1,7 @@
 //! The node, until memory runs out.
 
-ghost use Rattle.std.specs.Prelude.{◌≡◌, ◌*◌, ◌<◌, ◌≤◌, ℕ, [], true, false, length, IfOk, IfErr, OnOk, OnErr, IsErr};
+ghost use Rattle.std.specs.Prelude.{◌≡◌, ◌*◌, ◌<◌, ◌≤◌, ℕ, [], true, false, length, nat_lt, IfOk, IfErr, OnOk, OnErr, IsErr};
+ghost use Rattle.gq_tag.specs.declared.TheConstants.{MOST_FILES};
 ghost use Rattle.gq_tag.specs.Tag.{own_message, file_place};
 ghost use Rattle.gq_grid.specs.Sets.{servers};
 ghost use Rattle.gq_desk.specs.declared.limits.TheConstants.{MOST_VOLUMES};
@@ -274,10 +275,19 @@ impl Node {
         self.tables.awaited()
     }
 
-    /// How many files of the tenant the server lacks.
+    /// Whether the server lacks a file of the tenant. It asks each volume of the tenant once, however many files it was given.
+    pub fn lacks_some(&self, tenant: u8) -> bool
+        requires { tenant < length self.now.tables.plan.rows }
+        ensures { result ≡ nat_lt 0 (lacked_files (lacks_at self.now.tables tenant) (account_at self.now.tables.desk tenant).volumes) }
+    {
+        self.tables.lacks_some(tenant)
+    }
+
+    /// How many files of the tenant the server lacks. It looks at each file of the tenant.
     pub fn lacked(&self, tenant: u8) -> usize
         requires { tenant < length self.now.tables.plan.rows }
-        ensures { result ≡ lacked_files (lacks_at self.now.tables tenant) (account_at self.now.tables.desk tenant).volumes }
+        ensures lacked { result ≡ lacked_files (lacks_at self.now.tables tenant) (account_at self.now.tables.desk tenant).volumes }
+        ensures few { result ≤ MOST_VOLUMES * MOST_FILES }
     {
         self.tables.lacked(tenant)
     }

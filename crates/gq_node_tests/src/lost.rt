@@ -144,11 +144,15 @@ fn fetched(rt: &impl Abort, node: &mut Node, from: u16, number: u32, copy: Store
     node.fetched(from, file, copy).expect(rt, "memory")
 }
 
-// Node 64 is told by all others that they know it.
-fn joins(rt: &impl Abort, new: &mut Node, mate: &Node, old: &Node) {
+// A node whose plan says that node 0 was lost tells node 64 that it has it; by a plan in which it was not lost, node 0 is there.
+fn tells_joined(rt: &impl Abort, alloc: Global, mate: &Node) {
     assert!(rt; mate.tells_joined(64, 1));
-    // by a plan in which it was not lost, node 0 is there
+    let old = node(rt, alloc, Lost::none(alloc).expect(rt, "memory"), 2, 0);
     assert!(rt; !old.tells_joined(64, 1));
+}
+
+// Node 64 is told by all others that they know it.
+fn joins(rt: &impl Abort, new: &mut Node) {
     assert_eq!(rt;
         new.awaited().expect(rt, "memory").as_slice(),
         [1u16, 2, 3].as_slice()
@@ -160,22 +164,33 @@ fn joins(rt: &impl Abort, new: &mut Node, mate: &Node, old: &Node) {
     assert!(rt; new.awaited().expect(rt, "memory").is_empty());
 }
 
-// It is given both files by its mate. Answers the facts of that.
-fn is_given(rt: &impl Abort, new: &mut Node, mate: &mut Node) -> (Option<Fact>, Option<Fact>) {
+// It is given the file by its mate. Answers the file that it asks for then.
+fn is_given(rt: &impl Abort, new: &mut Node, mate: &mut Node, number: u32) -> Option<(u16, u32)> {
+    let copy = fetch(rt, mate, 64, number).expect(rt, "a copy");
+    let out = fetched(rt, new, 2, number, copy);
+    assert!(rt; out.fact.is_some());
+    asked(&out.parcel)
+}
+
+// It is given both files.
+fn is_given_both(rt: &impl Abort, new: &mut Node, mate: &mut Node) {
     assert_eq!(rt; lacked(rt, new), 2);
     assert!(rt; !answers(rt, new, &store(0)));
     assert_eq!(rt; asked(&look(rt, new).parcel), Some((2, 0)));
-    let first = fetch(rt, mate, 64, 0).expect(rt, "a copy");
-    let one = fetched(rt, new, 2, 0, first);
-    assert_eq!(rt; asked(&one.parcel), Some((2, 1)));
+    assert_eq!(rt; is_given(rt, new, mate, 0), Some((2, 1)));
     assert_eq!(rt; lacked(rt, new), 1);
-    let second = fetch(rt, mate, 64, 1).expect(rt, "a copy");
-    assert_eq!(rt; second.tag.number, 1);
-    let other = fetched(rt, new, 2, 1, second);
-    assert_eq!(rt; asked(&other.parcel), None);
+    assert_eq!(rt; is_given(rt, new, mate, 1), None);
     assert_eq!(rt; lacked(rt, new), 0);
     assert_eq!(rt; asked(&look(rt, new).parcel), None);
-    (one.fact, other.fact)
+}
+
+// It is given both by a mate that was sent a store of the second.
+fn is_filled(rt: &impl Abort, alloc: Global, new: &mut Node) {
+    let mut mate = node(rt, alloc, lost(rt, alloc), 2, 1);
+    assert!(rt; answers(rt, &mut mate, &store(2)));
+    tells_joined(rt, alloc, &mate);
+    joins(rt, new);
+    is_given_both(rt, new, &mut mate);
 }
 
 fn request(rt: &impl Abort, node: &mut Node, session: u32) -> Output {
@@ -214,29 +229,29 @@ fn recall(rt: &impl Abort, node: &mut Node, fact: &Fact) {
     assert!(rt; node.recall(fact));
 }
 
-// It starts again, and has what it was given.
-fn starts(rt: &impl Abort, again: &mut Node, facts: &[Fact]) {
+fn recall_all(rt: &impl Abort, again: &mut Node, facts: &[Fact]) {
     for fact in facts {
         recall(rt, again, fact);
     }
-    assert_eq!(rt; lacked(rt, again), 0);
-    assert!(rt; answers(rt, again, &letter(0, 1, Body::Ask)));
+}
+
+// A start from what it needs has both files, the second as it was given, and no node has joined.
+fn starts(rt: &impl Abort, alloc: Global, new: &Node) {
+    let mut again = node(rt, alloc, lost(rt, alloc), 64, 1);
+    recall_all(rt, &mut again, &new.needed().expect(rt, "memory"));
+    assert_eq!(rt; lacked(rt, &again), 0);
+    assert!(rt; answers(rt, &mut again, &letter(0, 1, Body::Ask)));
     assert_eq!(rt; again.awaited().expect(rt, "memory").len(), 3);
+    let copy = fetch(rt, &mut again, 2, 1).expect(rt, "a copy");
+    assert_eq!(rt; copy.tag.number, 1);
 }
 
 #[test]
 fn a_new_node_is_given_what_it_lacks(rt: HostRuntime) -> Result<(), Fail> {
     let alloc = rt.alloc();
     let mut new = node(&rt, alloc, lost(&rt, alloc), 64, 1);
-    let mut mate = node(&rt, alloc, lost(&rt, alloc), 2, 1);
-    let old = node(&rt, alloc, Lost::none(alloc)?, 2, 0);
-    assert!(rt; answers(&rt, &mut mate, &store(2)));
-    joins(&rt, &mut new, &mate, &old);
-    let (one, other) = is_given(&rt, &mut new, &mut mate);
-    assert!(rt; one.is_some() && other.is_some());
+    is_filled(&rt, alloc, &mut new);
     is_home(&rt, &mut new);
-    let needed = new.needed().expect(&rt, "memory");
-    let mut again = node(&rt, alloc, lost(&rt, alloc), 64, 1);
-    starts(&rt, &mut again, &needed);
+    starts(&rt, alloc, &new);
     Ok(())
 }

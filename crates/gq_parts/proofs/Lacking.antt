@@ -1,10 +1,11 @@
 -- Whether a node lacks a file of some tenant, by its tables and by its parts.
-use Rattle.std.proofs.Common.{◌≡◌, ◌∙◌, ℕ, zero, suc, ◌+◌, ◌<◌, Bool, true, false, List, [], ◌∷◌, length, cond, refl, sym, ap, arith, inl, inr}
+use Rattle.std.proofs.Common.{◌≡◌, ◌∙◌, ℕ, zero, suc, ◌+◌, ◌<◌, Bool, true, false, List, [], ◌∷◌, ◌++◌, length, cond, refl, sym, ap, arith, inl, inr}
 use Rattle.std.specs.Prelude.{◌||◌, nat_lt, fold}
 use Rattle.std.proofs.lemmas.Bool.{cases_eq}
-use Rattle.std.specs.List.{count_by, list_any, range_with_len}
+use Rattle.std.specs.List.{count_by, list_any, sum_by, range_with_len}
+use Rattle.std.proofs.lemmas.List.Sums.{sum_by-append}
 use Rattle.gq_grid.specs.Sets.{servers}
-use Rattle.gq_grid.proofs.Same.{list_any_range_more}
+use Rattle.gq_grid.proofs.Same.{list_any_range_more, range_more}
 use Rattle.gq_tag.specs.Tag.{File}
 use Rattle.gq_desk.specs.Volumes.{Account, account_at}
 use Rattle.gq_node.specs.Joining.{all_files, awaited, lacked_files}
@@ -69,3 +70,16 @@ one_lacks p (suc n) t below is = elim (cases_eq t n) [
 -- none of those so far, and not the next
 pub none_more : (p : ℕ → Bool) (n : ℕ) → list_any p (range_with_len 0 n) ≡ false → p n ≡ false → list_any p (range_with_len 0 (n + 1)) ≡ false
 none_more p n before is = list_any_range_more p n ∙ (rw (before, is) refl)
+
+-- what is counted of one more is added
+pub sum_more : (f : ℕ → ℕ) (n : ℕ) → sum_by f (range_with_len 0 (n + 1)) ≡ sum_by f (range_with_len 0 n) + f n
+sum_more f n =
+    let next : n + 1 ≡ suc n = omega arith in
+    let last : sum_by f (n ∷ []) ≡ 0 + f n = refl in
+    ap (λ m. sum_by f (range_with_len 0 m)) next
+    ∙ ap (sum_by f) (range_more 0 n n (plus_none n))
+    ∙ sum_by-append f (range_with_len 0 n) (n ∷ [])
+    ∙ ap (λ m. sum_by f (range_with_len 0 n) + m) (last ∙ plus_none (f n))
+  where
+    plus_none : (m : ℕ) → 0 + m ≡ m
+    plus_none m = omega arith

@@ -1,5 +1,5 @@
 -- What a line does to a node.
-use Rattle.std.specs.List.{list_any}
+use Rattle.std.specs.List.{list_any, sum_by}
 use Rattle.std.specs.Prelude.{◌≡◌, ◌≢◌, ℕ, ◌<◌, nat_lt, Bool, List, ◌++◌, length, map, Option, Some, None, All}
 use Rattle.gq_tag.specs.declared.Message.{Message}
 use Rattle.gq_desk.specs.CheckedPlan.{CheckedPlan}
@@ -63,6 +63,10 @@ IsOfPlan plan (Some parcel) = (parcel_file parcel).tenant < length plan.rows
 -- whether the server lacks a file of some tenant
 abbrev pub some_lacks : Tables → Bool
 some_lacks w = list_any (λ t. nat_lt 0 (lacked_files (lacks_at w t) (account_at w.desk t).volumes)) (places w.plan)
+
+-- how many files of all tenants it lacks
+abbrev pub all_lacked : Tables → ℕ
+all_lacked w = sum_by (λ t. lacked_files (lacks_at w t) (account_at w.desk t).volumes) (places w.plan)
 
 -- what is written to other nodes at a tick was appended, whatever parts of the node the tables have
 pub record AskedToJoin (w : Tables) (told_before told_after : List ℕ) : Type 0 where

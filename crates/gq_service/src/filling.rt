@@ -25,7 +25,7 @@ impl<'x, C: Console> Filling<'x, C> {
 
 impl<C: Console> Watch<NodeMachine> for Filling<'_, C> {
     fn took(&mut self, machine: &NodeMachine) {
-        if self.lacks && machine.lacked() == 0 {
+        if self.lacks && !machine.lacks_some() {
             self.lacks = false;
             self.console.has_all(self.number);
         }

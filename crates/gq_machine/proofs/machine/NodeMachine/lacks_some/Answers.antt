@@ -1,7 +1,6 @@
 -- One tenant after another.
-use Rattle.std.proofs.Common.{◌≡◌, ◌∙◌, ℕ, ◌<◌, ◌≤◌, Bool, true, false, length, sym, ap, subst, arith}
+use Rattle.std.proofs.Common.{◌≡◌, ◌∙◌, ℕ, ◌<◌, Bool, true, false, length, sym, ap, subst}
 use Rattle.std.specs.Prelude.{nat_lt}
-use Rattle.std.proofs.lemmas.Bool.{lt-ltb, le-ltb}
 use Rattle.gq_desk.specs.CheckedPlan.{CheckedPlan}
 use Rattle.gq_desk.specs.Volumes.{account_at}
 use Rattle.gq_node.specs.Joining.{lacked_files}
@@ -13,16 +12,12 @@ use Rattle.gq_machine.proofs.machine.NodeMachine.lacks_some.Goals as goal
 abbrev lacks_at_all : Tables → ℕ → Bool
 lacks_at_all w t = nat_lt 0 (lacked_files (lacks_at w t) (account_at w.desk t).volumes)
 
-pub returns-then-lacked-gt0 : goal.returns-then-lacked-gt0
-returns-then-lacked-gt0 c =
+pub returns-then-lacks_some : goal.returns-then-lacks_some
+returns-then-lacks_some c =
     let w : Tables = c.args.self.now.node.tables in
     let tenants : c.tenants-tenants.result ≡ length w.plan.rows = c.tenants-tenants.ensures.value ∙ ap (λ (p : CheckedPlan). length p.rows) c.plan.ensures in
     let within : c.loop-place.place < length w.plan.rows = subst (λ n. c.loop-place.place < n) tenants c.loop-place-test.true in
-    let lacks : lacks_at_all w c.loop-place.place ≡ true = ap (nat_lt 0) (sym c.lacked.ensures) ∙ lt-ltb 0 c.lacked.result c.if-lacked-gt0.true in
-    sym (one_lacks (lacks_at_all w) (length w.plan.rows) c.loop-place.place within lacks)
+    sym (one_lacks (lacks_at_all w) (length w.plan.rows) c.loop-place.place within (sym c.lacks_some.ensures ∙ c.if-lacks_some.true))
 
 pub loop-place-preserved : goal.loop-place-preserved
-loop-place-preserved c =
-    let w : Tables = c.args.self.now.node.tables in
-    let none : c.lacked.result ≤ 0 = omega (arith, c.if-lacked-gt0.false) in
-    none_more (lacks_at_all w) c.loop-place.place c.loop-place.invariant (ap (nat_lt 0) (sym c.lacked.ensures) ∙ le-ltb 0 c.lacked.result none)
+loop-place-preserved c = none_more (lacks_at_all c.args.self.now.node.tables) c.loop-place.place c.loop-place.invariant (sym c.lacks_some.ensures ∙ c.if-lacks_some.false)

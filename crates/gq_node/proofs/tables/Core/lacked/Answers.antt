@@ -27,15 +27,18 @@ loop-volume-preserved c =
       omega (arith, c.loop-volume.invariant.1, c.lacked_in-lacked.ensures.few),
     )
 
-pub returns : goal.returns
-returns c =
+pub returns-clause-lacked : goal.returns-clause-lacked
+returns-clause-lacked c =
     let lacks : File → Bool = lacks_at c.args.self.now c.args.tenant in
     let g : ℕ → List File = volume_files (account_at c.args.self.now.desk c.args.tenant).volumes in
     let end : c.loop-volume.volume ≡ c.count_volumes-volume-end.result = omega (arith, c.loop-volume-test.false, c.loop-volume.auto.volume-end) in
     c.loop-volume.invariant.0 ∙ ap (λ n. count_by lacks (flat_map g (range_with_len 0 n))) (end ∙ c.count_volumes-volume-end.ensures.count)
 
-pub returns-then-not-is_new : goal.returns-then-not-is_new
-returns-then-not-is_new c =
+pub returns-clause-few : goal.returns-clause-few
+returns-clause-few c = omega (arith, c.loop-volume.invariant.1, c.loop-volume.auto.volume-end, c.count_volumes-volume-end.ensures.few)
+
+pub returns-then-not-is_new-clause-lacked : goal.returns-then-not-is_new-clause-lacked
+returns-then-not-is_new-clause-lacked c =
     let volumes : List VolumeRow = (account_at c.args.self.now.desk c.args.tenant).volumes in
     let old : is_new_node c.args.self.now ≡ false = sym (c.is_new.ensures 0) ∙ c.if-not-is_new.true in
     sym (none_such (lacks_at c.args.self.now c.args.tenant) (all_files volumes) (λ file. c.is_whole.ensures old c.args.tenant file))
