@@ -4,8 +4,8 @@ ghost use Rattle.std.specs.Prelude.{◌≡◌, ℕ, List, Bool, true, IfOk};
 ghost use Rattle.gq_journal.specs.Batches.{whole_lines};
 ghost use Rattle.gq_keeper.specs.Plans.{is_head, is_plan, IsPlan, head_of, goes_on_from};
 
-use crate::Fault;
 use gq_journal::{can_be_sealed, first_whole_line};
+use gq_memory::OutOfMemory;
 
 /// The plan with which a machine starts.
 pub trait Plan {
@@ -19,8 +19,8 @@ pub trait Plan {
     fn text(&self) -> &[u8]
         ensures { result.now ≡ text self.now };
 
-    /// Whether it goes on from another plan.
-    fn goes_on(&self, last: &[u8]) -> Result<bool, Fault>
+    /// Whether it goes on from another plan. It is not told only where memory is wanting.
+    fn goes_on(&self, last: &[u8]) -> Result<bool, OutOfMemory>
         ensures { IfOk result (λ goes. goes ≡ goes_on self.now last.now) };
 }
 
@@ -60,7 +60,7 @@ fn head_of(text: &[u8]) -> &[u8]
 }
 
 // Whether the plan is of the same node and grid as the last one, and goes on from it.
-pub(crate) fn goes_on_from<P: Plan>(plan: &P, last: &[u8]) -> Result<bool, Fault>
+pub(crate) fn goes_on_from<P: Plan>(plan: &P, last: &[u8]) -> Result<bool, OutOfMemory>
     ensures { IfOk result (λ goes. goes ≡ goes_on_from (P.goes_on plan.now) (P.text plan.now) last.now) }
 {
     let text = plan.text();

@@ -201,7 +201,7 @@ fn has_right_behind(alloc: Global, text: &[u8], at: usize) -> Result<bool, OutOf
 }
 
 // Whether the journal is of this plan's node: it begins with a plan, and this one goes on from its last.
-fn is_of<P: Plan>(plan: &P, begins: bool, last: &[u8]) -> Result<bool, Fault>
+fn is_of<P: Plan>(plan: &P, begins: bool, last: &[u8]) -> Result<bool, OutOfMemory>
     ensures { IfOk result (λ is. is ≡ (begins && goes_on_from (P.goes_on plan.now) (P.text plan.now) last.now)) }
 {
     if !begins {

@@ -98,7 +98,12 @@ impl Machine for Register {
 
     ghost reads_on = { λ old line new other recalled. refl };
 
-    fn take(&mut self, line: &[u8], facts: &mut Vec<u8>, told: &mut Vec<u8>) -> Result<(), Fault> {
+    fn take(
+        &mut self,
+        line: &[u8],
+        facts: &mut Vec<u8>,
+        told: &mut Vec<u8>,
+    ) -> Result<(), OutOfMemory> {
         if !is_fact(line) {
             return Ok(());
         }

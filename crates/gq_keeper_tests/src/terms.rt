@@ -2,7 +2,8 @@
 
 ghost use Rattle.std.specs.Prelude.{◌≡◌, nat_lt, length, IfSome};
 
-use gq_keeper::{Fault, Plan, is_plan_text};
+use gq_keeper::{Plan, is_plan_text};
+use gq_memory::OutOfMemory;
 
 /// The text of a plan: it goes on from any that is shorter.
 #[derive(Drop)]
@@ -33,7 +34,7 @@ impl<'x> Plan for Terms<'x> {
         self.text
     }
 
-    fn goes_on(&self, last: &[u8]) -> Result<bool, Fault> {
+    fn goes_on(&self, last: &[u8]) -> Result<bool, OutOfMemory> {
         Ok(last.len() < self.text.len())
     }
 }

@@ -40,9 +40,9 @@ pub struct NodeMachine {
 }
 
 // Memory was wanting for the node.
-fn no_memory(ended: Ended) -> Fault {
+fn no_memory(ended: Ended) -> OutOfMemory {
     let Ended(refused) = ended;
-    Fault::Memory(refused)
+    refused
 }
 
 impl NodeMachine {
@@ -61,7 +61,7 @@ impl NodeMachine {
     }
 
     // That memory was never wanting: the node has a part for each tenant.
-    fn goes(&self) -> Result<(), Fault>
+    fn goes(&self) -> Result<(), OutOfMemory>
         ensures { OnOk result (AllStand self.now.node.tables) }
     {
         self.node.goes().map_err(no_memory)
@@ -177,7 +177,7 @@ impl NodeMachine {
         line: &Line,
         facts: &mut Vec<u8>,
         told: &mut Vec<u8>,
-    ) -> Result<(), Fault>
+    ) -> Result<(), OutOfMemory>
         requires { tenant < length self.old.node.tables.plan.rows }
         ensures { OnOk result (TookOf self.old.node.tables tenant (Asked op line.now ∷ []) facts.old.items facts.new.items told.old.items told.new.items self.new.node.tables) }
     {
@@ -189,7 +189,12 @@ impl NodeMachine {
     }
 
     // The tenant asks what it has.
-    fn question(&mut self, tenant: u8, facts: &mut Vec<u8>, told: &mut Vec<u8>) -> Result<(), Fault>
+    fn question(
+        &mut self,
+        tenant: u8,
+        facts: &mut Vec<u8>,
+        told: &mut Vec<u8>,
+    ) -> Result<(), OutOfMemory>
         requires { tenant < length self.old.node.tables.plan.rows }
         ensures { OnOk result (TookOf self.old.node.tables tenant (AskedPlan ∷ []) facts.old.items facts.new.items told.old.items told.new.items self.new.node.tables) }
     {
@@ -207,7 +212,7 @@ impl NodeMachine {
         message: &Message,
         facts: &mut Vec<u8>,
         told: &mut Vec<u8>,
-    ) -> Result<(), Fault>
+    ) -> Result<(), OutOfMemory>
         requires tenant { message.now.tenant < length self.old.node.tables.plan.rows }
         requires own { message.now.file.tenant ≡ message.now.tenant }
         ensures { OnOk result (TookOf self.old.node.tables message.now.tenant (Brought from (own_message message.now) ∷ []) facts.old.items facts.new.items told.old.items told.new.items self.new.node.tables) }
@@ -226,7 +231,7 @@ impl NodeMachine {
         file: FileId,
         facts: &mut Vec<u8>,
         told: &mut Vec<u8>,
-    ) -> Result<(), Fault>
+    ) -> Result<(), OutOfMemory>
         requires { file.tenant < length self.old.node.tables.plan.rows }
         ensures { OnOk result (TookOf self.old.node.tables file.tenant (Fetching from (file_place file) ∷ []) facts.old.items facts.new.items told.old.items told.new.items self.new.node.tables) }
     {
@@ -245,7 +250,7 @@ impl NodeMachine {
         copy: &StoredCopy,
         facts: &mut Vec<u8>,
         told: &mut Vec<u8>,
-    ) -> Result<(), Fault>
+    ) -> Result<(), OutOfMemory>
         requires { file.tenant < length self.old.node.tables.plan.rows }
         ensures { OnOk result (TookOf self.old.node.tables file.tenant (WasFetched from (file_place file) copy.now ∷ []) facts.old.items facts.new.items told.old.items told.new.items self.new.node.tables) }
     {
@@ -264,7 +269,7 @@ impl NodeMachine {
         place: usize,
         facts: &mut Vec<u8>,
         told: &mut Vec<u8>,
-    ) -> Result<(), Fault>
+    ) -> Result<(), OutOfMemory>
         requires tenant { tenant < length self.old.node.tables.plan.rows }
         requires place { place < (row_at self.old.node.tables.plan tenant).sessions }
         ensures { OnOk result (TookOf self.old.node.tables tenant (Ticked (session_at self.old.node.tables.plan self.old.node.tables.here tenant place) ∷ []) facts.old.items facts.new.items told.old.items told.new.items self.new.node.tables) }
@@ -282,7 +287,7 @@ impl NodeMachine {
         tenant: u8,
         facts: &mut Vec<u8>,
         told: &mut Vec<u8>,
-    ) -> Result<(), Fault>
+    ) -> Result<(), OutOfMemory>
         requires { tenant < length self.old.node.tables.plan.rows }
         ensures { OnOk result (TookOf self.old.node.tables tenant (session_ticks self.old.node.tables.plan self.old.node.tables.here tenant) facts.old.items facts.new.items told.old.items told.new.items self.new.node.tables) }
     {
@@ -294,7 +299,12 @@ impl NodeMachine {
     }
 
     // A tick comes to the tenant behind those of its sessions: a file that the server lacks may be asked for.
-    fn look(&mut self, tenant: u8, facts: &mut Vec<u8>, told: &mut Vec<u8>) -> Result<(), Fault>
+    fn look(
+        &mut self,
+        tenant: u8,
+        facts: &mut Vec<u8>,
+        told: &mut Vec<u8>,
+    ) -> Result<(), OutOfMemory>
         requires { tenant < length self.old.node.tables.plan.rows }
         ensures { OnOk result (TookOf self.old.node.tables tenant (Looked ∷ []) facts.old.items facts.new.items told.old.items told.new.items self.new.node.tables) }
     {
@@ -311,7 +321,7 @@ impl NodeMachine {
         tenant: u8,
         facts: &mut Vec<u8>,
         told: &mut Vec<u8>,
-    ) -> Result<(), Fault>
+    ) -> Result<(), OutOfMemory>
         requires { tenant < length self.old.node.tables.plan.rows }
         ensures { OnOk result (TookOf self.old.node.tables tenant (ticks_of self.old.node.tables.plan self.old.node.tables.here tenant) facts.old.items facts.new.items told.old.items told.new.items self.new.node.tables) }
     {
@@ -320,7 +330,7 @@ impl NodeMachine {
     }
 
     // A tick comes to each tenant, in plan order.
-    fn tick_tenants(&mut self, facts: &mut Vec<u8>, told: &mut Vec<u8>) -> Result<(), Fault>
+    fn tick_tenants(&mut self, facts: &mut Vec<u8>, told: &mut Vec<u8>) -> Result<(), OutOfMemory>
         ensures { OnOk result (TookAll self.old.node.tables (ticks_of self.old.node.tables.plan self.old.node.tables.here) facts.old.items facts.new.items told.old.items told.new.items self.new.node.tables) }
     {
         let tenants = self.node.plan().tenants();
@@ -378,7 +388,7 @@ impl NodeMachine {
     }
 
     // A tick comes.
-    fn tick(&mut self, facts: &mut Vec<u8>, told: &mut Vec<u8>) -> Result<(), Fault>
+    fn tick(&mut self, facts: &mut Vec<u8>, told: &mut Vec<u8>) -> Result<(), OutOfMemory>
         ensures { OnOk result (TookIncoming self.old.node.tables Tick facts.old.items facts.new.items told.old.items told.new.items self.new.node.tables) }
     {
         self.tick_tenants(facts, told)?;
@@ -386,7 +396,7 @@ impl NodeMachine {
     }
 
     // The node of that number, which is new, asks whether this one's plan has it, and so many losses or more.
-    fn asked_to_join(&self, from: u16, losses: u32, told: &mut Vec<u8>) -> Result<(), Fault>
+    fn asked_to_join(&self, from: u16, losses: u32, told: &mut Vec<u8>) -> Result<(), OutOfMemory>
         ensures { OnOk result (told.new.items ≡ told.old.items ++ joined_text self.now.node.tables.plan self.now.node.tables.here from losses) }
     {
         if !self.node.tells_joined(from, losses) {
@@ -396,7 +406,7 @@ impl NodeMachine {
     }
 
     // The node of that number tells that its plan has this one.
-    fn joined(&mut self, from: u16, losses: u32) -> Result<(), Fault>
+    fn joined(&mut self, from: u16, losses: u32) -> Result<(), OutOfMemory>
         ensures { OnOk result (LeadsAll self.old.node.tables (hears_joined from losses) self.new.node.tables) }
     {
         self.node.hear_joined(from, losses).map_err(no_memory)
@@ -408,7 +418,7 @@ impl NodeMachine {
         incoming: &Incoming,
         facts: &mut Vec<u8>,
         told: &mut Vec<u8>,
-    ) -> Result<(), Fault>
+    ) -> Result<(), OutOfMemory>
         requires { FitsPlan self.old.node.tables.plan incoming.now }
         ensures { OnOk result (TookIncoming self.old.node.tables incoming.now facts.old.items facts.new.items told.old.items told.new.items self.new.node.tables) }
     {
@@ -451,7 +461,12 @@ impl Machine for NodeMachine {
 
     ghost reads_on = { reads_on };
 
-    fn take(&mut self, line: &[u8], facts: &mut Vec<u8>, told: &mut Vec<u8>) -> Result<(), Fault> {
+    fn take(
+        &mut self,
+        line: &[u8],
+        facts: &mut Vec<u8>,
+        told: &mut Vec<u8>,
+    ) -> Result<(), OutOfMemory> {
         plan_is_sound(self.node.plan());
         self.goes()?;
         let incoming = read_incoming(self.alloc, line, self.node.plan(), self.node.number())?;

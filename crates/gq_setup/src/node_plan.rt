@@ -1,6 +1,6 @@
 //! The plan with which a node starts, as its journal has it.
 
-ghost use Rattle.std.specs.Prelude.{◌≡◌, ◌++◌, ℕ, List, true, Ok, IsErr, MatchOption, IfOk, IfSome, OnOk};
+ghost use Rattle.std.specs.Prelude.{◌≡◌, ◌++◌, ℕ, List, true, Ok, None, IsErr, MatchOption, IfOk, IfSome, OnOk};
 ghost use Rattle.gq_grid.specs.Grid.{is_side};
 ghost use Rattle.gq_journal.specs.Batches.{Line, lines_text, whole_lines};
 ghost use Rattle.gq_setup.specs.GoingOn.{goes_on_from_read};
@@ -8,7 +8,7 @@ ghost use Rattle.gq_setup.specs.Texts.{head_text, node_text, behind_first, setup
 
 use crate::openings::SetupFault;
 use crate::setup::{Setup, read_setup};
-use gq_keeper::{Fault, Plan, is_plan_text};
+use gq_keeper::{Plan, is_plan_text};
 use gq_memory::{GrowCopies, OutOfMemory};
 use gq_text::{Piece, put_words};
 use std::alloc::Global;
@@ -78,6 +78,7 @@ impl NodePlan {
         ensures back { IfOk result (λ made. IfSome made (λ plan. setup_of_node_text plan.text.items ≡ Ok setup)) }
         ensures is { IfOk result (λ made. IfSome made (λ plan. IsPlanText plan.text.items)) }
         ensures volumes { IfOk result (λ made. IfSome made (λ plan. OpensFor (whole_lines plan.text.items) setup)) }
+        ensures none { IfOk result (λ made. made ≡ None → IsPlanText (node_text number setup) → ⊥) }
     {
         let mut text = Vec::new(alloc);
         put_node_text(alloc, &mut text, number, &setup)?;
@@ -118,7 +119,7 @@ impl Plan for NodePlan {
         self.text.as_slice()
     }
 
-    fn goes_on(&self, last: &[u8]) -> Result<bool, Fault> {
+    fn goes_on(&self, last: &[u8]) -> Result<bool, OutOfMemory> {
         match read_node_plan(self.alloc, last)? {
             Some(old) => Ok(self.setup.goes_on_from(&old)),
             None => Ok(false),
