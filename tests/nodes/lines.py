@@ -51,8 +51,18 @@ LINES = {
         ASK + 3 * b"ann 0 gone 1 1\n" + b"ann 0 refused nosession 4294967295 1\n" + BAD + b"ann 0 refused early 1 4294967295 1\n",
     ),
     "an answer that is asked for again": (
-        READ + b"0 0 ann 1 1 1 0 0 copy 3 2 aB\n0 1 ann 1 1 1 0 0 copy 0 0 -\n0 0 ann 1 1 2 0 0 stored\n0 2 ann 1 1 2 0 0 stored\n" + READ + b"0 ann abandon 1 1\n",
-        ASK + b"0 0 ann 1 1 2 0 0 store 3 2 ab\n2 0 ann 1 1 2 0 0 store 3 2 ab\n" + 3 * b"ann 0 done read 1 1 tag 3 2 ab\n",
+        READ + b"0 0 ann 1 1 1 0 0 copy 3 2 aB\n0 1 ann 1 1 1 0 0 copy 0 0 -\n0 0 ann 1 1 2 0 0 stored\n0 2 ann 1 1 2 0 0 stored\n" + READ + WRITE + b"cd\n0 ann abandon 1 1\n",
+        ASK + b"0 0 ann 1 1 2 0 0 store 3 2 ab\n2 0 ann 1 1 2 0 0 store 3 2 ab\n" + 4 * b"ann 0 done read 1 1 tag 3 2 ab\n",
+    ),
+    "the row that served stays": (
+        READ + 2 * b"0 0 tick\n" + b"0 2 ann 1 1 1 0 0 copy 0 0 -\n0 3 ann 1 1 1 0 0 copy 0 0 -\n0 0 ann 1 1 2 0 0 stored\n0 2 ann 1 1 2 0 0 stored\n0 ann read 1 2 0 0\n",
+        ASK
+        + b"2 0 ann 1 1 1 0 0 ask\n3 0 ann 1 1 1 0 0 ask\n0 0 ann 1 1 2 0 0 store 0 0 -\n2 0 ann 1 1 2 0 0 store 0 0 -\nann 0 done read 1 1 tag 0 0 -\n"
+        + b"2 0 ann 1 2 1 0 0 ask\n3 0 ann 1 2 1 0 0 ask\n",
+    ),
+    "a listing": (
+        b"0 ann list 1 1 1\n0 0 ann 1 1 1 1 0 copy 3 2 aB\n0 1 ann 1 1 1 1 0 copy 0 0 -\n0 0 ann 1 1 2 1 0 stored\n0 2 ann 1 1 2 1 0 stored\n",
+        b"0 0 ann 1 1 1 1 0 ask\n1 0 ann 1 1 1 1 0 ask\n0 0 ann 1 1 2 1 0 store 3 2 ab\n2 0 ann 1 1 2 1 0 store 3 2 ab\nann 0 done list 1 1 1:3.2\n",
     ),
     "ticks": (READ + 3 * b"0 0 tick\n", ASK + b"2 0 ann 1 1 1 0 0 ask\n3 0 ann 1 1 1 0 0 ask\n" + ASK),
     "a number of a tag at its limit": (

@@ -28,36 +28,53 @@ fn node_plan(rt: &impl Abort, alloc: Global, number: u16, text: &[u8]) -> NodePl
     made.expect(rt, "memory").expect(rt, "a text for a journal")
 }
 
+// Whether the setup opens so, in this order: for which tenant, files and blocks.
+fn opens(read: &Setup, openings: &[(u8, u32, u32)]) -> bool {
+    for (opening, (tenant, files, blocks)) in read.openings().iter().zip(openings) {
+        let wanted = Opening {
+            tenant: *tenant,
+            files: *files,
+            blocks: *blocks,
+        };
+        if *opening != wanted {
+            return false;
+        }
+    }
+    read.openings().len() == openings.len()
+}
+
+// Whether this is the text of the plan of the node of this number.
+fn writes(rt: &impl Abort, alloc: Global, number: u16, text: &[u8], want: &[u8]) -> bool {
+    node_plan(rt, alloc, number, text).text() == want
+}
+
 #[test]
 fn reads_and_writes_a_setup(rt: HostRuntime) {
     let alloc = rt.alloc();
-    let read = setup(&rt, alloc, TEXT);
-    assert!(rt; read.plan().tenants() == 2);
+    assert!(rt; setup(&rt, alloc, TEXT).plan().tenants() == 2);
     let openings = [(0, 2, 1), (1, 1, 2), (0, 1, 1)];
-    assert!(rt; read.openings().len() == openings.len());
-    for (opening, (tenant, files, blocks)) in read.openings().iter().zip(openings) {
-        let wanted = Opening {
-            tenant,
-            files,
-            blocks,
-        };
-        assert!(rt; *opening == wanted);
-    }
-    assert!(rt; node_plan(&rt, alloc, 3, TEXT).text() == NODE_TEXT);
+    assert!(rt; opens(&setup(&rt, alloc, TEXT), &openings));
+    assert!(rt; writes(&rt, alloc, 3, TEXT, NODE_TEXT));
     // the last line may lack its newline
-    let plan = node_plan(&rt, alloc, 3, &TEXT[..TEXT.len() - 1]);
-    assert!(rt; plan.text() == NODE_TEXT);
+    assert!(rt; writes(&rt, alloc, 3, &TEXT[..TEXT.len() - 1], NODE_TEXT));
+}
+
+// Whether the setup is that of LOSSES.
+fn has_losses(read: &Setup) -> bool {
+    read.lost().places() == [3u8, 0, 3].as_slice()
+        && read.openings().len() == 2
+        && read.plan().tenants() == 1
+        && read.volumes(0) == 2
 }
 
 #[test]
 fn reads_and_writes_losses(rt: HostRuntime) {
     let alloc = rt.alloc();
-    let read = setup(&rt, alloc, LOSSES);
-    assert!(rt; read.lost().places() == [3u8, 0, 3].as_slice());
-    assert!(rt; read.openings().len() == 2);
-    assert!(rt; read.volumes(0) == 2);
-    let plan = node_plan(&rt, alloc, 131, LOSSES);
-    assert!(rt; plan.text() == NODE_LOSSES);
+    assert!(rt; has_losses(&setup(&rt, alloc, LOSSES)));
+    assert!(rt; writes(&rt, alloc, 131, LOSSES, NODE_LOSSES));
+}
+
+fn has_these_nodes(rt: &impl Abort, read: &Setup) {
     for (number, there) in [
         (131, true),
         (64, true),
@@ -78,14 +95,21 @@ fn reads_and_writes_losses(rt: HostRuntime) {
 }
 
 #[test]
+fn knows_its_nodes(rt: HostRuntime) {
+    let read = setup(&rt, rt.alloc(), LOSSES);
+    has_these_nodes(&rt, &read);
+}
+
+fn plan_of_a_journal(rt: &impl Abort, alloc: Global, text: &[u8]) -> Option<Setup> {
+    read_node_plan(alloc, text).ok().expect(rt, "memory")
+}
+
+#[test]
 fn reads_a_plan_of_a_journal(rt: HostRuntime) {
     let alloc = rt.alloc();
-    let read = read_node_plan(alloc, NODE_LOSSES).ok();
-    let read = read.expect(&rt, "memory").expect(&rt, "a setup");
-    assert!(rt; read.lost().places() == [3u8, 0, 3].as_slice());
-    assert!(rt; read.volumes(0) == 2);
-    let none = read_node_plan(alloc, TEXT).ok().expect(&rt, "memory");
-    assert!(rt; none.is_none());
+    assert!(rt; plan_of_a_journal(&rt, alloc, TEXT).is_none());
+    let read = plan_of_a_journal(&rt, alloc, NODE_LOSSES);
+    assert!(rt; has_losses(&read.expect(&rt, "a setup")));
 }
 
 // The plan of one tenant with so many losses at each of the first places, in turn.
@@ -103,23 +127,6 @@ fn text_of_losses(rt: &impl Abort, alloc: Global, times: u32, places: u32) -> Ve
     text
 }
 
-#[test]
-fn tells_too_many_losses(rt: HostRuntime) {
-    let alloc = rt.alloc();
-    // at one place 14 nodes may be lost
-    let text = text_of_losses(&rt, alloc, 14, 1);
-    assert!(rt; setup(&rt, alloc, text.as_slice()).has_node(896));
-    let text = text_of_losses(&rt, alloc, 15, 1);
-    assert!(rt; fault_of(&rt, alloc, text.as_slice()).as_slice() == b"line 19: replace".as_slice());
-    // and 255 in all
-    let text = text_of_losses(&rt, alloc, 5, 51);
-    assert!(rt; setup(&rt, alloc, text.as_slice()).lost().places().len() == 255);
-    let text = text_of_losses(&rt, alloc, 4, 64);
-    assert!(rt;
-        fault_of(&rt, alloc, text.as_slice()).as_slice() == b"line 260: replace".as_slice()
-    );
-}
-
 // What is told of a text that is no setup.
 fn fault_of(rt: &impl Abort, alloc: Global, text: &[u8]) -> Vec<u8> {
     let fault = read_setup(alloc, text).err().expect(rt, "a fault");
@@ -127,6 +134,28 @@ fn fault_of(rt: &impl Abort, alloc: Global, text: &[u8]) -> Vec<u8> {
     slice_copied(alloc, line.as_bytes())
         .ok()
         .expect(rt, "memory")
+}
+
+// Whether this is told of too many losses.
+fn refuses(rt: &impl Abort, alloc: Global, times: u32, places: u32, want: &[u8]) -> bool {
+    let text = text_of_losses(rt, alloc, times, places);
+    fault_of(rt, alloc, text.as_slice()).as_slice() == want
+}
+
+fn losses(rt: &impl Abort, alloc: Global, times: u32, places: u32) -> Setup {
+    let text = text_of_losses(rt, alloc, times, places);
+    setup(rt, alloc, text.as_slice())
+}
+
+#[test]
+fn tells_too_many_losses(rt: HostRuntime) {
+    let alloc = rt.alloc();
+    // at one place 14 nodes may be lost
+    assert!(rt; losses(&rt, alloc, 14, 1).has_node(896));
+    assert!(rt; refuses(&rt, alloc, 15, 1, b"line 19: replace"));
+    // and 255 in all
+    assert!(rt; losses(&rt, alloc, 5, 51).lost().places().len() == 255);
+    assert!(rt; refuses(&rt, alloc, 4, 64, b"line 260: replace"));
 }
 
 #[test]

@@ -264,41 +264,59 @@ fn finds_the_first_plan(rt: HostRuntime) {
     }
 }
 
+// A start from a journal with an end that is not right, behind the third batch's beginning: it is cut off.
+fn cuts_off(rt: &impl Abort, started: &Stopped, third: usize, two: &[u8]) {
+    assert!(rt; matches!(&started.lived, Ok(Lived::Served(Some(place))) if *place == third));
+    assert!(rt; started.held() == b"put b\n".as_slice());
+    assert!(rt; started.journal.sure_bytes() == two);
+}
+
+// From one with a batch that is damaged, before a right one: it stays as it was.
+fn tells_damage(rt: &impl Abort, started: &Stopped, batch: usize, journal: &[u8]) {
+    assert!(rt; matches!(&started.lived, Ok(Lived::Damaged(place)) if *place == batch));
+    assert!(rt; started.journal.bytes() == journal);
+    assert!(rt; started.shown.bytes().is_empty());
+}
+
+// With the byte at that place turned.
+fn flipped(rt: &impl Abort, alloc: Global, text: &[u8], at: usize) -> Vec<u8> {
+    let mut flipped = copied(rt, alloc, text);
+    assert!(rt; at < flipped.len());
+    flipped[at] ^= 1;
+    flipped
+}
+
+fn tells_each_byte_that_is_turned(rt: &impl Abort, alloc: Global, three: &[u8], two: &[u8]) {
+    let (second, third) = (FIRST.len(), two.len());
+    for at in 0..three.len() {
+        let journal = flipped(rt, alloc, three, at);
+        let started = whole(rt, alloc, journal.as_slice(), b"");
+        if at >= third {
+            cuts_off(rt, &started, third, two);
+        } else {
+            let batch = if at < second { 0 } else { second };
+            tells_damage(rt, &started, batch, journal.as_slice());
+        }
+    }
+}
+
+// An end of which any beginning is left is cut off.
+fn cuts_off_each_beginning(rt: &impl Abort, alloc: Global, three: &[u8], two: &[u8]) {
+    let third = two.len();
+    for k in third..three.len() {
+        let started = whole(rt, alloc, &three[..k], b"");
+        assert!(rt; started.cut(rt) == if k == third { None } else { Some(third) });
+        assert!(rt; started.journal.bytes() == two);
+    }
+}
+
 #[test]
 fn tells_damage_from_a_torn_end(rt: HostRuntime) {
     let alloc = rt.alloc();
     let three = joined(&rt, alloc, &[FIRST, SECOND, THIRD]);
     let two = joined(&rt, alloc, &[FIRST, SECOND]);
-    let second = FIRST.len();
-    let third = second + SECOND.len();
-    for at in 0..three.len() {
-        let mut flipped = copied(&rt, alloc, three.as_slice());
-        flipped[at] ^= 1;
-        let started = whole(&rt, alloc, flipped.as_slice(), b"");
-        if at >= third {
-            assert!(rt;
-                matches!(&started.lived, Ok(Lived::Served(Some(place))) if *place == third),
-                "at {at}"
-            );
-            assert!(rt; started.held() == b"put b\n".as_slice());
-            assert!(rt; started.journal.sure_bytes() == two.as_slice());
-        } else {
-            let batch = if at < second { 0 } else { second };
-            assert!(rt;
-                matches!(&started.lived, Ok(Lived::Damaged(place)) if *place == batch),
-                "at {at}"
-            );
-            assert!(rt; started.journal.bytes() == flipped.as_slice());
-            assert!(rt; started.shown.bytes().is_empty());
-        }
-    }
-    // an end of which any beginning is left is cut off
-    for k in third..three.len() {
-        let started = whole(&rt, alloc, &three[..k], b"");
-        let cut = started.cut(&rt);
-        assert!(rt; cut == if k == third { None } else { Some(third) });
-        assert!(rt; started.journal.bytes() == two.as_slice());
-    }
+    tells_each_byte_that_is_turned(&rt, alloc, three.as_slice(), two.as_slice());
+    cuts_off_each_beginning(&rt, alloc, three.as_slice(), two.as_slice());
 }
 
 #[test]
@@ -370,32 +388,45 @@ fn passes_over_lines_that_are_too_long(rt: HostRuntime) {
     }
 }
 
+fn long_text(rt: &impl Abort, alloc: Global) -> Vec<u8> {
+    let mut text = Vec::new(alloc);
+    for k in 0..270u32 {
+        let line = long_line(rt, alloc, b'a' + (k % 26) as u8, 4_000);
+        text.grow_by(line.as_slice()).ok().expect(rt, "memory");
+    }
+    text
+}
+
+// The journal is written anew meanwhile, and a start from it has the last line.
+fn is_short(rt: &impl Abort, alloc: Global, took: &Stopped, text: &[u8]) {
+    assert!(rt; took.shown.bytes().len() == text.len().saturating_add(3));
+    assert!(rt; took.journal.bytes().len() < 400_000);
+    let again = whole(rt, alloc, took.journal.bytes(), b"");
+    assert!(rt; again.held() == line_of(text, 270));
+}
+
+// A start from what is left behind that many calls has the last line that was told, or the one behind the next read.
+fn has_what_was_told(rt: &impl Abort, alloc: Global, stopped: &Stopped, text: &[u8], calls: usize) {
+    let before = told_of(stopped.shown.bytes()).len() / 4_001;
+    let after = lines_behind(text.len(), before);
+    let again = whole(rt, alloc, stopped.journal.sure_bytes(), b"");
+    let held = again.held();
+    assert!(rt;
+        held == line_of(text, before) || held == line_of(text, after),
+        "calls {calls}"
+    );
+}
+
 #[test]
 fn writes_a_long_journal_anew(rt: HostRuntime) {
     let alloc = rt.alloc();
-    let mut text = Vec::new(alloc);
-    for k in 0..270u32 {
-        let line = long_line(&rt, alloc, b'a' + (k % 26) as u8, 4_000);
-        text.grow_by(line.as_slice()).ok().expect(&rt, "memory");
-    }
-    let last = line_of(text.as_slice(), 270);
+    let text = long_text(&rt, alloc);
     let took = whole(&rt, alloc, FIRST, text.as_slice());
-    assert!(rt; took.shown.bytes().len() == text.len() + 3);
-    assert!(rt; took.journal.bytes().len() < 400_000);
-    assert!(rt; whole(&rt, alloc, took.journal.bytes(), b"").held() == last);
+    is_short(&rt, alloc, &took, text.as_slice());
     // the 36th call writes it anew: what was told stands before, during and after it
     for calls in 34..38 {
         let stopped = run(&rt, alloc, FIRST, text.as_slice(), PLAN, MANY, calls, MANY);
-        let shown = stopped.shown.bytes();
-        let told = told_of(shown);
-        let again = whole(&rt, alloc, stopped.journal.sure_bytes(), b"");
-        let before = told.len() / 4_001;
-        let after = lines_behind(text.len(), before);
-        assert!(rt;
-            again.held() == line_of(text.as_slice(), before)
-                || again.held() == line_of(text.as_slice(), after),
-            "calls {calls}"
-        );
+        has_what_was_told(&rt, alloc, &stopped, text.as_slice(), calls);
     }
 }
 

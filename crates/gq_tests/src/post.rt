@@ -77,6 +77,20 @@ fn brought(rt: &impl Abort, alloc: Global, tenant: u8, content: &str) -> String 
     ).expect(rt, "memory")
 }
 
+// Whether the tenant's message of that number is one that brings this content.
+fn brings(
+    rt: &impl Abort,
+    alloc: Global,
+    post: &Post,
+    tenant: u8,
+    number: u64,
+    content: &str,
+) -> bool
+    requires { (tenant < 2) × (length post.now ≡ 2) }
+{
+    seen(rt, alloc, post, tenant, number).as_str() == brought(rt, alloc, tenant, content).as_str()
+}
+
 // Which operation the tenant's message of that number is of.
 fn op(post: &Post, tenant: u8, number: u32) -> Option<u32>
     requires { (tenant < 2) × (length post.now ≡ 2) }
@@ -108,11 +122,10 @@ fn gives_a_lost_place_to_the_other_tenant(rt: HostRuntime) -> Result<(), Fail> {
     bring(&rt, &mut post, 1, b"b", 0);
     assert!(rt; post.lose(0, 0) && post.get(0, 0).is_none());
     bring(&rt, &mut post, 1, b"c", 1);
-    assert!(rt; seen(&rt, alloc, &post, 1, 0).as_str() == brought(&rt, alloc, 1, "b").as_str());
-    assert!(rt; seen(&rt, alloc, &post, 1, 1).as_str() == brought(&rt, alloc, 1, "c").as_str());
+    assert!(rt; brings(&rt, alloc, &post, 1, 0, "b") && brings(&rt, alloc, &post, 1, 1, "c"));
     assert!(rt; post.get(0, 0).is_none() && !post.lose(0, 0));
     bring(&rt, &mut post, 0, b"d", 1);
-    assert!(rt; seen(&rt, alloc, &post, 0, 1).as_str() == brought(&rt, alloc, 0, "d").as_str());
+    assert!(rt; brings(&rt, alloc, &post, 0, 1, "d"));
     assert!(rt; post.get(1, 2).is_none() && !post.lose(1, 2));
     assert!(rt; post.sent(0) == 2 && post.sent(1) == 2);
     Ok(())
