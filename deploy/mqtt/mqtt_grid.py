@@ -1,6 +1,8 @@
 """A grid on this machine, as deploy/mqtt/grid, the tests and the benchmarks start it: a broker, and nodes with their carriers."""
 
+import fcntl
 import os
+import re
 import signal
 import socket
 import subprocess
@@ -14,6 +16,7 @@ from tenant import PLACES, nodes_of
 
 os.environ["PATH"] += ":/usr/sbin"  # (where Debian has mosquitto and nginx, and no user but root looks)
 PATIENCE = 15  # seconds that a process has to end, or to be ready
+READ = 1 << 21  # bytes of its journal that a node reads in one second more
 
 
 class NotStarted(Exception):
@@ -58,6 +61,8 @@ class Grid:
         self.port, self.inner = port or free_ports(), free_ports()
         self.plan, self.broker_folder = os.path.join(folder, "plan"), os.path.join(folder, "broker")
         self.processes, self.nodes, self.count, self.words = {}, [], 0, ()
+        self.told_before = {}  # of each process, how long its log was when it was started
+        self.lock = None
 
     def log(self, name):
         return open(os.path.join(self.folder, f"log.{name}"), "ab")
@@ -65,6 +70,19 @@ class Grid:
     def told(self, name):
         with open(os.path.join(self.folder, f"log.{name}"), encoding="latin1") as file:
             return file.read()
+
+    def told_since_start(self, name):
+        with open(os.path.join(self.folder, f"log.{name}"), encoding="latin1") as file:
+            file.seek(self.told_before[name])
+            return file.read()
+
+    def take(self):
+        """Takes the folder, which one grid has at a time. NotStarted where another one runs there."""
+        self.lock = open(os.path.join(self.folder, "lock"), "a", encoding="ascii")
+        try:
+            fcntl.flock(self.lock, fcntl.LOCK_EX | fcntl.LOCK_NB)
+        except BlockingIOError:
+            raise NotStarted(f"{self.folder}: a grid runs there") from None
 
     def set_up(self, *words):
         """Makes the broker's folder from the plan, or makes it again."""
@@ -82,6 +100,7 @@ class Grid:
         """Starts a process. A signal from the terminal does not reach it; a session of its own would be a group of the scheduler's too,
         and each would wait for the others' turns."""
         with self.log(name) as log:
+            self.told_before[name] = os.fstat(log.fileno()).st_size
             self.processes[name] = subprocess.Popen(words, stdin=subprocess.DEVNULL, stdout=log, stderr=log, preexec_fn=os.setpgrp)
 
     def start_broker(self):
@@ -104,16 +123,22 @@ class Grid:
         self.run(number, [self.carry, *self.words_for(number), "--plan", self.plan, str(number), "--", *node] + ["--new"] * is_new)
 
     def start(self, new=None):
-        """Starts the broker and all nodes, of which one may begin in the place of one that was lost, and waits until each is connected."""
+        """Starts the broker and all nodes, of which one may begin in the place of one that was lost, and waits until each takes lines. Those whose
+        journal is gone stay down, and are told."""
         begun = os.path.join(self.folder, "begun")
+        is_first = not os.path.exists(begun)
+        lost = [number for number in self.nodes if not (is_first or number == new or os.path.exists(journal_of(self.folder, number)))]
+        if len(lost) == len(self.nodes):
+            raise NotStarted(f"{self.folder} has no journal")
         self.start_broker()
         self.start_front()
-        for number in self.nodes:
-            is_first = not os.path.exists(begun) or number == new
-            self.start_node(number, is_first and not os.path.exists(journal_of(self.folder, number)))
-        self.wait_until_connected(self.nodes)
+        there = [number for number in self.nodes if number not in lost]
+        for number in there:
+            self.start_node(number, (is_first or number == new) and not os.path.exists(journal_of(self.folder, number)))
+        self.wait_until_ready(there)
         with open(begun, "w", encoding="ascii"):
             pass
+        return lost
 
     def note_loss(self, number):
         """Writes into the plan, and into the broker's folder, that a node was lost. The one that stands in its place."""
@@ -135,12 +160,11 @@ class Grid:
         self.processes["broker"].send_signal(signal.SIGHUP)
         for other in self.nodes:
             if other != new:
-                times = self.told(other).count("connected to")
                 self.kill_node(other)
                 self.start_node(other)
-                self.wait_until_connected([other], times + 1)
+                self.wait_until_ready([other])
         self.start_node(new, True)
-        self.wait_until_connected([new])
+        self.wait_until_ready([new])
         return new
 
     def wait_until_connected(self, numbers, times=1):
@@ -150,6 +174,20 @@ class Grid:
                 if self.processes[number].poll() is not None or time.monotonic() > until:
                     raise NotStarted(f"node {number} is not connected: {self.told(number).strip() or self.told('broker').strip()}")
                 time.sleep(0.02)
+
+    def wait_until_ready(self, numbers):
+        """Waits until each of these nodes, since it was started, has read its journal and its carrier is connected."""
+        until = time.monotonic() + PATIENCE + sum(self.length_of_journal(number) for number in numbers) / READ
+        for number in numbers:
+            ready = re.compile(rf"^gridfs: node {number} of \d by \d: ", re.M)
+            while not (ready.search(told := self.told_since_start(number)) and "connected to" in told):
+                if self.processes[number].poll() is not None or time.monotonic() > until:
+                    raise NotStarted(f"node {number} is not ready: {told.strip() or self.told('broker').strip()}")
+                time.sleep(0.02)
+
+    def length_of_journal(self, number):
+        journal = journal_of(self.folder, number)
+        return os.path.getsize(journal) if os.path.exists(journal) else 0
 
     def node(self, number):
         """The process of the node itself, below its carrier; None where it is gone."""

@@ -7,15 +7,18 @@ import hashlib
 import json
 import os
 import pty
+import shlex
 import signal
 import socket
+import stat
 import subprocess
 import time
 
-from histories import HERE
+from histories import HERE, Held
 
 TOP = os.path.join(HERE, "..", "..")
 CLIENT = os.path.join(TOP, "clients", "python", "gridfs-client")
+ENDING = os.path.join(HERE, "ending.py")
 PYTHON = "/usr/bin/python3"  # (which finds the library for MQTT that Debian has)
 # ann has room, and bob next to none.
 PLAN = """grid 2 2
@@ -53,6 +56,10 @@ class Commands:
     def run(self, *words, given=b"", **more):
         done = subprocess.run([PYTHON, "-B", CLIENT, *words], input=given, capture_output=True, env=self.environment(**more), timeout=SECONDS)
         return done.returncode, done.stdout, done.stderr.decode(errors="replace")
+
+    def shell(self, words):
+        """The command with these words, for a shell."""
+        return f"{PYTHON} -B {shlex.quote(CLIENT)} {words}"
 
     def told(self, name, words, told, given=b"", **more):
         """A command that has to end well, without a word on standard error."""
@@ -134,6 +141,40 @@ class Commands:
             out.write(own.read() + "tenent = x\n")
         self.refused("a setting of no meaning", ["ls"], 2, "there is no setting tenent", tenant="spoilt")
 
+    def streams(self):
+        """Targets that are no files, or are there already; standard streams that are closed or full."""
+        self.told("a content for what follows", ["put", "-", "here"], b"", given=b"here")
+        os.mkfifo("pipe")
+        pipe = os.open("pipe", os.O_RDONLY | os.O_NONBLOCK)
+        main, other = pty.openpty()  # (a device in whose folder no file can be made, so that nothing is spoilt by a client that would)
+        os.set_blocking(main, False)
+        for reader, path in ((pipe, "pipe"), (main, os.ttyname(other))):
+            self.told(f"get to {path}", ["get", "here", path], b"")
+            came = b""
+            with contextlib.suppress(BlockingIOError):
+                came = os.read(reader, 100)
+            self.held(f"what came to {path}", (came, stat.S_ISREG(os.stat(path).st_mode)), (b"here", False))
+        for each in (pipe, main, other):
+            os.close(each)
+        with open("private", "w", opener=lambda path, flags: os.open(path, flags, 0o600)) as file:
+            file.write("old")
+        self.told("get to a file that others may not read", ["get", "here", "private"], b"")
+        self.held("others may not read it still", stat.S_IMODE(os.stat("private").st_mode), 0o600)
+        for words, closed, told in (
+            ("get here", ">&-", "gridfs-client: standard output: Bad file descriptor\n"),
+            ("put - here", "<&-", "gridfs-client: standard input: Bad file descriptor\n"),
+            ("get here", ">/dev/full", "gridfs-client: standard output: No space left on device\n"),
+            ("get here copied", "", "gridfs-client: copied: File too large\n"),
+            ("ls", ">/dev/full", "gridfs-client: standard output: No space left on device\n"),
+        ):
+            done = subprocess.run(["sh", "-c", f"ulimit -f 0; {self.shell(words)} {closed}"], capture_output=True, text=True, env=self.environment())
+            self.held(f"{words} {closed}", (done.returncode, done.stderr), (6, told))
+        self.held("nothing half written is left", [each for each in os.listdir(".") if "copied" in each], [])
+        for words, closed, status in (("ls", "2>&-", 0), ("get nowhere", "2>&-", 1), ("get nowhere", "2>/dev/full", 1), ("get a/", "2>/dev/full", 2)):
+            done = subprocess.run(["sh", "-c", f"{self.shell(words)} {closed}"], capture_output=True, env=self.environment())
+            self.held(f"{words} {closed}", done.returncode, status)
+        self.told("rm of it", ["rm", "here"], b"")
+
     def full(self):
         self.refused("a content for which there are no slots", ["put", "-", "big"], 3, "no room: ", given=bytes(5_000), tenant="bob")
         self.told("one for which there are", ["put", "-", "small"], b"", given=bytes(700), tenant="bob")
@@ -169,9 +210,9 @@ class Commands:
     # Interrupts, terminals
 
     def interrupts(self):
-        """What an interrupted put leaves is finished or taken back by the next command, and no slot is lost."""
+        """What an interrupted put leaves is finished or taken back by the next change, and no slot is lost."""
         contents = [bytes([number]) * 15_000 for number in range(STOPS)]
-        held, seen = {None}, []
+        held, seen = Held(), []
         for number, content in enumerate(contents):
             put = subprocess.Popen([PYTHON, "-B", CLIENT, "put", "-", "torn"], stdin=subprocess.PIPE, stderr=subprocess.PIPE, env=self.environment())
             with contextlib.suppress(BrokenPipeError):
@@ -186,14 +227,26 @@ class Commands:
             # (before its own words stand, Python says its own)
             if status not in (0, 130, 143, -2, -15) or (status == 143 and said):
                 self.wrong.append(f"an interrupted put: status {status}, {said!r}")
-            held = {content} if status == 0 else held | {content}
+            held.put(content, status == 0)
             told = self.run("get", "torn")
-            held &= {told[1] if told[0] == 0 else None}
-            self.held(f"what is held behind interrupt {number}", len(held), 1)
+            self.held(f"status of a get behind interrupt {number}", told[0], 1 if told[0] == 1 and held.content is None else 0)
+            self.held(f"what is held behind interrupt {number} may be so", held.may_be(told[1] if told[0] == 0 else held.content), True)
         self.held("some were interrupted", any(seen), True)
         self.told("put of nothing in its place", ["put", "-", "torn"], b"", given=b"")
         self.told("all slots are free", ["put", "-", "all"], b"", given=bytes(100_000), GRIDFS_HELPERS="3")
         self.told("rm of it", ["rm", "all", "torn"], b"")
+
+    def finished_by_an_interrupted_put(self):
+        """A put is ended behind its announcement, and the next one once it has finished that: a get behind it tells the first one's content. So it
+        goes on with the third and the fourth."""
+        self.told("put of an old content", ["put", "-", "ended"], b"", given=b"old", GRIDFS_SESSION="1")
+        for content, told in ((b"first", b"old"), (b"second", b"first"), (b"third", b"first"), (b"fourth", b"third")):
+            ended = self.run("put", "-", "ended", given=content, GRIDFS_VIA=shlex.join([PYTHON, "-B", ENDING, "grid/socket", "2"]), GRIDFS_SESSION="1")
+            self.held(f"put of {content} that is ended", ended, (130, b"", ""))
+            self.told(f"get behind the put of {content}", ["get", "ended"], told)
+        self.told("put behind them", ["put", "-", "ended"], b"", given=b"last", GRIDFS_SESSION="1")
+        self.told("get behind it", ["get", "ended"], b"last")
+        self.told("rm of it", ["rm", "ended"], b"")
 
     def terminal(self):
         """A bar of progress stands on a terminal, and only behind a second."""
@@ -263,7 +316,7 @@ def served(program):
         grid.wait()
 
 
-PARTS = (["names", "numbered_files", "full", "carriers", "sessions", "terminal"], ["bad_input", "interrupts"])
+PARTS = (["names", "numbered_files", "full", "carriers", "sessions", "terminal"], ["bad_input", "streams", "finished_by_an_interrupted_put", "interrupts"])
 
 
 def try_commands(program, parts):

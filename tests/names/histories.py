@@ -73,6 +73,26 @@ class History:
         return wrong, unknown
 
 
+class Held:
+    """What a name may hold behind puts of which some were ended amid them, each before the next one began.
+
+    Such a put may take effect at any get behind it, also behind later ones that were ended: the next put finishes what an ended one announced, and
+    may be ended before its own content is there. A put that has ended well leaves nothing of those before it, and one that is seen neither.
+    """
+
+    def __init__(self, content=None):
+        self.content, self.coming = content, []
+
+    def put(self, content, is_done):
+        self.content, self.coming = (content, []) if is_done else (self.content, [*self.coming, content])
+
+    def may_be(self, told):
+        """Whether a get may tell this, which it does."""
+        if told in self.coming:
+            self.content, self.coming = told, self.coming[self.coming.index(told) + 1 :]
+        return told == self.content
+
+
 def digested(operation):
     """The operation with the digest in place of the content: a listing tells no more."""
     value = operation.value

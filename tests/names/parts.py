@@ -1,5 +1,6 @@
 """What tests/names tries: each call gives what was counted, and what is wrong."""
 
+import collections
 import contextlib
 import importlib.util
 import io
@@ -27,6 +28,7 @@ from gridfs_client import ClientError
 TOP = os.path.join(HERE, "..", "..")
 DEPLOY, PACKAGE = os.path.join(TOP, "deploy", "mqtt"), os.path.join(TOP, "clients", "python")
 LONG, MOST_MEMORY = 100, 84  # MiB of a content, and of a process that moves it and plays the nodes too
+ATTEMPTS, LEAST_OPERATIONS, MOST_OPERATIONS = 10, 50, 2_000  # of trials over nodes; by the most a client with a bug has to be found
 SHAPES = ("MIXED", "CROWDED", "LENDING", "REMOVING", "DYING", "UNSURE")
 
 
@@ -90,15 +92,29 @@ def search(most_pending, operations, removes=True):
 
 
 def in_pipes(program, seconds, kills, has_room=False):
-    counts, wrong = trial.run(trial.Pipes(os.getcwd(), program, has_room), seconds, kills)
-    return f"in pipes{', a plan with room' * has_room}, {seconds} seconds: {told_of(counts)}", wrong
+    """A trial over nodes, and one more where few operations have ended, as on a machine that is busy: one of hardly any shows nothing."""
+    counts, wrong = collections.Counter(), []
+    for attempt in range(ATTEMPTS):
+        os.mkdir(f"attempt{attempt}")
+        counted, wrong = trial.run(trial.Pipes(os.path.abspath(f"attempt{attempt}"), program, has_room), seconds, kills)
+        counts.update(counted)
+        if wrong or counts["operations"] >= LEAST_OPERATIONS:
+            break
+    else:
+        wrong = [f"only {counts['operations']} operations have ended"]
+    return f"in pipes{', a plan with room' * has_room}, {attempt + 1} times {seconds} seconds: {told_of(counts)}", wrong
 
 
 def bug_in_pipes(program, seconds):
-    """A client with a bug, over nodes, has to be found."""
-    bug = planted.VersionsNotRaised.__name__
-    counts, wrong = trial.run(trial.Pipes(os.getcwd(), program), seconds, {}, bug)
-    return f"{bug} in pipes: {len(wrong)} wrong of {counts['operations']} operations", [] if wrong else [f"{bug} is not found"]
+    """A client with a bug, over nodes, has to be found; on a machine that is busy, where few operations end in that time, by one more attempt."""
+    bug, operations, wrong = planted.VersionsNotRaised.__name__, 0, []
+    for attempt in range(ATTEMPTS):
+        os.mkdir(f"attempt{attempt}")
+        counts, wrong = trial.run(trial.Pipes(os.path.abspath(f"attempt{attempt}"), program), seconds, {}, bug)
+        operations += counts.get("operations", 0)
+        if wrong or operations > MOST_OPERATIONS:
+            break
+    return f"{bug} in pipes: {len(wrong)} wrong of {operations} operations", [] if wrong else [f"{bug} is not found"]
 
 
 def carrier():

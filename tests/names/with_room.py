@@ -9,6 +9,7 @@ import time
 from concurrent.futures import ThreadPoolExecutor
 
 from commands import CLIENT, PYTHON, SECONDS, TOP
+from histories import Held
 
 from gridfs_client import NamedFiles, Session, SocketCarrier, ask_plan, layout_of
 
@@ -104,21 +105,22 @@ def contents(program, moments=len(MOMENTS), killed=NODES):
 
 
 def kill_clients(seen, moments, name="2 MB"):
-    held = run("get", name)[1]
+    held = Held(run("get", name)[1])
     for number, moment in enumerate(moments):
         content = os.urandom(SIZES[name])
         put = begin("put", "-", name, given=content)
         time.sleep(moment)
         put.send_signal(signal.SIGKILL)
         put.communicate()
+        held.put(content, put.returncode == 0)
         status, told = run("get", name)
-        seen.held(f"old or new behind a client that was killed, {number}", (status, told in (held, content)), (0, True))
-        held = told
+        seen.held(f"what is held behind a client that was killed, {number}", (status, held.may_be(told)), (0, True))
 
 
 def kill_nodes(nodes, seen, numbers, name="2 MB"):
     """A node is killed amid a put, and started again amid it or behind it."""
-    held = run("get", name)[1]
+    held = os.urandom(SIZES[name])
+    seen.held("put before nodes are killed", run("put", "-", name, given=held), (0, b""))  # (so nothing comes of one that was ended before)
     for number in numbers:
         content = os.urandom(SIZES[name])
         put = begin("put", "-", name, given=content)

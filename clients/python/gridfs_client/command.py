@@ -2,17 +2,19 @@
 
 import argparse
 import base64
+import errno
 import json
 import os
 import signal
+import stat as modes
 import sys
 import tempfile
 import time
-from collections.abc import Callable
-from contextlib import closing
+from collections.abc import Callable, Iterator
+from contextlib import closing, contextmanager, suppress
 from functools import cached_property
 from pathlib import Path
-from typing import IO, Any, TypeVar
+from typing import IO, Any, TextIO, TypeVar
 
 from .asking import ask_plan
 from .errors import ClientError, Refused
@@ -24,6 +26,7 @@ from .settings import SETTINGS, Settings, default_file
 
 Told = TypeVar("Told")
 MOST_NUMBER = 4_294_967_295  # in a line of a node
+INPUT, OUTPUT = "standard input", "standard output"
 EPILOG = f"""\
 examples:
   gridfs-client put report.pdf reports/may        a file under a name
@@ -47,7 +50,7 @@ status  meaning                                                                 
      2  the words, a name or a setting have no form                                no
      3  no room is left, or a node refuses: no such volume or file, too long       no
      4  no answer in time                                                          yes
-     5  a file has not what such a client wrote into it                            no
+     5  a file has not what such a client wrote into it                            only where that came about amid it
      6  no broker, a wrong password or certificate; a fault of a file here         only where the carrier ended amid it
      7  another client uses the session                                            yes
      8  the content was replaced each time while it was read
@@ -139,13 +142,33 @@ def parser() -> argparse.ArgumentParser:
 # What each word does.
 
 
+def standard(stream: TextIO | None, name: str) -> IO[bytes]:
+    """The bytes of a standard stream. (A shell can close it.)"""
+    if stream is None:
+        raise OSError(errno.EBADF, os.strerror(errno.EBADF), name)
+    return stream.buffer
+
+
+@contextmanager
+def named(path: str) -> Iterator[None]:
+    """Has a fault of a file that is open tell its name."""
+    try:
+        yield
+    except BrokenPipeError:
+        raise
+    except OSError as fault:
+        raise OSError(fault.errno, fault.strerror, fault.filename or path) from None
+
+
 def content_of(path: str) -> IO[bytes]:
-    return sys.stdin.buffer if path == "-" else open(path, "rb")
+    return standard(sys.stdin, INPUT) if path == "-" else open(path, "rb")
 
 
 def out(content: bytes) -> None:
-    sys.stdout.buffer.write(content)
-    sys.stdout.buffer.flush()
+    with named(OUTPUT):
+        target = standard(sys.stdout, OUTPUT)
+        target.write(content)
+        target.flush()
 
 
 def tell(args: argparse.Namespace, value: object, text: str | None = None) -> None:
@@ -156,23 +179,38 @@ def tell(args: argparse.Namespace, value: object, text: str | None = None) -> No
         out(text.encode() + b"\n")
 
 
-def to_target(path: str, write_to: Callable[[IO[bytes]], Told]) -> Told:
-    """Has a content written to standard output, or to a file, which has its old content or the whole new one: it is written beside it."""
-    if path == "-":
-        told = write_to(sys.stdout.buffer)
-        sys.stdout.buffer.flush()
-        return told
-    target = Path(path)
+def mode_of(path: str) -> int | None:
+    """The mode of what is there; None where nothing is."""
     try:
-        handle, temporary = tempfile.mkstemp(prefix=f".{target.name}.", dir=target.parent)
+        return os.stat(path).st_mode
+    except OSError:
+        return None
+
+
+def to_target(path: str, write_to: Callable[[IO[bytes]], Told]) -> Told:
+    """Has a content written to standard output, or to a file, which has its old content or the whole new one: it is written beside it, and takes its
+    place and its mode. What is there and no file, as a device or a pipe, is written itself."""
+    if path == "-":
+        with named(OUTPUT):
+            target = standard(sys.stdout, OUTPUT)
+            told = write_to(target)
+            target.flush()
+        return told
+    mode = mode_of(path)
+    if mode is not None and not modes.S_ISREG(mode):
+        with named(path), open(path, "wb") as device:
+            return write_to(device)
+    place = Path(path)
+    try:
+        handle, temporary = tempfile.mkstemp(prefix=f".{place.name}.", dir=place.parent)
     except OSError as fault:
         raise OSError(fault.errno, fault.strerror, path) from None
     try:
-        with os.fdopen(handle, "wb") as file:
+        with named(path), os.fdopen(handle, "wb") as file:
             told = write_to(file)
         mask = os.umask(0)
         os.umask(mask)
-        os.chmod(temporary, 0o666 & ~mask)
+        os.chmod(temporary, 0o666 & ~mask if mode is None else mode & 0o777)
         os.replace(temporary, path)
         return told
     except BaseException:
@@ -182,7 +220,7 @@ def to_target(path: str, write_to: Callable[[IO[bytes]], Told]) -> Told:
 
 def put(opened: Opened, args: argparse.Namespace) -> None:
     names = opened.names()
-    with content_of(args.path) as content:
+    with content_of(args.path) as content, named(INPUT if args.path == "-" else args.path):
         entry = names.put(args.name, content)
     names.close()
     tell(args, vars(entry))
@@ -275,7 +313,16 @@ def run(words: list[str]) -> None:
         signal.signal(signal.SIGTERM, interrupt)
         name = vars(args).get("name") or vars(args).get("names", [""])[0]
         with closing(OpenSessions(settings, ask_plan(carrier, settings.pace()), carrier, name)) as sessions:
-            args.call(Opened(sessions, Progress(sys.stderr) if sys.stderr.isatty() and not args.quiet else None), args)
+            is_shown = sys.stderr is not None and sys.stderr.isatty() and not args.quiet
+            args.call(Opened(sessions, Progress(sys.stderr) if is_shown else None), args)
+
+
+def complain(text: str) -> None:
+    """Tells a fault, where standard error takes it."""
+    with suppress(OSError):
+        if sys.stderr is not None:
+            sys.stderr.write(f"gridfs-client: {text}\n")
+            sys.stderr.flush()
 
 
 def main(words: list[str] | None = None) -> int:
@@ -284,13 +331,13 @@ def main(words: list[str] | None = None) -> int:
         run(sys.argv[1:] if words is None else words)
         return 0
     except ClientError as fault:
-        sys.stderr.write(f"gridfs-client: {fault}\n")
+        complain(str(fault))
         return fault.status
     except BrokenPipeError:
         os.dup2(os.open(os.devnull, os.O_WRONLY), 1)  # whoever read the answer has gone
         return 141
     except OSError as fault:
-        sys.stderr.write(f"gridfs-client: {fault.filename or 'a file'}: {fault.strerror or fault}\n")
+        complain(f"{fault.filename or 'a file'}: {fault.strerror or fault}")
         return ClientError.status
     except KeyboardInterrupt:
         return 130

@@ -25,7 +25,7 @@ SETTINGS: dict[str, tuple[str | None, str]] = {
     "session": ("all", "N, FIRST-LAST or all: the first of these that no other command here uses and whose home answers is used"),
     "helpers": ("3", "how many more of these move a content in many pieces, besides"),
     "timeout": ("30", "seconds to wait for an answer"),
-    "locks": (None, "the folder of the files by which commands tell each other the sessions they use"),
+    "locks": (None, "the folder of the files by which commands tell each other the sessions they use (~/.cache/gridfs): one for all users of a tenant"),
 }
 NAME = re.compile(r"(?!server\Z)[a-z]{1,16}\Z")
 
@@ -35,7 +35,8 @@ def default_file() -> Path:
 
 
 def default_locks() -> Path:
-    return Path(os.environ.get("XDG_RUNTIME_DIR") or Path.home() / ".cache") / "gridfs"
+    """The same folder for all commands of a user, whatever started them: at a terminal XDG_RUNTIME_DIR is set, by cron it isn't."""
+    return Path.home() / ".cache" / "gridfs"
 
 
 def read_file(path: Path) -> dict[str, str]:
