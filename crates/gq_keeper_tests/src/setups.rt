@@ -275,7 +275,9 @@ fn goes_on_where_no_home_and_no_volume_moves(rt: HostRuntime) {
             b"x\ngrid 2 2\nblocks 16\ntenant ann 6 2 10\ntenant bob 4 1 10\ntenant eve 1 1 10\ngo\n",
             false,
         ),
-        // another grid, other blocks, no setup
+        // fewer blocks
+        (b"x\ngrid 2 2\nblocks 15\ntenant ann 6 2 10\ngo\n", true),
+        // another grid, more blocks, no setup
         (b"x\ngrid 2 3\nblocks 16\ntenant ann 6 2 10\ngo\n", false),
         (b"x\ngrid 2 2\nblocks 17\ntenant ann 6 2 10\ngo\n", false),
         (

@@ -77,7 +77,7 @@ counts_stay (old ∷ olds) (new ∷ news) (suc t) n first within =
 pub homes_stay : HomesStay
 homes_stay old new t place on within =
     let parts = parts_of old new on in
-    let grid = and_parts (old.plan.grid.rows == new.plan.grid.rows && old.plan.grid.cols == new.plan.grid.cols) (old.plan.blocks == new.plan.blocks) parts.servers in
+    let grid = and_parts (old.plan.grid.rows == new.plan.grid.rows && old.plan.grid.cols == new.plan.grid.cols) (nat_le old.plan.blocks new.plan.blocks) parts.servers in
     let sides = and_parts (old.plan.grid.rows == new.plan.grid.rows) (old.plan.grid.cols == new.plan.grid.cols) grid.0 in
     let number : number_of new.plan.rows t place ≡ number_of old.plan.rows t place = ap (λ n. place + n) (counts_stay old.plan.rows new.plan.rows t 0 parts.rows (omega arith)) in
     rw (number, ← (eqb-true old.plan.grid.rows new.plan.grid.rows sides.0), ← (eqb-true old.plan.grid.cols new.plan.grid.cols sides.1)) refl

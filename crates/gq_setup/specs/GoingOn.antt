@@ -25,7 +25,7 @@ abbrev pub account_goes_on : Account → Account → Bool
 account_goes_on old new = come_first same_volume old.volumes new.volumes
 
 abbrev pub same_servers : CheckedPlan → CheckedPlan → Bool
-same_servers old new = (old.grid.rows == new.grid.rows && old.grid.cols == new.grid.cols) && old.blocks == new.blocks
+same_servers old new = (old.grid.rows == new.grid.rows && old.grid.cols == new.grid.cols) && nat_le old.blocks new.blocks
 
 -- the old losses come first
 abbrev pub same_place : ℕ → ℕ → Bool
@@ -38,7 +38,7 @@ losses_go_on olds news = come_first same_place olds news
 abbrev pub tenants_go_on : Setup → Setup → Bool
 tenants_go_on old new = come_first row_goes_on old.plan.rows new.plan.rows && come_first account_goes_on (holdings old) (holdings new)
 
--- the same grid and blocks of a server, and the old losses and tenants first
+-- the same grid, no fewer blocks of a server, and the old losses and tenants first
 abbrev pub goes_on : Setup → Setup → Bool
 goes_on old new = same_servers old.plan new.plan && (losses_go_on old.lost new.lost && tenants_go_on old new)
 

@@ -303,10 +303,10 @@ fn put_losses(out: &mut Vec<u8>, places: &[u8]) -> Result<(), OutOfMemory>
     Ok(())
 }
 
-// Whether the grid and its servers' blocks are the same.
+// Whether the grid is the same, and its servers have no fewer blocks.
 fn same_servers(old: &Plan, new: &Plan) -> bool
     ensures { result ≡ same_servers old.now new.now }
 {
     let (before, after) = (old.grid(), new.grid());
-    before.rows() == after.rows() && before.cols() == after.cols() && old.blocks() == new.blocks()
+    before.rows() == after.rows() && before.cols() == after.cols() && old.blocks() <= new.blocks()
 }
