@@ -11,10 +11,12 @@ from processes import MARKER, SECONDS, ended, get, put, words_of
 
 PLAN = f"grid 2 2\nblocks 64\ntenant ann 16 4 1\ntenant bob 16 2 1\n{MARKER}go\nann open 4 2\nbob open 1 1\nann open 1 1\n".encode()
 READY = b"gridfs: node 0 of 2 by 2: %d facts\n"
-OTHER = b"gridfs: journal: of another node or plan\n"
+NO_JOURNAL = b"gridfs: journal: no journal of a node\n"
+STRANGE = b"gridfs: journal: a line says no fact of this node\n"
 FIRST = b" ?\n"
 NO_OPENS = [b"ann write 1 0 0 aa", b"server 1 down", b"ann", b"", b"cat open 1 1", b"ann open 1", b"ann open 1 1 "]
-WRONG_OPENS = [b"ann open 65 1", b"ann open 0 1", b"ann open 1 17", b"ann open 8 1", b"ann open 4294967295 1"]
+SIZE, SHARE = "files or blocks of a file", "share, 7 blocks are left"
+WRONG_OPENS = {b"ann open 65 1": SIZE, b"ann open 0 1": SIZE, b"ann open 1 17": SIZE, b"ann open 8 1": SHARE, b"ann open 4294967295 1": SIZE}
 # A plan's fault, and what is told of it.
 PLANS = [
     (b"", "line 1: end"),
@@ -25,24 +27,28 @@ PLANS = [
     (PLAN.replace(b"bob 16", b"bob 0"), "line 4: zeroshare"),
     (PLAN.replace(b"bob 16", b"bob 64"), "line 6: overblocks 81 64"),
     *((PLAN + line + b"\n", "line 10: live") for line in NO_OPENS),
-    *((PLAN + line + b"\n", "line 10: open") for line in WRONG_OPENS),
+    *((PLAN + line + b"\n", f"line 10: open: {cause}") for line, cause in WRONG_OPENS.items()),
+    (PLAN.replace(b"ann 16", b"ann 64").replace(b"blocks 64", b"blocks 128") + b"ann open 1 1\n" * 63, "line 72: open: volumes"),
 ]
-# Plans from which the first one does not go on, and plans that go on from the first one.
+# Plans that do not go on from the first one, with what is told, and plans that do.
 NOT_BEHIND = {
-    "another grid": PLAN.replace(b"grid 2 2", b"grid 2 3"),
-    "other blocks": PLAN.replace(b"blocks 64", b"blocks 65"),
-    "tenants in another order": PLAN.replace(b"tenant ann 16 4 1\ntenant bob 16 2 1", b"tenant bob 16 2 1\ntenant ann 16 4 1"),
-    "a session more": PLAN.replace(b"bob 16 2", b"bob 16 3"),
-    "a session less": PLAN.replace(b"bob 16 2", b"bob 16 1"),
-    "a smaller share": PLAN.replace(b"bob 16", b"bob 15"),
-    "volumes in another order": PLAN.replace(b"ann open 4 2\n", b"") + b"ann open 4 2\n",
-    "a volume less": PLAN.replace(b"bob open 1 1\n", b""),
-    "a tenant less": PLAN.replace(b"tenant bob 16 2 1\n", b"").replace(b"bob open 1 1\n", b""),
-    "a larger file": PLAN.replace(b"bob open 1 1", b"bob open 1 2"),
+    "another grid": (PLAN.replace(b"grid 2 2", b"grid 2 3"), "line 1: the grid was 2 by 2"),
+    "fewer blocks": (PLAN.replace(b"blocks 64", b"blocks 63"), "line 2: each server had 64 blocks, and may not have fewer"),
+    "tenants in another order": (PLAN.replace(b"tenant ann 16 4 1\ntenant bob 16 2 1", b"tenant bob 16 2 1\ntenant ann 16 4 1"), "line 3: another tenant stood here"),
+    "a session more": (PLAN.replace(b"bob 16 2", b"bob 16 3"), "line 4: the tenant had 2 sessions, and may not have more or fewer"),
+    "a session less": (PLAN.replace(b"bob 16 2", b"bob 16 1"), "line 4: the tenant had 2 sessions, and may not have more or fewer"),
+    "a smaller share": (PLAN.replace(b"bob 16", b"bob 15"), "line 4: the tenant's share was 16 blocks, and may not be smaller"),
+    "volumes in another order": (PLAN.replace(b"ann open 4 2\n", b"") + b"ann open 4 2\n", "line 3: volume 0 of the tenant was `open 4 2`"),
+    "a volume less": (PLAN.replace(b"bob open 1 1\n", b""), "line 4: volume 0 of the tenant was `open 1 1`"),
+    "a tenant less": (PLAN.replace(b"tenant bob 16 2 1\n", b"").replace(b"bob open 1 1\n", b""), "line 4: another tenant stood here"),
+    "the last tenant less": (PLAN.replace(MARKER.encode(), b""), "line 5: another tenant stood here"),
+    "a larger file": (PLAN.replace(b"bob open 1 1", b"bob open 1 2"), "line 4: volume 0 of the tenant was `open 1 1`"),
 }
 BEHIND = {
     "a tenant more": PLAN.replace(b"go\n", b"tenant cat 8 3 1\ngo\n") + b"cat open 2 1\n",
     "a volume more": PLAN + b"bob open 2 2\n",
+    "more blocks": PLAN.replace(b"blocks 64", b"blocks 65"),
+    "room in place of blocks, and more in all": PLAN.replace(b"blocks 64", b"room 9000").replace(b"16 4 1\n", b"16 4 1 64\n").replace(b"16 2 1\n", b"40 2 1 64\n").replace(b"1 1 1\n", b"1 1 1 1\n") + b"bob open 1 30\n",
     "a greater share": PLAN.replace(b"bob 16", b"bob 20"),
     "other steps": PLAN.replace(b"ann 16 4 1", b"ann 16 4 7"),
     "volumes of tenants mixed otherwise": PLAN.replace(b"bob open 1 1\nann open 1 1\n", b"ann open 1 1\nbob open 1 1\n"),
@@ -54,6 +60,14 @@ NO_REQUESTS = ["node", f"node x {BOTH}", "node 0 --plan plan", "node 0 --journal
 
 def first_journal():
     return sealed(1, b"node 0 of 2 by 2\n" + PLAN)
+
+
+def of_node(number):
+    return b"gridfs: journal: of node %d\n" % number
+
+
+def not_kept(plan, told):
+    return f"gridfs: {plan}: does not go on from the plan in journal: {told}\n".encode()
 
 
 class Faults:
@@ -99,7 +113,7 @@ class Faults:
         self.refused("--new, and a journal is there", 1, b"gridfs: journal: a journal\n", is_new=True)
         self.held("no journal", self.node(journal="other"), (1, b"gridfs: other: no journal\n", b""))
         self.held("a folder that is not there", self.node(journal="none/journal", is_new=True), (1, b"gridfs: none/journal: write fault\n", b""))
-        self.refused("another number", 1, OTHER, number=1)
+        self.refused("another number", 1, of_node(0), number=1)
         self.refused("no such server", 1, b"gridfs: node 4: of 4\n", number=4)
 
     def plans(self):
@@ -113,9 +127,9 @@ class Faults:
 
     def plans_that_go_on(self):
         text = get(self.at("journal"))
-        for name, plan in NOT_BEHIND.items():
+        for name, (plan, told) in NOT_BEHIND.items():
             put(self.at("next"), plan)
-            self.refused(name, 1, OTHER, plan="next")
+            self.refused(name, 1, not_kept("next", told), plan="next")
         for name, plan in BEHIND.items():
             put(self.at("journal"), text)
             put(self.at("next"), plan)
@@ -127,7 +141,7 @@ class Faults:
             self.held(f"{name}, again", self.node(plan="next"), (0, READY % 0, FIRST))
         put(self.at("next"), BEHIND["a tenant more"])
         self.node(plan="next")
-        self.refused("the plan before", 1, OTHER)
+        self.refused("the plan before", 1, not_kept("plan", "line 6: another tenant stood here"))
         put(self.at("journal"), text)
 
     def words(self):

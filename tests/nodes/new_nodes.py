@@ -7,7 +7,7 @@ import random
 import sys
 
 sys.path.insert(0, os.path.join(os.path.dirname(os.path.abspath(__file__)), "..", "..", "examples", "nodes"))
-from faults import OTHER, PLAN, Faults
+from faults import PLAN, STRANGE, Faults, not_kept, of_node
 from journals import batches, sealed
 from processes import WRONG, get, put
 from tenant import Nodes, Session, homes, nodes_of
@@ -36,13 +36,15 @@ ALIKE = {
     "a loss amid the openings": PLAN.replace(b"bob open", b"replace 3\nbob open"),
     "no newline at the end": LOST[:-1],
 }
-# What goes on from the plan with the loss of node 3, and what does not.
+# What goes on from the plan with the loss of node 3, with the place of its second loss; and what does not.
 BEHIND = {
-    "another loss": LOST + b"replace 1\n",
-    "the new node is lost too": LOST + b"replace 3\n",
-    "a loss and a tenant more": LOST.replace(b"go\n", b"tenant cat 8 3 1\ngo\n") + b"cat open 2 1\nreplace 2\nreplace 3\n",
+    "another loss": (LOST + b"replace 1\n", 1),
+    "the new node is lost too": (LOST + b"replace 3\n", 3),
+    "a loss and a tenant more": (LOST.replace(b"go\n", b"tenant cat 8 3 1\ngo\n") + b"cat open 2 1\nreplace 2\nreplace 3\n", 2),
+    "a loss and more blocks": (LOST.replace(b"blocks 64", b"blocks 90") + b"replace 1\n", 1),
 }
 NOT_BEHIND = {"no loss": PLAN, "another loss in its place": PLAN + b"replace 2\n", "another loss before it": PLAN + b"replace 2\nreplace 3\n"}
+LOSS = "the line `replace` number %d was `replace %d`"
 JOINS = b"0 67 joins 1\n1 67 joins 1\n2 67 joins 1\n"
 JOINED = b"67 0 joined 1\n67 1 joined 1\n67 2 joined 1\n"
 TICK = b"67 67 tick\n"
@@ -171,7 +173,7 @@ class NewNodes(Faults):
         self.held("a file of a later plan", seen, (0, WHOLE % 7, FIRST + b"0 67 cat 2 1 1 0 0 copy 0 0 -\n66 67 joined 2\n"))
         put(self.at("journal"), sealed(1, first) + sealed(2, b"had ann 0 4 5 1 aa\n"))
         put(self.at("plan"), LOST)
-        self.refused("a file that is not there was given", 1, OTHER)
+        self.refused("a file that is not there was given", 1, STRANGE)
 
     def long_lines(self):
         for name, (given, copy) in LONG_LINES.items():
@@ -224,13 +226,13 @@ class NewNodes(Faults):
             told = b"gridfs: node %d: of 4\n" % number
             self.held(f"node {number}", self.node(number=number, journal="none", is_new=True), (1, told, b""))
         self.held("no journal of a new node", self.node(journal="none"), (1, b"gridfs: none: no journal\n", b""))
-        for number, text in (3, PLAN), (0, LOST), (131, LOST + b"replace 3\n"):
+        for number, text, told in (3, PLAN, of_node(3)), (0, LOST, of_node(0)), (131, LOST + b"replace 3\n", not_kept("plan", LOSS % (2, 3))):
             self.begin(text, number=number)
             put(self.at("plan"), LOST)
-            self.refused(f"the journal of node {number}", 1, OTHER)
+            self.refused(f"the journal of node {number}", 1, told)
         self.begin()
         put(self.at("plan"), PLAN)
-        self.refused("the journal of the new node", 1, OTHER, number=3)
+        self.refused("the journal of the new node", 1, not_kept("plan", LOSS % (1, 3)), number=3)
         put(self.at("plan"), LOST)
         self.refused("a journal that is there", 1, b"gridfs: journal: a journal\n", is_new=True)
 
@@ -243,12 +245,12 @@ class NewNodes(Faults):
         self.held("the journal behind it", text, sealed(1, b"node 0 of 2 by 2\n" + PLAN) + sealed(2, b"node 0 of 2 by 2\n" + LOST))
         for name, plan in NOT_BEHIND.items():
             put(self.at("next"), plan)
-            self.refused(f"behind a loss, {name}", 1, OTHER, number=0, plan="next")
-        for name, plan in BEHIND.items():
+            self.refused(f"behind a loss, {name}", 1, not_kept("next", LOSS % (1, 3)), number=0, plan="next")
+        for name, (plan, place) in BEHIND.items():
             put(self.at("journal"), text)
             put(self.at("next"), plan)
             self.held(f"behind a loss, {name}", self.node(number=0, plan="next"), (0, told, FIRST))
-            self.refused(f"and not the plan before {name}", 1, OTHER, number=0)
+            self.refused(f"and not the plan before {name}", 1, not_kept("plan", LOSS % (2, place)), number=0)
 
 
     # ---- clients

@@ -3,6 +3,7 @@ leaves all as it was."""
 
 import random
 
+from faults import NO_JOURNAL, STRANGE, not_kept, of_node
 from journals import batches, sealed
 from processes import MARKER, WRONG, Wrong, ended, get, put, words_of
 from reserved import RUN
@@ -16,7 +17,6 @@ LINES = [
     for line in (b"0 ann read 1 %d 0 0\n" % (RUN * at - RUN + 1), b"0 ann abandon 1 %d\n" % (RUN * at), b"0 2 ann 3 %d 2 0 %d store %d 3 %04x\n" % (at, at, 7 * at, at))
 ]
 QUESTIONS = b"".join(b"0 2 ann 3 9 1 0 %d ask\n" % file for file in range(4)) + b"0 ann abandon 1 9999\n"
-OTHER = b"gridfs: journal: of another node or plan\n"
 
 
 class Journal:
@@ -61,7 +61,7 @@ def cut(journal, place):
     """The journal ends at this place."""
     text = journal.whole[:place]
     count = sum(end <= place for end in journal.ends)
-    wanted = journal.wanted(count, place not in journal.ends) if count else (1, OTHER, b"", text)
+    wanted = journal.wanted(count, place not in journal.ends) if count else (1, NO_JOURNAL, b"", text)
     seen = journal.seen(text, QUESTIONS)
     if seen != wanted:
         raise Wrong(f"cut at {place}: {seen}, not {wanted}")
@@ -88,11 +88,12 @@ def others(journal):
     yield "twice", whole + whole, 4, b"gridfs: journal: damaged at byte %d\n" % len(whole)
     yield "a batch left out", whole[: ends[2]] + whole[ends[3] :], 4, b"gridfs: journal: damaged at byte %d\n" % ends[2]
     yield "no plan", whole[ends[0] :], 4, b"gridfs: journal: damaged at byte 0\n"
-    yield "empty", b"", 1, OTHER
-    yield "of another node", sealed(1, HEAD.replace(b"node 0", b"node 1")), 1, OTHER
-    yield "of a plan with another grid", sealed(1, HEAD.replace(b"2 by 2", b"2 by 3").replace(b"grid 2 2", b"grid 2 3")), 1, OTHER
+    yield "empty", b"", 1, NO_JOURNAL
+    yield "of another node", sealed(1, HEAD.replace(b"node 0", b"node 1")), 1, of_node(1)
+    told = not_kept("plan", "line 1: the grid was 2 by 3")
+    yield "of a plan with another grid", sealed(1, HEAD.replace(b"2 by 2", b"2 by 3").replace(b"grid 2 2", b"grid 2 3")), 1, told
     for fact in (b"strange ann 1 1", b"began zed 1 1", b"began ann 9 1", b"began ann 1", b"kept ann 7 0 1 1 aa", b"kept ann 0 0 1 1 " + b"aa" * 200):
-        yield f"with the fact {fact[:20]}", whole + sealed(len(ends) + 1, fact + b"\n"), 1, OTHER
+        yield f"with the fact {fact[:20]}", whole + sealed(len(ends) + 1, fact + b"\n"), 1, STRANGE
 
 
 def other(journal, name, text, status, told):

@@ -26,5 +26,5 @@ pub use output::Output;
 pub use plan::{Plan, is_plan_text};
 pub use renewing::renew;
 pub use serving::{Watch, serve, take_text};
-pub use starting::{Recovered, Started, first_plan, start};
+pub use starting::{Recovered, Started, first_plan, last_plan, start};
 pub use stream::{Promise, Stream};

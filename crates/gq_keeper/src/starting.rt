@@ -145,6 +145,13 @@ pub fn first_plan(alloc: Global, journal: &[u8]) -> Result<&[u8], OutOfMemory>
     }
 }
 
+/// The text of the last plan of the journal of this text, from which the node's plan has to go on; empty where there is none.
+pub fn last_plan(alloc: Global, journal: &[u8]) -> Result<&[u8], OutOfMemory>
+    ensures { IfOk result (λ plan. plan.now ≡ lines_text (last_plan [] (batches_of journal.now))) }
+{
+    Ok(find(alloc, journal)?.last)
+}
+
 /// Reads the journal of earlier runs: the lines of the facts of all its right batches, in order. A wrong end is cut off. The plan is
 /// appended as a batch where it isn't the last one. Where a right batch is anywhere behind a wrong one it is told that the journal is
 /// damaged, and where; and it is told where the journal is of another node or of a plan from which this one doesn't go on, or where

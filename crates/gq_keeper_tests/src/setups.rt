@@ -182,11 +182,11 @@ fn tells_the_first_line_at_fault(rt: HostRuntime) {
         ),
         (
             b"grid 2 2\nblocks 4\ntenant ann 4 1 1\ngo\nann open 2 2\nann open 1 1\nann volumes\n",
-            b"line 6: open",
+            b"line 6: open: share, 0 blocks are left",
         ),
         (
             b"grid 2 2\nblocks 4\ntenant ann 4 1 1\ngo\nann open 0 2\n",
-            b"line 5: open",
+            b"line 5: open: files or blocks of a file",
         ),
         // no number, none of the grid, one row
         (

@@ -3,7 +3,7 @@
 ghost use Rattle.std.specs.Prelude.{◌≡◌};
 
 use crate::{LONGEST, Lived, Register, Shown, Terms, Turns, begin, live};
-use gq_keeper::{Fault, MemoryDisk, first_plan};
+use gq_keeper::{Fault, MemoryDisk, first_plan, last_plan};
 use gq_memory::{GrowCopies, slice_copied};
 use std::alloc::Global;
 use std::io;
@@ -242,25 +242,27 @@ fn tells_the_watcher_of_each_turn(rt: HostRuntime) {
 }
 
 #[test]
-fn finds_the_first_plan(rt: HostRuntime) {
+fn finds_the_first_and_the_last_plan(rt: HostRuntime) {
     let alloc = rt.alloc();
     let grown = joined(&rt, alloc, &[FIRST, SECOND, LONGER_THIRD]);
     let torn = joined(&rt, alloc, &[FIRST, b"put"]);
     let facts = b"put a\nsync 1 6 8317e0b9939e9f2d\n";
-    for (journal, plan) in [
-        (FIRST, PLAN),
-        (grown.as_slice(), PLAN),
-        // what is behind the first batch counts nothing
-        (torn.as_slice(), PLAN),
+    for (journal, first, last) in [
+        (FIRST, PLAN, PLAN),
+        (grown.as_slice(), PLAN, LONGER),
+        // what is behind the right batches counts nothing
+        (torn.as_slice(), PLAN, PLAN),
         // no right batch is at the front
-        (&FIRST[..FIRST.len() - 1], b"".as_slice()),
-        (SECOND, b""),
-        (b"", b""),
+        (&FIRST[..FIRST.len() - 1], b"".as_slice(), b"".as_slice()),
+        (SECOND, b"", b""),
+        (b"", b"", b""),
         // a journal of facts
-        (facts, b"put a\n"),
+        (facts, b"put a\n", b""),
     ] {
         let found = first_plan(alloc, journal).ok().expect(&rt, "memory");
-        assert!(rt; found == plan, "{journal:?}");
+        assert!(rt; found == first, "{journal:?}");
+        let found = last_plan(alloc, journal).ok().expect(&rt, "memory");
+        assert!(rt; found == last, "{journal:?}");
     }
 }
 

@@ -1,11 +1,11 @@
 -- What a node's process writes, by the journal that it found and the lines that came.
-use Rattle.std.specs.Prelude.{◌≡◌, ◌⊎◌, ◌*◌, ◌<◌, ℕ, ◌==◌, List, [], ◌∷◌, length, Bool, true, false, Ok, Option, Some, None, IfSome, if◌then◌else◌}
+use Rattle.std.specs.Prelude.{◌≡◌, ◌*◌, ◌<◌, ℕ, ◌==◌, List, [], ◌∷◌, length, Bool, true, false, Ok, Err, Option, Some, None, IfSome, if◌then◌else◌}
 use Rattle.std.specs.List.{list_all}
 use Rattle.gq_desk.specs.declared.volumes.VolumeRow.{VolumeRow}
-use Rattle.gq_journal.specs.Batches.{Line, whole_lines, batches_of}
+use Rattle.gq_journal.specs.Batches.{Line, whole_lines, lines_text, batches_of}
 use Rattle.gq_keeper.specs.Durable.{Durable}
 use Rattle.gq_keeper.specs.Lines.{short_lines}
-use Rattle.gq_keeper.specs.Plans.{begins_with_plan, first_plan, is_of}
+use Rattle.gq_keeper.specs.Plans.{IsPlan, begins_with_plan, first_plan, last_plan, is_of}
 use Rattle.gq_keeper.specs.Starting.{RecallsAll, IsDamaged, facts_read}
 use Rattle.gq_desk.specs.CheckedPlan.{CheckedPlan}
 use Rattle.gq_replace.specs.Plans.{place_of}
@@ -17,12 +17,16 @@ use Rattle.gq_parts.specs.Resting.{IsNodeOf, IsNewNode}
 use Rattle.gq_machine.specs.declared.machine.NodeMachine.{NodeMachine}
 use Rattle.gq_machine.specs.Machines.{tables_of, MachineSteps, MachineRecalls, machine_reads, MachineIsBlank, MachineRests}
 use Rattle.gq_setup.specs.declared.openings.Opening.{Opening}
-use Rattle.gq_setup.specs.Setups.{Setup, has_node, volume_of}
+use Rattle.gq_setup.specs.declared.going_on.NotKept.{NotKept}
+use Rattle.gq_setup.specs.Setups.{Setup, SetupReading, has_node, volume_of}
+use Rattle.gq_setup.specs.NotKept.{IsNotKept}
 use Rattle.gq_setup.specs.Laws.{here_of}
 use Rattle.gq_setup.specs.GoingOn.{goes_on_from_read}
 use Rattle.gq_setup.specs.Texts.{node_text, setup_of_node_text, volumes_read, volumes_of_lines}
 use Rattle.gq_service.specs.declared.fault.NodeFault.{NodeFault}
-use Rattle.gq_service.specs.declared.fault.NodeFault.TheVariants.{NoServer, Damaged, Another}
+use Rattle.gq_service.specs.declared.fault.NodeFault.TheVariants.{NoServer, PlanText, Damaged, Another, Strange}
+use Rattle.gq_service.specs.declared.mismatch.Mismatch.{Mismatch}
+use Rattle.gq_service.specs.declared.mismatch.Mismatch.TheVariants.{NoPlan, Node, Plan}
 
 -- ---- a start
 
@@ -114,13 +118,31 @@ pub record IsStrange (setup : Setup) (number : ℕ) (journal : List ℕ) : Type 
   pub is_new : IsNewFor setup number (volumes_of_lines (first_plan (batches_of journal))) (tables_of new)
   pub strange : list_all (machine_reads new) (facts_read journal) ≡ false
 
--- where it is told that the journal is of another node or plan, it is, or one of its lines is strange
+-- where it is told that the plan's text may not stand in a journal, it may not
+abbrev pub TellsNoText : Setup → (number : ℕ) → NodeFault → Type 0
+TellsNoText setup number PlanText = IsPlan (node_text number setup) → ⊥
+TellsNoText setup number _ = Unit {0}
+
+-- what is told of the last plan of a journal: it was so in the setup that its text tells, and this setup does not keep it
+abbrev pub WasInPlan : Setup → SetupReading Setup → NotKept → Type 0
+WasInPlan setup (Ok old) what = IsNotKept old setup what
+WasInPlan setup (Err fault) what = ⊥
+
+abbrev pub TellsMismatch : Setup → (last : List ℕ) → Mismatch → Type 0
+TellsMismatch setup last (Plan what) = WasInPlan setup (setup_of_node_text last) what
+TellsMismatch setup last (Node number) = Unit {0}
+TellsMismatch setup last NoPlan = Unit {0}
+
+-- where it is told that the journal is of another node or plan, it is, and what is told of its last plan is so; where it is told that one of
+-- its lines is strange, one is
 abbrev pub TellsAnother : Setup → (number : ℕ) → (journal : List ℕ) → NodeFault → Type 0
-TellsAnother setup number journal Another = (is_its_journal setup number journal ≡ false) ⊎ IsStrange setup number journal
+TellsAnother setup number journal (Another why) = (is_its_journal setup number journal ≡ false) × TellsMismatch setup (lines_text (last_plan [] (batches_of journal))) why
+TellsAnother setup number journal Strange = IsStrange setup number journal
 TellsAnother setup number journal _ = Unit {0}
 
--- these two leave the journal as it was
+-- these three leave the journal as it was
 abbrev pub LeavesJournal : (same : Type 0) → NodeFault → Type 0
 LeavesJournal same (Damaged at) = same
-LeavesJournal same Another = same
+LeavesJournal same (Another why) = same
+LeavesJournal same Strange = same
 LeavesJournal same _ = Unit {0}

@@ -3,6 +3,7 @@
 ghost use Rattle.std.specs.Prelude.{◌≡◌};
 ghost use Rattle.gq_service.specs.Faults.{as_fault, status_of};
 
+use crate::mismatch::Mismatch;
 use gq_keeper::Fault;
 use gq_memory::OutOfMemory;
 use gq_setup::SetupFault;
@@ -47,8 +48,10 @@ pub enum NodeFault {
     JournalWrite,
     /// The journal is damaged: its first wrong batch begins at this byte, and a right one is behind it.
     Damaged(usize),
-    /// The journal is of another node, or of a plan from which this one doesn't go on, or a line of it says no fact of this one.
-    Another,
+    /// The journal is of another node, or of a plan from which this one doesn't go on.
+    Another(Mismatch),
+    /// A line of the journal says no fact of this node.
+    Strange,
 }
 
 impl NodeFault {
@@ -126,7 +129,15 @@ impl Display for Told<'_, '_> {
             NodeFault::JournalRead => write!(f, "{journal}: read fault"),
             NodeFault::JournalWrite => write!(f, "{journal}: write fault"),
             NodeFault::Damaged(at) => write!(f, "{journal}: damaged at byte {at}"),
-            NodeFault::Another => write!(f, "{journal}: of another node or plan"),
+            NodeFault::Another(Mismatch::NoPlan) => write!(f, "{journal}: no journal of a node"),
+            NodeFault::Another(Mismatch::Node(other)) => write!(f, "{journal}: of node {other}"),
+            NodeFault::Another(Mismatch::Plan(what)) => {
+                write!(
+                    f,
+                    "{plan}: does not go on from the plan in {journal}: {what}"
+                )
+            }
+            NodeFault::Strange => write!(f, "{journal}: a line says no fact of this node"),
         }
     }
 }

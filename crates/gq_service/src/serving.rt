@@ -16,6 +16,7 @@ ghost use Rattle.gq_service.specs.Serving.{IsNewFor, IsStarted, IsDurable, Serve
 use crate::console::Console;
 use crate::fault::NodeFault;
 use crate::filling::Filling;
+use crate::mismatch::mismatch;
 use crate::new_node::new_node;
 use crate::this_node::ThisNode;
 use gq_keeper::{Disk, Output, Plan, Started, first_plan, renew, serve, start};
@@ -69,7 +70,8 @@ fn go_on<D: Disk, C: Console>(
             Ok(recovered.number)
         }
         Started::Damaged(at) => Err(NodeFault::Damaged(at)),
-        Started::Another | Started::Strange => Err(NodeFault::Another),
+        Started::Another => Err(NodeFault::Another(mismatch(alloc, node, journal)?)),
+        Started::Strange => Err(NodeFault::Strange),
     }
 }
 
@@ -194,8 +196,9 @@ fn serve_machine<D: Disk, I: Read, O: Output, C: Console>(
 /// Starts the node from its journal, or with none where one is to be begun, and takes the lines of the input to its end. `durable`
 /// says all that is known of what is shown, at each write: it is what the node told by steps whose facts are synced. At the end of
 /// the input all its lines were taken so (`served`). The node goes on only from a journal that is its own (`its`), of which no
-/// wrong batch has a right one behind it (`whole`); `Damaged` tells where the first wrong batch begins that has one, and `Another`
-/// comes only where the journal is not its own, or a line of it says no fact that fits in this node.
+/// wrong batch has a right one behind it (`whole`); `Damaged` tells where the first wrong batch begins that has one. `Another`
+/// comes only where the journal is not its own, and what it tells of the last plan is so; `Strange` only where a line of the journal
+/// says no fact that fits in this node.
 pub fn serve_node<D: Disk, I: Read, O: Output, C: Console>(
     alloc: Global,
     node: &ThisNode,

@@ -5,7 +5,7 @@ ghost use Rattle.gq_keeper.specs.Plans.{IsPlan};
 ghost use Rattle.gq_setup.specs.Setups.{has_node};
 ghost use Rattle.gq_setup.specs.Texts.{node_text, setup_of_node_text, OpensFor};
 ghost use Rattle.gq_journal.specs.Batches.{whole_lines};
-ghost use Rattle.gq_service.specs.Serving.{TellsNoServer};
+ghost use Rattle.gq_service.specs.Serving.{TellsNoServer, TellsNoText};
 
 use crate::fault::NodeFault;
 use gq_grid::MOST_SERVERS;
@@ -29,6 +29,7 @@ fn node_of(setup: &Setup, number: u32) -> Result<u16, NodeFault>
     ensures same { IfOk result (λ node. node ≡ number) }
     ensures of_plan { IfOk result (λ node. has_node setup.now node ≡ true) }
     ensures fault { IfErr result (TellsNoServer setup.now number) }
+    ensures text { IfErr result (TellsNoText setup.now number) }
 {
     if !setup.has_node(number) {
         return Err(NodeFault::NoServer(setup.plan().grid().servers()));
@@ -37,12 +38,14 @@ fn node_of(setup: &Setup, number: u32) -> Result<u16, NodeFault>
 }
 
 impl ThisNode {
-    /// The node of this number, with what it starts with. `NoServer` is told exactly where the plan has no such node.
+    /// The node of this number, with what it starts with. `NoServer` comes exactly where the plan has no such node, and `PlanText`
+    /// only where the plan's text may not stand in a journal.
     pub fn new(alloc: Global, number: u32, setup: Setup) -> Result<ThisNode, NodeFault>
         ensures number { IfOk result (λ node. node.number ≡ number) }
         ensures setup { IfOk result (λ node. node.plan.setup ≡ setup) }
         ensures of_plan { IfOk result (λ node. has_node setup number ≡ true) }
         ensures no_server { IfErr result (TellsNoServer setup number) }
+        ensures plan_text { IfErr result (TellsNoText setup number) }
     {
         let node = node_of(&setup, number)?;
         match NodePlan::new(alloc, node, setup)? {

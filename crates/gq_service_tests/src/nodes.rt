@@ -235,7 +235,7 @@ fn tells_each_fault(rt: HostRuntime) -> Result<(), Fail> {
         rt.alloc(),
         &node("plan", false),
         &watch,
-        "plan: of another node or plan",
+        "plan: no journal of a node",
         1,
     )?;
     is_refused(
@@ -262,7 +262,7 @@ fn leaves_a_strange_journal(rt: HostRuntime) -> Result<(), Fail> {
         rt.alloc(),
         &asked,
         &watch,
-        "strange: of another node or plan",
+        "strange: a line says no fact of this node",
         1,
     )?;
     assert_eq!(&rt; fs::read_to_string(&rt, "strange")?.as_str(), STRANGE);

@@ -8,7 +8,7 @@ use Rattle.gq_desk.specs.Volumes.{Account, new_account}
 use Rattle.gq_text.specs.Lines.{lines_of}
 use Rattle.gq_setup.specs.declared.openings.Opening.{Opening}
 use Rattle.gq_setup.specs.declared.openings.SetupFault.{SetupFault}
-use Rattle.gq_setup.specs.declared.openings.SetupFault.TheVariants.{Plan, Live, Open, Replace, Memory}
+use Rattle.gq_setup.specs.declared.openings.SetupFault.TheVariants.{Plan, Live, OpenSize, OpenVolumes, OpenShare, Replace, Memory}
 use Rattle.gq_setup.specs.Setups.{Setup, SetupReading, accounts_of, after_opening, after_openings, opening_fault, holdings, CanOpen, with_opening, opened, after_opens, after_line, then_told, after_lines}
 use Rattle.gq_setup.specs.Faults.{IsFirstFault}
 
@@ -76,7 +76,9 @@ takes_all first start text rest number setup s none = s.told ∙ ap (λ r. after
 fault_first : (fault : SetupFault) (told : SetupReading Setup) (next : Setup → SetupReading Setup) → IsFirstFault fault told → IsFirstFault fault (then_told told next)
 fault_first (Plan n fault) told next is = ap (λ r. then_told r next) is
 fault_first (Live n) told next is = ap (λ r. then_told r next) is
-fault_first (Open n) told next is = ap (λ r. then_told r next) is
+fault_first (OpenSize n) told next is = ap (λ r. then_told r next) is
+fault_first (OpenVolumes n) told next is = ap (λ r. then_told r next) is
+fault_first (OpenShare n free) told next is = ap (λ r. then_told r next) is
 fault_first (Replace n) told next is = ap (λ r. then_told r next) is
 fault_first (Memory refused) told next is = tt
 

@@ -1,5 +1,6 @@
 pub mod Setups
 pub mod GoingOn
+pub mod NotKept
 pub mod Texts
 pub mod Faults
 pub mod Laws

@@ -78,7 +78,7 @@ has_node setup node = nat_lt (place_of node) (setup.plan.grid.rows * setup.plan.
 pub data Why : Type 0 where
   InPlan : TextFault → Why
   NoOpening : Why
-  NotOpened : Why
+  NotOpened : OpenFault → Why
   NotLost : Why
 
 -- what lines tell, or the number of the first line at fault and why
@@ -110,7 +110,7 @@ with_loss setup place = record setup { lost = setup.lost ++ place ∷ [] }
 -- the same by line n, unless it has a fault
 abbrev pub opened : ℕ → Setup → Opening → Option OpenFault → SetupReading Setup
 opened n setup opening None = Ok (with_opening setup opening)
-opened n setup opening (Some fault) = Err (n, NotOpened)
+opened n setup opening (Some fault) = Err (n, NotOpened fault)
 
 abbrev pub after_opens : ℕ → Setup → Option Opening → SetupReading Setup
 after_opens n setup None = Err (n, NoOpening)

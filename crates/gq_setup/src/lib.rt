@@ -8,6 +8,7 @@ mod node_plan;
 mod openings;
 mod setup;
 
+pub use going_on::NotKept;
 pub use node_plan::{NodePlan, read_node_plan};
 pub use openings::{MOST_LOSSES, Opening, SetupFault};
 pub use setup::{Setup, read_setup};

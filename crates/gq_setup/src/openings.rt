@@ -33,9 +33,15 @@ pub enum SetupFault {
     /// The line, behind the plan, opens no volume and tells no loss.
     #[error("line {0}: live")]
     Live(u64),
-    /// The volume of the line can't be opened.
-    #[error("line {0}: open")]
-    Open(u64),
+    /// The volume of the line can't be opened: its files or their blocks are too few or too many.
+    #[error("line {0}: open: files or blocks of a file")]
+    OpenSize(u64),
+    /// The volume of the line can't be opened: the tenant has as many volumes as it may have.
+    #[error("line {0}: open: volumes")]
+    OpenVolumes(u64),
+    /// The volume of the line can't be opened: it takes more blocks than the `free` ones that are left of the tenant's share.
+    #[error("line {line}: open: share, {free} blocks are left")]
+    OpenShare { line: u64, free: u32 },
     /// The node of the line can't be lost: there is no such place, the grid has one row, or too many nodes were lost before, in all or
     /// there.
     #[error("line {0}: replace")]

@@ -1,6 +1,6 @@
 //! A plan, the volumes that are opened at each start, and the nodes that were lost.
 
-ghost use Rattle.std.specs.Prelude.{◌≡◌, ◌++◌, ◌∷◌, ◌+◌, ◌<◌, ◌^◌, true, length, map, Ok, Some, [], IfOk, IfErr, OnOk, OnErr};
+ghost use Rattle.std.specs.Prelude.{◌≡◌, ◌++◌, ◌∷◌, ◌+◌, ◌<◌, ◌^◌, true, length, map, is_none, Ok, Some, [], IfOk, IfErr, IfSome, OnOk, OnErr};
 ghost use Rattle.std.specs.List.{All, flat_map};
 ghost use Rattle.gq_desk.specs.Volumes.{account_at};
 ghost use Rattle.gq_model.specs.Events.{IsIn};
@@ -13,10 +13,13 @@ ghost use Rattle.gq_node.specs.declared.lost.TheConstants.{MOST_TIMES};
 ghost use Rattle.gq_node.specs.Sites.{plan_in};
 ghost use Rattle.gq_setup.specs.Setups.{setup_of, accounts_of, holdings, CanOpen, CanLose, can_lose, has_node, plan_alone, after_opens, after_loses, after_line, after_lines};
 ghost use Rattle.gq_setup.specs.Faults.{IsFirstFault};
-ghost use Rattle.gq_setup.specs.GoingOn.{goes_on, same_servers, tenants_go_on};
+ghost use Rattle.gq_setup.specs.GoingOn.{goes_on, come_first, row_goes_on, account_goes_on};
+ghost use Rattle.gq_setup.specs.NotKept.{TellsVolume, IsNotKept};
 ghost use Rattle.gq_setup.specs.Texts.{opening_event, loss_line, setup_text};
 
-use crate::going_on::{accounts_go_on, losses_go_on, rows_go_on};
+use crate::going_on::{
+    NotKept, accounts_not_kept, losses_not_kept, rows_not_kept, servers_not_kept,
+};
 use crate::openings::{MOST_LOSSES, Opening, SetupFault, loss_word, read_opening};
 use gq_desk::{Desk, OpenRefused, Plan};
 use gq_grid::MOST_SERVERS;
@@ -94,7 +97,11 @@ impl Setup {
         {
             Ok(_) => {}
             Err(OpenRefused::Memory(refused)) => return Err(SetupFault::Memory(refused)),
-            Err(_) => return Err(SetupFault::Open(number)),
+            Err(OpenRefused::Size) => return Err(SetupFault::OpenSize(number)),
+            Err(OpenRefused::Volumes) => return Err(SetupFault::OpenVolumes(number)),
+            Err(OpenRefused::Share { free }) => {
+                return Err(SetupFault::OpenShare { line: number, free });
+            }
         }
         self.openings.push_reserved(opening);
         Ok(())
@@ -222,33 +229,40 @@ impl Setup {
         done
     }
 
-    // Whether the old tenants come first, each with its old volumes first.
-    fn tenants_go_on(&self, old: &Setup) -> bool
-        ensures { result ≡ tenants_go_on old.now self.now }
+    // What of the old volumes is not kept.
+    fn volumes_not_kept(&self, old: &Setup) -> Option<NotKept>
+        requires { come_first row_goes_on old.now.plan.rows self.now.plan.rows ≡ true }
+        ensures kept { is_none result ≡ come_first account_goes_on (holdings old.now) (holdings self.now) }
+        ensures told { IfSome result (TellsVolume (holdings old.now) (holdings self.now)) }
     {
-        if !rows_go_on(old.plan.rows(), self.plan.rows()) {
-            return false;
-        }
-        accounts_go_on(
-            &old.desk,
-            &self.desk,
-            old.plan.tenants(),
-            self.plan.tenants(),
-        )
+        accounts_not_kept(&old.desk, &self.desk, old.plan.tenants())
     }
 
-    /// Whether a node of the old setup may start with this one: it has the same grid and blocks, the old losses first, and the old tenants
-    /// first, with as many sessions and no smaller shares, and of each its old volumes first.
+    /// What of the old setup this one does not keep, of the first thing that it does not: the grid, the blocks of a server, the losses in
+    /// order, the tenants in order with their names, sessions and shares, and their volumes in order. None where this one goes on from the
+    /// old one.
+    pub fn not_kept(&self, old: &Setup) -> Option<NotKept>
+        ensures none { is_none result ≡ goes_on old.now self.now }
+        ensures told { IfSome result (IsNotKept old.now self.now) }
+    {
+        if let Some(what) = servers_not_kept(&old.plan, &self.plan) {
+            return Some(what);
+        }
+        if let Some(what) = losses_not_kept(old.lost.places(), self.lost.places()) {
+            return Some(what);
+        }
+        if let Some(what) = rows_not_kept(old.plan.rows(), self.plan.rows()) {
+            return Some(what);
+        }
+        self.volumes_not_kept(old)
+    }
+
+    /// Whether a node of the old setup may start with this one: it has the same grid and no fewer blocks of a server, the old losses first,
+    /// and the old tenants first, with as many sessions and no smaller shares, and of each its old volumes first.
     pub fn goes_on_from(&self, old: &Setup) -> bool
         ensures { result ≡ goes_on old.now self.now }
     {
-        if !same_servers(&old.plan, &self.plan) {
-            return false;
-        }
-        if !losses_go_on(old.lost.places(), self.lost.places()) {
-            return false;
-        }
-        self.tenants_go_on(old)
+        self.not_kept(old).is_none()
     }
 }
 
@@ -301,12 +315,4 @@ fn put_losses(out: &mut Vec<u8>, places: &[u8]) -> Result<(), OutOfMemory>
         put_loss(out, *place)?;
     }
     Ok(())
-}
-
-// Whether the grid is the same, and its servers have no fewer blocks.
-fn same_servers(old: &Plan, new: &Plan) -> bool
-    ensures { result ≡ same_servers old.now new.now }
-{
-    let (before, after) = (old.grid(), new.grid());
-    before.rows() == after.rows() && before.cols() == after.cols() && old.blocks() <= new.blocks()
 }

@@ -1,6 +1,6 @@
 use Rattle.std.proofs.Common.{◌≡◌, drop}
 use Rattle.gq_setup.specs.GoingOn.{same_place, come_first}
-use Rattle.gq_setup.proofs.going_on.losses_go_on.Given as goal
+use Rattle.gq_setup.proofs.going_on.losses_not_kept.Given as goal
 
 abbrev pub invariant-loop-index : goal.invariant-loop-index
 invariant-loop-index l = come_first same_place (drop l.index l.olds) (drop l.index l.news) ≡ come_first same_place l.olds l.news

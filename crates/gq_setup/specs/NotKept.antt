@@ -1,0 +1,62 @@
+-- What of an older setup a newer one does not keep, as it is told.
+use Rattle.std.specs.Prelude.{◌≡◌, ◌⊎◌, ℕ, ◌<◌, List, slice_get, Option, Some, None, Bool, true, false, ◌&&◌, ◌==◌}
+use Rattle.std.specs.Str.{bytes_eq}
+use Rattle.gq_desk.specs.CheckedPlan.{CheckedPlan}
+use Rattle.gq_desk.specs.declared.plans.TenantRow.{TenantRow}
+use Rattle.gq_desk.specs.declared.volumes.VolumeRow.{VolumeRow}
+use Rattle.gq_desk.specs.Volumes.{Account, account_at}
+use Rattle.gq_setup.specs.declared.going_on.NotKept.{NotKept}
+use Rattle.gq_setup.specs.declared.going_on.NotKept.TheVariants.{Grid, Blocks, Loss, Tenant, Sessions, Share, Volume}
+use Rattle.gq_setup.specs.Setups.{Setup, holdings}
+use Rattle.gq_setup.specs.GoingOn.{same_place, same_volume}
+
+-- whether what was there, if anything, became what is there now, as the test wants it
+abbrev pub kept_as : {A : Type 0} → (A → A → Bool) → (old now : Option A) → Bool
+kept_as test None now = true
+kept_as test (Some old) None = false
+kept_as test (Some old) (Some now) = test old now
+
+-- whether the one at this place of the old list is kept at its place
+abbrev pub is_kept_at : {A : Type 0} → (A → A → Bool) → (olds news : List A) → (place : ℕ) → Bool
+is_kept_at test olds news place = kept_as test (slice_get olds place) (slice_get news place)
+
+-- the grid was this one, and is another; or servers had so many blocks, and have fewer
+abbrev pub TellsServers : (old new : CheckedPlan) → NotKept → Type 0
+TellsServers old new (Grid rows cols) = (rows ≡ old.grid.rows) × (cols ≡ old.grid.cols) × ((rows == new.grid.rows && cols == new.grid.cols) ≡ false)
+TellsServers old new (Blocks before) = (before ≡ old.blocks) × (new.blocks < before)
+TellsServers old new _ = ⊥
+
+-- the loss of this index was at this place, and is not kept
+abbrev pub TellsLoss : (olds news : List ℕ) → NotKept → Type 0
+TellsLoss olds news (Loss index place) = (slice_get olds index ≡ Some place) × (is_kept_at same_place olds news index ≡ false)
+TellsLoss olds news _ = ⊥
+
+-- the tenant of this place has another name, had so many sessions and has more or fewer, or had a share of so many blocks and has fewer
+abbrev pub TellsRow : (place : ℕ) → (old new : TenantRow) → NotKept → Type 0
+TellsRow place old new (Tenant at) = (at ≡ place) × (bytes_eq old.name new.name ≡ false)
+TellsRow place old new (Sessions at before) = (at ≡ place) × (before ≡ old.sessions) × ((before == new.sessions) ≡ false)
+TellsRow place old new (Share at before) = (at ≡ place) × (before ≡ old.share) × (new.share < before)
+TellsRow place old new _ = ⊥
+
+-- the same where the tenant may be gone
+abbrev pub TellsRowOf : (place : ℕ) → NotKept → (old new : Option TenantRow) → Type 0
+TellsRowOf place what None new = ⊥
+TellsRowOf place what (Some old) None = what ≡ Tenant place
+TellsRowOf place what (Some old) (Some new) = TellsRow place old new what
+
+abbrev pub TellsRowAt : (olds news : List TenantRow) → NotKept → Type 0
+TellsRowAt olds news what = (place : ℕ) × TellsRowOf place what (slice_get olds place) (slice_get news place)
+
+-- the tenant's volume of this index had so many files of so many blocks, and is not kept
+abbrev pub TellsVolume : (olds news : List Account) → NotKept → Type 0
+TellsVolume olds news (Volume t index files blocks) =
+    (slice_get (account_at olds t).volumes index ≡ Some (record { files = files; blocks = blocks })) × (is_kept_at same_volume (account_at olds t).volumes (account_at news t).volumes index ≡ false)
+TellsVolume olds news _ = ⊥
+
+-- what is told of the older setup was so, and the newer one does not keep it
+abbrev pub IsNotKept : (old new : Setup) → NotKept → Type 0
+IsNotKept old new what =
+    TellsServers old.plan new.plan what
+    ⊎ TellsLoss old.lost new.lost what
+    ⊎ TellsRowAt old.plan.rows new.plan.rows what
+    ⊎ TellsVolume (holdings old) (holdings new) what
