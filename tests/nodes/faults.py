@@ -28,7 +28,7 @@ PLANS = [
     (PLAN.replace(b"bob 16", b"bob 64"), "line 6: overblocks 81 64"),
     *((PLAN + line + b"\n", "line 10: live") for line in NO_OPENS),
     *((PLAN + line + b"\n", f"line 10: open: {cause}") for line, cause in WRONG_OPENS.items()),
-    (PLAN.replace(b"ann 16", b"ann 64").replace(b"blocks 64", b"blocks 128") + b"ann open 1 1\n" * 63, "line 72: open: volumes"),
+    (PLAN.replace(b"ann 16", b"ann 99").replace(b"blocks 64", b"blocks 128") + b"ann open 1 1\n" * 63, "line 72: open: volumes"),
 ]
 # Plans that do not go on from the first one, with what is told, and plans that do.
 NOT_BEHIND = {
@@ -190,6 +190,17 @@ class Faults:
         cut = b"gridfs: journal: cut at byte %d\n" % (size - 20)
         self.held("a start behind it", (status, told, wrote), (0, cut + READY % 0, FIRST + b"ann 0 refused early 1 9 0\n"))
 
+    def limit_of_memory(self):
+        """Servers with more blocks than there is memory for: the journal stays, and the node starts with the old plan again."""
+
+        def limited():
+            resource.setrlimit(resource.RLIMIT_AS, (1 << 29, 1 << 29))
+
+        large = PLAN.replace(b"blocks 64", b"room 67108864").replace(b"16 4 1\n", b"16 4 1 16\n").replace(b"16 2 1\n", b"16 2 1 16\n").replace(b"1 1 1\n", b"1 1 1 1\n")
+        put(self.at("large"), large)
+        self.refused("a plan for which memory is wanting", 3, b"gridfs: out of memory\n", plan="large", preexec_fn=limited)
+        self.held("the old plan again", self.node(), (0, READY % 0, FIRST))
+
     def two_processes(self):
         words, pipes = words_of(self.program, 0, "plan", "journal"), dict.fromkeys(["stdin", "stdout", "stderr"], subprocess.PIPE)
         first = subprocess.Popen(words, cwd=self.folder, **pipes)
@@ -212,4 +223,5 @@ def tell_faults(program, folder):
     faults.streams()
     faults.two_processes()
     faults.limit_of_a_file()
+    faults.limit_of_memory()
     return faults.tried, faults.wrong

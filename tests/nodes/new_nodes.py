@@ -41,7 +41,6 @@ BEHIND = {
     "another loss": (LOST + b"replace 1\n", 1),
     "the new node is lost too": (LOST + b"replace 3\n", 3),
     "a loss and a tenant more": (LOST.replace(b"go\n", b"tenant cat 8 3 1\ngo\n") + b"cat open 2 1\nreplace 2\nreplace 3\n", 2),
-    "a loss and more blocks": (LOST.replace(b"blocks 64", b"blocks 90") + b"replace 1\n", 1),
 }
 NOT_BEHIND = {"no loss": PLAN, "another loss in its place": PLAN + b"replace 2\n", "another loss before it": PLAN + b"replace 2\nreplace 3\n"}
 LOSS = "the line `replace` number %d was `replace %d`"

@@ -15,7 +15,7 @@ from journals import batches
 from large import MARKER as LARGE_MARKER
 from large import MOST_BLOCKS, LargeClient, LargeStorm
 from processes import Wrong, get, put, words_of
-from storm import CALM, LATER, MARKER, NAMES, TURN, Client, Life, Storm, a_plan_behind
+from storm import CALM, LATER, MARKER, NAMES, TURN, Client, Life, Storm, a_plan_behind, shares_of
 from tenant import PLACES, SESSIONS, Nodes, Session
 from tenant import nodes_of as nodes_of_text
 
@@ -40,7 +40,7 @@ def a_plan(draw):
         volumes[name] = [(draw.choice([1, 2, 3, 4]), draw.randint(1, 2)) for _ in range(draw.randint(1, 2))]
         tenants += f"tenant {name} {sum(files * most for files, most in volumes[name])} {draw.randint(2, 8)} 1\n"
         opened += [f"{name} open {files} {most}\n" for files, most in volumes[name]]
-    return f"grid {rows} {cols}\nblocks 128\n{tenants}{MARKER}go\n{''.join(opened)}", volumes
+    return f"grid {rows} {cols}\nblocks {shares_of(tenants + MARKER)}\n{tenants}{MARKER}go\n{''.join(opened)}", volumes
 
 
 def cols_of(plan):

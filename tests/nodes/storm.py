@@ -9,6 +9,7 @@ Nodes are led step by step (processes.Stepped), one after another, so that a see
 
 import os
 import random
+import re
 import sys
 
 HERE = os.path.dirname(os.path.abspath(__file__))
@@ -48,6 +49,11 @@ LIES = Weather(kills=0.002, stops=True, powers=True, lies=True)
 CALM = Weather(kills=0, lost=0, repeated=0, nonsense=0)
 
 
+def shares_of(tenants):
+    """The blocks of all shares: servers get as many, so that a tenant more wants larger servers."""
+    return sum(map(int, re.findall(r"(?m)^tenant [a-z]+ ([0-9]+) ", tenants)))
+
+
 def a_plan(draw):
     """A plan of one to nine servers and one to four tenants, with their volumes."""
     rows, cols = draw.choice([(1, 1), (1, 2), (2, 1), (2, 2), (2, 2), (2, 2), (2, 3), (3, 2), (3, 3)])
@@ -56,14 +62,16 @@ def a_plan(draw):
         volumes[name] = [(draw.choice([1, 1, 2, 3]), draw.randint(1, 2)) for _ in range(draw.randint(1, 2))]
         tenants += f"tenant {name} {sum(files * most for files, most in volumes[name])} {draw.randint(1, 5)} 1\n"
         opened += [f"{name} open {files} {most}\n" for files, most in volumes[name]]
-    return f"grid {rows} {cols}\nblocks 128\n{tenants}{MARKER}go\n{''.join(opened)}", volumes
+    return f"grid {rows} {cols}\nblocks {shares_of(tenants + MARKER)}\n{tenants}{MARKER}go\n{''.join(opened)}", volumes
 
 
 def a_plan_behind(draw, plan):
-    """A plan that goes on from this one: there is a tenant more. Its volumes."""
+    """A plan that goes on from this one: there is a tenant more, and servers have more blocks. Its volumes."""
     rows, _, opened = plan.partition("go\n")
     sessions, files = draw.randint(1, 5), draw.randint(1, 4)
-    return f"{rows}tenant {LATER} {files} {sessions} 1\ngo\n{opened}{LATER} open {files} 1\n", [(files, 1)]
+    kind, blocks = re.search(r"(?m)^(blocks|room) ([0-9]+)$", rows).groups()
+    grown = rows.replace(f"{kind} {blocks}\n", f"{kind} {int(blocks) + files}\n")
+    return f"{grown}tenant {LATER} {files} {sessions} 1\ngo\n{opened}{LATER} open {files} 1\n", [(files, 1)]
 
 
 class Client:

@@ -31,7 +31,7 @@ fn number_in(plan: &[u8]) -> Option<u32> {
 }
 
 /// Why the journal of this text is not the node's, where it is not.
-pub(crate) fn mismatch(
+pub(crate) fn mismatch_of(
     alloc: Global,
     node: &ThisNode,
     journal: &[u8],

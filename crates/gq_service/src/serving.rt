@@ -16,7 +16,7 @@ ghost use Rattle.gq_service.specs.Serving.{IsNewFor, IsStarted, IsDurable, Serve
 use crate::console::Console;
 use crate::fault::NodeFault;
 use crate::filling::Filling;
-use crate::mismatch::mismatch;
+use crate::mismatch::mismatch_of;
 use crate::new_node::new_node;
 use crate::this_node::ThisNode;
 use gq_keeper::{Disk, Output, Plan, Started, first_plan, renew, serve, start};
@@ -70,7 +70,7 @@ fn go_on<D: Disk, C: Console>(
             Ok(recovered.number)
         }
         Started::Damaged(at) => Err(NodeFault::Damaged(at)),
-        Started::Another => Err(NodeFault::Another(mismatch(alloc, node, journal)?)),
+        Started::Another => Err(NodeFault::Another(mismatch_of(alloc, node, journal)?)),
         Started::Strange => Err(NodeFault::Strange),
     }
 }
