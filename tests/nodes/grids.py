@@ -74,6 +74,10 @@ LARGE_LINES = (
 PLAN_WITH_A_FAULT = "grid 2 2\nblocks 1\ntenant ann 0 1 1\ngo\n"
 
 
+def ignore_interrupt():
+    signal.signal(signal.SIGINT, signal.SIG_IGN)
+
+
 def states_of(folder):
     """The folder, and each file in it."""
     return {path: os.stat(path) for path in [folder, *(os.path.join(folder, name) for name in os.listdir(folder))]}
@@ -213,9 +217,9 @@ class Grids:
         self.held("a new node in its place", (status, sorted(line.split()[-1] for line in answers.splitlines())), (0, ["3", "6869", "ff"]))
 
     def is_interrupted(self, folder, number):
-        """A signal ends it, and with it its nodes: another grid starts in the folder at once."""
+        """A signal ends it, also a script's background job, and with it its nodes: another grid starts in the folder at once."""
         pipes = dict.fromkeys(["stdin", "stdout", "stderr"], subprocess.PIPE)
-        grid = subprocess.Popen([sys.executable, GRID, folder], text=True, env=self.environment, **pipes)
+        grid = subprocess.Popen([sys.executable, GRID, folder], text=True, env=self.environment, preexec_fn=ignore_interrupt, **pipes)
         while "nodes are up" not in (line := grid.stderr.readline()) and line:
             pass
         grid.stdin.write("ann write 1 0 0 aa\n" * 100)
