@@ -1,10 +1,9 @@
 """A grid on this machine, as deploy/mqtt/grid, the tests and the benchmarks start it: a broker, and nodes with their carriers."""
 
-import fcntl
 import os
-import re
 import signal
 import socket
+import ssl
 import subprocess
 import sys
 import time
@@ -12,11 +11,12 @@ import time
 HERE = os.path.dirname(os.path.realpath(__file__))
 sys.path.insert(0, os.path.join(HERE, "..", "..", "examples", "nodes"))
 from carrier import journal_of
+from one_machine import DAMAGED, InUse, how_ended, is_ready, lock
 from tenant import PLACES, nodes_of
 
 os.environ["PATH"] += ":/usr/sbin"  # (where Debian has mosquitto and nginx, and no user but root looks)
 PATIENCE = 15  # seconds that a process has to end, or to be ready
-READ = 1 << 21  # bytes of its journal that a node reads in one second more
+READ = 1 << 21  # bytes of its journal for which a node is given one second more
 
 
 class NotStarted(Exception):
@@ -52,6 +52,19 @@ def children_of(pid):
         return []
 
 
+def end_of(certificate):
+    """The second of the clock at which a certificate ends."""
+    done = subprocess.run(["openssl", "x509", "-noout", "-enddate", "-in", certificate], stdout=subprocess.PIPE, stderr=subprocess.DEVNULL, text=True)
+    if done.returncode:
+        raise NotStarted(f"{certificate}: no certificate")
+    return ssl.cert_time_to_seconds(done.stdout.strip().partition("=")[2])
+
+
+def why(told):
+    """What a node said itself of what it and its carrier told; else all."""
+    return "\n".join(line for line in told.splitlines() if line.startswith("gridfs: ")) or told.strip()
+
+
 class Grid:
     """The processes of a grid whose files are in a folder: `plan`, the journals, the broker's folder `broker`, and what they tell, in `log.NAME`.
     `tls` is as for deploy/mqtt/setup; tenants come by the port behind that of nodes."""
@@ -62,7 +75,7 @@ class Grid:
         self.plan, self.broker_folder = os.path.join(folder, "plan"), os.path.join(folder, "broker")
         self.processes, self.nodes, self.count, self.words = {}, [], 0, ()
         self.told_before = {}  # of each process, how long its log was when it was started
-        self.lock = None
+        self.lock = None  # the handle of the folder's lock, where it was taken
 
     def log(self, name):
         return open(os.path.join(self.folder, f"log.{name}"), "ab")
@@ -72,17 +85,17 @@ class Grid:
             return file.read()
 
     def told_since_start(self, name):
-        with open(os.path.join(self.folder, f"log.{name}"), encoding="latin1") as file:
+        with open(os.path.join(self.folder, f"log.{name}"), "rb") as file:
             file.seek(self.told_before[name])
-            return file.read()
+            return file.read().decode("latin1")
 
     def take(self):
-        """Takes the folder, which one grid has at a time. NotStarted where another one runs there."""
-        self.lock = open(os.path.join(self.folder, "lock"), "a", encoding="ascii")
+        """Takes the folder, which one grid has at a time: as long as a process of it runs, also where the grid itself was killed. NotStarted where
+        another one runs there."""
         try:
-            fcntl.flock(self.lock, fcntl.LOCK_EX | fcntl.LOCK_NB)
-        except BlockingIOError:
-            raise NotStarted(f"{self.folder}: a grid runs there") from None
+            self.lock = lock(self.folder)
+        except InUse as fault:
+            raise NotStarted(fault) from None
 
     def set_up(self, *words):
         """Makes the broker's folder from the plan, or makes it again."""
@@ -96,12 +109,30 @@ class Grid:
         if done.returncode:
             raise NotStarted(done.stderr.strip())
 
+    def authority_ends(self):
+        """The second of the clock at which the test authority or its certificate ends; None where there is no TLS."""
+        if self.tls == "none":
+            return None
+        files = [os.path.join(self.broker_folder, name) for name in ("ca.crt", "broker.crt")]
+        return min(map(end_of, files))
+
+    def renew_authority(self):
+        """Makes the authority and its certificate anew, where they are about to end, and has them used. Whether that was so."""
+        before = self.authority_ends()
+        self.set_up(*self.words)
+        is_new = self.authority_ends() != before
+        if is_new:
+            for name in {"broker", "front"} & self.processes.keys():
+                self.processes[name].send_signal(signal.SIGHUP)
+        return is_new
+
     def run(self, name, words):
         """Starts a process. A signal from the terminal does not reach it; a session of its own would be a group of the scheduler's too,
         and each would wait for the others' turns."""
+        handles = [] if self.lock is None else [self.lock]
         with self.log(name) as log:
             self.told_before[name] = os.fstat(log.fileno()).st_size
-            self.processes[name] = subprocess.Popen(words, stdin=subprocess.DEVNULL, stdout=log, stderr=log, preexec_fn=os.setpgrp)
+            self.processes[name] = subprocess.Popen(words, stdin=subprocess.DEVNULL, stdout=log, stderr=log, preexec_fn=os.setpgrp, pass_fds=handles)
 
     def start_broker(self):
         self.run("broker", ["mosquitto", "-c", os.path.join(self.broker_folder, "mosquitto.conf")])
@@ -124,21 +155,25 @@ class Grid:
 
     def start(self, new=None):
         """Starts the broker and all nodes, of which one may begin in the place of one that was lost, and waits until each takes lines. Those whose
-        journal is gone stay down, and are told."""
+        journal is gone or damaged stay down: they are given, each with the status with which it ended, if it was started."""
         begun = os.path.join(self.folder, "begun")
         is_first = not os.path.exists(begun)
-        lost = [number for number in self.nodes if not (is_first or number == new or os.path.exists(journal_of(self.folder, number)))]
-        if len(lost) == len(self.nodes):
+        there = [number for number in self.nodes if is_first or number == new or self.has_journal(number)]
+        if not there:
             raise NotStarted(f"{self.folder} has no journal")
         self.start_broker()
         self.start_front()
-        there = [number for number in self.nodes if number not in lost]
         for number in there:
-            self.start_node(number, (is_first or number == new) and not os.path.exists(journal_of(self.folder, number)))
-        self.wait_until_ready(there)
+            self.start_node(number, (is_first or number == new) and not self.has_journal(number))
+        damaged = self.wait_until_ready(there)
+        if len(damaged) == len(there):
+            raise NotStarted(f"{self.folder} has no journal that is whole: {why(self.told_since_start(there[0]))}")
         with open(begun, "w", encoding="ascii"):
             pass
-        return lost
+        return {number: None for number in self.nodes if number not in there} | dict.fromkeys(damaged, DAMAGED)
+
+    def has_journal(self, number):
+        return os.path.exists(journal_of(self.folder, number))
 
     def note_loss(self, number):
         """Writes into the plan, and into the broker's folder, that a node was lost. The one that stands in its place."""
@@ -167,27 +202,32 @@ class Grid:
         self.wait_until_ready([new])
         return new
 
-    def wait_until_connected(self, numbers, times=1):
-        until = time.monotonic() + PATIENCE
-        for number in numbers:
-            while self.told(number).count("connected to") < times:
-                if self.processes[number].poll() is not None or time.monotonic() > until:
-                    raise NotStarted(f"node {number} is not connected: {self.told(number).strip() or self.told('broker').strip()}")
-                time.sleep(0.02)
-
     def wait_until_ready(self, numbers):
-        """Waits until each of these nodes, since it was started, has read its journal and its carrier is connected."""
+        """Waits until each of these nodes, since it was started, has read its journal and its carrier is connected. Those whose journal is damaged,
+        which end. NotStarted where another one ends, or is not ready in time."""
         until = time.monotonic() + PATIENCE + sum(self.length_of_journal(number) for number in numbers) / READ
-        for number in numbers:
-            ready = re.compile(rf"^gridfs: node {number} of \d by \d: ", re.M)
-            while not (ready.search(told := self.told_since_start(number)) and "connected to" in told):
-                if self.processes[number].poll() is not None or time.monotonic() > until:
-                    raise NotStarted(f"node {number} is not ready: {told.strip() or self.told('broker').strip()}")
-                time.sleep(0.02)
+        return [number for number in numbers if not self.is_ready_by(number, until)]
+
+    def is_ready_by(self, number, until):
+        """Whether the node is ready, and not ended since its journal is damaged."""
+        while True:
+            status, told = self.processes[number].poll(), self.told_since_start(number)
+            if status is None and is_ready(number, told) and "connected to" in told:
+                return True
+            if status == DAMAGED:
+                del self.processes[number]
+                return False
+            if status is not None:
+                raise NotStarted(f"node {number} has ended {how_ended(status)}: {why(told)}")
+            for name in {"broker", "front"} & self.processes.keys():
+                if (ended := self.processes[name].poll()) is not None:
+                    raise NotStarted(f"the {name} has ended {how_ended(ended)}: {self.told_since_start(name).strip()}")
+            if time.monotonic() > until:
+                raise NotStarted(f"node {number} is not ready: {told.strip() or self.told_since_start('broker').strip()}")
+            time.sleep(0.02)
 
     def length_of_journal(self, number):
-        journal = journal_of(self.folder, number)
-        return os.path.getsize(journal) if os.path.exists(journal) else 0
+        return os.path.getsize(journal_of(self.folder, number)) if self.has_journal(number) else 0
 
     def node(self, number):
         """The process of the node itself, below its carrier; None where it is gone."""

@@ -4,6 +4,7 @@ The socket is its owner's alone, and who opens it may speak as any tenant: a cli
 that are from another are passed over.
 """
 
+import contextlib
 import os
 import socket
 
@@ -47,7 +48,7 @@ class Callers:
     def __init__(self, path, send):
         self.path, self.send, self.callers = path, send, []
         if os.path.exists(path):
-            os.unlink(path)  # (left by a grid that was killed: two can't be in one folder, since nodes lock their journals)
+            os.unlink(path)  # (left by a grid that was killed: two can't be in one folder, which is locked)
         self.door = socket.socket(socket.AF_UNIX)
         before = os.umask(0o177)
         try:
@@ -95,4 +96,5 @@ class Callers:
         for caller in self.callers:
             caller.connection.close()
         self.door.close()
-        os.unlink(self.path)
+        with contextlib.suppress(FileNotFoundError):  # (somebody removed it)
+            os.unlink(self.path)

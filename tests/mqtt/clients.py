@@ -214,7 +214,7 @@ def large(program, carry, tls):
         for number in range(grid.count):
             grid.kill_node(number)
             grid.start_node(number)
-        grid.wait_until_connected(range(grid.count), 2)
+        grid.wait_until_ready(range(grid.count))
         clients.held("it is there when all nodes were killed", clients.run("--session", "3", "ann", "read", "0", "1"), (DONE, content, ""))
         for number in range(grid.count):
             grid.processes[number].terminate()
@@ -299,7 +299,7 @@ def grown(program, carry):
             grid.processes[number].terminate()
             clients.held(f"node {number} ends by itself", grid.processes[number].wait(), 0)
             grid.start_node(number)
-            grid.wait_until_connected([number], 2)
+            grid.wait_until_ready([number])
         clients.held("the new tenant writes", clients.run("eve", "write", "0", "7", "new", name="eve"), (DONE, b"", ""))
         clients.held("and reads", clients.run("eve", "read", "0", "7", name="eve"), (DONE, b"new", ""))
         clients.held("the new volume is there", clients.run("bob", "read", "1", "3", name="bob"), (DONE, b"", ""))

@@ -1,5 +1,6 @@
 """What examples/grid shows, takes and refuses, and that it leaves nothing behind."""
 
+import contextlib
 import hashlib
 import os
 import re
@@ -71,6 +72,15 @@ LARGE_LINES = (
     + "".join(f"ann read {file + 1} 0 {file}\n" for file in range(4))
 )
 PLAN_WITH_A_FAULT = "grid 2 2\nblocks 1\ntenant ann 0 1 1\ngo\n"
+
+
+def ignore_interrupt():
+    signal.signal(signal.SIGINT, signal.SIG_IGN)
+
+
+def states_of(folder):
+    """The folder, and each file in it."""
+    return {path: os.stat(path) for path in [folder, *(os.path.join(folder, name) for name in os.listdir(folder))]}
 
 
 class Grids:
@@ -146,13 +156,70 @@ class Grids:
         self.held("a plan that is not there", self.run("--plan", "/none", folder + ".none")[::2], (1, ["grid: /none: No such file or directory"]))
         with open(folder + ".plan", "w", encoding="ascii") as out:
             out.write(PLAN_WITH_A_FAULT)
-        wanted = 1, ["grid: node 0 has ended with status 1", "grid: node 0 did not start"]
+        wanted = 1, ["grid: node 0 has ended with status 1", "grid: node 0 did not start: a person has to look (docs/OPERATING.md, Faults)"]
         self.held("a plan with a fault", self.run("--plan", folder + ".plan", folder + ".fault")[::2], wanted)
 
-    def is_interrupted(self, folder, number):
-        """A signal ends it, and with it its nodes: another grid starts in the folder at once."""
+    @contextlib.contextmanager
+    def served(self, folder, *words):
+        """A grid in the folder, once it says how many nodes are up, and what it said until then."""
         pipes = dict.fromkeys(["stdin", "stdout", "stderr"], subprocess.PIPE)
-        grid = subprocess.Popen([sys.executable, GRID, folder], text=True, env=self.environment, **pipes)
+        grid = subprocess.Popen([sys.executable, GRID, *words, folder], text=True, env=self.environment, **pipes)
+        told = [grid.stderr.readline()]
+        while told[-1] and " up, " not in told[-1]:
+            told.append(grid.stderr.readline())
+        try:
+            yield grid, [line.rstrip("\n") for line in told if line.startswith("grid: ")]
+        finally:
+            grid.kill()
+            grid.communicate()
+
+    def is_alone(self, folder):
+        """A second grid is refused in a folder that is in use, also where all nodes are dead, and changes nothing; nobody else may read what is
+        there; and no traceback comes of a socket that was removed."""
+        with self.served(folder, "--plan", PLAN) as (grid, told):
+            self.held("a start", [line.split(",")[0] for line in told], ["grid: 4 nodes are up"])
+            before = states_of(folder)
+            self.held("what others may read", [name for name, state in before.items() if state.st_mode & 0o077], [])
+            grid.stdin.write("".join(f"kill {number}\n" for number in range(4)) + "nodes\n")
+            grid.stdin.flush()
+            self.held("all nodes are killed", [grid.stdout.readline() for _ in range(4)], [f"node {number} is down\n" for number in range(4)])
+            wanted = 1, "", [f"grid: {folder}: a grid runs there (processes {grid.pid})"]
+            self.held("a second grid in the folder", self.run(folder), wanted)
+            changed = [name for name, state in states_of(folder).items() if name not in before or state.st_mtime_ns != before[name].st_mtime_ns]
+            self.held("what it has changed", changed, [])
+            with contextlib.suppress(FileNotFoundError):
+                os.unlink(os.path.join(folder, "socket"))
+            grid.send_signal(signal.SIGTERM)
+            _, told = grid.communicate(timeout=SECONDS)
+            self.held("an end without its socket", (grid.returncode, told), (130, ""))
+
+    def is_damaged(self, folder):
+        """A journal that is damaged: the other nodes go on, a new one can take its place, and once all are dead a grid for clients ends."""
+        with open(os.path.join(folder, "node3.journal"), "r+b") as file:
+            text = bytearray(file.read())
+            text[20] ^= 1
+            file.seek(0)
+            file.write(text)
+        wanted = "its journal is damaged: a person has to look (docs/OPERATING.md, Faults); where it is lost, `replace 3` puts a new node in its place"
+        with self.served(folder, "--serve") as (grid, told):
+            self.held("a journal that is damaged", (told[1:2], told[-1].split(",")[0]), ([f"grid: node 3 is down: {wanted}"], "grid: 3 of 4 nodes are up"))
+            with open(f"/proc/{grid.pid}/task/{grid.pid}/children", encoding="ascii") as children:
+                for pid in map(int, children.read().split()):
+                    os.kill(pid, signal.SIGKILL)
+            ends = sorted(f"grid: node {number} has ended by signal 9: it starts again with the grid" for number in range(3))
+            try:
+                _, told = grid.communicate(timeout=SECONDS)
+            except subprocess.TimeoutExpired:
+                told = ""
+            told = [line for line in told.splitlines() if line.startswith("grid: ")]
+            self.held("a grid for clients whose nodes are dead", (grid.poll(), sorted(told[:3]), told[3:]), (1, ends, ["grid: all nodes are down"]))
+        status, answers, _ = self.run(folder, given="replace 3\nwait 67\nann read 3 0 0\nann read 4 0 1\n")
+        self.held("a new node in its place", (status, sorted(line.split()[-1] for line in answers.splitlines())), (0, ["3", "6869", "ff"]))
+
+    def is_interrupted(self, folder, number):
+        """A signal ends it, also a script's background job, and with it its nodes: another grid starts in the folder at once."""
+        pipes = dict.fromkeys(["stdin", "stdout", "stderr"], subprocess.PIPE)
+        grid = subprocess.Popen([sys.executable, GRID, folder], text=True, env=self.environment, preexec_fn=ignore_interrupt, **pipes)
         while "nodes are up" not in (line := grid.stderr.readline()) and line:
             pass
         grid.stdin.write("ann write 1 0 0 aa\n" * 100)
@@ -176,4 +243,7 @@ def tell_grid(program):
         grids.refuses(folder)
         for number in (signal.SIGINT, signal.SIGTERM, signal.SIGKILL):
             grids.is_interrupted(folder, number)
+        grids.is_alone(folder + ".alone")
+        grids.takes_lines(folder + ".damaged")
+        grids.is_damaged(folder + ".damaged")
     return grids.tried, grids.wrong

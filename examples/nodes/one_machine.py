@@ -1,0 +1,78 @@
+"""What a grid on one machine owes to whoever runs it, whichever way its lines go: examples/grid and deploy/mqtt/grid."""
+
+import fcntl
+import os
+import re
+import signal
+
+DAMAGED = 4  # the status of a node whose journal is damaged
+STAY_DOWN = (1, 2, DAMAGED, 125, 127)  # statuses of a node, or of what is to start it, that a further start would not mend
+SIGNALS = (signal.SIGINT, signal.SIGTERM, signal.SIGHUP)
+
+
+class InUse(Exception):
+    """Another grid runs in the folder."""
+
+
+def begin():
+    """Has signals end this program, and what it makes be its owner's alone: journals hold the contents of all tenants."""
+    for it in SIGNALS:
+        # (a script's background job begins with SIGINT ignored, and has to end all the same; nohup ignores SIGHUP on purpose)
+        if it != signal.SIGHUP or signal.getsignal(it) != signal.SIG_IGN:
+            signal.signal(it, signal.default_int_handler)
+    os.umask(0o077)
+
+
+def end():
+    """From now on no signal interrupts us: what was started has to be ended."""
+    for it in SIGNALS:
+        signal.signal(it, signal.SIG_IGN)
+
+
+def lock(folder):
+    """Locks the folder, and writes nothing there. It is locked until the last process has ended that has this handle. InUse where it is
+    locked already."""
+    handle = os.open(folder, os.O_RDONLY | os.O_DIRECTORY)
+    try:
+        fcntl.flock(handle, fcntl.LOCK_EX | fcntl.LOCK_NB)
+    except BlockingIOError:
+        pids = ", ".join(map(str, holders(handle)))
+        os.close(handle)
+        raise InUse(f"{folder}: a grid runs there (processes {pids or 'of another user'})") from None
+    return handle
+
+
+def holders(handle):
+    """The processes, but for this one, that have the folder open too."""
+    pids = [int(name) for name in os.listdir("/proc") if name.isdigit() and int(name) != os.getpid()]
+    return [pid for pid in pids if has_open(pid, os.fstat(handle))]
+
+
+def has_open(pid, wanted):
+    try:
+        with os.scandir(f"/proc/{pid}/fd") as handles:
+            return any(os.path.samestat(it.stat(), wanted) for it in handles)
+    except OSError:  # (it has ended, or is another user's)
+        return False
+
+
+def is_ready(number, told):
+    """Whether the node has said that it read its journal, in what it told since its start."""
+    return re.search(rf"^gridfs: node {number} of \d by \d: ", told, re.M) is not None
+
+
+def how_ended(status):
+    return f"by signal {-status}" if status < 0 else f"with status {status}"
+
+
+def how_many_are_up(up, nodes):
+    return f"{nodes} nodes are up" if up == nodes else f"{up} of {nodes} nodes are up"
+
+
+def way_out(status, has_journal, replacing):
+    """What to do about a node that has ended and stays down. `replacing` says how a new one is put in its place."""
+    if not has_journal:
+        return f"its journal is gone ({replacing} puts a new node in its place)"
+    if status == DAMAGED:
+        return f"its journal is damaged: a person has to look (docs/OPERATING.md, Faults); where it is lost, {replacing} puts a new node in its place"
+    return "a person has to look (docs/OPERATING.md, Faults)"
