@@ -16,6 +16,7 @@ from histories import HERE
 
 sys.path.insert(0, os.path.join(HERE, "..", "nodes"))
 import commands
+import outages
 import planted
 import registers
 import trial
@@ -34,7 +35,7 @@ SHAPES = ("MIXED", "CROWDED", "LENDING", "REMOVING", "DYING", "UNSURE")
 
 def steps():
     loader, told = unittest.TestLoader(), io.StringIO()
-    suite = loader.loadTestsFromNames(["test_parts", "test_sessions", "test_names"])
+    suite = loader.loadTestsFromNames(["test_parts", "test_sessions", "test_names", "test_status", "test_mirror"])
     result = unittest.TextTestRunner(told, verbosity=0).run(suite)
     return f"{result.testsRun} tests", [f"{test}: {text.splitlines()[-1]}" for test, text in result.failures + result.errors]
 

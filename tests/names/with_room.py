@@ -24,9 +24,9 @@ SHORT = b"as small as a word is"
 class Grid:
     """examples/grid in the folder `grid`, whose nodes can be killed and started."""
 
-    def __init__(self, program):
+    def __init__(self, program, plan=PLAN):
         with open("told", "wb") as told:
-            words = [PYTHON, "-B", os.path.join(TOP, "examples", "grid"), "--program", program, "--plan", PLAN, "grid"]
+            words = [PYTHON, "-B", os.path.join(TOP, "examples", "grid"), "--program", program, "--plan", plan, "grid"]
             self.process = subprocess.Popen(words, stdin=subprocess.PIPE, stdout=told, stderr=told)
         until = time.monotonic() + SECONDS
         while b"nodes are up" not in self.told():
