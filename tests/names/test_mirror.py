@@ -216,10 +216,12 @@ class Skipping(Mirrors):
         self.write("file", b"kept", self.other)
         os.makedirs(os.path.join(self.other, "folder"))
         os.symlink(outside, os.path.join(self.other, "out"))
-        os.symlink(os.path.join(outside, "x"), os.path.join(self.other, "link"))
-        self.put({"out/x": b"new", "link": b"new", "file/x": b"new", "folder": b"new", "good": b"new"})
+        for link in ("link", "alike"):
+            os.symlink(os.path.join(outside, "x"), os.path.join(self.other, link))
+        self.put({"out/x": b"new", "link": b"new", "alike": b"kept", "file/x": b"new", "folder": b"new", "good": b"new"})
         report = self.down()
-        self.assertEqual({os.path.relpath(each, self.other) for each in report.skipped}, {"out/x", "link", "file/x", "folder"})
+        self.assertEqual({os.path.relpath(each, self.other) for each in report.skipped}, {"out/x", "link", "alike", "file/x", "folder"})
+        self.assertEqual(report.skipped[os.path.join(self.other, "alike")], "a symbolic link is not followed")
         self.assertEqual((self.read_all(outside), report.moved, report.status), ({"x": b"kept"}, ["good"], 6))
         self.assertEqual(os.readlink(os.path.join(self.other, "link")), os.path.join(outside, "x"))
         with open(os.path.join(self.other, "file"), "rb") as file:

@@ -5,6 +5,7 @@ can't be mirrored is skipped and told, and nothing is removed because of it.
 """
 
 import abc
+import errno
 import hashlib
 import io
 import os
@@ -22,6 +23,7 @@ from .names import Entry, NamedFiles
 from .pages import check_name
 
 GRID = "grid:"  # what a prefix begins with, so that no folder is taken for one
+LINK, NO_FILE = "a symbolic link is not followed", "it is not a regular file"
 Result = TypeVar("Result")
 OpenNames = Callable[[str], AbstractContextManager[NamedFiles]]
 
@@ -63,10 +65,10 @@ def open_regular(path: str) -> io.BufferedReader:
     try:
         file = open(path, "rb", opener=lambda path, flags: os.open(path, flags | os.O_NOFOLLOW | os.O_NONBLOCK))
     except OSError as fault:
-        raise BadFile(fault.strerror or str(fault)) from None
+        raise BadFile(LINK if fault.errno == errno.ELOOP else fault.strerror or str(fault)) from None
     if not stat.S_ISREG(os.fstat(file.fileno()).st_mode):
         file.close()
-        raise BadFile("it is not a regular file")
+        raise BadFile(NO_FILE)
     return file
 
 
@@ -100,7 +102,7 @@ def files_in(folder: str, skip: Callable[[str, ClientError], None]) -> Iterator[
             if entry.is_dir(follow_symlinks=False):
                 folders.append(path)
             elif not entry.is_file(follow_symlinks=False):
-                skip(path, BadFile("a symbolic link is not followed" if entry.is_symlink() else "it is not a regular file"))
+                skip(path, BadFile(LINK if entry.is_symlink() else NO_FILE))
             elif not entry.name.startswith(UNFINISHED):
                 yield path
 
@@ -329,7 +331,7 @@ class ToFolder(Mirror):
         def call() -> bool:
             make_folders(self.folder, self.paths[name])
             if kind_of(path) not in (None, stat.S_IFREG):
-                raise BadFile("it is not a regular file")
+                raise BadFile(NO_FILE)
             to_target(path, lambda target: files.get_to(name, target))
             return True
 
