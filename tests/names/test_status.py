@@ -201,12 +201,34 @@ class Waiting(unittest.TestCase):
             sessions.close()
 
     def test_sessions_that_are_used(self):
-        carrier = Played(lambda node, body: [(str(node), "plan 1 0 1 3000 16 8.16")] if body == "plan" else [])
-        with tempfile.TemporaryDirectory() as folder:
-            sessions = self.opened(carrier, folder, timeout="1")
-            with sessions.settings.lock(1), self.assertRaises(SessionTaken):
-                carrier.clock = 1.5
-                sessions.first()
+        """The wait for one that others use ends; and it is not taken off the time for an answer."""
+        home = Home(0)
+
+        def play(node, body):
+            if body == "plan":
+                return [(str(node), "plan 1 0 1 3000 16 8.16")]
+            return home(node, body)
+
+        for freed in (None, 20):
+            carrier, home.last = Played(play), 0
+            with tempfile.TemporaryDirectory() as folder:
+                sessions = self.opened(carrier, folder)
+                lock = sessions.settings.lock(1)
+
+                def sleep(seconds):
+                    carrier.clock += seconds
+                    if freed and carrier.clock > freed:
+                        lock.close()
+
+                with mock.patch("time.sleep", sleep), lock:
+                    if not freed:
+                        with self.assertRaisesRegex(SessionTaken, "session all is used by other commands"):
+                            sessions.first()
+                        self.assertEqual(round(carrier.clock), 30)
+                        continue
+                    session = sessions.first()
+                self.assertEqual(round(session.pace.timeout), 30)
+                sessions.close()
 
 
 class Used(unittest.TestCase):
