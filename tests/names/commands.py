@@ -139,7 +139,7 @@ class Commands:
         self.told("put of a new name", ["put", "-", "new"], b"", given=b"new")
         self.lines("a restore", ["mirror", "--delete", "backup", "grid:"], [b"put back/a", "put back/b/ä b".encode(), b"removed new"], b"put 2, removed 1; 2 the same")
         for path, content in contents.items():
-            self.told(f"get of {path} behind it", ["get", f"back/{path}"], content)
+            self.told(f"get of {path} after it", ["get", f"back/{path}"], content)
         os.symlink("/etc/passwd", "tree/link")
         status, told, why = self.run("mirror", "--quiet", "tree", "grid:back")
         skipped = "gridfs-client: skipped tree/link: a symbolic link is not followed\ngridfs-client: 1 skipped\n"
@@ -209,7 +209,7 @@ class Commands:
         self.refused("a setting of no meaning", ["ls"], 2, "there is no setting tenent", tenant="spoilt")
 
     def streams(self):
-        """Targets that are no files, or are there already; standard streams that are closed or full."""
+        """Targets that are no files, or exist already; standard streams that are closed or full."""
         self.told("a content for what follows", ["put", "-", "here"], b"", given=b"here")
         os.mkfifo("pipe")
         pipe = os.open("pipe", os.O_RDONLY | os.O_NONBLOCK)
@@ -296,23 +296,23 @@ class Commands:
                 self.wrong.append(f"an interrupted put: status {status}, {said!r}")
             held.put(content, status == 0)
             told = self.run("get", "torn")
-            self.held(f"status of a get behind interrupt {number}", told[0], 1 if told[0] == 1 and held.content is None else 0)
-            self.held(f"what is held behind interrupt {number} may be so", held.may_be(told[1] if told[0] == 0 else held.content), True)
+            self.held(f"status of a get after interrupt {number}", told[0], 1 if told[0] == 1 and held.content is None else 0)
+            self.held(f"what is held after interrupt {number} may be so", held.may_be(told[1] if told[0] == 0 else held.content), True)
         self.held("some were interrupted", any(seen), True)
         self.told("put of nothing in its place", ["put", "-", "torn"], b"", given=b"")
         self.told("all slots are free", ["put", "-", "all"], b"", given=bytes(100_000), GRIDFS_HELPERS="3")
         self.told("rm of it", ["rm", "all", "torn"], b"")
 
     def finished_by_an_interrupted_put(self):
-        """A put is ended behind its announcement, and the next one once it has finished that: a get behind it tells the first one's content. So it
-        goes on with the third and the fourth."""
+        """A put is interrupted after its announcement, and the next one once it has finished that: then a get tells the first one's content. The same
+        with a third and a fourth one."""
         self.told("put of an old content", ["put", "-", "ended"], b"", given=b"old", GRIDFS_SESSION="1")
         for content, told in ((b"first", b"old"), (b"second", b"first"), (b"third", b"first"), (b"fourth", b"third")):
             ended = self.run("put", "-", "ended", given=content, GRIDFS_VIA=shlex.join([PYTHON, "-B", ENDING, "grid/socket", "2"]), GRIDFS_SESSION="1")
-            self.held(f"put of {content} that is ended", ended, (130, b"", ""))
-            self.told(f"get behind the put of {content}", ["get", "ended"], told)
-        self.told("put behind them", ["put", "-", "ended"], b"", given=b"last", GRIDFS_SESSION="1")
-        self.told("get behind it", ["get", "ended"], b"last")
+            self.held(f"put of {content} that is interrupted", ended, (130, b"", ""))
+            self.told(f"get after the put of {content}", ["get", "ended"], told)
+        self.told("a put after them", ["put", "-", "ended"], b"", given=b"last", GRIDFS_SESSION="1")
+        self.told("a get after it", ["get", "ended"], b"last")
         self.told("rm of it", ["rm", "ended"], b"")
 
     def terminal(self):

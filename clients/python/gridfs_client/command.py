@@ -269,9 +269,9 @@ def mirror(opened: Opened, args: argparse.Namespace) -> None:
     made = kind(folder, prefix or "", opened.names_for, partial(turn_of, count=count), tell_line, complain, args.delete, args.dry_run)
     report = made.run()
     value = {"dry_run": args.dry_run, made.word: report.moved, "removed": report.removed, "same": report.same, "skipped": report.skipped}
-    would = "would " if args.dry_run else ""
-    removed = f"{'remove' if args.dry_run else 'removed'} {len(report.removed)}"
-    tell(args, value, None if args.quiet else f"{would}{made.word if args.dry_run else made.done} {len(report.moved)}, {removed}; {report.same} the same")
+    moved, removed = (f"would {made.word}", "remove") if args.dry_run else (made.done, "removed")
+    text = f"{moved} {len(report.moved)}, {removed} {len(report.removed)}; {report.same} the same"
+    tell(args, value, None if args.quiet else text)
     if report.skipped:
         raise Skipped(f"{len(report.skipped)} skipped", report.status)
 
