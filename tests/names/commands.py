@@ -111,6 +111,73 @@ class Commands:
         has = json.loads(self.run("plan", "--json")[1])
         self.held("plan", (has["nodes"], has["sessions"], has["share"], has["volumes"][5]), (4, 4, 2432, {"files": 64, "blocks": 2}))
 
+    # Mirrors and the status
+
+    def mirror(self):
+        """A folder and back; a backup of all names, and a restore."""
+        contents = {"a": b"1", "b/ä b": os.urandom(5_000), "b/c/empty": b""}
+        for path, content in contents.items():
+            os.makedirs(os.path.dirname(f"tree/{path}"), exist_ok=True)
+            with open(f"tree/{path}", "wb") as out:
+                out.write(content)
+        every = [f"back/{path}".encode() for path in sorted(contents)]
+        self.lines("mirror, dry", ["mirror", "--dry-run", "tree", "grid:back"], [b"would put " + name for name in every], b"would put 3, remove 0; 0 the same")
+        self.told("what a dry one has put", ["ls"], b"")
+        self.lines("mirror to the grid", ["mirror", "tree", "grid:back/"], [b"put " + name for name in every], b"put 3, removed 0; 0 the same")
+        self.told("the same once more", ["mirror", "tree", "grid:back"], b"put 0, removed 0; 3 the same\n")
+        self.told("a name of another prefix", ["put", "-", "other"], b"", given=b"other")
+        through = os.path.abspath("connections")
+        carrier = f'echo >> {through}; exec {shlex.join([PYTHON, "-B", ENDING, os.path.abspath("grid/socket"), "1000"])}'
+        status, told, _ = self.run("mirror", "--json", "grid:", "backup", GRIDFS_VIA=shlex.join(["sh", "-c", carrier]))
+        told = json.loads(told)
+        self.held("a backup", (status, sorted(told["get"]), told["same"], told["skipped"]), (0, sorted([*(n.decode() for n in every), "other"]), 0, {}))
+        with open(through, "rb") as connections:
+            self.held("its connections", connections.read(), b"\n")
+        self.held("what it got", subprocess.run(["diff", "-r", "tree", "backup/back"], capture_output=True).stdout, b"")
+        self.told("rm of a name", ["rm", "back/a"], b"")
+        self.told("put of another content", ["put", "-", "back/b/ä b"], b"", given=bytes(5_000))
+        self.told("put of a new name", ["put", "-", "new"], b"", given=b"new")
+        self.lines("a restore", ["mirror", "--delete", "backup", "grid:"], [b"put back/a", "put back/b/ä b".encode(), b"removed new"], b"put 2, removed 1; 2 the same")
+        for path, content in contents.items():
+            self.told(f"get of {path} after it", ["get", f"back/{path}"], content)
+        os.symlink("/etc/passwd", "tree/link")
+        status, told, why = self.run("mirror", "--quiet", "tree", "grid:back")
+        skipped = "gridfs-client: skipped tree/link: a symbolic link is not followed\ngridfs-client: 1 skipped\n"
+        self.held("a link", (status, told, why), (6, b"", skipped))
+        self.refused("a prefix of no name", ["mirror", "grid:bakc", "backup"], 1, "grid:bakc/: no name begins so")
+        self.refused("a folder that is not there", ["mirror", "nowhere", "grid:"], 6, "nowhere: No such file")
+        for words in (["a", "b"], ["grid:a", "grid:b"], ["", "grid:a"]):
+            self.refused(f"mirror {words}", ["mirror", *words], 2, "mirror wants a folder and grid:PREFIX")
+        self.refused("a prefix that has no form", ["mirror", "tree", "grid:/a"], 2, "no / at an end")
+        os.mkdir("hollow")
+        self.refused("an empty source", ["mirror", "--delete", "hollow", "grid:back"], 6, "hollow: no file is there, so no name is removed")
+        self.told("rm of it", ["rm", "back/a", "back/b/c/empty", "back/b/ä b", "other"], b"")
+
+    def lines(self, name, words, wanted, last):
+        """A command that has to end well, with these lines in any order, and this one at last."""
+        status, told, why = self.run(*words)
+        *lines, end = told.splitlines()
+        self.held(name, (status, sorted(lines), end, why), (0, sorted(wanted), last, ""))
+
+    def status(self):
+        self.told("put for a status", ["put", "-", "long"], b"", given=bytes(3_000))
+        status, told, why = self.run("status")
+        self.held("status", (status, why), (0, ""))
+        for line in (b"  row 1   2   3 ", b"all 4 nodes answer", b"wholly up: rows 0 and 1, columns 0 and 1", b"session 4: home 3", b"names: 1"):
+            self.held(f"status tells {line}", line in told.splitlines(), True)
+        value = json.loads(self.run("--grid", "2x2", "status", "--json")[1])
+        keys = ["tenant", "nodes", "rows", "columns", "is_arrangement_said", "rows_up", "columns_up", "goes_on", "sessions", "names", "pages", "slots", "bytes", "left_out"]
+        self.held("status --json", (list(value), value["goes_on"], value["names"], value["bytes"]["used"]), (keys, True, 1, 3_000))
+        slots = value["slots"]
+        self.held("its slots", (slots["used"] - slots["without_a_name"], slots["used"] + slots["free"]), (4, 192))
+        self.refused("a grid of other nodes", ["--grid", "3x3", "status"], 2, "3x3 are 9 nodes, and there are 4")
+        self.refused("a grid that has no form", ["--grid", "2", "status"], 2, "'2' is no ROWSxCOLUMNS")
+        self.told("--version", ["--version"], b"gridfs-client 0.1.0\n")
+        told = self.run("--help")[1]
+        for words in (b"--timeout SECONDS", b"--helpers N", b"--socket PATH", b"--session N|N-M|all"):
+            self.held(f"--help tells {words}", words in told, True)
+        self.told("rm for a status", ["rm", "long"], b"")
+
     # Bad input
 
     def bad_input(self):
@@ -142,7 +209,7 @@ class Commands:
         self.refused("a setting of no meaning", ["ls"], 2, "there is no setting tenent", tenant="spoilt")
 
     def streams(self):
-        """Targets that are no files, or are there already; standard streams that are closed or full."""
+        """Targets that are no files, or exist already; standard streams that are closed or full."""
         self.told("a content for what follows", ["put", "-", "here"], b"", given=b"here")
         os.mkfifo("pipe")
         pipe = os.open("pipe", os.O_RDONLY | os.O_NONBLOCK)
@@ -229,23 +296,23 @@ class Commands:
                 self.wrong.append(f"an interrupted put: status {status}, {said!r}")
             held.put(content, status == 0)
             told = self.run("get", "torn")
-            self.held(f"status of a get behind interrupt {number}", told[0], 1 if told[0] == 1 and held.content is None else 0)
-            self.held(f"what is held behind interrupt {number} may be so", held.may_be(told[1] if told[0] == 0 else held.content), True)
+            self.held(f"status of a get after interrupt {number}", told[0], 1 if told[0] == 1 and held.content is None else 0)
+            self.held(f"what is held after interrupt {number} may be so", held.may_be(told[1] if told[0] == 0 else held.content), True)
         self.held("some were interrupted", any(seen), True)
         self.told("put of nothing in its place", ["put", "-", "torn"], b"", given=b"")
         self.told("all slots are free", ["put", "-", "all"], b"", given=bytes(100_000), GRIDFS_HELPERS="3")
         self.told("rm of it", ["rm", "all", "torn"], b"")
 
     def finished_by_an_interrupted_put(self):
-        """A put is ended behind its announcement, and the next one once it has finished that: a get behind it tells the first one's content. So it
-        goes on with the third and the fourth."""
+        """A put is interrupted after its announcement, and the next one once it has finished that: then a get tells the first one's content. The same
+        with a third and a fourth one."""
         self.told("put of an old content", ["put", "-", "ended"], b"", given=b"old", GRIDFS_SESSION="1")
         for content, told in ((b"first", b"old"), (b"second", b"first"), (b"third", b"first"), (b"fourth", b"third")):
             ended = self.run("put", "-", "ended", given=content, GRIDFS_VIA=shlex.join([PYTHON, "-B", ENDING, "grid/socket", "2"]), GRIDFS_SESSION="1")
-            self.held(f"put of {content} that is ended", ended, (130, b"", ""))
-            self.told(f"get behind the put of {content}", ["get", "ended"], told)
-        self.told("put behind them", ["put", "-", "ended"], b"", given=b"last", GRIDFS_SESSION="1")
-        self.told("get behind it", ["get", "ended"], b"last")
+            self.held(f"put of {content} that is interrupted", ended, (130, b"", ""))
+            self.told(f"get after the put of {content}", ["get", "ended"], told)
+        self.told("a put after them", ["put", "-", "ended"], b"", given=b"last", GRIDFS_SESSION="1")
+        self.told("a get after it", ["get", "ended"], b"last")
         self.told("rm of it", ["rm", "ended"], b"")
 
     def terminal(self):
@@ -316,7 +383,7 @@ def served(program):
         grid.wait()
 
 
-PARTS = (["names", "numbered_files", "full", "carriers", "sessions", "terminal"], ["bad_input", "streams", "finished_by_an_interrupted_put", "interrupts"])
+PARTS = (["names", "numbered_files", "status", "mirror", "full", "carriers", "sessions", "terminal"], ["bad_input", "streams", "finished_by_an_interrupted_put", "interrupts"])
 
 
 def try_commands(program, parts):

@@ -74,14 +74,14 @@ class History:
 
 
 class Held:
-    """What a name may hold behind puts of which some were ended amid them, each before the next one began.
+    """What a name may hold after puts, one after another, of which some were interrupted.
 
-    Such a put may take effect at any get behind it, also behind later ones that were ended: the next put finishes what an ended one announced, and
-    may be ended before its own content is there. A put that has ended well leaves nothing of those before it, and one that is seen neither.
+    An interrupted put may take effect later, even after a next one was interrupted too: that one finishes what the first one announced, and may be
+    interrupted before its own content is there. Once a put has ended well, or its content was seen, none of the earlier ones takes effect any more.
     """
 
     def __init__(self, content=None):
-        self.content, self.coming = content, []
+        self.content, self.coming = content, []  # what was seen or put last, and interrupted puts since, in order
 
     def put(self, content, is_done):
         self.content, self.coming = (content, []) if is_done else (self.content, [*self.coming, content])

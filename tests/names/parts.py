@@ -16,6 +16,7 @@ from histories import HERE
 
 sys.path.insert(0, os.path.join(HERE, "..", "nodes"))
 import commands
+import outages
 import planted
 import registers
 import trial
@@ -28,13 +29,13 @@ from gridfs_client import ClientError
 TOP = os.path.join(HERE, "..", "..")
 DEPLOY, PACKAGE = os.path.join(TOP, "deploy", "mqtt"), os.path.join(TOP, "clients", "python")
 LONG, MOST_MEMORY = 100, 84  # MiB of a content, and of a process that moves it and plays the nodes too
-ATTEMPTS, LEAST_OPERATIONS, MOST_OPERATIONS = 10, 50, 2_000  # of trials over nodes; by the most a client with a bug has to be found
+ATTEMPTS, LEAST_OPERATIONS, MOST_OPERATIONS = 10, 50, 2_000  # of trials over nodes; a bug has to be found within the most
 SHAPES = ("MIXED", "CROWDED", "LENDING", "REMOVING", "DYING", "UNSURE")
 
 
 def steps():
     loader, told = unittest.TestLoader(), io.StringIO()
-    suite = loader.loadTestsFromNames(["test_parts", "test_sessions", "test_names"])
+    suite = loader.loadTestsFromNames(["test_parts", "test_sessions", "test_names", "test_status", "test_mirror"])
     result = unittest.TextTestRunner(told, verbosity=0).run(suite)
     return f"{result.testsRun} tests", [f"{test}: {text.splitlines()[-1]}" for test, text in result.failures + result.errors]
 
@@ -92,7 +93,7 @@ def search(most_pending, operations, removes=True):
 
 
 def in_pipes(program, seconds, kills, has_room=False):
-    """A trial over nodes, and one more where few operations have ended, as on a machine that is busy: one of hardly any shows nothing."""
+    """A trial over nodes, and others until enough operations have ended: on a busy machine one trial may have too few to show anything."""
     counts, wrong = collections.Counter(), []
     for attempt in range(ATTEMPTS):
         os.mkdir(f"attempt{attempt}")
@@ -106,7 +107,7 @@ def in_pipes(program, seconds, kills, has_room=False):
 
 
 def bug_in_pipes(program, seconds):
-    """A client with a bug, over nodes, has to be found; on a machine that is busy, where few operations end in that time, by one more attempt."""
+    """A client with a bug, over nodes, has to be found: on a busy machine, where few operations end in the time, by more than one attempt."""
     bug, operations, wrong = planted.VersionsNotRaised.__name__, 0, []
     for attempt in range(ATTEMPTS):
         os.mkdir(f"attempt{attempt}")
@@ -140,7 +141,7 @@ def commands_over_a_broker(program):
     tried = commands.Commands(settings)
     try:
         grid.start()
-        for part in (tried.names, tried.sessions, lambda: tried.broker(grid)):
+        for part in (tried.names, tried.status, tried.sessions, lambda: tried.broker(grid)):
             part()
     finally:
         grid.end()

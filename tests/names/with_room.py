@@ -24,9 +24,9 @@ SHORT = b"as small as a word is"
 class Grid:
     """examples/grid in the folder `grid`, whose nodes can be killed and started."""
 
-    def __init__(self, program):
+    def __init__(self, program, plan=PLAN):
         with open("told", "wb") as told:
-            words = [PYTHON, "-B", os.path.join(TOP, "examples", "grid"), "--program", program, "--plan", PLAN, "grid"]
+            words = [PYTHON, "-B", os.path.join(TOP, "examples", "grid"), "--program", program, "--plan", plan, "grid"]
             self.process = subprocess.Popen(words, stdin=subprocess.PIPE, stdout=told, stderr=told)
         until = time.monotonic() + SECONDS
         while b"nodes are up" not in self.told():
@@ -114,13 +114,13 @@ def kill_clients(seen, moments, name="2 MB"):
         put.communicate()
         held.put(content, put.returncode == 0)
         status, told = run("get", name)
-        seen.held(f"what is held behind a client that was killed, {number}", (status, held.may_be(told)), (0, True))
+        seen.held(f"what is held after a client was killed, {number}", (status, held.may_be(told)), (0, True))
 
 
 def kill_nodes(nodes, seen, numbers, name="2 MB"):
     """A node is killed amid a put, and started again amid it or behind it."""
     held = os.urandom(SIZES[name])
-    seen.held("put before nodes are killed", run("put", "-", name, given=held), (0, b""))  # (so nothing comes of one that was ended before)
+    seen.held("put before nodes are killed", run("put", "-", name, given=held), (0, b""))  # (so that no put that was killed before takes effect any more)
     for number in numbers:
         content = os.urandom(SIZES[name])
         put = begin("put", "-", name, given=content)

@@ -2,31 +2,34 @@
 
 import argparse
 import base64
-import errno
 import json
 import os
 import signal
-import stat as modes
 import sys
-import tempfile
 import time
 from collections.abc import Callable, Iterator
-from contextlib import closing, contextmanager, suppress
-from functools import cached_property
-from pathlib import Path
-from typing import IO, Any, TextIO, TypeVar
+from contextlib import closing, contextmanager
+from dataclasses import replace
+from functools import cached_property, partial
+from typing import IO, Any
 
-from .asking import ask_plan
-from .errors import ClientError, Refused
+from . import __version__
+from .answers import PlanTold
+from .asking import SILENCE, ask_all, ask_plan, why_unanswered
+from .carriers import Carrier
+from .errors import BadFile, BadSettings, ClientError, Refused, Silent, Skipped, Unanswered
+from .grid import Nodes
 from .layout import BLOCK, layout_of
+from .local import INPUT, complain, content_of, out, to_target
+from .mirror import GRID, ToFolder, ToGrid, prefix_of, shown
 from .names import Entry, NamedFiles
-from .opening import OpenSessions
+from .opening import LEAST, OpenSessions, turn_of
 from .sessions import Session
 from .settings import SETTINGS, Settings, default_file
+from .status import nodes_lines, nodes_value, usage_lines, usage_value
+from .usage import Usage, usage_of
 
-Told = TypeVar("Told")
 MOST_NUMBER = 4_294_967_295  # in a line of a node
-INPUT, OUTPUT = "standard input", "standard output"
 EPILOG = f"""\
 examples:
   gridfs-client put report.pdf reports/may        a file under a name
@@ -35,6 +38,9 @@ examples:
   gridfs-client get reports/may copy.pdf          to a file
   gridfs-client ls --json reports/ | jq -r .[].name
   gridfs-client rm greeting reports/may
+  gridfs-client mirror reports grid:reports       a folder to the names reports/..
+  gridfs-client mirror --dry-run grid: backup     what a backup of all names would get
+  gridfs-client status                            which nodes answer, and what is used
 
 settings: each option above, else the environment (GRIDFS_TENANT, GRIDFS_PASSWORD_FILE ..), else the section [gridfs] of
 $GRIDFS_CONFIG or {default_file()}:
@@ -46,18 +52,19 @@ $GRIDFS_CONFIG or {default_file()}:
 
 status  meaning                                                                    may a change still take effect?
      0  done
-     1  there is no such name                                                      no
+     1  there is no such name, or none that begins so                              no
      2  the words, a name or a setting have no form                                no
      3  no room is left, or a node refuses: no such volume or file, too long       no
-     4  no answer in time                                                          yes
-     5  a file has not what such a client wrote into it                            only where that came about amid it
-     6  no broker, a wrong password or certificate; a fault of a file here         only where the carrier ended amid it
+     4  no answer in time, or for `status` no row or no column that is wholly up   yes
+     5  a file has not what such a client wrote into it                            if it was found in the middle of the change
+     6  no broker, a wrong password or certificate; a fault of a file here         if the connection ended in the middle
      7  another client uses the session                                            yes
      8  the content was replaced each time while it was read
    130  interrupted (143: by SIGTERM)                                              yes
    141  whoever read the answer has gone
 
-What an interrupted command left undone, the next change of its session finishes or takes back.
+What an interrupted command left undone, the next change of its session finishes or takes back. `mirror` skips what it can't move, tells it, and
+ends with the status of the first one.
 """
 
 
@@ -79,17 +86,27 @@ class Progress:
 
 
 class Opened:
-    """What a command works with: one session, and the names in the tenant's volumes."""
+    """What a command works with: the tenant's sessions over a carrier, of which it takes one when it wants it, and the names in its volumes."""
 
-    def __init__(self, sessions: OpenSessions, progress: Progress | None):
-        self.sessions, self.progress = sessions, progress
+    def __init__(self, settings: Settings, carrier: Carrier, told: PlanTold, progress: Progress | None, sessions: OpenSessions):
+        self.settings, self.carrier, self.told, self.progress, self.sessions = settings, carrier, told, progress, sessions
 
     @cached_property
     def session(self) -> Session:
         return self.sessions.first()
 
     def names(self) -> NamedFiles:
-        return NamedFiles(self.session, layout_of(self.sessions.told), self.progress, self.sessions.helpers)
+        layout = layout_of(self.told)
+        return NamedFiles(self.session, layout, self.progress, self.sessions.helpers)
+
+    @contextmanager
+    def names_for(self, name: str) -> Iterator[NamedFiles]:
+        """The names by a session of their own, the one that depends on the name if that is free; others may have it again afterwards."""
+        told = self.carrier.told or self.told
+        with closing(OpenSessions(self.settings, told, self.carrier, name)) as sessions:
+            names = NamedFiles(sessions.first(), layout_of(told), self.progress, sessions.helpers)
+            yield names
+            names.close()
 
 
 def number_of(word: str) -> int:
@@ -107,13 +124,14 @@ def parser() -> argparse.ArgumentParser:
         formatter_class=argparse.RawDescriptionHelpFormatter,
         allow_abbrev=False,
     )
+    main.add_argument("--version", action="version", version=f"%(prog)s {__version__}")
     main.add_argument("--config", metavar="FILE", help="the file of settings")
-    for key, (default, meaning) in SETTINGS.items():
-        main.add_argument(f"--{key}", metavar="WORD", help=meaning + (f" ({default})" if default else ""))
+    for key, setting in SETTINGS.items():
+        main.add_argument(f"--{key}", metavar=setting.takes, help=setting.meaning + (f" ({setting.default})" if setting.default else ""))
     shared = argparse.ArgumentParser(add_help=False)
     shared.add_argument("--json", action="store_true", help="the answer as JSON, one value")
-    shared.add_argument("--quiet", action="store_true", help="no progress at a terminal")
-    words = main.add_subparsers(dest="word", required=True, metavar="WORD")
+    shared.add_argument("--quiet", action="store_true", help="no progress at a terminal, and of mirror no lines of what is done")
+    words = main.add_subparsers(dest="word", required=True, metavar="COMMAND")
 
     def word(word_name: str, call: Callable[[Opened, argparse.Namespace], None], meaning: str, /, **arguments: dict[str, Any]) -> None:
         sub = words.add_parser(word_name, parents=[shared], help=meaning, description=meaning, allow_abbrev=False)
@@ -122,7 +140,8 @@ def parser() -> argparse.ArgumentParser:
         sub.set_defaults(call=call)
 
     name: dict[str, Any] = dict(metavar="NAME", help="1 to 255 bytes of UTF-8, without control characters and with no / at an end")
-    number: dict[str, Any] = dict(type=number_of, help="a number from 0")
+    volume: dict[str, Any] = dict(type=number_of, metavar="VOLUME", help="a number from 0")
+    number: dict[str, Any] = dict(type=number_of, metavar="NUMBER", help="of the file in its volume, from 0")
     source: dict[str, Any] = dict(metavar="FILE", help="a file, or - for standard input")
     target: dict[str, Any] = dict(metavar="FILE", nargs="?", default="-", help="a file, or - for standard output, as if left out")
     word("put", put, "give a name a content", path=source, name=name)
@@ -131,44 +150,22 @@ def parser() -> argparse.ArgumentParser:
          prefix=dict(metavar="PREFIX", nargs="?", default="", help="names that begin so; all if left out"))  # fmt: skip
     word("rm", rm, "take names away, one after another", names=dict(name, nargs="+"))
     word("stat", stat, "tell what is known of a name", name=name)
+    place: dict[str, Any] = dict(help=f"a folder here, or {GRID}PREFIX for the names that begin with PREFIX/, or {GRID} for all names")
+    is_given: dict[str, Any] = dict(action="store_true")
+    word("mirror", mirror, "make a folder and the names with a prefix alike, one way",
+         source=dict(place, metavar="SOURCE"), target=dict(place, metavar="TARGET"),
+         **{"--dry-run": dict(is_given, help="tell what would be done, and do nothing"),
+            "--delete": dict(is_given, help="remove what is in the target and not in the source")})  # fmt: skip
+    word("status", status, "tell which nodes answer, and what the tenant has used of its room")
     # What lies below names: the numbered files themselves.
-    word("write", write, "write a numbered file; what names stand on can be spoilt so", volume=number, file=number, path=source)
-    word("read", read, "tell a numbered file's content", volume=number, file=number, path=target)
-    word("list", list_files, "tell lengths and tags of a volume's numbered files, one after another", volume=number)
+    word("write", write, "write a numbered file; what names stand on can be spoilt so", volume=volume, file=number, path=source)
+    word("read", read, "tell a numbered file's content", volume=volume, file=number, path=target)
+    word("list", list_files, "tell lengths and tags of a volume's numbered files, one after another", volume=volume)
     word("plan", plan, "tell what the tenant has")
     return main
 
 
 # What each word does.
-
-
-def standard(stream: TextIO | None, name: str) -> IO[bytes]:
-    """The bytes of a standard stream. (A shell can close it.)"""
-    if stream is None:
-        raise OSError(errno.EBADF, os.strerror(errno.EBADF), name)
-    return stream.buffer
-
-
-@contextmanager
-def named(path: str) -> Iterator[None]:
-    """Has a fault of a file that is open tell its name."""
-    try:
-        yield
-    except BrokenPipeError:
-        raise
-    except OSError as fault:
-        raise OSError(fault.errno, fault.strerror, fault.filename or path) from None
-
-
-def content_of(path: str) -> IO[bytes]:
-    return standard(sys.stdin, INPUT) if path == "-" else open(path, "rb")
-
-
-def out(content: bytes) -> None:
-    with named(OUTPUT):
-        target = standard(sys.stdout, OUTPUT)
-        target.write(content)
-        target.flush()
 
 
 def tell(args: argparse.Namespace, value: object, text: str | None = None) -> None:
@@ -179,48 +176,9 @@ def tell(args: argparse.Namespace, value: object, text: str | None = None) -> No
         out(text.encode() + b"\n")
 
 
-def mode_of(path: str) -> int | None:
-    """The mode of what is there; None where nothing is."""
-    try:
-        return os.stat(path).st_mode
-    except OSError:
-        return None
-
-
-def to_target(path: str, write_to: Callable[[IO[bytes]], Told]) -> Told:
-    """Has a content written to standard output, or to a file, which has its old content or the whole new one: it is written beside it, and takes its
-    place and its mode. What is there and no file, as a device or a pipe, is written itself."""
-    if path == "-":
-        with named(OUTPUT):
-            target = standard(sys.stdout, OUTPUT)
-            told = write_to(target)
-            target.flush()
-        return told
-    mode = mode_of(path)
-    if mode is not None and not modes.S_ISREG(mode):
-        with named(path), open(path, "wb") as device:
-            return write_to(device)
-    place = Path(path)
-    try:
-        handle, temporary = tempfile.mkstemp(prefix=f".{place.name}.", dir=place.parent)
-    except OSError as fault:
-        raise OSError(fault.errno, fault.strerror, path) from None
-    try:
-        with named(path), os.fdopen(handle, "wb") as file:
-            told = write_to(file)
-        mask = os.umask(0)
-        os.umask(mask)
-        os.chmod(temporary, 0o666 & ~mask if mode is None else mode & 0o777)
-        os.replace(temporary, path)
-        return told
-    except BaseException:
-        os.unlink(temporary)
-        raise
-
-
 def put(opened: Opened, args: argparse.Namespace) -> None:
     names = opened.names()
-    with content_of(args.path) as content, named(INPUT if args.path == "-" else args.path):
+    with content_of(args.path) as content:
         entry = names.put(args.name, content)
     names.close()
     tell(args, vars(entry))
@@ -259,7 +217,7 @@ def stat(opened: Opened, args: argparse.Namespace) -> None:
 
 
 def write(opened: Opened, args: argparse.Namespace) -> None:
-    volumes = opened.sessions.told.volumes
+    volumes = opened.told.volumes
     room = BLOCK * volumes[args.volume][1] if args.volume < len(volumes) else 0
     with content_of(args.path) as file:
         content = file.read(room + 1)
@@ -286,7 +244,7 @@ def list_files(opened: Opened, args: argparse.Namespace) -> None:
 
 
 def plan(opened: Opened, args: argparse.Namespace) -> None:
-    told = opened.sessions.told
+    told = opened.told
     value = {"nodes": told.nodes, "home": told.home, "sessions": told.sessions, "share": told.share, "most": told.most}
     volumes = [{"files": files, "blocks": blocks} for files, blocks in told.volumes]
     words = {"volumes": " ".join(f"{files}x{blocks}" for files, blocks in told.volumes)}
@@ -295,12 +253,58 @@ def plan(opened: Opened, args: argparse.Namespace) -> None:
     tell(args, value_told, "\n".join(f"{key}: {each}" for key, each in (value | words).items()))
 
 
+def mirror(opened: Opened, args: argparse.Namespace) -> None:
+    to_grid, from_grid = prefix_of(args.target), prefix_of(args.source)
+    folder = args.source if from_grid is None else args.target
+    if (to_grid is None) == (from_grid is None) or not folder:
+        raise BadSettings(f"mirror wants a folder and {GRID}PREFIX, one as the source and the other one as the target")
+
+    def tell_line(word: str, name: str) -> None:
+        if not args.json and not args.quiet:
+            out(f"{word} {shown(name)}\n".encode())
+
+    count = len(opened.sessions.numbers)
+    kind = ToFolder if to_grid is None else ToGrid
+    prefix = from_grid if to_grid is None else to_grid
+    made = kind(folder, prefix or "", opened.names_for, partial(turn_of, count=count), tell_line, complain, args.delete, args.dry_run)
+    report = made.run()
+    value = {"dry_run": args.dry_run, made.word: report.moved, "removed": report.removed, "same": report.same, "skipped": report.skipped}
+    moved, removed = (f"would {made.word}", "remove") if args.dry_run else (made.done, "removed")
+    text = f"{moved} {len(report.moved)}, {removed} {len(report.removed)}; {report.same} the same"
+    tell(args, value, None if args.quiet else text)
+    if report.skipped:
+        raise Skipped(f"{len(report.skipped)} skipped", report.status)
+
+
+def status(opened: Opened, args: argparse.Namespace) -> None:
+    said = opened.settings.shape()
+    if said and said.nodes != opened.told.nodes:
+        raise BadSettings(f"grid: {said.rows}x{said.columns} are {said.nodes} nodes, and there are {opened.told.nodes}")
+    nodes = ask_all(opened.carrier, min(SILENCE, opened.sessions.pace.timeout), said)
+    assert nodes
+    usage, fault = (None, Silent(nodes.summary())) if nodes.goes_on() is False else used(opened)
+    left_out = str(fault) if fault else None
+    value = {"tenant": opened.settings.tenant} | nodes_value(nodes) | usage_value(usage, left_out)
+    tell(args, value, "\n".join([*nodes_lines(nodes), *usage_lines(usage, left_out)]))
+    if fault and not isinstance(fault, BadSettings):
+        raise fault
+
+
+def used(opened: Opened) -> tuple[Usage | None, ClientError | None]:
+    """What the tenant has used, or why that can't be told: its volumes may be for no names."""
+    try:
+        return usage_of(opened.names()), None
+    except ClientError as fault:
+        return None, fault
+
+
 # The command
 
 
 def run(words: list[str]) -> None:
     args = parser().parse_args(words)
     settings = Settings.gather({key.replace("_", "-"): value for key, value in vars(args).items() if isinstance(value, str)}, os.environ)
+    said, begun = settings.shape(), time.monotonic()
     with closing(settings.carrier()) as carrier:
 
         def interrupt(number: int, _: object) -> None:
@@ -311,18 +315,25 @@ def run(words: list[str]) -> None:
 
         signal.signal(signal.SIGINT, interrupt)
         signal.signal(signal.SIGTERM, interrupt)
-        name = vars(args).get("name") or vars(args).get("names", [""])[0]
-        with closing(OpenSessions(settings, ask_plan(carrier, settings.pace()), carrier, name)) as sessions:
-            is_shown = sys.stderr is not None and sys.stderr.isatty() and not args.quiet
-            args.call(Opened(sessions, Progress(sys.stderr) if is_shown else None), args)
+        try:
+            carry_out(args, settings, carrier, begun)
+        except Silent:
+            raise
+        except Unanswered as fault:
+            why = why_unanswered(carrier, said)
+            raise Unanswered(f"{fault}; {why}" if why else str(fault)) from None
 
 
-def complain(text: str) -> None:
-    """Tells a fault, where standard error takes it."""
-    with suppress(OSError):
-        if sys.stderr is not None:
-            sys.stderr.write(f"gridfs-client: {text}\n")
-            sys.stderr.flush()
+def carry_out(args: argparse.Namespace, settings: Settings, carrier: Carrier, begun: float) -> None:
+    """Does what a command's words say. The time for the first answer began with the command."""
+    timeout = settings.seconds("timeout")
+    patience = min(timeout, SILENCE) if args.call is status else max(timeout - (carrier.now() - begun), min(timeout, LEAST))
+    told = ask_plan(carrier, replace(settings.pace(), timeout=patience))
+    name = vars(args).get("name") or vars(args).get("names", [""])[0]
+    is_shown = sys.stderr is not None and sys.stderr.isatty() and not args.quiet
+    progress = Progress(sys.stderr) if is_shown else None
+    with closing(OpenSessions(settings, told, carrier, name, begun)) as sessions:
+        args.call(Opened(settings, carrier, told, progress, sessions), args)
 
 
 def main(words: list[str] | None = None) -> int:

@@ -7,25 +7,36 @@ import re
 import shlex
 from collections.abc import Mapping
 from pathlib import Path
-from typing import IO
+from typing import IO, NamedTuple
 
 from .carriers import Carrier, ProcessCarrier, SocketCarrier
 from .errors import BadSettings
+from .grid import Shape
 from .sessions import Pace
 
 SECTION = "gridfs"
-# Each setting, what it is without any, and what it means.
-SETTINGS: dict[str, tuple[str | None, str]] = {
-    "tenant": (None, "the tenant's name"),
-    "broker": ("localhost:8884", "HOST:PORT of the MQTT broker, for tenants"),
-    "ca-file": (None, "a file of certificates of authorities: use TLS, and trust these"),
-    "password-file": (None, "the first line of this file is the tenant's password; others may not read it"),
-    "socket": (None, "a socket of examples/grid, in place of a broker"),
-    "via": (None, "a command that carries lines TO FROM BODY, in place of a broker"),
-    "session": ("all", "N, FIRST-LAST or all: the first of these that no other command here uses and whose home answers is used"),
-    "helpers": ("3", "how many more of these move a content in many pieces, besides"),
-    "timeout": ("30", "seconds to wait for an answer"),
-    "locks": (None, "the folder of the files by which commands tell each other the sessions they use (~/.cache/gridfs): one for all users of a tenant"),
+
+
+class Setting(NamedTuple):
+    """What a setting is without any, the word for what it takes, and what it means."""
+
+    default: str | None
+    takes: str
+    meaning: str
+
+
+SETTINGS: dict[str, Setting] = {
+    "tenant": Setting(None, "NAME", "the tenant's name"),
+    "broker": Setting("localhost:8884", "HOST:PORT", "the MQTT broker, by its port for tenants"),
+    "ca-file": Setting(None, "FILE", "certificates of authorities: use TLS, and trust these"),
+    "password-file": Setting(None, "FILE", "its first line is the tenant's password; others may not read it"),
+    "socket": Setting(None, "PATH", "a socket of examples/grid, in place of a broker"),
+    "via": Setting(None, "COMMAND", "a command that carries lines TO FROM BODY, in place of a broker"),
+    "session": Setting("all", "N|N-M|all", "the first of these sessions that no other command here uses and whose home answers"),
+    "helpers": Setting("3", "N", "how many more of these move a content in many pieces, besides"),
+    "timeout": Setting("30", "SECONDS", "how long an answer is waited for, from the beginning of the command or from the last one"),
+    "locks": Setting(None, "FOLDER", "where commands tell each other the sessions they use (~/.cache/gridfs): one for all users of a tenant"),
+    "grid": Setting(None, "ROWSxCOLUMNS", "how the nodes are arranged, as 2x3; a square if left out, since nodes tell only how many there are"),
 }
 NAME = re.compile(r"(?!server\Z)[a-z]{1,16}\Z")
 
@@ -83,7 +94,7 @@ class Settings:
     def gather(cls, options: Mapping[str, str | None], environment: Mapping[str, str]) -> "Settings":
         """From the options, the environment (GRIDFS_TENANT ..) and the file that one of them names."""
         named = options.get("config") or environment.get("GRIDFS_CONFIG")
-        values = {key: default for key, (default, _) in SETTINGS.items() if default is not None}
+        values = {key: setting.default for key, setting in SETTINGS.items() if setting.default is not None}
         try:
             values.update(read_file(Path(named) if named else default_file()))
         except FileNotFoundError:
@@ -97,7 +108,7 @@ class Settings:
 
     def need(self, key: str) -> str:
         if key not in self.values:
-            raise BadSettings(f"{key} is not set: {SETTINGS[key][1]}")
+            raise BadSettings(f"{key} is not set: {SETTINGS[key].meaning}")
         return self.values[key]
 
     def number(self, key: str) -> int:
@@ -124,6 +135,15 @@ class Settings:
 
     def pace(self) -> Pace:
         return Pace(timeout=self.seconds("timeout"))
+
+    def shape(self) -> Shape | None:
+        """How the nodes are arranged, where it is said."""
+        if "grid" not in self.values:
+            return None
+        found = re.fullmatch(r"([1-8])x([1-8])", self.values["grid"])
+        if not found:
+            raise BadSettings(f"grid: {self.values['grid']!r} is no ROWSxCOLUMNS from 1x1 to 8x8")
+        return Shape(int(found[1]), int(found[2]))
 
     def carrier(self) -> Carrier:
         """What carries the tenant's lines. CarrierFault where it can't be had."""

@@ -1,0 +1,108 @@
+"""Files of this machine, and standard streams: where contents of a command come from and go to."""
+
+import errno
+import os
+import stat
+import sys
+import tempfile
+from collections.abc import Callable, Iterator
+from contextlib import contextmanager
+from pathlib import Path
+from typing import IO, TextIO, TypeVar
+
+Result = TypeVar("Result")
+INPUT, OUTPUT = "standard input", "standard output"
+UNFINISHED = ".gridfs-client."  # what the names of files begin with that are being written
+
+
+def standard(stream: TextIO | None, name: str) -> IO[bytes]:
+    """The bytes of a standard stream; an OSError where a shell has closed it."""
+    if stream is None:
+        raise OSError(errno.EBADF, os.strerror(errno.EBADF), name)
+    return stream.buffer
+
+
+@contextmanager
+def faults_of(path: str) -> Iterator[None]:
+    """Has a fault of reading or writing name the file, as one of opening it does."""
+    try:
+        yield
+    except BrokenPipeError:
+        raise
+    except OSError as fault:
+        raise OSError(fault.errno, fault.strerror, fault.filename or path) from None
+
+
+@contextmanager
+def content_of(path: str) -> Iterator[IO[bytes]]:
+    """The content of a file, or with `-` of standard input."""
+    if path == "-":
+        with faults_of(INPUT):
+            yield standard(sys.stdin, INPUT)
+    else:
+        with faults_of(path), open(path, "rb") as file:
+            yield file
+
+
+def out(content: bytes) -> None:
+    """Writes to standard output."""
+    with faults_of(OUTPUT):
+        target = standard(sys.stdout, OUTPUT)
+        target.write(content)
+        target.flush()
+
+
+def complain(text: str) -> None:
+    """Tells a fault, if standard error takes it."""
+    try:
+        if sys.stderr is not None:
+            sys.stderr.write(f"gridfs-client: {text}\n")
+            sys.stderr.flush()
+    except OSError:
+        pass
+
+
+def mode_of(path: str) -> int | None:
+    """The type and mode of what is at a path, behind symbolic links; None where nothing is."""
+    try:
+        return os.stat(path).st_mode
+    except OSError:
+        return None
+
+
+def mode_of_new_files() -> int:
+    mask = os.umask(0)
+    os.umask(mask)
+    return 0o666 & ~mask
+
+
+def to_target(path: str, write_to: Callable[[IO[bytes]], Result]) -> Result:
+    """Has a content written to a file, or with `-` to standard output. A file has its old content or the whole new one, and keeps its mode: the
+    new one is written beside it and renamed. A device or a pipe is written itself."""
+    if path == "-":
+        with faults_of(OUTPUT):
+            target = standard(sys.stdout, OUTPUT)
+            result = write_to(target)
+            target.flush()
+        return result
+    mode = mode_of(path)
+    if mode is not None and not stat.S_ISREG(mode):
+        with faults_of(path), open(path, "wb") as device:
+            return write_to(device)
+    return replace_file(path, mode_of_new_files() if mode is None else stat.S_IMODE(mode) & 0o777, write_to)
+
+
+def replace_file(path: str, mode: int, write_to: Callable[[IO[bytes]], Result]) -> Result:
+    try:
+        handle, unfinished = tempfile.mkstemp(prefix=UNFINISHED, dir=Path(path).parent)
+    except OSError as fault:
+        raise OSError(fault.errno, fault.strerror, path) from None
+    try:
+        with faults_of(path), os.fdopen(handle, "wb") as file:
+            result = write_to(file)
+        os.chmod(unfinished, mode)
+        os.replace(unfinished, path)
+        return result
+    except BaseException:
+        os.unlink(unfinished)
+        raise

@@ -1,0 +1,370 @@
+"""A folder of this machine and the names with a prefix, of which one is made like the other.
+
+The name of a file is the prefix and the file's path from the folder on. What is the same on both sides, by size and SHA-256, is not moved. What
+can't be mirrored is skipped and told, and nothing is removed because of it.
+"""
+
+import abc
+import errno
+import hashlib
+import io
+import os
+import stat
+from collections import deque
+from collections.abc import Callable, Iterable, Iterator
+from contextlib import AbstractContextManager
+from dataclasses import dataclass, field
+from functools import partial
+from typing import TypeVar
+
+from .errors import BadFile, BadName, ClientError, Damaged, NoRoom, NoSuchName, Replaced, SourceChanged
+from .local import UNFINISHED, to_target
+from .names import Entry, NamedFiles
+from .pages import check_name
+
+GRID = "grid:"  # what a prefix begins with, so that no folder is taken for one
+LINK, NO_FILE = "a symbolic link is not followed", "it is not a regular file"
+Result = TypeVar("Result")
+OpenNames = Callable[[str], AbstractContextManager[NamedFiles]]
+
+
+def prefix_of(word: str) -> str | None:
+    """The prefix that `grid:PREFIX` says, with a `/` at its end unless it is empty; None for a folder of this machine."""
+    if not word.startswith(GRID):
+        return None
+    prefix = word.removeprefix(GRID)
+    if prefix and not prefix.endswith("/"):
+        prefix += "/"
+    if prefix:
+        check_name(prefix + "x")
+    return prefix
+
+
+def shown(path: str) -> str:
+    """A path for a person's eyes: what can't be printed is escaped."""
+    return path if path.isprintable() else repr(path)
+
+
+@dataclass
+class Report:
+    """What came of a mirror, or would: the names that were put or got, what was removed, how many files were the same, and what was skipped, with
+    the reasons. The status is that of the first one that was skipped."""
+
+    moved: list[str] = field(default_factory=list)
+    removed: list[str] = field(default_factory=list)
+    same: int = 0
+    skipped: dict[str, str] = field(default_factory=dict)
+    status: int = 0
+
+
+# The folder
+
+
+def open_regular(path: str) -> io.BufferedReader:
+    """Opens a regular file. A symbolic link, which may lead out of the folder, and whatever else stands there by now, is a BadFile."""
+    try:
+        file = open(path, "rb", opener=lambda path, flags: os.open(path, flags | os.O_NOFOLLOW | os.O_NONBLOCK))
+    except OSError as fault:
+        raise BadFile(LINK if fault.errno == errno.ELOOP else fault.strerror or str(fault)) from None
+    if not stat.S_ISREG(os.fstat(file.fileno()).st_mode):
+        file.close()
+        raise BadFile(NO_FILE)
+    return file
+
+
+def is_same(path: str, entry: Entry) -> bool:
+    """Whether a file has the size and the digest of a name's content."""
+    with open_regular(path) as file:
+        if os.fstat(file.fileno()).st_size != entry.size:
+            return False
+        try:
+            return hashlib.file_digest(file, "sha256").hexdigest() == entry.sha256
+        except OSError as fault:
+            raise BadFile(fault.strerror or str(fault)) from None
+
+
+def files_in(folder: str, skip: Callable[[str, ClientError], None]) -> Iterator[str]:
+    """The regular files in a folder and below it, as paths from there. An OSError where the folder can't be read. Symbolic links are not
+    followed, and what a mirror or a get was writing when it was killed is passed over."""
+    folders = [""]
+    while folders:
+        inside = folders.pop()
+        try:
+            with os.scandir(os.path.join(folder, inside) if inside else folder) as found:
+                entries = sorted(found, key=lambda entry: entry.name)
+        except OSError as fault:
+            if not inside:
+                raise
+            skip(inside, BadFile(fault.strerror or str(fault)))
+            continue
+        for entry in entries:
+            path = os.path.join(inside, entry.name)
+            if entry.is_dir(follow_symlinks=False):
+                folders.append(path)
+            elif not entry.is_file(follow_symlinks=False):
+                skip(path, BadFile(LINK if entry.is_symlink() else NO_FILE))
+            elif not entry.name.startswith(UNFINISHED):
+                yield path
+
+
+def name_of(prefix: str, path: str) -> str:
+    """The name of a file; BadName where there can be none."""
+    try:
+        name = prefix + os.fsencode(path).decode()
+    except UnicodeDecodeError:
+        raise BadName("a name is UTF-8") from None
+    check_name(name)
+    return name
+
+
+def path_of(prefix: str, name: str) -> str:
+    """The path of a name's file, from the folder on; BadName where there can be none."""
+    check_name(name)
+    parts = name.removeprefix(prefix).split("/")
+    if not all(parts) or "." in parts or ".." in parts:
+        raise BadName("it can't be a path in a folder")
+    if parts[-1].startswith(UNFINISHED):
+        raise BadName(f"a file that begins with {UNFINISHED} is one half written")
+    return os.fsdecode("/".join(parts).encode())
+
+
+def make_folders(folder: str, path: str) -> None:
+    """Makes the folders of a file; BadFile where something else stands in their place, as a symbolic link that may lead out of the folder."""
+    os.makedirs(folder, exist_ok=True)
+    place = folder
+    for part in path.split("/")[:-1]:
+        place = os.path.join(place, part)
+        try:
+            os.mkdir(place)
+        except FileExistsError:
+            if not stat.S_ISDIR(os.lstat(place).st_mode):
+                raise BadFile(f"{shown(place)} is not a folder") from None
+
+
+def kind_of(path: str) -> int | None:
+    """The type of what is at a path, of a symbolic link its own; None where nothing is."""
+    try:
+        return stat.S_IFMT(os.lstat(path).st_mode)
+    except (FileNotFoundError, NotADirectoryError):
+        return None
+
+
+# Both ways
+
+
+class Mirror(abc.ABC):
+    """One way of it. `names` gives the names by a session, which is taken for as long as the context lasts: the one on which a name depends by
+    `turn_of`, if it is free. `tell` is called with a word and a name, or a path, and `complain` with what is skipped, each as soon as it is known.
+    """
+
+    word = done = ""  # what a move is called that is to be made, and one that was made
+
+    def __init__(
+        self,
+        folder: str,
+        prefix: str,
+        names: OpenNames,
+        turn_of: Callable[[str], int],
+        tell: Callable[[str, str], None],
+        complain: Callable[[str], None],
+        removes: bool = False,
+        is_dry: bool = False,
+    ):
+        self.folder, self.prefix, self.names, self.turn_of = folder, prefix, names, turn_of
+        self.tell, self.complain, self.removes, self.is_dry = tell, complain, removes, is_dry
+        self.report = Report()
+
+    @abc.abstractmethod
+    def run(self) -> Report:
+        """Makes one side like the other. Whatever ends it before, it can be run again, and goes on with what is left."""
+
+    def entries(self) -> dict[str, Entry]:
+        with self.names("") as files:
+            return {entry.name: entry for entry in files.names(self.prefix)}
+
+    def local(self, path: str) -> str:
+        return os.path.join(self.folder, path)
+
+    def skip(self, what: str, fault: ClientError) -> None:
+        self.report.skipped[what] = str(fault)
+        self.report.status = self.report.status or fault.status
+        self.complain(f"skipped {shown(what)}: {fault}")
+
+    def tried(self, what: str, call: Callable[[], Result]) -> Result | None:
+        """What a call gives; None where it fails for this name or file alone, which is skipped."""
+        try:
+            return call()
+        except (BadName, BadFile, NoRoom, SourceChanged, Replaced, Damaged) as fault:
+            self.skip(what, fault)
+        except OSError as fault:
+            self.skip(what, BadFile(fault.strerror or str(fault)))
+        return None
+
+    def move(self, names: Iterable[str], work: Callable[[NamedFiles, str], bool]) -> None:
+        """Moves contents; `work` tells whether there was one to move."""
+        for name in self.in_turns(names, work):
+            self.report.moved.append(name)
+            self.tell(f"would {self.word}" if self.is_dry else self.done, name)
+
+    def in_turns(self, names: Iterable[str], work: Callable[[NamedFiles, str], bool]) -> Iterator[str]:
+        """The names for which work was done, or for a dry run all of them. It is done by one session after another, and a session is given back
+        once others have helped it: so other commands of this machine find some, and names are spread over the pages of all."""
+        left = deque(sorted(names, key=lambda name: (self.turn_of(name), name)))
+        if self.is_dry:
+            yield from sorted(left)
+            return
+        while left:
+            turn = self.turn_of(left[0])
+            with self.names(left[0]) as files:
+                while left and self.turn_of(left[0]) == turn and not files.has_asked:
+                    name = left.popleft()
+                    if work(files, name):
+                        yield name
+
+
+class ToGrid(Mirror):
+    """Makes the names with the prefix like the files of the folder."""
+
+    word, done = "put", "put"
+
+    def run(self) -> Report:
+        self.unread: list[str] = []  # paths of what can't be read: names of it, and behind it, are not removed
+        self.files = self.find_files()
+        if self.removes and not self.files:
+            raise BadFile(f"{self.folder}: no file is there, so no name is removed")
+        entries = self.entries()
+        self.move([name for name in self.files if self.is_other(name, entries)], self.put)
+        if self.removes:
+            for name in self.in_turns([name for name in entries if self.is_extra(name)], self.remove):
+                self.report.removed.append(name)
+                self.tell("would remove" if self.is_dry else "removed", name)
+        return self.report
+
+    def find_files(self) -> dict[str, str]:
+        """The path of each name's file."""
+        found = {}
+        for path in list(files_in(self.folder, self.skip_path)):
+            name = self.tried(self.local(path), partial(name_of, self.prefix, path))
+            if name is not None:
+                found[name] = path
+        return found
+
+    def skip_path(self, path: str, fault: ClientError) -> None:
+        self.unread.append(path)
+        self.skip(self.local(path), fault)
+
+    def is_other(self, name: str, entries: dict[str, Entry]) -> bool:
+        """Whether the name has to be put. One whose file can't be read is skipped."""
+        if name not in entries:
+            return True
+        path = self.local(self.files[name])
+        same = self.tried(path, lambda: is_same(path, entries[name]))
+        self.report.same += same is True
+        return same is False
+
+    def is_extra(self, name: str) -> bool:
+        path = os.fsdecode(name.removeprefix(self.prefix).encode())
+        return name not in self.files and not any(path == unread or path.startswith(unread + "/") for unread in self.unread)
+
+    def put(self, files: NamedFiles, name: str) -> bool:
+        def call() -> bool:
+            with open_regular(path) as file:
+                files.put(name, file)
+            return True
+
+        path = self.local(self.files[name])
+        return self.tried(path, call) is True
+
+    def remove(self, files: NamedFiles, name: str) -> bool:
+        try:
+            files.remove(name)
+        except NoSuchName:
+            return False
+        return True
+
+
+class ToFolder(Mirror):
+    """Makes the files of the folder like the names with the prefix."""
+
+    word, done = "get", "got"
+
+    def run(self) -> Report:
+        entries = self.entries()
+        if not entries:
+            raise NoSuchName(f"{GRID}{self.prefix}: no name begins so")
+        self.paths = self.find_paths(entries)
+        self.move([name for name in self.paths if self.is_other(entries[name])], self.get)
+        if self.removes and kind_of(self.folder) is not None:
+            for path in [path for path in files_in(self.folder, lambda path, fault: self.skip(self.local(path), fault)) if self.is_extra(path, entries)]:
+                self.remove(path)
+        return self.report
+
+    def find_paths(self, entries: dict[str, Entry]) -> dict[str, str]:
+        """The path of each name that can be a file. A name can't that others begin with as with a folder."""
+        found = {}
+        for name in entries:
+            path = self.tried(name, partial(path_of, self.prefix, name))
+            if path is not None:
+                found[name] = path
+        folders = {folder for path in found.values() for folder in folders_of(path)}
+        for name in [name for name, path in found.items() if path in folders]:
+            self.skip(name, BadName(f"other names begin with {shown(name)}/, and a file can't be a folder"))
+            del found[name]
+        return found
+
+    def is_other(self, entry: Entry) -> bool:
+        """Whether the name has to be got. One whose file can't be read, or is none, is skipped."""
+        path = self.local(self.paths[entry.name])
+        if kind_of(path) is None:
+            return True
+        same = self.tried(path, lambda: is_same(path, entry))
+        self.report.same += same is True
+        return same is False
+
+    def is_extra(self, path: str, entries: dict[str, Entry]) -> bool:
+        try:
+            return name_of(self.prefix, path) not in entries
+        except BadName:
+            return True
+
+    def get(self, files: NamedFiles, name: str) -> bool:
+        def call() -> bool:
+            make_folders(self.folder, self.paths[name])
+            if kind_of(path) not in (None, stat.S_IFREG):
+                raise BadFile(NO_FILE)
+            to_target(path, lambda target: files.get_to(name, target))
+            return True
+
+        path = self.local(self.paths[name])
+        try:
+            return self.tried(path, call) is True
+        except NoSuchName:  # (it was removed meanwhile)
+            return False
+
+    def remove(self, path: str) -> None:
+        """Removes a file, and the folders that are empty then."""
+
+        def call() -> bool:
+            if not self.is_dry:
+                os.unlink(self.local(path))
+                remove_empty(self.folder, path)
+            return True
+
+        if self.tried(self.local(path), call):
+            self.report.removed.append(path)
+            self.tell("would remove" if self.is_dry else "removed", self.local(path))
+
+
+def folders_of(path: str) -> list[str]:
+    """The folders that a path leads through."""
+    parts = path.split("/")
+    return ["/".join(parts[:count]) for count in range(1, len(parts))]
+
+
+def remove_empty(folder: str, path: str) -> None:
+    """Removes the folders of a path that are empty, from the last one on."""
+    for inside in reversed(folders_of(path)):
+        try:
+            os.rmdir(os.path.join(folder, inside))
+        except OSError:
+            return

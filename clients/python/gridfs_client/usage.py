@@ -1,0 +1,82 @@
+"""What a tenant's names take of its room, and what is left."""
+
+from dataclasses import dataclass
+
+from .layout import Layout
+from .names import NamedFiles
+from .pages import InSlots
+from .tables import parse_table
+
+
+@dataclass(frozen=True)
+class Fullest:
+    """The fullest page: whose it is, its bytes, and how many it has room for before a put is refused."""
+
+    session: int
+    page: int
+    bytes: int
+    most: int
+
+    @property
+    def percent(self) -> int:
+        return 100 * self.bytes // self.most
+
+
+@dataclass(frozen=True)
+class Usage:
+    """The names with their bytes, the pages, and the slots with the bytes that free ones have room for. A slot is taken as long as its session's
+    table says so. Some that are taken hold no name's content: it is being written, or was replaced or left by a client that died. Where room is
+    wanted, these are found and freed."""
+
+    names: int
+    bytes_used: int
+    bytes_free: int
+    pages: int
+    fullest: Fullest
+    slots_taken: int
+    slots_without_a_name: int
+    slots_free: int
+
+
+def usage_of(files: NamedFiles) -> Usage:
+    """What all names take: a listing of them, and a read of each slot table. It is no snapshot."""
+    entries, layout = files.names(), files.layout
+    taken = taken_slots(files)
+    free = [slot for session, slots in layout.all_slots.items() for number, slot in enumerate(slots) if number not in taken[session]]
+    named = named_slots(files)
+    return Usage(
+        names=len(entries),
+        bytes_used=sum(entry.size for entry in entries),
+        bytes_free=sum(slot.room for slot in free),
+        pages=layout.sessions * layout.pages,
+        fullest=fullest_page(files, layout),
+        slots_taken=sum(map(len, taken.values())),
+        slots_without_a_name=sum((session, slot) not in named for session, slots in taken.items() for slot in slots),
+        slots_free=len(free),
+    )
+
+
+def taken_slots(files: NamedFiles) -> dict[int, frozenset[int]]:
+    """The slots of each session that its table says are taken."""
+    found = {}
+    for session in range(1, files.layout.sessions + 1):
+        volume, file = files.layout.table(session)
+        table = parse_table(files.session.read(volume, file).content, f"file {file} of volume {volume}")
+        found[session] = table.taken() & frozenset(range(len(files.layout.slots(session))))
+    return found
+
+
+def named_slots(files: NamedFiles) -> set[tuple[int, int]]:
+    """Session and number of each slot that has a piece of what a name holds."""
+    contents = (held.content for bucket in files.writer.buckets.values() for held in bucket.names())
+    return {choice for content in contents if isinstance(content, InSlots) for choice in content.order()}
+
+
+def fullest_page(files: NamedFiles, layout: Layout) -> Fullest:
+    most = layout.page_room * 7 // 8
+    pages = [
+        Fullest(session, number, len(known.page.to_bytes()), most)
+        for number, bucket in files.writer.buckets.items()
+        for session, known in bucket.known.items()
+    ]
+    return max(pages, key=lambda page: page.bytes)

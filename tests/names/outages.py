@@ -1,0 +1,84 @@
+"""The command while nodes are down: what the status tells, and what other words end with."""
+
+import json
+import os
+import time
+from concurrent.futures import ThreadPoolExecutor
+
+from commands import SECONDS, Commands
+from with_room import Grid
+
+# bob's volumes have one shape, so they are for no names.
+PLAN = """grid 2 2
+blocks 4096
+tenant ann 1024 4 1
+tenant bob 64 2 1
+go
+ann open 8 16
+ann open 32 15
+bob open 8 2
+"""
+SHORT = "6"  # seconds that a command waits for nodes that are down
+
+
+def kill(nodes, *numbers):
+    for number in numbers:
+        nodes.ask(f"kill {number}")
+    nodes.ask("nodes")
+    until = time.monotonic() + SECONDS
+    while any(b"node %d is down" % number not in nodes.told() for number in numbers):
+        if time.monotonic() > until:
+            raise OSError(f"nodes {numbers} are not down")
+        time.sleep(0.02)
+
+
+def has(lines, text):
+    """Which of these lines a text has."""
+    return [line for line in lines if line in text.decode().splitlines()]
+
+
+def one_is_down(commands):
+    lines = ["  row 1   2  (3)", "node 3 is silent", "wholly up: row 0, column 0", "session 4: home 3, silent", "names: 1", "bytes: 5 used, 30720 free"]
+    status, told, why = commands.run("status")
+    commands.held("status with a node down", (status, has(lines, told), why), (0, lines, ""))
+
+
+def a_row_is_down(commands):
+    """Nodes 2 and 3 are a row, so no column is wholly up."""
+    silence = "nodes 2 and 3 are silent: no column is wholly up"
+    asked = (["status"], ["--grid", "2x2", "status", "--json"], ["--timeout", SHORT, "put", "told", "a"], ["--timeout", SHORT, "--grid", "2x2", "mirror", "tree", "grid:"])
+    with ThreadPoolExecutor(len(asked)) as pool:
+        status, value, put, mirror = pool.map(lambda words: commands.run(*words), asked)
+    doubt = ", if the grid is 2 by 2"
+    lines = ["  row 1  (2) (3)", silence + doubt, "wholly up: row 0, no column", f"names, pages, slots, bytes: left out: {silence}{doubt}"]
+    commands.held("status with a row down", (status[0], has(lines, status[1]), status[2]), (4, lines, f"gridfs-client: {silence}{doubt}\n"))
+    told = json.loads(value[1])
+    seen = value[0], told["goes_on"], told["names"], told["left_out"], value[2]
+    commands.held("status --json with a row down", seen, (4, False, None, silence, f"gridfs-client: {silence}\n"))
+    commands.held("its nodes", [(node["node"], node["answers"]) for node in told["nodes"]], [(0, True), (1, True), (2, False), (3, False)])
+    commands.held("put with a row down", (put[0], put[2]), (4, f"gridfs-client: no session was answered in 6 s, of 1, 2, 3 and 4; {silence}{doubt}\n"))
+    commands.held("mirror with a row down", (mirror[0], mirror[2]), (4, f"gridfs-client: no session was answered in 6 s, of 1, 2, 3 and 4; {silence}\n"))
+
+
+def all_are_down(commands):
+    commands.refused("status with all down", ["status"], 4, "no node answered in 5 s")
+
+
+def try_outages(program):
+    with open("plan", "w", encoding="ascii") as out:
+        out.write(PLAN)
+    commands, nodes = Commands({}), Grid(program, os.path.abspath("plan"))
+    os.mkdir("tree")
+    try:
+        commands.told("put", ["put", "-", "a"], b"", given=b"hello")
+        status, told, _ = commands.run("status", tenant="bob")
+        commands.held("status of a tenant without names", (status, b"left out: all volumes have one shape" in told), (0, True))
+        kill(nodes, 3)
+        one_is_down(commands)
+        kill(nodes, 2)
+        a_row_is_down(commands)
+        kill(nodes, 0, 1)
+        all_are_down(commands)
+    finally:
+        nodes.end()
+    return f"{commands.tried} compared: nodes that are down", commands.wrong

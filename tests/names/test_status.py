@@ -1,0 +1,277 @@
+"""Who answers, what that comes to for a grid, what a tenant has used, and how long a command waits."""
+
+import dataclasses
+import os
+import sys
+import tempfile
+import tomllib
+import unittest
+from unittest import mock
+
+sys.path.insert(0, os.path.dirname(os.path.abspath(__file__)))
+from histories import HERE, Killed
+from memory import Memory
+from test_names import kill_at
+from test_sessions import Home, Played
+
+import gridfs_client
+from gridfs_client import PlanTold, Unanswered
+from gridfs_client.asking import LAST_CALL, SILENCE, ask_all, ask_plan, why_unanswered
+from gridfs_client.errors import BadSettings, CarrierFault, SessionTaken
+from gridfs_client.grid import Nodes, Shape, possible_shapes
+from gridfs_client.opening import OpenSessions
+from gridfs_client.settings import Settings
+from gridfs_client.status import nodes_lines, nodes_value, usage_lines, usage_value
+from gridfs_client.usage import usage_of
+
+PLAN = "plan 4 0 4 3000 16 8.16 64.2"
+
+
+def nodes_of(count, silent, said=None, new_nodes=()):
+    return Nodes(PlanTold(count, 0, 2, 300, 16, (), new_nodes), frozenset(silent), said)
+
+
+class Grids(unittest.TestCase):
+    def test_what_silence_comes_to(self):
+        two = Shape(2, 2)
+        for silent, told, goes_on in (
+            ((), "all 4 nodes answer", True),
+            ((3,), "node 3 is silent", True),
+            ((0, 1), "nodes 0 and 1 are silent: no column is wholly up", False),
+            ((0, 2), "nodes 0 and 2 are silent: no row is wholly up", False),
+            ((0, 3), "nodes 0 and 3 are silent: no row and no column is wholly up", False),
+            ((0, 1, 2, 3), "nodes 0, 1, 2 and 3 are silent: no row and no column is wholly up", False),
+        ):
+            nodes = nodes_of(4, silent, two)
+            self.assertEqual((nodes.summary(), nodes.goes_on()), (told, goes_on))
+        self.assertEqual(nodes_of(6, (1, 5), Shape(2, 3)).summary(), "nodes 1 and 5 are silent: no row is wholly up")
+        self.assertEqual(nodes_of(6, (1, 4), Shape(2, 3)).summary(), "nodes 1 and 4 are silent: no row is wholly up")
+        self.assertEqual(nodes_of(6, (1, 2), Shape(2, 3)).goes_on(), True)
+        self.assertEqual(nodes_of(6, (1, 2), Shape(3, 2)).goes_on(), False)
+
+    def test_an_arrangement_that_is_not_said(self):
+        """A square is drawn, and what depends on it is told with an if, or is not known."""
+        self.assertEqual(nodes_of(4, (0, 1)).summary(), "nodes 0 and 1 are silent: no column is wholly up, if the grid is 2 by 2")
+        self.assertEqual(nodes_of(6, (1, 2)).summary(), "nodes 1 and 2 are silent")
+        self.assertEqual({(it.rows, it.columns) for it in possible_shapes(12)}, {(2, 6), (3, 4), (4, 3), (6, 2)})
+        for count, silent, goes_on in ((4, (3,), True), (4, (0, 1), False), (6, (), True), (6, (1, 2), None), (6, (0, 1, 2, 3, 5), False), (2, (1,), False)):
+            self.assertEqual(nodes_of(count, silent).goes_on(), goes_on, (count, silent))
+        # Rows 0 and 1 of 4 by 4 and a node of row 2 are up: no column of the square is, and one of 2 by 8 would be.
+        self.assertIsNone(nodes_of(16, set(range(9, 16))).goes_on())
+
+    def test_what_is_told(self):
+        nodes = nodes_of(4, (67,), Shape(2, 2), (67,))
+        lines = nodes_lines(nodes)
+        self.assertEqual(lines[:5], ["grid: 2 by 2", "  row 0    0    1 ", "  row 1    2  (67)", "node 67 is silent", "wholly up: row 0, column 0"])
+        self.assertEqual(lines[5:], ["session 1: home 0", "session 2: home 1"])
+        self.assertIn("session 2: home 1, silent", nodes_lines(nodes_of(4, (1,))))
+        value = nodes_value(nodes)
+        self.assertEqual(value["nodes"][3], {"node": 67, "row": 1, "column": 1, "answers": False})
+        self.assertEqual((value["rows_up"], value["columns_up"], value["goes_on"], value["is_arrangement_said"]), ([0], [0], True, True))
+        self.assertEqual(value["sessions"], [{"session": 1, "home": 0, "answers": True}, {"session": 2, "home": 1, "answers": True}])
+        unknown = nodes_value(nodes_of(6, (1, 2)))
+        self.assertEqual(unknown.keys(), value.keys())
+        self.assertEqual((unknown["rows"], unknown["rows_up"], unknown["nodes"][0]["row"], unknown["goes_on"]), (None,) * 4)
+        self.assertEqual(nodes_lines(nodes_of(6, ()))[:2], ["grid: 6 nodes; how they are arranged is not said (--grid)", "all 6 nodes answer"])
+
+    def test_settings(self):
+        self.assertEqual(Settings({"grid": "2x3"}).shape(), Shape(2, 3))
+        self.assertIsNone(Settings({}).shape())
+        for wrong in ("2", "2 by 2", "0x4", "9x1", "2x2x2", "", "x"):
+            with self.assertRaises(BadSettings, msg=wrong):
+                Settings({"grid": wrong}).shape()
+
+    def test_version(self):
+        with open(os.path.join(HERE, "..", "..", "clients", "python", "pyproject.toml"), "rb") as file:
+            self.assertEqual(tomllib.load(file)["project"]["version"], gridfs_client.__version__)
+
+
+class Answering(unittest.TestCase):
+    """Nodes that are played: those that are up tell what the tenant has."""
+
+    def carrier(self, up, told=PLAN):
+        return Played(lambda node, body: [(str(node), told)] if body == "plan" and node in up else [])
+
+    def test_silent_nodes(self):
+        for up in ({0, 1, 2, 3}, {1, 3}, {2}):
+            carrier = self.carrier(up)
+            ask_plan(carrier)
+            begun = carrier.clock
+            self.assertEqual(ask_all(carrier, SILENCE, None).silent, {0, 1, 2, 3} - up)
+            self.assertEqual(carrier.clock - begun, 0 if len(up) == 4 else SILENCE)
+
+    def test_lost_lines(self):
+        """Nodes whose answer is lost are asked again, those that have answered are not."""
+        lost = []
+
+        def play(node, body):
+            if node == 3 and lost.count(3) < 2:
+                lost.append(node)
+                return []
+            return [(str(node), PLAN)]
+
+        carrier = Played(play)
+        carrier.learn(PlanTold(4, 0, 4, 3000, 16, ()))
+        self.assertEqual(ask_all(carrier, SILENCE, None).silent, set())
+        self.assertEqual([node for node, _ in carrier.sent], [0, 1, 2, 3, 3, 3])
+
+    def test_new_nodes(self):
+        """One node has the plan by which another one stands at place 3: that one is asked too, and the lost one is not missed."""
+
+        def play(node, body):
+            return [(str(node), PLAN + " 67" * (node == 1))] if node in (0, 1, 2, 67) else []
+
+        carrier = Played(play)
+        ask_plan(carrier)
+        nodes = ask_all(carrier, SILENCE, Shape(2, 2))
+        self.assertEqual((nodes.silent, nodes.told.new_nodes), (frozenset(), (67,)))
+
+    def test_only_answers_of_the_time(self):
+        carrier = self.carrier({0, 1, 2, 3})
+        ask_plan(carrier)
+        ask_all(carrier, SILENCE, None)
+        carrier.coming.clear()
+        carrier.play = lambda node, body: []
+        carrier.clock += 60
+        self.assertEqual(ask_all(carrier, SILENCE, None).silent, {0, 1, 2, 3})
+
+    def test_why(self):
+        carrier = self.carrier({2, 3})
+        self.assertEqual(why_unanswered(carrier, None), "")  # (nobody has told which nodes there are)
+        ask_plan(carrier)
+        begun = carrier.clock
+        self.assertEqual(why_unanswered(carrier, Shape(2, 2)), "nodes 0 and 1 are silent: no column is wholly up")
+        self.assertEqual(carrier.clock - begun, LAST_CALL)
+        self.assertIn("if the grid is 2 by 2", why_unanswered(carrier, Shape(2, 3)))  # (which these four nodes are not)
+        self.assertEqual(why_unanswered(self.asked({0, 1, 2, 3}), None), "all 4 nodes answer")
+        with mock.patch.object(carrier, "receive", side_effect=CarrierFault("the lines have ended")):
+            self.assertEqual(why_unanswered(carrier, None), "")
+
+    def asked(self, up):
+        carrier = self.carrier(up)
+        ask_plan(carrier)
+        return carrier
+
+
+class Waiting(unittest.TestCase):
+    """How long a command waits, by the clock of nodes that are played."""
+
+    def opened(self, carrier, folder, **more):
+        told = ask_plan(carrier)
+        return OpenSessions(Settings({"tenant": "ann", "session": "all", "timeout": "30", "helpers": "3", "locks": folder, **more}), told, carrier, "", 0)
+
+    def test_no_home_answers(self):
+        """All homes are silent: what is left once none answered soon is divided, and all is over in the time for an answer."""
+        for sessions, timeout in ((1, 30), (4, 30), (16, 30), (4, 1)):
+            carrier = Played(lambda node, body, plan=f"plan 4 0 {sessions} 3000 16 8.16": [(str(node), plan)] if body == "plan" else [])
+            with tempfile.TemporaryDirectory() as folder, self.assertRaisesRegex(Unanswered, f"no session was answered in {timeout} s, of 1"):
+                self.opened(carrier, folder, timeout=str(timeout)).first()
+            self.assertLessEqual(carrier.clock, timeout * 1.01)
+            self.assertGreater(carrier.clock, timeout * 0.95)
+
+    def test_what_comes_after(self):
+        """Two homes are silent, and the third one answers until the session has begun: the time that was spent on the others is taken off."""
+        home = Home(2)
+
+        def play(node, body):
+            if body == "plan":
+                return [(str(node), "plan 4 0 4 3000 16 8.16 64.2")]
+            return home(node, body) if node == 2 and not body.startswith("write") else []
+
+        carrier = Played(play)
+        with tempfile.TemporaryDirectory() as folder:
+            sessions = self.opened(carrier, folder, session="1-3")
+            sessions.numbers.sort()
+            session = sessions.first()
+            self.assertEqual((session.number, round(carrier.clock, 1)), (3, 4))
+            with self.assertRaisesRegex(Unanswered, r"^session 3: no answer to its write from node 2 in 25.5 s$"):
+                session.write(0, 2, b"")
+            self.assertLessEqual(carrier.clock, 30.1)
+            sessions.close()
+
+    def test_little_time_is_left(self):
+        """A node told late what the tenant has: a session is tried all the same."""
+        home = Home(0)
+        carrier = Played(lambda node, body: [(str(node), "plan 1 0 1 3000 16 8.16")] if body == "plan" else home(node, body))
+        with tempfile.TemporaryDirectory() as folder:
+            told = ask_plan(carrier)
+            carrier.clock = 31.0
+            sessions = OpenSessions(Settings({"tenant": "ann", "session": "all", "timeout": "30", "helpers": "3", "locks": folder}), told, carrier, "", 0)
+            self.assertEqual(sessions.first().read(0, 0).content, b"")
+            sessions.close()
+
+    def test_sessions_that_are_used(self):
+        """The wait for one that others use ends; and it is not taken off the time for an answer."""
+        home = Home(0)
+
+        def play(node, body):
+            if body == "plan":
+                return [(str(node), "plan 1 0 1 3000 16 8.16")]
+            return home(node, body)
+
+        for freed in (None, 20):
+            carrier, home.last = Played(play), 0
+            with tempfile.TemporaryDirectory() as folder:
+                sessions = self.opened(carrier, folder)
+                lock = sessions.settings.lock(1)
+
+                def sleep(seconds):
+                    carrier.clock += seconds
+                    if freed and carrier.clock > freed:
+                        lock.close()
+
+                with mock.patch("time.sleep", sleep), lock:
+                    if not freed:
+                        with self.assertRaisesRegex(SessionTaken, "session all is used by other commands"):
+                            sessions.first()
+                        self.assertEqual(round(carrier.clock), 30)
+                        continue
+                    session = sessions.first()
+                self.assertAlmostEqual(session.pace.timeout, 30 - LAST_CALL, 1)
+                sessions.close()
+
+
+class Used(unittest.TestCase):
+    def test_usage(self):
+        memory = Memory(sessions=2, pages=2, slots=8, slot_blocks=2)
+        empty = usage_of(memory.client(1))
+        self.assertEqual((empty.names, empty.bytes_used, empty.slots_taken, empty.slots_free, empty.pages), (0, 0, 0, 16, 4))
+        memory.client(1).put("a", b"x" * 300)
+        memory.client(2).put("b", b"x" * 200)
+        memory.client(2).put("c", b"in the line")
+        used = usage_of(memory.client(1))
+        self.assertEqual((used.names, used.bytes_used), (3, 511))
+        self.assertEqual((used.slots_taken, used.slots_free, used.slots_without_a_name), (5, 11, 0))
+        self.assertEqual((empty.bytes_free - used.bytes_free) // 128, 5)
+        longest = max((len(copy.content), place) for place, copy in memory.registers.items() if copy.content.startswith(b"names"))
+        self.assertEqual((used.fullest.bytes, memory.layout.page(used.fullest.session, used.fullest.page)), longest)
+        self.assertEqual(used.fullest.percent, 100 * longest[0] // (memory.layout.page_room * 7 // 8))
+
+    def test_slots_of_a_client_that_died(self):
+        """Those that it had taken are of no name until the content is in force."""
+        seen = []
+        for step in range(1, 40):
+            memory = Memory(sessions=2, pages=1, slots=8, slot_blocks=2)
+            try:
+                memory.client(1, kill_at(step)).put("a", b"x" * 300)
+            except Killed:
+                memory.pending.clear()
+            used = usage_of(memory.client(2))
+            seen.append((used.slots_taken, used.slots_without_a_name, used.names))
+            self.assertEqual(used.slots_taken + used.slots_free, 16)
+        self.assertEqual(list(dict.fromkeys(seen)), [(0, 0, 0), (3, 3, 0), (3, 0, 1)])
+        self.assertIn("slots: 3 used, 13 free", usage_lines(used, None))
+        unnamed = dataclasses.replace(used, slots_without_a_name=2)
+        self.assertIn("slots: 3 used, of which 2 are freed when room is wanted, 13 free", usage_lines(unnamed, None))
+
+    def test_what_is_told(self):
+        memory = Memory()
+        value = usage_value(usage_of(memory.client(1)), None)
+        left_out = usage_value(None, "no row is wholly up")
+        self.assertEqual(value.keys(), left_out.keys())
+        self.assertEqual((left_out["names"], left_out["left_out"]), (None, "no row is wholly up"))
+        self.assertEqual(usage_lines(None, "no row is wholly up"), ["names, pages, slots, bytes: left out: no row is wholly up"])
+
+
+if __name__ == "__main__":
+    unittest.main()
