@@ -2,7 +2,6 @@
 
 import collections
 import contextlib
-import importlib.util
 import io
 import os
 import shutil
@@ -14,7 +13,8 @@ import unittest
 
 from histories import HERE
 
-sys.path.insert(0, os.path.join(HERE, "..", "nodes"))
+sys.path[:0] = [os.path.join(HERE, "..", "nodes"), os.path.join(HERE, "..")]
+os.environ["PATH"] += ":/usr/sbin"  # (where Debian has mosquitto and nginx)
 import commands
 import outages
 import planted
@@ -22,6 +22,7 @@ import registers
 import trial
 import with_room
 import worlds
+from installed import missing
 from processes import interrupt, room, workers
 
 from gridfs_client import ClientError
@@ -30,6 +31,7 @@ TOP = os.path.join(HERE, "..", "..")
 DEPLOY, PACKAGE = os.path.join(TOP, "deploy", "mqtt"), os.path.join(TOP, "clients", "python")
 LONG, MOST_MEMORY = 100, 84  # MiB of a content, and of a process that moves it and plays the nodes too
 ATTEMPTS, LEAST_OPERATIONS, MOST_OPERATIONS = 10, 50, 2_000  # of trials over nodes; a bug has to be found within the most
+GROUPS = {"broker": "broker", "package": "checkers"}  # of tests/packages, which these parts want
 SHAPES = ("MIXED", "CROWDED", "LENDING", "REMOVING", "DYING", "UNSURE")
 
 
@@ -155,20 +157,16 @@ def package():
         (["mandoc", "-Tlint", os.path.join(TOP, "docs", "gridfs-client.1")], "."),
         ([os.path.join(TOP, "tools", "install"), "--client", os.path.abspath("installed")], "."),
     ):
-        if not shutil.which(words[0]):
-            print(f"names: package: {words[0]} is left out: it is not installed", flush=True)
-            continue
         told = subprocess.run(words, cwd=where, capture_output=True, text=True)
         wrong += [f"{words[0]}: {told.stdout}{told.stderr}"] if told.returncode else []
         done.append(os.path.basename(words[0]))
     wrong += helped("installed/bin/gridfs-client")
-    if shutil.which("pip") and importlib.util.find_spec("venv"):
-        shutil.copytree(PACKAGE, "package")
-        subprocess.run([sys.executable, "-m", "venv", "--without-pip", "venv"], check=True)
-        words = ["pip", "--python", "venv/bin/python", "install", "-q", "--no-index", "--disable-pip-version-check", "./package"]
-        told = subprocess.run(words, capture_output=True, text=True)
-        wrong += [f"pip: {told.stderr}"] if told.returncode else helped("venv/bin/gridfs-client")
-        done.append("pip")
+    shutil.copytree(PACKAGE, "package")
+    subprocess.run([sys.executable, "-m", "venv", "--without-pip", "venv"], check=True)
+    words = ["pip", "--python", "venv/bin/python", "install", "-q", "--no-index", "--disable-pip-version-check", "./package"]
+    told = subprocess.run(words, capture_output=True, text=True)
+    wrong += [f"pip: {told.stderr}"] if told.returncode else helped("venv/bin/gridfs-client")
+    done.append("pip")
     return ", ".join(done), wrong
 
 
@@ -176,19 +174,6 @@ def helped(command):
     """What is wrong of an installed command, which has to tell its words."""
     told = subprocess.run([os.path.abspath(command), "--help"], stdout=subprocess.PIPE)
     return [] if told.returncode == 0 and b"put" in told.stdout else [f"{command} --help: status {told.returncode}"]
-
-
-def missing():
-    """What a broker wants and is not installed."""
-    header = [os.environ.get("CC", "cc"), "-fsyntax-only", "-x", "c", "-"]
-    os.environ["PATH"] += ":/usr/sbin"
-    found = {
-        "mosquitto": shutil.which("mosquitto") is not None,
-        "libmosquitto-dev": subprocess.run(header, input=b"#include <mosquitto.h>\n", stderr=subprocess.DEVNULL).returncode == 0,
-        "python3-paho-mqtt": importlib.util.find_spec("paho") is not None,
-        "openssl": shutil.which("openssl") is not None,
-    }
-    return [name for name, is_found in found.items() if not is_found]
 
 
 def in_a_room(job):
@@ -222,17 +207,19 @@ def told(results):
 
 
 def main(jobs, parts, words, usage):
-    """Does the jobs of the parts that the words name, or of all, side by side; the status."""
-    chosen = []
+    """Does the jobs of the parts that the words name, or of all, but for those behind `--without`, side by side; the status."""
+    chosen, left_out = [], []
+    while words[:1] == ["--without"] and words[1:2] and words[1] in parts:
+        left_out, words = [*left_out, words[1]], words[2:]
     while words and words[0] in parts:
         chosen, words = [*chosen, words[0]], words[1:]
     if len(words) != 1 or words[0].startswith("-"):
         sys.exit(usage)
-    chosen = chosen or parts
-    wanted = missing() if "broker" in chosen else []
+    chosen = [part for part in chosen or parts if part not in left_out]
+    wanted = missing(["all", *(group for part, group in GROUPS.items() if part in chosen)])
     if wanted:
-        print(f"names: broker is left out, for want of {', '.join(wanted)}", flush=True)
-        chosen = [part for part in chosen if part != "broker"]
+        print(f"names: not installed: {', '.join(wanted)}", file=sys.stderr)
+        return 2
     begun, all_jobs = time.monotonic(), jobs(os.path.abspath(words[0]))
     with workers() as pool:
         count = told(pool.imap_unordered(in_a_room, [(part, job) for part in chosen for job in all_jobs[part]]))
