@@ -12,7 +12,7 @@ HERE = os.path.dirname(os.path.realpath(__file__))
 sys.path.insert(0, os.path.join(HERE, "..", "..", "examples", "nodes"))
 from carrier import journal_of
 from one_machine import DAMAGED, InUse, how_ended, is_ready, lock
-from tenant import PLACES, nodes_of
+from tenant import PLACES, nodes_of, shape_of
 
 os.environ["PATH"] += ":/usr/sbin"  # (where Debian has mosquitto and nginx, and no user but root looks)
 PATIENCE = 15  # seconds that a process has to end, or to be ready
@@ -73,7 +73,7 @@ class Grid:
         self.folder, self.program, self.carry, self.tls = folder, program, carry, tls
         self.port, self.inner = port or free_ports(), free_ports()
         self.plan, self.broker_folder = os.path.join(folder, "plan"), os.path.join(folder, "broker")
-        self.processes, self.nodes, self.count, self.words = {}, [], 0, ()
+        self.processes, self.nodes, self.shape, self.count, self.words = {}, [], "", 0, ()
         self.told_before = {}  # of each process, how long its log was when it was started
         self.lock = None  # the handle of the folder's lock, where it was taken
 
@@ -100,7 +100,8 @@ class Grid:
     def set_up(self, *words):
         """Makes the broker's folder from the plan, or makes it again."""
         with open(self.plan, encoding="latin1") as file:
-            self.nodes = nodes_of(file.read())
+            text = file.read()
+        self.nodes, self.shape = nodes_of(text), shape_of(text)
         self.count, self.words = len(self.nodes), words
         words += ("--tls", self.tls, "--port", str(self.port), "--inner", str(self.inner))
         words += () if self.tls == "none" else ("--test-authority",)

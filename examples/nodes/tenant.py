@@ -22,6 +22,12 @@ PLACES, SESSIONS = 64, 16
 MOST_LOST = 14  # nodes that may be lost at a place, one after another
 
 
+def shape_of(plan):
+    """The rows and columns of the plan's grid, as a client's setting has them."""
+    grid = re.match(r"grid ([1-8]) ([1-8])\n", plan)
+    return f"{grid[1]}x{grid[2]}" if grid else "1x1"
+
+
 def nodes_of(plan):
     """The node that stands at each place of the plan's grid. (What is wrong with a plan a node tells.)"""
     grid = re.match(r"grid ([1-8]) ([1-8])\n", plan)
