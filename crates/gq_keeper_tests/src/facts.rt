@@ -79,7 +79,7 @@ fn writes_each_fact(rt: HostRuntime) -> Result<(), Fail> {
 #[test]
 fn reads_each_fact(rt: HostRuntime) -> Result<(), Fail> {
     let alloc = rt.alloc();
-    let cases: [(&str, &str); 16] = [
+    let cases: [(&str, &str); 18] = [
         ("began ann 1 5", "began ann 1 5\n"),
         (
             "numbered ann 1 18446744073709551615",
@@ -87,6 +87,7 @@ fn reads_each_fact(rt: HostRuntime) -> Result<(), Fail> {
         ),
         ("kept ann 0 3 7 1 0aF0", "kept ann 0 3 7 1 0af0\n"),
         ("kept ann 0 3 7 1 -", "kept ann 0 3 7 1 -\n"),
+        ("kept ann 0 3 7 1 =a\\sb", "kept ann 0 3 7 1 612062\n"),
         ("", ""),
         ("began", ""),
         ("began ann", ""),
@@ -98,6 +99,7 @@ fn reads_each_fact(rt: HostRuntime) -> Result<(), Fail> {
         ("numbered ann 1 18446744073709551616", ""),
         ("kept ann 0 3 7 1", ""),
         ("kept ann 0 3 7 1 0aF", ""),
+        ("kept ann 0 3 7 1 =a\\", ""),
         ("sync 1 2 3", ""),
     ];
     for (line, want) in cases {

@@ -5,6 +5,7 @@ use Rattle.std.proofs.lemmas.Bool.{and_parts, leb-true}
 use Rattle.std.proofs.lemmas.Fmt.{length-decimal-le}
 use Rattle.hex.specs.Hex.{lower_digits}
 use Rattle.hex.proofs.HexLemmas.{length-encode_with}
+use Rattle.gq_escape.proofs.Escaping.{at_most_twice}
 use Rattle.gq_tag.specs.declared.StoredCopy.{StoredCopy}
 use Rattle.gq_tag.specs.declared.Body.{Body}
 use Rattle.gq_tag.specs.declared.Body.TheVariants.{Ask, Copy, Store, Stored}
@@ -14,7 +15,7 @@ use Rattle.gq_pool.specs.declared.TheConstants.{BLOCK_BYTES}
 use Rattle.gq_desk.specs.CheckedPlan.{CheckedPlan, nobody, row_at}
 use Rattle.gq_desk.specs.declared.plans.TenantRow.{TenantRow}
 use Rattle.gq_text.specs.Words.{Word}
-use Rattle.gq_text.specs.AnswerText.{content_word, spaced}
+use Rattle.gq_text.specs.AnswerText.{bytes_word, content_word, spaced}
 use Rattle.gq_text.specs.Canonical.{IsPlan}
 use Rattle.gq_wire.specs.declared.incoming.TheConstants.{BESIDE_CONTENT}
 use Rattle.gq_wire.specs.Incoming.{most_blocks_of, longest_line}
@@ -35,6 +36,11 @@ short_name name is = leb-true (length name) 16 (and_parts _ _ (and_parts _ _ is)
 pub content_length-le : (n : ℕ) (bytes : List ℕ) → length bytes ≤ n → length (content_word bytes) ≤ 2 * n + 1
 content_length-le n [] short = omega arith
 content_length-le n (b ∷ bytes) short = omega (arith, length-encode_with lower_digits (b ∷ bytes))
+
+-- the same content as its bytes
+pub bytes_length-le : (n : ℕ) (bytes : List ℕ) → length bytes ≤ n → length (bytes_word bytes) ≤ 2 * n + 1
+bytes_length-le n [] short = omega arith
+bytes_length-le n (b ∷ bytes) short = omega (arith, at_most_twice (b ∷ bytes))
 
 -- one word more, after a space
 pub one_more : (word : Word) (words : List Word) (n k : ℕ) → length word ≤ n → length (spaced words) ≤ k → length (spaced (word ∷ words)) ≤ n + 1 + k

@@ -16,7 +16,7 @@ use Rattle.gq_node.specs.declared.output.Parcel.{Parcel}
 use Rattle.gq_node.specs.declared.output.Parcel.TheVariants.{Wants, Brings}
 use Rattle.gq_replace.specs.Plans.{place_of}
 use Rattle.gq_text.specs.Words.{Word}
-use Rattle.gq_text.specs.AnswerText.{spaced}
+use Rattle.gq_text.specs.AnswerText.{bytes_word, spaced}
 use Rattle.gq_text.specs.Canonical.{IsPlan, IsNumber}
 use Rattle.gq_wire.specs.declared.incoming.Incoming.{Incoming}
 use Rattle.gq_wire.specs.declared.incoming.Incoming.TheVariants.{Request, Plan, Bad, Letter, Joins, Joined, Fetch, Fetched, Nothing}
@@ -134,6 +134,17 @@ abbrev pub RequestsReadBack : Type 0
 RequestsReadBack =
     (plan : CheckedPlan) (to tenant op : ℕ) (line : Line) → IsPlan plan → IsNumber to → tenant < length plan.rows → FitsRequest (row_at plan tenant).most_blocks op line →
     incoming_of plan to (request_text plan to tenant op line) ≡ Request tenant op line
+
+-- the line of a write whose content is written as its bytes
+abbrev pub write_text : CheckedPlan → (to tenant op session volume file : ℕ) → List ℕ → List ℕ
+write_text plan to tenant op k v f bytes =
+    decimal to ++ spaced ((row_at plan tenant).name ∷ codes "write" ∷ decimal k ∷ decimal op ∷ decimal v ∷ decimal f ∷ bytes_word bytes ∷ [])
+
+-- it is read as that request too
+abbrev pub WritesReadBack : Type 0
+WritesReadBack =
+    (plan : CheckedPlan) (to tenant op k v f : ℕ) (bytes : List ℕ) → IsPlan plan → IsNumber to → tenant < length plan.rows →
+    FitsRequest (row_at plan tenant).most_blocks op (Write k v f bytes) → incoming_of plan to (write_text plan to tenant op k v f bytes) ≡ Request tenant op (Write k v f bytes)
 
 -- ---- the question what a tenant has
 

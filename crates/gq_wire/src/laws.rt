@@ -1,6 +1,6 @@
 //! What is read of the lines that are written.
 
-ghost use Rattle.gq_wire.specs.Laws.{AllJoinsReadBack, LettersReadBack, ParcelsReadBack, PassesOver, PlansReadBack, RequestsReadBack, TornLinesHaveNoForm};
+ghost use Rattle.gq_wire.specs.Laws.{AllJoinsReadBack, LettersReadBack, ParcelsReadBack, PassesOver, PlansReadBack, RequestsReadBack, TornLinesHaveNoForm, WritesReadBack};
 
 /// The line of a letter, up to its newline, is read by the node that it is to as that letter.
 pub fn letters_read_back()
@@ -14,10 +14,11 @@ pub fn parcels_read_back()
     ensures joins { AllJoinsReadBack }
 {}
 
-/// The line of a request is read by the node that it is to as that request, with the number of its operation; and that by which a tenant
-/// asks what it has, as this question.
+/// The line of a request is read by the node that it is to as that request, with the number of its operation, whether a content is
+/// written in digits or in bytes; and that by which a tenant asks what it has, as this question.
 pub fn requests_read_back()
     ensures requests { RequestsReadBack }
+    ensures writes { WritesReadBack }
     ensures plans { PlansReadBack }
 {}
 

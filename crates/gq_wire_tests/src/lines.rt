@@ -55,6 +55,7 @@ fn reads_requests(rt: HostRuntime) -> Result<(), Fail> {
         bytes: Bytes::from_static(b"\x00\xff"),
     };
     assert!(rt; asks(&rt, alloc, b"2 ann write 1 7 0 3 00fF", 0, 7, &write));
+    assert!(rt; asks(&rt, alloc, b"2 ann write 1 7 0 3 =\x00\xff", 0, 7, &write));
     let read = Line::Read {
         session: 9,
         volume: 0,
@@ -112,6 +113,8 @@ fn reads_requests_without_a_form(rt: HostRuntime) -> Result<(), Fail> {
     assert!(rt; is_bad(&rt, alloc, b"2 ann quorum 1 1"));
     assert!(rt; is_bad(&rt, alloc, b"2 ann retry 1 1"));
     assert!(rt; is_bad(&rt, alloc, b"2 ann write 1 7 0 3"));
+    assert!(rt; is_bad(&rt, alloc, b"2 ann write 1 7 0 3 =\\"));
+    assert!(rt; is_bad(&rt, alloc, b"2 ann write 1 7 0 3 =\\x"));
     assert!(rt; is_bad(&rt, alloc, b"2 ann read 1 7 0 3 0"));
     assert!(rt; is_bad(&rt, alloc, b"2 ann read 01 7 0 3"));
     Ok(())
