@@ -1,8 +1,8 @@
 -- Bytes that are written and read.
-use Rattle.std.proofs.Common.{◌≡◌, ℕ, zero, suc, ◌+◌, ◌*◌, ◌-◌, ◌<◌, ◌≤◌, List, [], ◌∷◌, ◌++◌, length, get_or, take, drop, Some, None, Option, Bool, true, false, refl, sym, ap, ◌∙◌, arith, append_assoc, append-nil, add-one, length-append, length-drop, cond, eqb, map, replicate, w8, ◌%◌, ◌^◌, ◌⊎◌, inl, inr}
-use Rattle.std.specs.Prelude.{◌==◌, ◌||◌, ◌&&◌, not, Result, Ok, Err, is_ok, OnOk}
+use Rattle.std.proofs.Common.{◌≡◌, ℕ, zero, suc, ◌+◌, ◌-◌, ◌<◌, ◌≤◌, List, [], ◌∷◌, ◌++◌, length, get_or, take, drop, Some, None, Option, Bool, true, false, refl, sym, ap, ◌∙◌, arith, append_assoc, length-drop, cond, eqb, map, replicate, w8, ◌%◌, ◌^◌, ◌⊎◌, inl, inr}
+use Rattle.std.specs.Prelude.{◌==◌, ◌||◌, not, Result, Ok, Err, is_ok, OnOk}
 use Rattle.std.proofs.Math.Seq.{take-length}
-use Rattle.std.specs.List.{flat_map, list_all, prefix_len}
+use Rattle.std.specs.List.{prefix_len}
 use Rattle.std.proofs.lemmas.Bool.{ne_eqb, eq-eqb, eqb-true, cases_lt}
 use Rattle.std.specs.Simd.Lanes.{zip2, mask_l, top}
 use Rattle.std.proofs.lemmas.Simd.{tops_compared, mask_l-mod, leading_from_mask_l, trailing_mask_l}
@@ -10,7 +10,7 @@ use Rattle.std.proofs.lemmas.List.Sums.{prefix_len_passes, prefix_len_stops, pre
 use lib.Count.{count_trailing_zeros}
 use Rattle.std.proofs.lemmas.List.{length-map}
 use Rattle.memchr.specs.Find.{IsFirstByte, is_byte, is_byte3}
-use Rattle.gq_escape.specs.Escape.{escape, escaped, byte_of, before, bytes_after, unescaped, is_word}
+use Rattle.gq_escape.specs.Escape.{escape, escaped, before, bytes_after, unescaped, is_word}
 use Rattle.gq_escape.specs.Laws.{BytesReadBack, BytesAreAWord, AtMostTwice}
 
 -- ---- a byte that is written as itself

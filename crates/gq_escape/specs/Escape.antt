@@ -1,6 +1,6 @@
 -- Bytes as one word of a line. Each byte is written as itself, except a newline, a space and a backslash: each of these is written as
 -- a backslash and a letter.
-use Rattle.std.specs.Prelude.{ℕ, List, [], ◌∷◌, ◌==◌, ◌||◌, ◌&&◌, not, Bool, true, false, Option, Some, None, if◌then◌else◌}
+use Rattle.std.specs.Prelude.{ℕ, List, [], ◌∷◌, ◌==◌, ◌&&◌, not, Bool, true, false, Option, Some, None, if◌then◌else◌}
 use Rattle.std.specs.List.{flat_map, list_all}
 
 -- what one byte is written as: `\n` for a newline, `\s` for a space, `\b` for a backslash

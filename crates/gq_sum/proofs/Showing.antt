@@ -1,11 +1,11 @@
 -- Each step of a sum can be undone, so a change of one word stays in it.
-use Rattle.std.proofs.Common.{◌≡◌, ◌≢◌, ℕ, zero, suc, ◌+◌, ◌*◌, ◌/◌, ◌%◌, ◌^◌, ◌<◌, ◌≤◌, List, [], ◌∷◌, length, get_or, refl, sym, ap, ◌∙◌, arith, inl, inr}
+use Rattle.std.proofs.Common.{◌≡◌, ◌≢◌, ℕ, zero, suc, ◌+◌, ◌*◌, ◌/◌, ◌%◌, ◌^◌, ◌<◌, ◌≤◌, List, length, get_or, refl, sym, ap, ◌∙◌, arith, inl, inr}
 use Rattle.std.specs.Int.Bits.{bit_xor, xor_assoc, xor_self, xor_zero_r}
 use Rattle.std.proofs.Math.Nat.{add-mul-mod_self_left}
 use Rattle.std.proofs.lemmas.Nat.{xor_comm, xor_lt, xor_shr, mul-mod_first}
 use Rattle.std.proofs.lemmas.Bool.{cases_lt}
 use Rattle.gq_sum.specs.declared.TheConstants.{FACTOR}
-use Rattle.gq_sum.specs.Sums.{word_at, product, sum_with, sum_after, sum_of}
+use Rattle.gq_sum.specs.Sums.{word_at, product, sum_with, sum_after}
 use Rattle.gq_sum.specs.Laws.{AreBytes, DifferInWord, ChangedWordsShow, NumbersShow}
 
 -- ---- one step

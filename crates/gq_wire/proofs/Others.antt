@@ -1,5 +1,5 @@
 -- A node passes over what is written to tenants and to other nodes.
-use Rattle.std.proofs.Common.{◌≡◌, ℕ, List, [], ◌∷◌, ◌++◌, length, cond, Bool, None, true, false, refl, ap, ◌∙◌, arith, append-nil}
+use Rattle.std.proofs.Common.{◌≡◌, ℕ, List, [], ◌∷◌, ◌++◌, length, cond, Bool, None, true, false, refl, ap, ◌∙◌, append-nil}
 use Rattle.std.specs.Prelude.{decimal, nat_lt}
 use Rattle.std.proofs.lemmas.Bool.{ne_eqb}
 use Rattle.gq_desk.specs.CheckedPlan.{CheckedPlan, row_at}

@@ -1,4 +1,4 @@
-use Rattle.std.proofs.Common.{arith, ap, sym, ◌∙◌}
+use Rattle.std.proofs.Common.{arith}
 use Rattle.gq_escape.proofs.Escaping.{block_written, run_written, first_mark, goes_on, below_sixteen, clean_below, mark_at}
 use Rattle.gq_escape.proofs.put_escaped.Goals as goal
 

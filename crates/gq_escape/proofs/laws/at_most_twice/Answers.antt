@@ -1,5 +1,5 @@
-use Rattle.gq_escape.proofs.Escaping.{at_most_twice as proved}
+use Rattle.gq_escape.proofs.Escaping.{at_most_twice}
 use Rattle.gq_escape.proofs.laws.at_most_twice.Goals as goal
 
 pub returns : goal.returns
-returns c = proved
+returns c = at_most_twice
