@@ -2,6 +2,7 @@
 
 import os
 
+from contents import in_bytes
 from faults import PLAN
 from processes import ended, put, words_of
 
@@ -18,7 +19,7 @@ def filled(length):
     return WRITE + b"a" * (length - len(WRITE)) + b"\n"
 
 
-# Lines and what is written for them, behind the first line.
+# Lines and what is written for them, after the first line; there copies are in digits.
 LINES = {
     "a read": (READ, ASK),
     "what stands behind the last newline": (READ[:-1], b""),
@@ -104,6 +105,6 @@ def tell_lines(program, folder):
     for plan, lines in ("plan", LINES), ("room", ROOM_LINES):
         for place, (name, (given, wanted)) in enumerate(lines.items()):
             seen = ended(words_of(program, 0, plan, f"journal-{plan}{place}", True), given, cwd=folder)
-            if seen != (0, b"gridfs: node 0 of 2 by 2: 0 facts\n", b" ?\n" + wanted):
+            if seen != (0, b"gridfs: node 0 of 2 by 2: 0 facts\n", b" ?\n" + in_bytes(wanted)):
                 wrong.append(f"{name}: {seen}, not {wanted}")
     return len(LINES) + len(ROOM_LINES), wrong

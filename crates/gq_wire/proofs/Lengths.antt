@@ -48,9 +48,9 @@ one_more word words n k first rest = omega (arith, length-append (32 ∷ word) (
 
 pub copy_short : (n : ℕ) (copy : StoredCopy) → FitsCopy copy → length copy.bytes ≤ n → length (spaced (copy_words copy)) ≤ 34 + 2 * n
 copy_short n copy fits short =
-    let content = one_more (content_word copy.bytes) [] (2 * n + 1) 0 (content_length-le n copy.bytes short) (omega arith) in
-    let session = one_more (decimal copy.tag.session) (content_word copy.bytes ∷ []) 10 (2 * n + 2) (short_number copy.tag.session (omega (arith, fits.1))) (omega (arith, content)) in
-    let number = one_more (decimal copy.tag.number) (decimal copy.tag.session ∷ content_word copy.bytes ∷ []) 20 (2 * n + 13) (long_number copy.tag.number fits.0) (omega (arith, session)) in
+    let content = one_more (bytes_word copy.bytes) [] (2 * n + 1) 0 (bytes_length-le n copy.bytes short) (omega arith) in
+    let session = one_more (decimal copy.tag.session) (bytes_word copy.bytes ∷ []) 10 (2 * n + 2) (short_number copy.tag.session (omega (arith, fits.1))) (omega (arith, content)) in
+    let number = one_more (decimal copy.tag.number) (decimal copy.tag.session ∷ bytes_word copy.bytes ∷ []) 20 (2 * n + 13) (long_number copy.tag.number fits.0) (omega (arith, session)) in
     omega (arith, number)
 
 body_short : (n : ℕ) (body : Body) → FitsBody body → content_length body ≤ n → length (spaced (body_words body)) ≤ 41 + 2 * n
