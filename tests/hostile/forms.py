@@ -10,7 +10,7 @@ BLOCK = 64
 
 NAME = re.compile(rb"[a-z]{1,16}")
 NUMBER = re.compile(rb"0|[1-9][0-9]{0,9}")
-CONTENT = re.compile(rb"-|(?:[0-9a-fA-F]{2})+")
+CONTENT = re.compile(rb"-|(?:[0-9a-fA-F]{2})+|=(?:[^\\]|\\[nsb])*", re.DOTALL)
 
 N = rb"(?:0|[1-9][0-9]*)"
 TAG = rb"tag %s %s" % (N, N)
@@ -43,6 +43,11 @@ def numbers(words, count):
     """So many numbers, where the words are these."""
     told = [number(word) for word in words]
     return told if len(told) == count and None not in told else None
+
+
+def length_of(content):
+    """The bytes of a content, in digits or as they are, each escape for one byte."""
+    return len(content) - 1 - content.count(b"\\") if content.startswith(b"=") else len(content) // 2
 
 
 def is_name(word):
@@ -266,7 +271,7 @@ class Tenant:
         files, blocks = self.volumes[volume]
         if file >= files:
             return b"refused nofile"
-        if len(content) // 2 > BLOCK * blocks:
+        if length_of(content) > BLOCK * blocks:
             return b"refused toolong"
         asked = self.servers.asked(1)
         if not asked:

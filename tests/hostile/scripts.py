@@ -17,6 +17,8 @@ NO_NUMBERS = [b"", b"-", b"-1", b"+1", b"00", b"01", b"0x1", b"1e3", b"1.0", b"1
 # Words that some line has, and some that look like them.
 WORDS = b"quorum open volumes write read list deliver lose retry abandon server down up lost repaired tenant grid blocks go".split()
 WORDS += [b"Quorum", b"quorums", b"volume", b"dn", b"-", b"--", b"?", b"0a", b"0A", b"0g", b"\xc3\xa4", b"\t", b"\0", b"\r"]
+CONTENTS = [b"-", b"", b"00", b"0", b"fF" * 64, b"ab" * 65, b"00" * 1024, b"00" * 1025, b"0g", b"=", b"=0g", b"==", b"=\\n\\s\\b\0\xff", b"=\\bn"]
+CONTENTS += [b"=" + b"a" * 64, b"=" + b"\\s" * 64, b"=" + b"\\b" * 65, b"=" + b"\xff" * 1024, b"=a\\", b"=\\\\", b"=\\x", b"=\\N", b"-=a"]
 ALMOST_NAMES = [b"server", b"servers", b"serve", b"Server", b"a" * 16, b"a" * 17, b"Ann", b"ann1", b"an n", b"ann\r", b"\xff", b""]
 ALMOST_NAMES += [b"?", b"-", b"go", b"grid", b"tenant", b"{", b"`", b"@", b"z", b"[", b"an\0", b"\xc3\xa4"]
 
@@ -113,7 +115,7 @@ def a_line(draw, name):
     )
     words = [name, verb] + [any_number(draw) for _ in range(count)]
     if verb == b"write":
-        words.append(draw.choice([b"-", b"", b"00", b"0", b"fF" * 64, b"ab" * 65, b"00" * 1024, b"00" * 1025, b"0g"]))
+        words.append(draw.choice(CONTENTS))
     return b" ".join(words) + b"\n"
 
 

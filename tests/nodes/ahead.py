@@ -4,6 +4,7 @@ import os
 import random
 import sys
 
+from contents import in_bytes
 from journals import batches, sealed
 from processes import MARKER, SECONDS, Stepped, disk, ended, get, put, words_of
 from reserved import RUN
@@ -102,7 +103,7 @@ class Ahead:
         head = b"0 ann 1 %d 1 0 %d " % (number, file)
         letter = b"0 ann 1 %d %%d 0 %d " % (number, file)
         asks = [b"%d " % to + letter % 1 + b"ask" for to in (0, 1)]
-        stores = [b"%d " % to + letter % 2 + b"store %d 1 aa" % tag for to in (0, 2)]
+        stores = [b"%d " % to + letter % 2 + in_bytes(b"store %d 1 aa" % tag) for to in (0, 2)]
         return [b"0 ann write 1 %d 0 %d aa" % (number, file), b"0 " + head + b"copy 0 0 -", b"0 " + head.replace(b"0", b"1", 1) + b"copy 0 0 -"], asks + stores
 
     def older(self):

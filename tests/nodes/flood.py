@@ -6,6 +6,7 @@ import os
 import random
 
 from alone import owner
+from contents import in_bytes
 from journals import batches
 from processes import MARKER, ended, get, put, words_of
 
@@ -39,7 +40,7 @@ SHARP = [
     b"0 66 ann fetch 0 0",
     b"0 1 joined 0",
 ]
-# What bob and the nodes write for him, and ticks, each with what the node writes: a write that is done, asked for again, and read; a store and
+# What bob and the nodes write for him, and ticks, each with what the node writes (but for the form of copies): a write that is done, asked for again, and read; a store and
 # an ask of session 2, whose home is node 1; a listing that goes on; and a question of a node of the column for a copy.
 LINES = [
     (b"0 bob plan", b"bob 0 plan 4 0 4 8 16 2.1\n"),
@@ -97,7 +98,7 @@ def flooded(program, folder, seed):
     given = [line for ours, _ in LINES for line in [*flood(draw), ours]]
     put(os.path.join(folder, "plan"), PLAN)
     status, told, wrote = ended(words_of(program, 0, "plan", "journal", True), b"".join(line + b"\n" for line in given), cwd=folder)
-    seen, wanted = of_others(wrote), (b" ?\n" + b"".join(want for _, want in LINES)).splitlines(keepends=True)
+    seen, wanted = of_others(wrote), in_bytes(b" ?\n" + b"".join(want for _, want in LINES)).splitlines(keepends=True)
     wrong = []
     if (status, told) != (0, b"gridfs: node 0 of 2 by 2: 0 facts\n"):
         wrong.append(f"seed {seed}: status {status}, {told!r}")

@@ -2,11 +2,24 @@
 
 import hashlib
 
+FACTOR = 11_400_714_819_323_198_485
+
+
+def sum_of(number, text):
+    """The sum of a batch of this number: of the number, the length, and each eight bytes as a number."""
+    total = 0
+    for word in number, len(text), *(int.from_bytes(text[at : at + 8], "little") for at in range(0, len(text) + 1, 8)):
+        product = (total ^ word) * FACTOR % 2**64
+        total = product ^ product >> 32
+    return total
+
 
 def sealed(number, text):
-    """The batch of this number."""
-    digest = hashlib.sha256(b"%d %d\n" % (number, len(text)) + text).hexdigest()[:16]
-    return text + b"sync %d %d %s\n" % (number, len(text), digest.encode())
+    """The batch of this number. One that has a content in bytes is sealed by its sum."""
+    digest = b"%016x" % sum_of(number, text)
+    if b"=" not in text:
+        digest = hashlib.sha256(b"%d %d\n" % (number, len(text)) + text).hexdigest()[:16].encode()
+    return text + b"sync %d %d %s\n" % (number, len(text), digest)
 
 
 def batches(text):

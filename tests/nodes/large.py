@@ -8,6 +8,7 @@ import hashlib
 import os
 import signal
 
+from contents import in_bytes
 from journals import batches, sealed
 from processes import Streamed, Wrong, ended, get, put, words_of
 from storm import LATER, Client, Storm, Weather
@@ -139,7 +140,7 @@ def lengths(program, folder):
 def torn(program, folder, draw):
     """A journal that is cut within the batch of a large content, at its seal too, or of which a byte is turned there."""
     alone, wrong, tried = Alone(program, folder), [], 0
-    facts = [b"began ann 1 1\n", b"kept ann 0 0 7 4 " + digits(2, 65_536) + b"\n", b"kept ann 0 1 8 4 " + digits(3) + b"\n"]
+    facts = [b"began ann 1 1\n", b"kept ann 0 0 7 4 " + digits(2, 65_536) + b"\n", in_bytes(b"kept ann 0 1 8 4 " + digits(3) + b"\n")]
     whole, ends = sealed(1, HEAD), [len(sealed(1, HEAD))]
     for at, fact in enumerate(facts, 2):
         whole += sealed(at, fact)
@@ -163,7 +164,7 @@ def torn(program, folder, draw):
             told = b"gridfs: journal: cut at byte %d\n" % ends[right - 1] if text != whole[: ends[right - 1]] else b""
             known = copies[: max(right - 2, 0)] + [b"0 0 -"] * 2
             wrote = b"".join(b"3 0 ann 4 9 1 0 %d copy %s\n" % (file, known[file]) for file in (0, 1))
-            wanted = 0, told + b"gridfs: node 0 of 2 by 2: %d facts\n" % (right - 1), b" ?\n" + wrote, whole[: ends[right - 1]]
+            wanted = 0, told + b"gridfs: node 0 of 2 by 2: %d facts\n" % (right - 1), b" ?\n" + in_bytes(wrote), whole[: ends[right - 1]]
         if seen != wanted:
             wrong.append(f"a journal of {len(whole)} bytes, cut or turned at byte {place}: {seen[:2]} and {seen[2][:200]!r}, not {wanted[:2]}")
     return tried, wrong
@@ -174,7 +175,7 @@ def asks(last):
 
 
 def copies(last):
-    return b"".join(b"3 0 ann 4 9 1 0 %d copy %d 4 %s\n" % (file, *copy) for file, copy in last.items())
+    return in_bytes(b"".join(b"3 0 ann 4 9 1 0 %d copy %d 4 %s\n" % (file, *copy) for file, copy in last.items()))
 
 
 def written_anew(program, folder, draw):

@@ -2,6 +2,7 @@
 
 import os
 
+from contents import in_bytes
 from faults import PLAN
 from processes import ended, put, words_of
 
@@ -18,7 +19,7 @@ def filled(length):
     return WRITE + b"a" * (length - len(WRITE)) + b"\n"
 
 
-# Lines and what is written for them, behind the first line.
+# Lines and what is written for them, after the first line; there copies are in digits.
 LINES = {
     "a read": (READ, ASK),
     "what stands behind the last newline": (READ[:-1], b""),
@@ -36,6 +37,9 @@ LINES = {
     "a line with no body": (b"0 ann\n0 bob \n", BAD + b"bob 0 refused bad\n"),
     "numbers with no form": (b"0 ann read 01 1 0 0\n0 ann read 1 1 0 4294967296\n0 ann read -1 1 0 0\n", 3 * BAD),
     "contents with no form": (WRITE + b"a\n" + WRITE + b"\n" + WRITE + b"ag\n" + WRITE + b"--\n", 4 * BAD),
+    "contents in bytes with no form": (WRITE + b"=\\\n" + WRITE + b"=\\x\n" + WRITE + b"=a b\n" + WRITE + b"-=\n", 4 * BAD),
+    "a content in bytes": (STORE + b"3 2 =a\\sb\\n\\bn\xff=\n0 0 ann 1 1 1 0 0 ask\n", STORED + b"0 0 ann 1 1 1 0 0 copy 3 2 6120620a5c6eff3d\n"),
+    "a content in bytes that is too long": (WRITE + b"=" + b"\\s" * 129 + b"\n" + WRITE + b"=" + b"\\s" * 128 + b"\n", b"ann 0 refused toolong 1 1 0 0 129\n" + ASK),
     "what a tenant has": (b"0 ann plan\n0 bob plan\n0 ann plan 1\n0 zed plan\n", b"ann 0 plan 4 0 4 16 16 4.2 1.1\nbob 0 plan 4 0 2 16 16 1.1\n" + BAD),
     "refusals": (
         WRITE + b"aa" * 200 + b"\n0 ann list 1 1 5\n0 ann read 1 1 0 7\n0 ann read 9 1 0 0\n0 ann read 2 1 0 0\n0 ann read 1 0 0 0\n0 ann read 1 5 0 0\n0 ann abandon 1 1\n",
@@ -86,6 +90,8 @@ ROOM_LINES = {
     "with room, what a tenant has": (b"0 ann plan\n0 bob plan\n", b"ann 0 plan 4 0 1 80 40 2.40\nbob 0 plan 4 1 2 16 16 1.1\n"),
     "with room, a content of the most bytes": (WRITE + b"ab" * 2560 + b"\n", ASK),
     "with room, a content of one byte more": (WRITE + b"ab" * 2561 + b"\n", b"ann 0 refused toolong 1 1 0 0 2561\n"),
+    "with room, a content in bytes of the most bytes": (WRITE + b"=" + b"\\b" * 2560 + b"\n", ASK),
+    "with room, a content in bytes of one byte more": (WRITE + b"=" + b"\\b" * 2561 + b"\n", b"ann 0 refused toolong 1 1 0 0 2561\n"),
     "with room, a store of the most bytes": (STORE + b"1 1 " + b"ab" * 2560 + b"\n", STORED),
     "with room, a store of one byte more": (STORE + b"1 1 " + b"ab" * 2561 + b"\n", b""),
 }
@@ -99,6 +105,6 @@ def tell_lines(program, folder):
     for plan, lines in ("plan", LINES), ("room", ROOM_LINES):
         for place, (name, (given, wanted)) in enumerate(lines.items()):
             seen = ended(words_of(program, 0, plan, f"journal-{plan}{place}", True), given, cwd=folder)
-            if seen != (0, b"gridfs: node 0 of 2 by 2: 0 facts\n", b" ?\n" + wanted):
+            if seen != (0, b"gridfs: node 0 of 2 by 2: 0 facts\n", b" ?\n" + in_bytes(wanted)):
                 wrong.append(f"{name}: {seen}, not {wanted}")
     return len(LINES) + len(ROOM_LINES), wrong

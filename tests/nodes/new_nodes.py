@@ -7,6 +7,7 @@ import random
 import sys
 
 sys.path.insert(0, os.path.join(os.path.dirname(os.path.abspath(__file__)), "..", "..", "examples", "nodes"))
+from contents import in_bytes
 from faults import PLAN, STRANGE, Faults, not_kept, of_node
 from journals import batches, sealed
 from processes import WRONG, get, put
@@ -142,11 +143,11 @@ class NewNodes(Faults):
     def lines(self):
         for name, (given, wanted) in LINES.items():
             told = LACKS % (0, FILES) + ALL * (name == "all files")
-            self.held(name, self.begin(given=given), (0, told, FIRST + wanted))
+            self.held(name, self.begin(given=given), (0, told, FIRST + in_bytes(wanted)))
         for lines, text, what in (OF_AN_OLD_ONE, LOST, "of the new plan"), (WITH_THE_OLD_PLAN, PLAN, "of the old plan"):
             for name, (given, wanted) in lines.items():
                 told = b"gridfs: node 0 of 2 by 2: 0 facts\n"
-                self.held(f"a node {what}: {name}", self.begin(text, number=0, given=given), (0, told, FIRST + wanted))
+                self.held(f"a node {what}: {name}", self.begin(text, number=0, given=given), (0, told, FIRST + in_bytes(wanted)))
 
     def journals(self):
         """What is kept of files that were given, and what a start behind it knows."""
@@ -154,19 +155,19 @@ class NewNodes(Faults):
         first = b"node 67 of 2 by 2\n" + LOST
         self.held("its journal", get(self.at("journal")), sealed(1, first))
         self.node(GIVEN)
-        fact = b"had ann 0 0 5 1 aa\n"
+        fact = in_bytes(b"had ann 0 0 5 1 aa\n")
         self.held("a file that was given", get(self.at("journal")), sealed(1, first) + sealed(2, fact))
         seen = self.node(ASK + JOINED + TICK)
-        self.held("a start behind it", seen, (0, LACKS % (1, FILES - 1), FIRST + COPY + NEXT + b"1 67 bob fetch 0 0\n"))
+        self.held("a start behind it", seen, (0, LACKS % (1, FILES - 1), FIRST + in_bytes(COPY) + NEXT + b"1 67 bob fetch 0 0\n"))
         self.held("nobody has joined behind a start", self.node(TICK), (0, LACKS % (1, FILES - 1), FIRST + JOINS))
         late = self.node(b"67 1 ann fetched 0 1 0 0 -\n")
         self.held("a copy that comes late", late, (0, LACKS % (1, FILES - 1), FIRST + b"1 67 ann fetch 0 2\n"))
         self.node(STORE)
-        facts = [fact, b"had ann 0 1 0 0 -\n", b"kept ann 0 0 9 1 ff\n"]
+        facts = [fact, b"had ann 0 1 0 0 -\n", in_bytes(b"kept ann 0 0 9 1 ff\n")]
         self.held("the journal behind a store", batches(get(self.at("journal")))[0][1:], facts)
         status, told, _ = self.node(ALL_GIVEN)
         self.held("the others are given", (status, told), (0, LACKS % (3, FILES - 2) + ALL))
-        self.held("a start with all files", self.node(ASK + TICK), (0, WHOLE % 7, FIRST + COPY.replace(b"5 1 aa", b"9 1 ff")))
+        self.held("a start with all files", self.node(ASK + TICK), (0, WHOLE % 7, FIRST + in_bytes(COPY.replace(b"5 1 aa", b"9 1 ff"))))
         put(self.at("plan"), LOST.replace(b"go\n", b"tenant cat 8 3 1\ngo\n") + b"cat open 2 1\nreplace 2\n")
         seen = self.node(b"67 0 cat 2 1 1 0 0 ask\n67 66 joins 2\n")
         self.held("a file of a later plan", seen, (0, WHOLE % 7, FIRST + b"0 67 cat 2 1 1 0 0 copy 0 0 -\n66 67 joined 2\n"))
@@ -176,7 +177,7 @@ class NewNodes(Faults):
 
     def long_lines(self):
         for name, (given, copy) in LONG_LINES.items():
-            wrote = FIRST + (b"1 67 ann fetch 0 1\n1 67 ann fetched 0 0 %s\n" % copy if copy else b"")
+            wrote = FIRST + (in_bytes(b"1 67 ann fetch 0 1\n1 67 ann fetched 0 0 %s\n" % copy) if copy else b"")
             self.held(name, self.begin(ROOM, given=given), (0, LACKS % (0, 2), wrote))
 
     def written_anew(self):
@@ -190,10 +191,10 @@ class NewNodes(Faults):
         found, _ = batches(get(self.at("journal")))
         self.held("it is written anew", len(get(self.at("journal"))) < 10_000, True)
         self.held("its plan, with the losses behind", found[0], head + LATER.replace(b"replace 3\n", b"") + b"replace 3\n")
-        self.held("its facts", sorted(b"".join(found[1:]).split(b"\n")[:-1]), sorted([*NEEDED, b"began ann 20 1024"]))
+        self.held("its facts", sorted(b"".join(found[1:]).split(b"\n")[:-1]), sorted([*map(in_bytes, NEEDED), b"began ann 20 1024"]))
         status, told, wrote = self.node(ASK + b"67 0 cat 2 1 1 0 1 ask\n" + TICK)
         copies = b"0 67 ann 1 1 1 0 0 copy 2599 1 %s\n0 67 cat 2 1 1 0 1 copy 0 0 -\n" % (b"ab" * 100)
-        self.held("a start behind it", (status, told, wrote), (0, LACKS % (5, FILES - 1), FIRST + copies + JOINS))
+        self.held("a start behind it", (status, told, wrote), (0, LACKS % (5, FILES - 1), FIRST + in_bytes(copies) + JOINS))
 
     def plans(self):
         for name, (text, line) in AT_FAULT.items():

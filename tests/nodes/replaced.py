@@ -11,6 +11,7 @@ import functools
 import os
 import re
 
+from contents import in_digits
 from journals import batches
 from large import MARKER as LARGE_MARKER
 from large import MOST_BLOCKS, LargeClient, LargeStorm
@@ -342,7 +343,7 @@ class Losses(Storm):
                 self.settled[place] = max(self.settled.get(place, (0, 0)), (int(words[7]), int(words[8])))
         elif words[3:4] == [b"fetched"]:
             self.files_given += 1
-            self.see_tag(words[2], *words[4:9])
+            self.see_tag(words[2], *words[4:8], in_digits(words[8]))
 
     def hear(self, line):
         self.nodes[line.split(b" ", 1)[0].decode()].hear(line.split(b" ", 2)[2])

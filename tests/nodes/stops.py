@@ -8,6 +8,7 @@ import os
 import random
 import re
 
+from contents import in_digits
 from journals import sealed
 from processes import MARKER, SECONDS, Streamed, Wrong, disk, ended, get, lose_power, put, words_of
 from reserved import RUN, reserved_in
@@ -22,7 +23,7 @@ TOO_HIGH = 4_000_000_000
 # A play has short contents and begins with no journal; or it begins with one that is written anew, of short facts or of large ones.
 SHORT, LONG_JOURNAL, LARGE = "short", "long", "large"
 START = re.compile(rb"(gridfs: journal: cut at byte \d+\n)?gridfs: node 3 of 2 by 2: \d+ facts\n")
-LETTER = re.compile(rb"(\d+) 3 ann (\d+) (\d+) (\d+) (\d+) (\d+) (ask|store (\d+) (\d+) (\S+)|copy \d+ \d+ \S+|stored)")
+LETTER = re.compile(rb"(\d+) 3 ann (\d+) (\d+) (\d+) (\d+) (\d+) (ask|store (\d+) (\d+) ([^ ]+)|copy \d+ \d+ [^ ]+|stored)")
 STORED = re.compile(rb"(\d+) 3 ann (\d+) (\d+) (\d+) (\d+) (\d+) stored")
 DONE = re.compile(rb"ann 3 (?:done \w+|gone) (\d+) (\d+)\b")
 # A journal that is written anew behind its next batch: it is over 1 MiB, and of all its facts a start needs few.
@@ -116,7 +117,8 @@ class Play:
             tag = int(letter[8]), int(letter[9])
             if tag[1] == session:
                 self.numbers[session] = max(self.numbers[session], tag[0])
-                if self.given[place].setdefault(tag, letter[10]) != letter[10]:
+                content = in_digits(letter[10])
+                if self.given[place].setdefault(tag, content) != content:
                     raise Wrong(f"the tag {tag} of file {place} is used twice")
         if to == 3:
             self.due.append(line)
@@ -150,7 +152,7 @@ def check_copies(play, answers):
             raise Wrong(f"an ask is answered {line!r}")
         number, session, content = line[len(head) :].split(b" ")
         tag, place = (int(number), int(session)), (volume, file)
-        if play.given[place].get(tag) != content:
+        if play.given[place].get(tag) != in_digits(content):
             raise Wrong(f"the copy of {place} is {line!r}, which nobody gave")
         if tag < play.acknowledged[place]:
             raise Wrong(f"the copy of {place} has tag {tag}, and {play.acknowledged[place]} was acknowledged")

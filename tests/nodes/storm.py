@@ -16,6 +16,7 @@ HERE = os.path.dirname(os.path.abspath(__file__))
 sys.path.insert(0, os.path.join(HERE, "..", "linearizable"))
 sys.path.insert(0, os.path.join(HERE, "..", "..", "examples", "nodes"))
 from checker import is_linearizable
+from contents import in_digits
 from processes import MARKER, Stepped, Wrong, disk, get, lose_power, put, words_of
 from reserved import Numbers
 from spoiling import written
@@ -316,7 +317,7 @@ class Storm:
             if line[:1].isdigit():
                 if b" store " in line or b" copy " in line:
                     words = line.split(b" ")
-                    self.see_tag(*words[2:3], *words[6:8], *words[9:])
+                    self.see_tag(*words[2:3], *words[6:8], *words[9:11], in_digits(words[11]))
                 self.send(line)
             elif line[:1] != b" ":
                 self.hear(line)

@@ -3,6 +3,7 @@ leaves all as it was."""
 
 import random
 
+from contents import in_bytes, in_digits, word_of
 from faults import NO_JOURNAL, STRANGE, not_kept, of_node
 from journals import batches, sealed
 from processes import MARKER, WRONG, Wrong, ended, get, put, words_of
@@ -14,8 +15,9 @@ HEAD = b"node 0 of 2 by 2\n" + PLAN
 LINES = [
     line
     for at in (1, 2, 3)
-    for line in (b"0 ann read 1 %d 0 0\n" % (RUN * at - RUN + 1), b"0 ann abandon 1 %d\n" % (RUN * at), b"0 2 ann 3 %d 2 0 %d store %d 3 %04x\n" % (at, at, 7 * at, at))
+    for line in (b"0 ann read 1 %d 0 0\n" % (RUN * at - RUN + 1), b"0 ann abandon 1 %d\n" % (RUN * at), b"0 2 ann 3 %d 2 0 %d store %d 3 5c%02x\n" % (at, at, 7 * at, at))
 ]
+OLDER = b"5c02"  # the content that a node wrote in digits
 QUESTIONS = b"".join(b"0 2 ann 3 9 1 0 %d ask\n" % file for file in range(4)) + b"0 ann abandon 1 9999\n"
 
 
@@ -28,7 +30,9 @@ class Journal:
         self.start(is_new=True)
         for line in LINES:
             self.start(line)
-        self.whole = get(f"{folder}/journal")
+        # (one of the copies in digits, as nodes wrote them before: its batch has another kind of seal)
+        texts = [text.replace(word_of(OLDER), OLDER) for text in batches(get(f"{folder}/journal"))[0]]
+        self.whole = b"".join(sealed(number, text) for number, text in enumerate(texts, 1))
         self.batches, self.ends = batches(self.whole)
         if len(self.batches) != 7 or self.ends[-1] != len(self.whole) or self.batches[0] != HEAD:
             raise Wrong(f"the journal is {self.whole!r}")
@@ -49,10 +53,10 @@ class Journal:
         for fact in facts:
             if fact.startswith(b"kept"):
                 words = fact.split(b" ")
-                copies[int(words[3])] = words[4:]
+                copies[int(words[3])] = [*words[4:6], in_digits(words[6])]
         last = RUN * sum(fact.startswith(b"began") for fact in facts)
         answers = [b"2 0 ann 3 9 1 0 %d copy %s" % (file, b" ".join(copies.get(file, [b"0", b"0", b"-"]))) for file in range(4)]
-        wrote = b"\n".join([b" ?", *answers, b"ann 0 refused early 1 9999 %d" % last, b""])
+        wrote = in_bytes(b"\n".join([b" ?", *answers, b"ann 0 refused early 1 9999 %d" % last, b""]))
         cut = b"gridfs: journal: cut at byte %d\n" % end if is_cut else b""
         return 0, cut + b"gridfs: node 0 of 2 by 2: %d facts\n" % len(facts), wrote, self.whole[:end]
 

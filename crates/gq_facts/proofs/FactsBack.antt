@@ -12,8 +12,7 @@ use Rattle.gq_node.specs.declared.output.Fact.TheVariants.{Began, Numbered as Ha
 use Rattle.gq_node.specs.Recalling.{tenant_of, own_fact}
 use Rattle.gq_node.specs.Tables.{fact_of}
 use Rattle.gq_wire.proofs.ValuesBack.{byte_back, copy_plain, copy_back, name_is_plain, place_back}
-use Rattle.gq_journal.specs.Batches.{is_sealing}
-use Rattle.gq_journal.proofs.Digests.{inner_one}
+use Rattle.gq_journal.specs.Batches.{is_one_line, is_sealing}
 use Rattle.gq_facts.specs.Facts.{verb_of, own_words, fact_words, fact_line, fact_of_words, own_fact_by, fact_by}
 use Rattle.gq_facts.specs.Laws.{FitsOwn, FitsFact, FactsReadBack, FactsStandInBatches}
 
@@ -69,4 +68,5 @@ never_seals (Had file copy) rest = refl
 
 pub facts_stand_in_batches : FactsStandInBatches
 facts_stand_in_batches plan fact is fits =
-    rw (inner_one (fact_line plan fact) (line_inner (verb_of (own_fact fact)) (fact_words plan fact) (verb_plain (own_fact fact)) (words_plain plan fact is fits)), never_seals (own_fact fact) (spaced (fact_words plan fact))) refl
+    let one : is_one_line (fact_line plan fact) ≡ true = line_inner (verb_of (own_fact fact)) (fact_words plan fact) (verb_plain (own_fact fact)) (words_plain plan fact is fits) in
+    rw (one, never_seals (own_fact fact) (spaced (fact_words plan fact))) refl

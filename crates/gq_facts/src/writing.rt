@@ -32,7 +32,7 @@ fn put_copy<'x>(
             Piece::Number(u64::from(file.file)),
             Piece::Number(copy.tag.number),
             Piece::Number(u64::from(copy.tag.session)),
-            Piece::Content(copy.bytes.as_slice()),
+            Piece::Bytes(copy.bytes.as_slice()),
         ],
     )
 }

@@ -1,7 +1,7 @@
 -- Lines of a text, and the bytes that are none of a newline.
 use Rattle.std.proofs.Common.{◌≡◌, ℕ, zero, suc, ◌+◌, ◌-◌, ◌<◌, List, [], ◌∷◌, ◌++◌, length, get_or, take, drop, Some, None, Bool, true, false, refl, sym, ap, ◌∙◌, arith, append_assoc, add-one, length-drop, cond}
-use Rattle.std.specs.Prelude.{◌==◌, not}
-use Rattle.std.specs.List.{list_all}
+use Rattle.std.specs.Prelude.{◌==◌, ◌||◌, not, Option, is_some}
+use Rattle.std.specs.List.{list_all, list_any}
 use Rattle.std.specs.Str.{bytes_eq}
 use Rattle.std.proofs.Math.Seq.{take-length}
 use Rattle.std.proofs.lemmas.Slice.Eq.{bytes_eq-Decides}
@@ -64,6 +64,29 @@ found_one text i is = no-newline text i is.0.high (λ k below e. is.0.before k (
 
 pub none_lines : (text : List ℕ) → IsFirstByte (is_byte 10) text None → whole_lines text ≡ []
 none_lines text is = none-newline text (λ k below e. is k (omega arith) below (eq-eqb (get_or text k 0) 10 e))
+
+-- ---- whether a byte is anywhere in a text
+
+some-byte : (b : ℕ) (text : List ℕ) (i : ℕ) → i < length text → (get_or text i 0 == b) ≡ true → list_any (λ c. c == b) text ≡ true
+some-byte b [] i lt e = absurd (omega arith)
+some-byte b (x ∷ xs) zero lt e = rw e refl
+some-byte b (x ∷ xs) (suc i) lt e = either (x == b) (list_any (λ c. c == b) xs) (some-byte b xs i (omega arith) e)
+  where
+    either : (p q : Bool) → q ≡ true → (p || q) ≡ true
+    either true q is = refl
+    either false q is = is
+
+no-byte : (b : ℕ) (text : List ℕ) → ((k : ℕ) → k < length text → (get_or text k 0 == b) ≡ true → ⊥) → list_any (λ c. c == b) text ≡ false
+no-byte b [] h = refl
+no-byte b (x ∷ xs) h = neither (x == b) (list_any (λ c. c == b) xs) (h 0 (omega arith)) (no-byte b xs (λ k below. h (suc k) (omega arith)))
+  where
+    neither : (p q : Bool) → (p ≡ true → ⊥) → q ≡ false → (p || q) ≡ false
+    neither true q h is = absurd (h refl)
+    neither false q h is = is
+
+pub found_byte : (b : ℕ) (text : List ℕ) (found : Option ℕ) → IsFirstByte (is_byte b) text found → is_some found ≡ list_any (λ c. c == b) text
+found_byte b text (Some i) is = sym (some-byte b text i is.0.high is.1)
+found_byte b text None is = sym (no-byte b text (λ k below e. is k (omega arith) below e))
 
 -- ---- lines put together
 

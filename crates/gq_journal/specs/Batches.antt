@@ -1,8 +1,10 @@
 -- What a journal's bytes say: its batches, and where it is damaged.
 use Rattle.std.specs.Prelude.{◌≡◌, ℕ, ◌+◌, ◌-◌, List, [], ◌∷◌, ◌++◌, take, drop, length, slice_index, Bool, true, false, ◌&&◌, ◌||◌, ◌==◌, nat_le, not, codes, decimal, Option, Some, if◌then◌else◌}
-use Rattle.std.specs.List.{flat_map, list_all}
+use Rattle.std.specs.Int.{w64, to_be_bytes}
+use Rattle.std.specs.List.{flat_map, list_all, list_any}
 use Rattle.std.specs.Str.{bytes_eq}
 use Rattle.sha2.specs.Sha256.{sha256}
+use Rattle.gq_sum.specs.Sums.{sum_of}
 use Rattle.gq_text.specs.Words.{Word, words_of, is_digit, long_number_of}
 use Rattle.gq_text.specs.AnswerText.{content_word, spaced}
 
@@ -36,13 +38,21 @@ lines_text lines = flat_map ended_line lines
 
 -- ---- what seals a batch
 
--- what the digest of a batch is taken of: its number, its length and its text
+-- what SHA-256 is taken of: the batch's number, its length and its text
 abbrev pub sealed_text : ℕ → List ℕ → List ℕ
 sealed_text n text = decimal n ++ 32 ∷ decimal (length text) ++ 10 ∷ text
 
--- the first 16 digits of it
+-- whether the text may have a content as bytes: a `=` comes before them, and is in no other word
+abbrev pub may_have_bytes : List ℕ → Bool
+may_have_bytes text = list_any (λ c. c == 61) text
+
+-- the eight bytes by which the text is known as batch n: the sum, if it may have contents as bytes; else the first eight of SHA-256
+unfoldable pub digest_of : ℕ → List ℕ → List ℕ
+digest_of n text = if may_have_bytes text then to_be_bytes w64 (sum_of n text) else take 8 (sha256 (sealed_text n text))
+
+-- their digits
 unfoldable pub digest_word : ℕ → List ℕ → Word
-digest_word n text = content_word (take 8 (sha256 (sealed_text n text)))
+digest_word n text = content_word (digest_of n text)
 
 -- the line that seals the text as batch n
 abbrev pub seal : ℕ → List ℕ → Line

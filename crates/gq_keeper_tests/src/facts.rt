@@ -37,7 +37,7 @@ fn writes_each_fact(rt: HostRuntime) -> Result<(), Fail> {
     let alloc = rt.alloc();
     let plan = plan(&rt, alloc);
     let mut bytes = Vec::new(alloc);
-    bytes.grow_by(&[10, 240])?;
+    bytes.grow_by(&[10, 97])?;
     let copy = StoredCopy {
         tag: Tag {
             number: 18_446_744_073_709_551_615,
@@ -70,7 +70,7 @@ fn writes_each_fact(rt: HostRuntime) -> Result<(), Fail> {
     assert_eq!(rt;
         std::str::from_utf8(out.as_slice()).ok(),
         Some(
-            "began ann 1 4294967295\nnumbered ann 2 18446744073709551615\nkept ann 1 3 18446744073709551615 2 0af0\n"
+            "began ann 1 4294967295\nnumbered ann 2 18446744073709551615\nkept ann 1 3 18446744073709551615 2 =\\na\n"
         )
     );
     Ok(())
@@ -79,14 +79,15 @@ fn writes_each_fact(rt: HostRuntime) -> Result<(), Fail> {
 #[test]
 fn reads_each_fact(rt: HostRuntime) -> Result<(), Fail> {
     let alloc = rt.alloc();
-    let cases: [(&str, &str); 16] = [
+    let cases: [(&str, &str); 18] = [
         ("began ann 1 5", "began ann 1 5\n"),
         (
             "numbered ann 1 18446744073709551615",
             "numbered ann 1 18446744073709551615\n",
         ),
-        ("kept ann 0 3 7 1 0aF0", "kept ann 0 3 7 1 0af0\n"),
+        ("kept ann 0 3 7 1 0a6F", "kept ann 0 3 7 1 =\\no\n"),
         ("kept ann 0 3 7 1 -", "kept ann 0 3 7 1 -\n"),
+        ("kept ann 0 3 7 1 =a\\sb", "kept ann 0 3 7 1 =a\\sb\n"),
         ("", ""),
         ("began", ""),
         ("began ann", ""),
@@ -98,6 +99,7 @@ fn reads_each_fact(rt: HostRuntime) -> Result<(), Fail> {
         ("numbered ann 1 18446744073709551616", ""),
         ("kept ann 0 3 7 1", ""),
         ("kept ann 0 3 7 1 0aF", ""),
+        ("kept ann 0 3 7 1 =a\\", ""),
         ("sync 1 2 3", ""),
     ];
     for (line, want) in cases {

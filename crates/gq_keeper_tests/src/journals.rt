@@ -1,4 +1,5 @@
-//! A journal of two batches, cut and turned at each byte. The digests are those of `sha256sum`.
+//! A journal of two batches, cut and turned at each byte. The first digest is that of `sha256sum`. The second batch has a content in
+//! bytes; its sum is that of `tests/nodes/journals.py`.
 
 use gq_journal::{can_be_sealed, first_batch, has_right_batch, is_batch_line, seal_batch};
 use gq_memory::{GrowCopies, GrowVec};
@@ -8,7 +9,7 @@ use std::test::Fail;
 
 const FIRST: &str = "numbered ann 1 7\nsync 1 17 1293ef1db4f78f4e\n";
 
-const SECOND: &str = "began ann 1 1\nkept ann 1 2 7 1 0af0\nsync 2 36 ae8523fd3372e26b\n";
+const SECOND: &str = "began ann 1 1\nkept ann 1 2 7 1 =a\\sb\nsync 2 37 008f733a4bbfc053\n";
 
 // The text of both batches, as they are sealed.
 fn journal(rt: &impl Abort, alloc: Global) -> Vec<u8> {
@@ -17,7 +18,7 @@ fn journal(rt: &impl Abort, alloc: Global) -> Vec<u8> {
     seal_batch(&mut first, 1).expect(rt, "memory");
     let mut second = Vec::new(alloc);
     second
-        .grow_by(b"began ann 1 1\nkept ann 1 2 7 1 0af0\n")
+        .grow_by(b"began ann 1 1\nkept ann 1 2 7 1 =a\\sb\n")
         .expect(rt, "memory");
     seal_batch(&mut second, 2).expect(rt, "memory");
     first.grow_by(second.as_slice()).expect(rt, "memory");

@@ -81,7 +81,7 @@ fn a_write_line_by_line(rt: HostRuntime) -> Result<(), Fail> {
         m,
         b"0 0 ann 1 1 1 0 0 copy 0 0 -",
         b"numbered ann 1 1024\n",
-        b"0 0 ann 1 1 2 0 0 store 1 1 ab\n",
+        b"0 0 ann 1 1 2 0 0 store 1 1 =\xab\n",
     );
     step(&rt, alloc, m, b"0 0 tick", b"", b"");
     step(
@@ -90,14 +90,14 @@ fn a_write_line_by_line(rt: HostRuntime) -> Result<(), Fail> {
         m,
         b"0 0 tick",
         b"",
-        b"0 0 ann 1 1 2 0 0 store 1 1 ab\n",
+        b"0 0 ann 1 1 2 0 0 store 1 1 =\xab\n",
     );
     step(
         &rt,
         alloc,
         m,
         b"0 0 ann 1 1 2 0 0 store 1 1 ab",
-        b"kept ann 0 0 1 1 ab\n",
+        b"kept ann 0 0 1 1 =\xab\n",
         b"0 0 ann 1 1 2 0 0 stored\n",
     );
     step(
@@ -178,7 +178,7 @@ fn a_start(rt: HostRuntime) -> Result<(), Fail> {
         m,
         b"0 0 ann 2 1 1 0 0 ask",
         b"",
-        b"0 0 ann 2 1 1 0 0 copy 1 1 ab\n",
+        b"0 0 ann 2 1 1 0 0 copy 1 1 =\xab\n",
     );
     assert!(rt; matches!(m.recall(b"began eve 1 1"), Err(Unread::Strange)));
     assert!(rt; matches!(m.recall(b"began ann 9 1"), Err(Unread::Strange)));
@@ -291,14 +291,14 @@ fn what_a_start_needs(rt: HostRuntime) -> Result<(), Fail> {
         m,
         b"0 0 ann 1 1 1 0 1 copy 0 0 -",
         b"numbered ann 1 1024\n",
-        b"0 0 ann 1 1 2 0 1 store 1 1 ab\n",
+        b"0 0 ann 1 1 2 0 1 store 1 1 =\xab\n",
     );
     step(
         &rt,
         alloc,
         m,
         b"0 0 ann 1 1 2 0 1 store 1 1 ab",
-        b"kept ann 0 1 1 1 ab\n",
+        b"kept ann 0 1 1 1 =\xab\n",
         b"0 0 ann 1 1 2 0 1 stored\n",
     );
     step(
@@ -320,7 +320,7 @@ fn what_a_start_needs(rt: HostRuntime) -> Result<(), Fail> {
     assert!(rt; m.put_needed(&mut facts).is_ok());
     assert_eq!(rt;
         facts.as_slice(),
-        b"began ann 1 1024\nnumbered ann 1 1024\nbegan ann 2 1024\nkept ann 0 1 1 1 ab\n".as_slice()
+        b"began ann 1 1024\nnumbered ann 1 1024\nbegan ann 2 1024\nkept ann 0 1 1 1 =\xab\n".as_slice()
     );
     Ok(())
 }

@@ -12,10 +12,10 @@ use std::test::Fail;
 
 const PLAN: &str = "grid 1 1\nblocks 16\ntenant ann 8 2 100\ngo\nann open 2 1\n";
 
-// The digests are those of `sha256sum`.
+// The first digest is that of `sha256sum`. The second batch has a content in bytes; its sum is that of `tests/nodes/journals.py`.
 const JOURNAL: &str =
     "node 0 of 1 by 1\ngrid 1 1\nblocks 16\ntenant ann 8 2 100\ngo\nann open 2 1\nsync 1 71 9b33ab045e011a53\n\
-began ann 1 1024\nnumbered ann 1 1024\nkept ann 0 0 1 1 ab\nsync 2 57 6e5dd83d61a8f8be\n";
+began ann 1 1024\nnumbered ann 1 1024\nkept ann 0 0 1 1 =k\nsync 2 57 30ec0331e0e17e6d\n";
 
 // A journal of the same node, in which a right batch has a line of nobody.
 const STRANGE: &str =
@@ -26,10 +26,10 @@ const LONGER: &str =
     "grid 1 1\nblocks 16\ntenant ann 8 2 100\ntenant bob 4 1 100\ngo\nann open 2 1\n";
 
 const WRITE: &[u8] =
-    b"0 ann write 1 1 0 0 ab\n0 0 ann 1 1 1 0 0 copy 0 0 -\n0 0 ann 1 1 2 0 0 store 1 1 ab\n0 0 ann 1 1 2 0 0 stored\n";
+    b"0 ann write 1 1 0 0 6b\n0 0 ann 1 1 1 0 0 copy 0 0 -\n0 0 ann 1 1 2 0 0 store 1 1 =k\n0 0 ann 1 1 2 0 0 stored\n";
 
 const WRITTEN: &str =
-    " ?\n0 0 ann 1 1 1 0 0 ask\n0 0 ann 1 1 2 0 0 store 1 1 ab\n0 0 ann 1 1 2 0 0 stored\nann 0 done write 1 1 tag 1 1\n";
+    " ?\n0 0 ann 1 1 1 0 0 ask\n0 0 ann 1 1 2 0 0 store 1 1 =k\n0 0 ann 1 1 2 0 0 stored\nann 0 done write 1 1 tag 1 1\n";
 
 // Who watches a node: what was told of it, and whether its streams are open.
 #[derive(Drop)]
@@ -147,8 +147,8 @@ fn starts_again_from_its_journal(rt: HostRuntime) -> Result<(), Fail> {
     let torn = format!(in rt.alloc(); "{JOURNAL}began ann 2 1\n")?;
     fs::write(&rt, "again", torn.as_str())?;
     let watch = Watch::new();
-    let lines: &[u8] = b"0 0 ann 2 1 1 0 0 ask\n0 ann write 1 1 0 0 ab\n";
-    let text = " ?\n0 0 ann 2 1 1 0 0 copy 1 1 ab\nann 0 refused old 1 1 1024\n";
+    let lines: &[u8] = b"0 0 ann 2 1 1 0 0 ask\n0 ann write 1 1 0 0 6b\n";
+    let text = " ?\n0 0 ann 2 1 1 0 0 copy 1 1 =k\nann 0 refused old 1 1 1024\n";
     writes(&rt, rt.alloc(), &node("again", false), &watch, lines, text)?;
     assert_eq!(&rt; watch.facts.get(), Some(3));
     assert_eq!(&rt; watch.cut.get(), Some(JOURNAL.len()));

@@ -1,8 +1,7 @@
 -- Texts that end a line, and what is behind them.
-use Rattle.std.proofs.Common.{◌≡◌, ℕ, List, [], ◌∷◌, ◌++◌, Bool, true, false, refl, sym, ap, ◌∙◌, subst, append_assoc, append-nil, arith}
-use Rattle.std.specs.Prelude.{◌==◌, nat_le, codes}
+use Rattle.std.proofs.Common.{◌≡◌, ℕ, List, [], ◌∷◌, ◌++◌, Bool, true, false, refl, sym, ap, ◌∙◌, subst, append_assoc, append-nil}
+use Rattle.std.specs.Prelude.{◌==◌, codes}
 use Rattle.std.specs.List.{flat_map}
-use Rattle.std.proofs.lemmas.Bool.{and_parts, ne_eqb, leb-true}
 use Rattle.gq_desk.specs.CheckedPlan.{CheckedPlan, row_at}
 use Rattle.gq_model.specs.declared.events.Event.{Event}
 use Rattle.gq_model.specs.declared.events.Event.TheVariants.{Tenant, Server, Stray}
@@ -10,7 +9,7 @@ use Rattle.gq_text.specs.Words.{Word}
 use Rattle.gq_text.specs.Lines.{lines_of, before_first}
 use Rattle.gq_text.specs.AnswerText.{spaced, line_text}
 use Rattle.gq_text.specs.Canonical.{line_words, server_line_words, event_line}
-use Rattle.gq_text.proofs.Plain.{is_inner}
+use Rattle.gq_text.proofs.Plain.{is_inner, inner_parts}
 use Rattle.gq_setup.specs.Texts.{behind_first}
 
 -- the lines of what is behind it come behind its own
@@ -58,9 +57,9 @@ events_whole plan (event ∷ events) rest =
     ∙ sym (append_assoc (lines_of one) (lines_of more) (lines_of rest))
     ∙ ap (λ ls. ls ++ lines_of rest) (sym (event_whole plan event more))
 
--- what is behind a first line
+-- what follows a first line
 pub behind_line : (line rest : List ℕ) → is_inner line ≡ true → behind_first (line ++ 10 ∷ rest) ≡ rest
 behind_line [] rest inner = refl
 behind_line (c ∷ line) rest inner =
-    let parts = and_parts (nat_le 32 c) (is_inner line) inner in
-    rw (ne_eqb c 10 (omega (arith, leb-true 32 c parts.0)), behind_line line rest parts.1) refl
+    let parts = inner_parts c line inner in
+    rw (parts.0, behind_line line rest parts.1) refl

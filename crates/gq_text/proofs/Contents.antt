@@ -1,17 +1,19 @@
 -- What hex reads and writes is what the word of a content says.
-use Rattle.std.proofs.Common.{◌≡◌, ◌∙◌, ℕ, suc, ◌/◌, ◌%◌, List, [], ◌∷◌, ◌++◌, append_assoc, append-nil, arith, length, slice_index, ap, sym, eqb, Bool, true, false, Some, None, Result, Ok, Err, refl}
-use Rattle.std.specs.Prelude.{codes, ◌&&◌, IsErr}
+use Rattle.std.proofs.Common.{◌≡◌, ◌∙◌, ℕ, suc, ◌/◌, ◌%◌, ◌<◌, List, [], ◌∷◌, ◌++◌, append_assoc, append-nil, arith, length, slice_index, ap, sym, eqb, Bool, true, false, Some, None, Result, Ok, Err, refl, subst}
+use Rattle.std.specs.Prelude.{codes, ◌==◌, ◌&&◌, IsErr}
 use Rattle.std.specs.Str.{bytes_eq}
 use Rattle.std.proofs.Math.Dec.{eqb-suc-zero}
+use Rattle.std.proofs.lemmas.Bool.{ne_eqb}
 use Rattle.hex.specs.declared.error.FromHexError.{FromHexError}
-use Rattle.hex.specs.Hex.{IsBytes, decode_of, encode_with, encode_lower, lower_digits}
-use Rattle.hex.proofs.HexLemmas.{decode_of-encode_lower}
-use Rattle.gq_text.specs.AnswerText.{content_word}
-use Rattle.gq_text.specs.Words.{bytes_from, content_of}
+use Rattle.hex.specs.Hex.{IsBytes, decode_of, encode_with, encode_lower, lower_digits, hex_digit_value}
+use Rattle.hex.proofs.HexLemmas.{IsDigits-lower_digits, decode_of-encode_lower}
+use Rattle.gq_escape.proofs.Escaping.{bytes_read_back}
+use Rattle.gq_text.specs.AnswerText.{bytes_word, content_word}
+use Rattle.gq_text.specs.Words.{bytes_from, content_in_digits, content_of}
 
 -- a word that is neither `-` nor empty
-pub content_digits : (word : List ℕ) → bytes_eq word (codes "-") ≡ false → eqb (length word) 0 ≡ false → content_of word ≡ bytes_from (decode_of word)
-unfolding content_of
+pub content_digits : (word : List ℕ) → bytes_eq word (codes "-") ≡ false → eqb (length word) 0 ≡ false → content_in_digits word ≡ bytes_from (decode_of word)
+unfolding content_in_digits
 content_digits word dash empty = rw (dash, empty) refl
 
 pub no_bytes : (read : Result (List ℕ) FromHexError) → IsErr read → bytes_from read ≡ None
@@ -30,12 +32,30 @@ not_empty : (b : ℕ) (bytes : List ℕ) → eqb (length (encode_lower (b ∷ by
 unfolding encode_with
 not_empty b bytes = eqb-suc-zero (suc (length (encode_with lower_digits bytes)))
 
+digits_back : (b : ℕ) (bytes : List ℕ) → IsBytes (b ∷ bytes) → content_in_digits (encode_lower (b ∷ bytes)) ≡ Some (b ∷ bytes)
+unfolding content_in_digits
+digits_back b bytes fits = rw (dash_differs b bytes, not_empty b bytes, decode_of-encode_lower (b ∷ bytes) fits) refl
+
+-- no digit is `=`: it has a value as a digit
+none_is : (d : ℕ) → None ≡ Some d → ⊥
+none_is d is = cc
+
+digit_marks_not : (d : ℕ) → d < 16 → (slice_index lower_digits d == 61) ≡ false
+digit_marks_not d small = ne_eqb (slice_index lower_digits d) 61 (λ e. none_is d (subst (λ c. hex_digit_value c ≡ Some d) e (IsDigits-lower_digits d small)))
+
 -- the word of a content is read as that content
 pub content_back : (bytes : List ℕ) → IsBytes bytes → content_of (content_word bytes) ≡ Some bytes
-unfolding content_of
+unfolding content_in_digits encode_with
 content_back [] fits = refl
 content_back (b ∷ bytes) fits =
-    rw (dash_differs b bytes, not_empty b bytes, decode_of-encode_lower (b ∷ bytes) fits) refl
+    let byte : b < 256 = fits 0 in
+    rw (digit_marks_not (b / 16) (omega arith)) (digits_back b bytes fits)
+
+-- and so is the word of its bytes
+pub bytes_back : (bytes : List ℕ) → content_of (bytes_word bytes) ≡ Some bytes
+unfolding content_in_digits
+bytes_back [] = refl
+bytes_back (b ∷ bytes) = bytes_read_back (b ∷ bytes)
 
 -- the digits of bytes, one block after another
 pub encode-append : (xs ys : List ℕ) → encode_lower (xs ++ ys) ≡ encode_lower xs ++ encode_lower ys

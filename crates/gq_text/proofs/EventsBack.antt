@@ -1,6 +1,6 @@
 -- The lines of events are read as these events.
 use Rattle.std.proofs.Common.{◌≡◌, ℕ, zero, suc, ◌+◌, ◌<◌, List, [], ◌∷◌, ◌++◌, length, map, Some, None, Bool, true, false, cond, refl, sym, ap, ap₂, ◌∙◌, arith}
-use Rattle.std.specs.Prelude.{codes, slice_get, unwrap_or}
+use Rattle.std.specs.Prelude.{codes, decimal, slice_get, unwrap_or}
 use Rattle.std.specs.List.{All, flat_map, list_all, position_from}
 use Rattle.std.specs.Str.{bytes_eq}
 use Rattle.std.proofs.lemmas.Bool.{and_parts}
@@ -20,13 +20,13 @@ use Rattle.gq_model.specs.declared.events.ServerLine.TheVariants.{Bad as ServerB
 use Rattle.gq_text.specs.Words.{Word}
 use Rattle.gq_text.specs.Lines.{lines_of}
 use Rattle.gq_text.specs.Input.{line_of, server_line_of, place_named, tenant_event, event_of, event_of_words, one_number_of, two_numbers_of, three_numbers_of, file_content_of}
-use Rattle.gq_text.specs.AnswerText.{spaced}
-use Rattle.gq_text.specs.Canonical.{line_words, server_line_words, event_line, IsPlan, FitsLine, FitsServerLine, Fits}
+use Rattle.gq_text.specs.AnswerText.{bytes_word, spaced}
+use Rattle.gq_text.specs.Canonical.{line_words, server_line_words, event_line, IsPlan, IsNumber, FitsLine, FitsServerLine, Fits}
 use Rattle.gq_text.proofs.Numbers.{numbers_read_back}
 use Rattle.gq_text.proofs.Plain.{is_plain, are_plain, decimal_plain, name_plain, content_plain}
 use Rattle.gq_text.proofs.LinesBack.{words_back, line_back}
 use Rattle.gq_text.proofs.PlanNames.{HasPlace, place_of_row}
-use Rattle.gq_text.proofs.Contents.{content_back}
+use Rattle.gq_text.proofs.Contents.{bytes_back, content_back}
 
 -- ---- the words of a line
 
@@ -43,6 +43,11 @@ line_of-words (Deliver n) fits = rw (numbers_read_back n fits) refl
 line_of-words (Lose n) fits = rw (numbers_read_back n fits) refl
 line_of-words (Retry session) fits = rw (numbers_read_back session fits) refl
 line_of-words (Abandon session) fits = rw (numbers_read_back session fits) refl
+
+-- a write is read from the bytes of its content too
+pub line_of-bytes : (session volume file : ℕ) (bytes : List ℕ) → IsNumber session → IsNumber volume → IsNumber file → line_of (codes "write" ∷ decimal session ∷ decimal volume ∷ decimal file ∷ bytes_word bytes ∷ []) ≡ Write session volume file bytes
+unfolding line_of one_number_of two_numbers_of three_numbers_of file_content_of
+line_of-bytes session volume file bytes k v f = rw (numbers_read_back session k, numbers_read_back volume v, numbers_read_back file f, bytes_back bytes) refl
 
 server_line_of-words : (line : ServerLine) → FitsServerLine line → server_line_of (server_line_words line) ≡ line
 unfolding server_line_of

@@ -2,6 +2,7 @@
 use Rattle.std.specs.Prelude.{ℕ, zero, suc, ◌+◌, List, [], ◌∷◌, ◌++◌, map, codes, decimal, Option, Some, None}
 use Rattle.std.specs.List.{flat_map}
 use Rattle.hex.specs.Hex.{encode_lower}
+use Rattle.gq_escape.specs.Escape.{escaped}
 use Rattle.gq_grid.specs.Grid.{Grid, rising}
 use Rattle.gq_tag.specs.declared.Tag.{Tag}
 use Rattle.gq_desk.specs.declared.volumes.VolumeRow.{VolumeRow}
@@ -29,6 +30,11 @@ file_word file = decimal file.length ++ codes ":" ++ decimal file.tag.number ++ 
 abbrev pub content_word : List ℕ → Word
 content_word [] = codes "-"
 content_word (byte ∷ bytes) = encode_lower (byte ∷ bytes)
+
+-- a content as its bytes, escaped as one word after `=`; `-` for the empty content
+abbrev pub bytes_word : List ℕ → Word
+bytes_word [] = codes "-"
+bytes_word (byte ∷ bytes) = 61 ∷ escaped (byte ∷ bytes)
 
 abbrev pub tag_words : Tag → List Word
 tag_words tag = codes "tag" ∷ decimal tag.number ∷ decimal tag.session ∷ []

@@ -4,6 +4,7 @@ use Rattle.std.specs.List.{slice_split}
 use Rattle.std.specs.Str.{bytes_eq}
 use Rattle.hex.specs.declared.error.FromHexError.{FromHexError}
 use Rattle.hex.specs.Hex.{decode_of}
+use Rattle.gq_escape.specs.Escape.{unescaped}
 use Rattle.gq_text.specs.declared.words.TheConstants.{MOST_NUMBER}
 use Rattle.gq_text.specs.declared.long_numbers.TheConstants.{MOST_LONG}
 
@@ -47,8 +48,13 @@ bytes_from (Ok bytes) = Some bytes
 bytes_from (Err fault) = None
 
 -- `-` for the empty content, or two digits for each byte, at least two in all
-unfoldable pub content_of : Word → Option (List ℕ)
-content_of word =
+unfoldable pub content_in_digits : Word → Option (List ℕ)
+content_in_digits word =
     if bytes_eq word (codes "-") then Some []
     else if length word == 0 then None
     else bytes_from (decode_of word)
+
+-- a content: such digits, or `=` and its bytes, escaped as one word
+abbrev pub content_of : Word → Option (List ℕ)
+content_of [] = None
+content_of (c ∷ word) = if c == 61 then unescaped word else content_in_digits (c ∷ word)

@@ -1,6 +1,6 @@
 //! What the forms of the texts mean, apart from how they are read.
 
-ghost use Rattle.gq_text.specs.Laws.{LongNumbersHaveOneForm, LongNumbersReadBack, NumbersHaveOneForm, NumbersReadBack};
+ghost use Rattle.gq_text.specs.Laws.{BytesReadBack, DigitsReadBack, LongNumbersHaveOneForm, LongNumbersReadBack, NumbersHaveOneForm, NumbersReadBack};
 
 /// A number's decimal text is read as that number.
 pub fn numbers_read_back()
@@ -12,4 +12,10 @@ pub fn numbers_read_back()
 pub fn numbers_have_one_form()
     ensures short { NumbersHaveOneForm }
     ensures long { LongNumbersHaveOneForm }
+{}
+
+/// A content is read from its digits and from its bytes, as they are written.
+pub fn contents_read_back()
+    ensures digits { DigitsReadBack }
+    ensures bytes { BytesReadBack }
 {}

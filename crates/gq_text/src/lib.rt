@@ -26,4 +26,4 @@ pub use plan_text::{
     row_told,
 };
 pub use quorum_text::QuorumText;
-pub use words::{content, first_word, is_end, next_word, number};
+pub use words::{content, first_word, is_end, next_long_word, next_word, number};

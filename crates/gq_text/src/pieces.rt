@@ -5,10 +5,11 @@ ghost use Rattle.std.specs.List.{flat_map};
 ghost use Rattle.hex.specs.Hex.{encode_lower};
 ghost use Rattle.gq_grid.specs.Grid.{rising};
 ghost use Rattle.gq_grid.specs.Sets.{servers};
-ghost use Rattle.gq_text.specs.AnswerText.{spaced, ended, volume_word, file_word, content_word, tag_words, range_words};
+ghost use Rattle.gq_text.specs.AnswerText.{spaced, ended, volume_word, file_word, bytes_word, content_word, tag_words, range_words};
 ghost use Rattle.gq_text.specs.Pieces.{words_in, Extends};
 
 use gq_desk::VolumeRow;
+use gq_escape::put_escaped;
 use gq_grid::{Grid, ServerSet};
 use gq_memory::{GrowCopies, GrowVec, OutOfMemory, RoomInVec};
 use gq_phase::Row;
@@ -28,6 +29,8 @@ pub enum Piece<'a> {
     Range(u64, u32),
     /// A content in hexadecimal, `-` where it is empty.
     Content(&'a [u8]),
+    /// A content as its bytes, `-` where it is empty.
+    Bytes(&'a [u8]),
     /// The servers of a set in rising number.
     Servers(&'a Grid, ServerSet),
     /// Each volume as `FILESxBLOCKS`.
@@ -259,6 +262,18 @@ fn put_content(out: &mut Vec<u8>, bytes: &[u8]) -> Result<(), OutOfMemory>
     put_digits(out, bytes)
 }
 
+// Appends a content as its bytes.
+fn put_bytes(out: &mut Vec<u8>, bytes: &[u8]) -> Result<(), OutOfMemory>
+    ensures ok { OnOk result (out.new.items ≡ out.old.items ++ 32 ∷ bytes_word bytes.now) }
+    ensures err { OnErr result (Extends out.old.items out.new.items) }
+{
+    if bytes.is_empty() {
+        return out.grow_by(b" -");
+    }
+    out.grow_by(b" =")?;
+    put_escaped(out, bytes)
+}
+
 // Appends the servers of a set, rising.
 fn put_servers(out: &mut Vec<u8>, grid: &Grid, set: ServerSet) -> Result<(), OutOfMemory>
     ensures ok { OnOk result (out.new.items ≡
@@ -329,6 +344,7 @@ fn put_piece(out: &mut Vec<u8>, piece: Piece) -> Result<(), OutOfMemory>
         Piece::OfTag(tag) => put_tag(out, tag),
         Piece::Range(first, count) => put_range(out, first, count),
         Piece::Content(bytes) => put_content(out, bytes),
+        Piece::Bytes(bytes) => put_bytes(out, bytes),
         Piece::Servers(grid, set) => put_servers(out, grid, set),
         Piece::Volumes(volumes) => put_volumes(out, volumes),
         Piece::Files(files) => put_files(out, files),

@@ -1,10 +1,11 @@
 //! Words, numbers and contents.
 
 ghost use Rattle.std.specs.Prelude.{◌≡◌, ℕ, List, [], ◌∷◌, ◌++◌, IfOk, MatchOption, MatchBool};
-ghost use Rattle.gq_text.specs.Words.{words_of, words_after, number_after, number_of, content_of};
+ghost use Rattle.gq_text.specs.Words.{words_of, words_after, number_after, number_of, content_in_digits, content_of};
 
 use crate::hex_digits::read_digits;
 use bytes::Bytes;
+use gq_escape::read_escaped;
 use gq_memory::{OutOfMemory, bytes_of, filled};
 use memchr::memchr;
 use std::alloc::Global;
@@ -95,10 +96,10 @@ fn number_from_digits(word: &[u8]) -> Option<u32>
     Some(n as u32)
 }
 
-/// The content that a word writes.
-#[tactic(auto, unfolding(crate::specs::Words::content_of))]
-pub fn content(alloc: Global, word: &[u8]) -> Result<Option<Bytes>, OutOfMemory>
-    ensures { IfOk result (λ read. read ≡ content_of word.now) }
+// The content that a word writes in digits.
+#[tactic(auto, unfolding(crate::specs::Words::content_in_digits))]
+fn content_in_digits(alloc: Global, word: &[u8]) -> Result<Option<Bytes>, OutOfMemory>
+    ensures { IfOk result (λ read. read ≡ content_in_digits word.now) }
 {
     if word == b"-".as_slice() {
         return Ok(Some(Bytes::new()));
@@ -111,4 +112,15 @@ pub fn content(alloc: Global, word: &[u8]) -> Result<Option<Bytes>, OutOfMemory>
         return Ok(None);
     }
     Ok(Some(bytes_of(bytes)?))
+}
+
+/// The content that a word writes.
+pub fn content(alloc: Global, word: &[u8]) -> Result<Option<Bytes>, OutOfMemory>
+    ensures { IfOk result (λ read. read ≡ content_of word.now) }
+{
+    match word {
+        [] => Ok(None),
+        [first, text @ ..] if *first == b'=' => read_escaped(alloc, text),
+        _ => content_in_digits(alloc, word),
+    }
 }

@@ -5,6 +5,7 @@ use Rattle.std.proofs.lemmas.Bool.{and_parts, leb-true}
 use Rattle.std.proofs.lemmas.Fmt.{length-decimal-le}
 use Rattle.hex.specs.Hex.{lower_digits}
 use Rattle.hex.proofs.HexLemmas.{length-encode_with}
+use Rattle.gq_escape.proofs.Escaping.{at_most_twice}
 use Rattle.gq_tag.specs.declared.StoredCopy.{StoredCopy}
 use Rattle.gq_tag.specs.declared.Body.{Body}
 use Rattle.gq_tag.specs.declared.Body.TheVariants.{Ask, Copy, Store, Stored}
@@ -14,7 +15,7 @@ use Rattle.gq_pool.specs.declared.TheConstants.{BLOCK_BYTES}
 use Rattle.gq_desk.specs.CheckedPlan.{CheckedPlan, nobody, row_at}
 use Rattle.gq_desk.specs.declared.plans.TenantRow.{TenantRow}
 use Rattle.gq_text.specs.Words.{Word}
-use Rattle.gq_text.specs.AnswerText.{content_word, spaced}
+use Rattle.gq_text.specs.AnswerText.{bytes_word, content_word, spaced}
 use Rattle.gq_text.specs.Canonical.{IsPlan}
 use Rattle.gq_wire.specs.declared.incoming.TheConstants.{BESIDE_CONTENT}
 use Rattle.gq_wire.specs.Incoming.{most_blocks_of, longest_line}
@@ -36,15 +37,20 @@ pub content_length-le : (n : ℕ) (bytes : List ℕ) → length bytes ≤ n → 
 content_length-le n [] short = omega arith
 content_length-le n (b ∷ bytes) short = omega (arith, length-encode_with lower_digits (b ∷ bytes))
 
+-- the same content as its bytes
+pub bytes_length-le : (n : ℕ) (bytes : List ℕ) → length bytes ≤ n → length (bytes_word bytes) ≤ 2 * n + 1
+bytes_length-le n [] short = omega arith
+bytes_length-le n (b ∷ bytes) short = omega (arith, at_most_twice (b ∷ bytes))
+
 -- one word more, after a space
 pub one_more : (word : Word) (words : List Word) (n k : ℕ) → length word ≤ n → length (spaced words) ≤ k → length (spaced (word ∷ words)) ≤ n + 1 + k
 one_more word words n k first rest = omega (arith, length-append (32 ∷ word) (spaced words))
 
 pub copy_short : (n : ℕ) (copy : StoredCopy) → FitsCopy copy → length copy.bytes ≤ n → length (spaced (copy_words copy)) ≤ 34 + 2 * n
 copy_short n copy fits short =
-    let content = one_more (content_word copy.bytes) [] (2 * n + 1) 0 (content_length-le n copy.bytes short) (omega arith) in
-    let session = one_more (decimal copy.tag.session) (content_word copy.bytes ∷ []) 10 (2 * n + 2) (short_number copy.tag.session (omega (arith, fits.1))) (omega (arith, content)) in
-    let number = one_more (decimal copy.tag.number) (decimal copy.tag.session ∷ content_word copy.bytes ∷ []) 20 (2 * n + 13) (long_number copy.tag.number fits.0) (omega (arith, session)) in
+    let content = one_more (bytes_word copy.bytes) [] (2 * n + 1) 0 (bytes_length-le n copy.bytes short) (omega arith) in
+    let session = one_more (decimal copy.tag.session) (bytes_word copy.bytes ∷ []) 10 (2 * n + 2) (short_number copy.tag.session (omega (arith, fits.1))) (omega (arith, content)) in
+    let number = one_more (decimal copy.tag.number) (decimal copy.tag.session ∷ bytes_word copy.bytes ∷ []) 20 (2 * n + 13) (long_number copy.tag.number fits.0) (omega (arith, session)) in
     omega (arith, number)
 
 body_short : (n : ℕ) (body : Body) → FitsBody body → content_length body ≤ n → length (spaced (body_words body)) ≤ 41 + 2 * n

@@ -1,9 +1,9 @@
 -- The line of a letter is read as that letter.
 use Rattle.std.proofs.Common.{◌≡◌, ℕ, ◌^◌, ◌<◌, List, [], ◌∷◌, length, Bool, cond, Some, None, true, false, inl, inr, refl, sym, ap, ◌∙◌, arith, append_assoc}
-use Rattle.std.specs.Prelude.{decimal, codes, nat_le, nat_lt, ◌==◌, ◌&&◌}
+use Rattle.std.specs.Prelude.{decimal, codes, nat_lt, ◌==◌, ◌&&◌}
 use Rattle.std.specs.Str.{bytes_eq}
 use Rattle.std.proofs.lemmas.Slice.Eq.{bytes_eq-Decides}
-use Rattle.std.proofs.lemmas.Bool.{cases_Bool, and_parts, eq-eqb, ne_eqb, leb-true, lt-ltb, le-ltb}
+use Rattle.std.proofs.lemmas.Bool.{cases_Bool, eq-eqb, lt-ltb, le-ltb}
 use Rattle.gq_tag.specs.declared.Body.{Body}
 use Rattle.gq_tag.specs.declared.Body.TheVariants.{Ask, Copy, Store, Stored}
 use Rattle.gq_tag.specs.declared.Message.{Message}
@@ -12,7 +12,7 @@ use Rattle.gq_text.specs.Words.{Word, words_of, number_up_to, number_of}
 use Rattle.gq_text.specs.AnswerText.{spaced}
 use Rattle.gq_text.specs.Canonical.{IsPlan}
 use Rattle.gq_text.proofs.Numbers.{numbers_read_back}
-use Rattle.gq_text.proofs.Plain.{is_plain, are_plain, is_inner, decimal_plain, line_inner}
+use Rattle.gq_text.proofs.Plain.{is_plain, are_plain, decimal_plain, line_inner}
 use Rattle.gq_text.proofs.LinesBack.{words_back}
 use Rattle.gq_wire.specs.Incoming.{longest_line}
 use Rattle.gq_wire.specs.declared.incoming.Incoming.TheVariants.{Letter}
@@ -22,7 +22,7 @@ use Rattle.gq_wire.specs.Incoming.{from_node, letter_or_nothing, incoming_of_wor
 use Rattle.gq_wire.specs.Fetching.{only_number, number_behind, fetch_of, fetched_of}
 use Rattle.gq_node.specs.declared.lost.TheConstants.{NODE_NUMBERS}
 use Rattle.gq_wire.specs.Texts.{body_words, letter_words}
-use Rattle.gq_wire.specs.Laws.{FitsBody, FitsLetter, is_one_line, letter_text, LettersReadBack}
+use Rattle.gq_wire.specs.Laws.{FitsBody, FitsLetter, letter_text, LettersReadBack}
 use Rattle.gq_wire.proofs.ValuesBack.{byte_back, copy_plain, copy_back, name_is_plain, place_back}
 use Rattle.gq_wire.proofs.Lengths.{letter_short}
 
@@ -45,13 +45,6 @@ letter_plain plan to from m is fits =
       decimal_plain m.file.volume fits.volume,
       decimal_plain m.file.file fits.file,
     ) (body_plain m.body fits.body)
-
--- a line of bytes that are no less than a space is one line
-pub inner_one : (line : List ℕ) → is_inner line ≡ true → is_one_line line ≡ true
-inner_one [] inner = refl
-inner_one (c ∷ line) inner =
-    let parts = and_parts (nat_le 32 c) (is_inner line) inner in
-    rw (ne_eqb c 10 (λ e. omega (arith, leb-true 32 c parts.0)), inner_one line parts.1) refl
 
 -- ---- the words are read
 
@@ -152,6 +145,6 @@ letters_read_back plan to from m is fits =
     let others : are_plain (decimal from ∷ letter_words plan m) ≡ true = letter_plain plan to from m is fits in
     let short : nat_lt (longest_line plan) (length (letter_text plan to from m)) ≡ false = le-ltb (longest_line plan) (length (letter_text plan to from m)) (letter_short plan to from m is fits) in (
       sym (append_assoc (decimal to) (spaced (decimal from ∷ letter_words plan m)) (10 ∷ [])),
-      inner_one (letter_text plan to from m) (line_inner (decimal to) (decimal from ∷ letter_words plan m) first others),
+      line_inner (decimal to) (decimal from ∷ letter_words plan m) first others,
       rw short (ap (incoming_of_words plan to) (letter_words_back plan to from m is fits) ∙ line_back plan to from m is fits),
     )

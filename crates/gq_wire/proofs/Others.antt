@@ -1,5 +1,5 @@
 -- A node passes over what is written to tenants and to other nodes.
-use Rattle.std.proofs.Common.{◌≡◌, ℕ, List, [], ◌∷◌, ◌++◌, length, cond, Bool, None, true, false, refl, ap, ◌∙◌, arith, append-nil}
+use Rattle.std.proofs.Common.{◌≡◌, ℕ, List, [], ◌∷◌, ◌++◌, length, cond, Bool, None, true, false, refl, ap, ◌∙◌, append-nil}
 use Rattle.std.specs.Prelude.{decimal, nat_lt}
 use Rattle.std.proofs.lemmas.Bool.{ne_eqb}
 use Rattle.gq_desk.specs.CheckedPlan.{CheckedPlan, row_at}
@@ -20,13 +20,13 @@ word_first : (first : Word) (rest : List ℕ) → is_plain first ≡ true → wo
 word_first [] rest plain = refl
 word_first (c ∷ first) rest plain =
     let parts = plain_parts c first plain in
-    rw (ne_eqb c 32 (omega (arith, parts.0)), word_first first rest parts.1) refl
+    rw (parts.0.1, word_first first rest parts.1) refl
 
 word_only : (first : Word) → is_plain first ≡ true → words_of first ≡ first ∷ []
 word_only [] plain = refl
 word_only (c ∷ first) plain =
     let parts = plain_parts c first plain in
-    rw (ne_eqb c 32 (omega (arith, parts.0)), word_only first parts.1) refl
+    rw (parts.0.1, word_only first parts.1) refl
 
 some_words : (first : Word) (words : List Word) → is_plain first ≡ true → (more : List Word) × (words_of (first ++ spaced words) ≡ first ∷ more)
 some_words first [] plain = ([], rw append-nil (word_only first plain))

@@ -21,7 +21,7 @@ use Rattle.gq_wire.specs.Texts.{copy_words, parcel_file, parcel_to, parcel_words
 use Rattle.gq_wire.specs.Laws.{FitsGiven, FitsParcel, parcel_text, parcel_incoming, ParcelsReadBack, AllJoinsReadBack}
 use Rattle.gq_wire.proofs.ValuesBack.{copy_plain, copy_back, name_at, name_is_plain, place_back}
 use Rattle.gq_wire.proofs.Lengths.{short_number, short_name, one_more, number_more, copy_short, fits_longest}
-use Rattle.gq_wire.proofs.LettersBack.{inner_one, no_tick, no_number}
+use Rattle.gq_wire.proofs.LettersBack.{no_tick, no_number}
 
 -- ---- a line about a file
 
@@ -95,7 +95,7 @@ parcels_read_back plan from parcel is fits =
     let others : are_plain words ≡ true = others_plain plan from parcel is fits in
     let short : nat_lt (longest_line plan) (length (parcel_text plan from parcel)) ≡ false = le-ltb (longest_line plan) (length (parcel_text plan from parcel)) (text_short plan from parcel is fits) in (
       sym (append_assoc to (spaced words) (10 ∷ [])),
-      inner_one (parcel_text plan from parcel) (line_inner to words first others),
+      line_inner to words first others,
       rw short (ap (incoming_of_words plan (parcel_to parcel)) (words_back to words first others) ∙ line_back plan from parcel is fits),
     )
 

@@ -1,5 +1,5 @@
 -- The line of a request is read as that request.
-use Rattle.std.proofs.Common.{◌≡◌, ℕ, ◌+◌, ◌*◌, ◌<◌, ◌≤◌, [], ◌∷◌, length, Some, None, true, false, refl, ap, ◌∙◌, arith, length-append}
+use Rattle.std.proofs.Common.{◌≡◌, ℕ, ◌+◌, ◌*◌, ◌<◌, ◌≤◌, List, [], ◌∷◌, length, Some, None, true, false, refl, ap, ◌∙◌, arith, length-append}
 use Rattle.std.specs.Prelude.{codes, decimal, nat_le, nat_lt}
 use Rattle.std.specs.List.{list_all}
 use Rattle.std.proofs.lemmas.Bool.{and_parts, eq-eqb, ne_eqb, le-leb, lt-leb, leb-true, le-ltb}
@@ -9,18 +9,18 @@ use Rattle.gq_desk.specs.CheckedPlan.{CheckedPlan, row_at}
 use Rattle.gq_model.specs.declared.events.Line.{Line}
 use Rattle.gq_model.specs.declared.events.Line.TheVariants.{Write, Read, List as ListFiles, Abandon}
 use Rattle.gq_text.specs.Words.{Word, number_of, number_up_to}
-use Rattle.gq_text.specs.AnswerText.{content_word, spaced}
+use Rattle.gq_text.specs.AnswerText.{bytes_word, content_word, spaced}
 use Rattle.gq_text.specs.Canonical.{IsPlan, IsNumber}
 use Rattle.gq_text.proofs.Numbers.{numbers_read_back}
-use Rattle.gq_text.proofs.Plain.{are_plain, decimal_plain, content_plain}
+use Rattle.gq_text.proofs.Plain.{are_plain, decimal_plain, bytes_plain, content_plain}
 use Rattle.gq_text.proofs.LinesBack.{words_back}
-use Rattle.gq_text.proofs.EventsBack.{line_of-words}
+use Rattle.gq_text.proofs.EventsBack.{line_of-bytes, line_of-words}
 use Rattle.gq_wire.specs.declared.incoming.Incoming.TheVariants.{Request, Plan}
 use Rattle.gq_wire.specs.Requests.{request_of, request_words}
 use Rattle.gq_wire.specs.Incoming.{is_only, incoming_of_words, longest_line}
-use Rattle.gq_wire.specs.Laws.{FitsRequest, request_text, plan_text, RequestsReadBack, PlansReadBack}
+use Rattle.gq_wire.specs.Laws.{FitsRequest, request_text, write_text, plan_text, RequestsReadBack, WritesReadBack, PlansReadBack}
 use Rattle.gq_wire.proofs.ValuesBack.{name_at, name_is_plain, place_back}
-use Rattle.gq_wire.proofs.Lengths.{short_number, short_name, content_length-le, one_more, number_more, fits_longest}
+use Rattle.gq_wire.proofs.Lengths.{short_number, short_name, bytes_length-le, content_length-le, one_more, number_more, fits_longest}
 
 -- ---- a name is no number
 
@@ -131,6 +131,65 @@ requests_read_back plan to t op line is to_fits within fits =
     let short : nat_lt (longest_line plan) (length (request_text plan to t op line)) ≡ false = le-ltb (longest_line plan) (length (request_text plan to t op line)) (text_short plan to t op line is to_fits within fits) in
     let others : are_plain ((row_at plan t).name ∷ request_words op line) ≡ true = rw (name_is_plain plan t is within) (words_plain (row_at plan t).most_blocks op line fits) in
     rw short (ap (incoming_of_words plan to) (words_back (decimal to) ((row_at plan t).name ∷ request_words op line) (decimal_plain to to_fits) others) ∙ line_back plan to t op line is to_fits within fits)
+
+-- ---- a write whose content is written as its bytes
+
+-- its words after the tenant's name
+write_words : (op k v f : ℕ) (bytes : List ℕ) → List Word
+write_words op k v f bytes = codes "write" ∷ decimal k ∷ decimal op ∷ decimal v ∷ decimal f ∷ bytes_word bytes ∷ []
+
+write_plain : (blocks op k v f : ℕ) (bytes : List ℕ) → FitsRequest blocks op (Write k v f bytes) → are_plain (write_words op k v f bytes) ≡ true
+unfolding write_words
+write_plain blocks op k v f bytes fits = rw (decimal_plain k fits.1, decimal_plain op fits.0, decimal_plain v fits.2, decimal_plain f fits.3, bytes_plain bytes) refl
+
+write_back : (blocks op k v f : ℕ) (bytes : List ℕ) → FitsRequest blocks op (Write k v f bytes) → request_of (write_words op k v f bytes) ≡ Some (op, Write k v f bytes)
+unfolding write_words request_of
+write_back blocks op k v f bytes fits = rw (numbers_read_back op fits.0, line_of-bytes k v f bytes fits.1 fits.2 fits.3) refl
+
+write_short : (blocks op k v f : ℕ) (bytes : List ℕ) → FitsRequest blocks op (Write k v f bytes) → length (spaced (write_words op k v f bytes)) ≤ 52 + 2 * (BLOCK_BYTES * blocks)
+unfolding write_words
+write_short blocks op k v f bytes fits =
+    let n : ℕ = BLOCK_BYTES * blocks in
+    let content = one_more (bytes_word bytes) [] (2 * n + 1) 0 (bytes_length-le n bytes fits.4.1) (omega arith) in
+    let file = number_more f (bytes_word bytes ∷ []) (2 + 2 * n) fits.3 (omega (arith, content)) in
+    let volume = number_more v (decimal f ∷ bytes_word bytes ∷ []) (13 + 2 * n) fits.2 (omega (arith, file)) in
+    let number = number_more op (decimal v ∷ decimal f ∷ bytes_word bytes ∷ []) (24 + 2 * n) fits.0 (omega (arith, volume)) in
+    let session = number_more k (decimal op ∷ decimal v ∷ decimal f ∷ bytes_word bytes ∷ []) (35 + 2 * n) fits.1 (omega (arith, number)) in
+    omega (arith, one_more (codes "write") (decimal k ∷ decimal op ∷ decimal v ∷ decimal f ∷ bytes_word bytes ∷ []) 5 (46 + 2 * n) (omega arith) (omega (arith, session)))
+
+write_text_short : (plan : CheckedPlan) (to t op k v f : ℕ) (bytes : List ℕ) → IsPlan plan → IsNumber to → t < length plan.rows → FitsRequest (row_at plan t).most_blocks op (Write k v f bytes) → length (write_text plan to t op k v f bytes) ≤ longest_line plan
+unfolding write_words
+write_text_short plan to t op k v f bytes is to_fits within fits =
+    let n : ℕ = BLOCK_BYTES * (row_at plan t).most_blocks in
+    let name = one_more (row_at plan t).name (write_words op k v f bytes) 16 (52 + 2 * n) (short_name (row_at plan t).name (name_at plan t is within)) (write_short (row_at plan t).most_blocks op k v f bytes fits) in
+    fits_longest plan t (length (write_text plan to t op k v f bytes))
+    (omega (arith, length-append (decimal to) (spaced ((row_at plan t).name ∷ write_words op k v f bytes)), short_number to to_fits, name))
+
+no_question : (op k v f : ℕ) (bytes : List ℕ) → is_only (codes "plan") (write_words op k v f bytes) ≡ false
+unfolding write_words
+no_question op k v f bytes = refl
+
+write_line_back : (plan : CheckedPlan) (to t op k v f : ℕ) (bytes : List ℕ) → IsPlan plan → IsNumber to → t < length plan.rows → FitsRequest (row_at plan t).most_blocks op (Write k v f bytes) →
+    incoming_of_words plan to (decimal to ∷ (row_at plan t).name ∷ write_words op k v f bytes) ≡ Request t op (Write k v f bytes)
+unfolding incoming_of_words
+write_line_back plan to t op k v f bytes is to_fits within fits =
+    rw (
+      numbers_read_back to to_fits,
+      eq-eqb to to refl,
+      name_is_no_number (row_at plan t).name (name_at plan t is within),
+      place_back plan t is within,
+      no_question op k v f bytes,
+      write_back (row_at plan t).most_blocks op k v f bytes fits,
+    ) refl
+
+pub writes_read_back : WritesReadBack
+unfolding write_words
+writes_read_back plan to t op k v f bytes is to_fits within fits =
+    let line : List ℕ = write_text plan to t op k v f bytes in
+    let words : List Word = (row_at plan t).name ∷ write_words op k v f bytes in
+    let short : nat_lt (longest_line plan) (length line) ≡ false = le-ltb (longest_line plan) (length line) (write_text_short plan to t op k v f bytes is to_fits within fits) in
+    let others : are_plain words ≡ true = rw (name_is_plain plan t is within) (write_plain (row_at plan t).most_blocks op k v f bytes fits) in
+    rw short (ap (incoming_of_words plan to) (words_back (decimal to) words (decimal_plain to to_fits) others) ∙ write_line_back plan to t op k v f bytes is to_fits within fits)
 
 -- ---- the question what a tenant has
 

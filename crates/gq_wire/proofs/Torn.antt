@@ -9,7 +9,7 @@ use Rattle.gq_tag.specs.declared.FileId.{FileId}
 use Rattle.gq_desk.specs.CheckedPlan.{CheckedPlan}
 use Rattle.gq_model.specs.declared.events.Line.{Line}
 use Rattle.gq_model.specs.declared.events.Line.TheVariants.{Read, List as ListFiles, Abandon}
-use Rattle.gq_text.specs.Words.{Word, words_of, number_up_to, number_of, long_number_of, bytes_from, content_of}
+use Rattle.gq_text.specs.Words.{Word, words_of, number_up_to, number_of, long_number_of, bytes_from, content_in_digits}
 use Rattle.gq_text.specs.Input.{◌>>=◌, place_named}
 use Rattle.gq_text.proofs.WordsLemmas.{some_word}
 use Rattle.gq_wire.specs.Incoming.{longest_line}
@@ -96,7 +96,7 @@ heading_marked words =
 -- ---- what fails at it
 
 content_fails : (words : List Word) → last_content (marked words) ≡ None
-unfolding content_of
+unfolding content_in_digits
 content_fails [] = ap bytes_from (decode_of-odd (63 ∷ []) refl)
 content_fails (w ∷ []) = refl
 content_fails (w ∷ v ∷ words) = refl

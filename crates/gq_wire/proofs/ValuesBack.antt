@@ -13,12 +13,12 @@ use Rattle.gq_desk.specs.declared.plans.TenantRow.{TenantRow}
 use Rattle.gq_text.specs.Input.{place_named}
 use Rattle.gq_text.specs.Canonical.{IsPlan}
 use Rattle.gq_text.proofs.Numbers.{numbers_read_back, long_numbers_read_back}
-use Rattle.gq_text.proofs.Plain.{is_plain, are_plain, decimal_plain, long_plain, name_plain, content_plain}
+use Rattle.gq_text.proofs.Plain.{is_plain, are_plain, decimal_plain, long_plain, name_plain, bytes_plain}
 use Rattle.gq_text.proofs.PlanNames.{place_of_row}
-use Rattle.gq_text.proofs.Contents.{content_back}
+use Rattle.gq_text.proofs.Contents.{bytes_back, content_back}
 use Rattle.gq_wire.specs.Values.{within_byte, copy_of}
 use Rattle.gq_wire.specs.Texts.{copy_words}
-use Rattle.gq_wire.specs.Laws.{FitsCopy}
+use Rattle.gq_wire.specs.Laws.{FitsCopy, CopiesInDigitsReadBack}
 
 -- ---- names
 
@@ -45,9 +45,14 @@ pub byte_back : (n : ℕ) → n < 256 → within_byte n ≡ Some n
 byte_back n small = rw (le-leb n 255 (omega arith)) refl
 
 pub copy_plain : (copy : StoredCopy) → FitsCopy copy → are_plain (copy_words copy) ≡ true
-copy_plain copy fits = rw (long_plain copy.tag.number fits.0, decimal_plain copy.tag.session (omega (arith, fits.1)), content_plain copy.bytes fits.2) refl
+copy_plain copy fits = rw (long_plain copy.tag.number fits.0, decimal_plain copy.tag.session (omega (arith, fits.1)), bytes_plain copy.bytes) refl
 
 pub copy_back : (copy : StoredCopy) → FitsCopy copy → copy_of (copy_words copy) ≡ Some copy
 unfolding copy_of
 copy_back copy fits =
+    rw (long_numbers_read_back copy.tag.number fits.0, numbers_read_back copy.tag.session (omega (arith, fits.1)), byte_back copy.tag.session fits.1, bytes_back copy.bytes) refl
+
+pub copies_in_digits_read_back : CopiesInDigitsReadBack
+unfolding copy_of
+copies_in_digits_read_back copy fits =
     rw (long_numbers_read_back copy.tag.number fits.0, numbers_read_back copy.tag.session (omega (arith, fits.1)), byte_back copy.tag.session fits.1, content_back copy.bytes fits.2) refl

@@ -1,5 +1,5 @@
 -- What is read of the lines that are written.
-use Rattle.std.specs.Prelude.{◌≡◌, ◌≢◌, ℕ, ◌*◌, ◌<◌, ◌≤◌, ◌^◌, List, [], ◌∷◌, ◌++◌, Bool, true, false, not, ◌==◌, codes, decimal, length, if◌then◌else◌}
+use Rattle.std.specs.Prelude.{◌≡◌, ◌≢◌, ℕ, ◌*◌, ◌<◌, ◌≤◌, ◌^◌, List, [], ◌∷◌, ◌++◌, Bool, true, false, not, ◌==◌, codes, decimal, length, Some, if◌then◌else◌}
 use Rattle.std.specs.List.{list_all}
 use Rattle.hex.specs.Hex.{IsBytes}
 use Rattle.gq_tag.specs.declared.StoredCopy.{StoredCopy}
@@ -16,10 +16,11 @@ use Rattle.gq_node.specs.declared.output.Parcel.{Parcel}
 use Rattle.gq_node.specs.declared.output.Parcel.TheVariants.{Wants, Brings}
 use Rattle.gq_replace.specs.Plans.{place_of}
 use Rattle.gq_text.specs.Words.{Word}
-use Rattle.gq_text.specs.AnswerText.{spaced}
+use Rattle.gq_text.specs.AnswerText.{bytes_word, content_word, spaced}
 use Rattle.gq_text.specs.Canonical.{IsPlan, IsNumber}
 use Rattle.gq_wire.specs.declared.incoming.Incoming.{Incoming}
 use Rattle.gq_wire.specs.declared.incoming.Incoming.TheVariants.{Request, Plan, Bad, Letter, Joins, Joined, Fetch, Fetched, Nothing}
+use Rattle.gq_wire.specs.Values.{copy_of}
 use Rattle.gq_wire.specs.Requests.{request_words}
 use Rattle.gq_wire.specs.Letters.{is_of_round}
 use Rattle.gq_wire.specs.Incoming.{incoming_of}
@@ -70,6 +71,10 @@ abbrev pub LettersReadBack : Type 0
 LettersReadBack =
     (plan : CheckedPlan) (to from : ℕ) (m : Message) → IsPlan plan → FitsLetter plan to from m →
     (letter_line plan to from m ≡ letter_text plan to from m ++ 10 ∷ []) × (is_one_line (letter_text plan to from m) ≡ true) × (incoming_of plan to (letter_text plan to from m) ≡ Letter from m)
+
+-- a copy is read from digits too, as nodes wrote it before
+abbrev pub CopiesInDigitsReadBack : Type 0
+CopiesInDigitsReadBack = (copy : StoredCopy) → FitsCopy copy → copy_of (decimal copy.tag.number ∷ decimal copy.tag.session ∷ content_word copy.bytes ∷ []) ≡ Some copy
 
 -- ---- between a new node and others
 
@@ -134,6 +139,17 @@ abbrev pub RequestsReadBack : Type 0
 RequestsReadBack =
     (plan : CheckedPlan) (to tenant op : ℕ) (line : Line) → IsPlan plan → IsNumber to → tenant < length plan.rows → FitsRequest (row_at plan tenant).most_blocks op line →
     incoming_of plan to (request_text plan to tenant op line) ≡ Request tenant op line
+
+-- the line of a write whose content is written as its bytes
+abbrev pub write_text : CheckedPlan → (to tenant op session volume file : ℕ) → List ℕ → List ℕ
+write_text plan to tenant op k v f bytes =
+    decimal to ++ spaced ((row_at plan tenant).name ∷ codes "write" ∷ decimal k ∷ decimal op ∷ decimal v ∷ decimal f ∷ bytes_word bytes ∷ [])
+
+-- it is read as that request too
+abbrev pub WritesReadBack : Type 0
+WritesReadBack =
+    (plan : CheckedPlan) (to tenant op k v f : ℕ) (bytes : List ℕ) → IsPlan plan → IsNumber to → tenant < length plan.rows →
+    FitsRequest (row_at plan tenant).most_blocks op (Write k v f bytes) → incoming_of plan to (write_text plan to tenant op k v f bytes) ≡ Request tenant op (Write k v f bytes)
 
 -- ---- the question what a tenant has
 

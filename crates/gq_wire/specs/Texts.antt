@@ -12,7 +12,7 @@ use Rattle.gq_model.specs.declared.events.Line.TheVariants.{Write, Read, List as
 use Rattle.gq_model.specs.declared.events.Refusal.{Refusal}
 use Rattle.gq_model.specs.declared.events.Refusal.TheVariants.{NoVolume, NoFile, TooLong}
 use Rattle.gq_text.specs.Words.{Word}
-use Rattle.gq_text.specs.AnswerText.{content_word, outcome_words, refusal_words, line_text}
+use Rattle.gq_text.specs.AnswerText.{bytes_word, outcome_words, refusal_words, line_text}
 use Rattle.gq_node.specs.declared.output.Answer.{Answer}
 use Rattle.gq_node.specs.declared.output.Holding.{Holding}
 use Rattle.gq_node.specs.declared.output.Parcel.{Parcel}
@@ -26,7 +26,7 @@ first_text = line_text [] (codes "?" ∷ [])
 -- ---- a letter
 
 abbrev pub copy_words : StoredCopy → List Word
-copy_words copy = decimal copy.tag.number ∷ decimal copy.tag.session ∷ content_word copy.bytes ∷ []
+copy_words copy = decimal copy.tag.number ∷ decimal copy.tag.session ∷ bytes_word copy.bytes ∷ []
 
 abbrev pub body_words : Body → List Word
 body_words Ask = codes "ask" ∷ []

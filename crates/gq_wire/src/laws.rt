@@ -1,10 +1,15 @@
 //! What is read of the lines that are written.
 
-ghost use Rattle.gq_wire.specs.Laws.{AllJoinsReadBack, LettersReadBack, ParcelsReadBack, PassesOver, PlansReadBack, RequestsReadBack, TornLinesHaveNoForm};
+ghost use Rattle.gq_wire.specs.Laws.{AllJoinsReadBack, CopiesInDigitsReadBack, LettersReadBack, ParcelsReadBack, PassesOver, PlansReadBack, RequestsReadBack, TornLinesHaveNoForm, WritesReadBack};
 
 /// The line of a letter, up to its newline, is read by the node that it is to as that letter.
 pub fn letters_read_back()
     ensures { LettersReadBack }
+{}
+
+/// A copy is read from digits too, as nodes wrote it before.
+pub fn copies_in_digits_read_back()
+    ensures { CopiesInDigitsReadBack }
 {}
 
 /// The lines between a new node and others are read so by the node that they are to: a line about a file, the question whether a plan has
@@ -14,10 +19,11 @@ pub fn parcels_read_back()
     ensures joins { AllJoinsReadBack }
 {}
 
-/// The line of a request is read by the node that it is to as that request, with the number of its operation; and that by which a tenant
-/// asks what it has, as this question.
+/// The line of a request is read by the node that it is to as that request, with the number of its operation, whether a content is
+/// written in digits or in bytes; and that by which a tenant asks what it has, as this question.
 pub fn requests_read_back()
     ensures requests { RequestsReadBack }
+    ensures writes { WritesReadBack }
     ensures plans { PlansReadBack }
 {}
 

@@ -7,7 +7,7 @@ ghost use Rattle.gq_wire.specs.Values.{number_then, byte_then, long_then, within
 use bytes::Bytes;
 use gq_memory::OutOfMemory;
 use gq_tag::{StoredCopy, Tag};
-use gq_text::{content, is_end, long_number, next_word, number};
+use gq_text::{content, is_end, long_number, next_long_word, next_word, number};
 use std::alloc::Global;
 
 /// The number of the next word, and the text after it.
@@ -49,7 +49,7 @@ pub fn take_long(text: &[u8]) -> Option<(u64, &[u8])>
 pub(crate) fn last_content(alloc: Global, text: &[u8]) -> Result<Option<Bytes>, OutOfMemory>
     ensures { IfOk result (λ read. read ≡ last_content (words_after text.now)) }
 {
-    let Some((word, rest)) = next_word(text) else {
+    let Some((word, rest)) = next_long_word(text) else {
         return Ok(None);
     };
     if !is_end(rest) {

@@ -87,7 +87,7 @@ fn put_with_copy<'x>(
             Piece::Text(word),
             Piece::Number(copy.tag.number),
             Piece::Number(u64::from(copy.tag.session)),
-            Piece::Content(copy.bytes.as_slice()),
+            Piece::Bytes(copy.bytes.as_slice()),
         ],
     )
 }
@@ -161,7 +161,7 @@ fn put_fetched<'x>(
             Piece::Number(u64::from(file.file)),
             Piece::Number(copy.tag.number),
             Piece::Number(u64::from(copy.tag.session)),
-            Piece::Content(copy.bytes.as_slice()),
+            Piece::Bytes(copy.bytes.as_slice()),
         ],
     )
 }

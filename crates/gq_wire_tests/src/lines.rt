@@ -55,6 +55,7 @@ fn reads_requests(rt: HostRuntime) -> Result<(), Fail> {
         bytes: Bytes::from_static(b"\x00\xff"),
     };
     assert!(rt; asks(&rt, alloc, b"2 ann write 1 7 0 3 00fF", 0, 7, &write));
+    assert!(rt; asks(&rt, alloc, b"2 ann write 1 7 0 3 =\x00\xff", 0, 7, &write));
     let read = Line::Read {
         session: 9,
         volume: 0,
@@ -112,6 +113,8 @@ fn reads_requests_without_a_form(rt: HostRuntime) -> Result<(), Fail> {
     assert!(rt; is_bad(&rt, alloc, b"2 ann quorum 1 1"));
     assert!(rt; is_bad(&rt, alloc, b"2 ann retry 1 1"));
     assert!(rt; is_bad(&rt, alloc, b"2 ann write 1 7 0 3"));
+    assert!(rt; is_bad(&rt, alloc, b"2 ann write 1 7 0 3 =\\"));
+    assert!(rt; is_bad(&rt, alloc, b"2 ann write 1 7 0 3 =\\x"));
     assert!(rt; is_bad(&rt, alloc, b"2 ann read 1 7 0 3 0"));
     assert!(rt; is_bad(&rt, alloc, b"2 ann read 01 7 0 3"));
     Ok(())
@@ -278,7 +281,7 @@ fn writes_lines_of_a_new_node(rt: HostRuntime) -> Result<(), Fail> {
     put_lines_of_a_new_node(&rt, &plan(&rt, alloc), given, &mut out);
     assert_eq!(rt;
         out.as_slice(),
-        b"1 64 joins 1\n64 1 joined 1\n2 64 ann fetch 1 3\n64 2 ann fetched 1 3 9 2 0a0b\n".as_slice()
+        b"1 64 joins 1\n64 1 joined 1\n2 64 ann fetch 1 3\n64 2 ann fetched 1 3 9 2 =\\n\x0b\n".as_slice()
     );
     Ok(())
 }
@@ -316,7 +319,7 @@ fn writes_letters(rt: HostRuntime) -> Result<(), Fail> {
     let alloc = rt.alloc();
     assert!(rt; writes_of(&rt, alloc, 7, 1, Body::Ask, b"1 2 ann 1 5 7 1 3 ask\n"));
     let store = Body::Store(copy(18_446_744_073_709_551_615, 2, b"\x0a\xf0\xff"));
-    let line = b"1 2 ann 1 5 8 1 3 store 18446744073709551615 2 0af0ff\n";
+    let line = b"1 2 ann 1 5 8 1 3 store 18446744073709551615 2 =\\n\xf0\xff\n";
     assert!(rt; writes_of(&rt, alloc, 8, 1, store, line));
     let reply = Body::Copy(copy(0, 0, b""));
     assert!(rt; writes_of(&rt, alloc, 7, 2, reply, b"1 2 ann 1 5 7 1 3 copy 0 0 -\n"));

@@ -117,8 +117,9 @@ A plan with `room BLOCKS` in place of `blocks BLOCKS` has up to 67108864 blocks 
 lines `tenant`: MOST, the most blocks of a file of that tenant, 1 to 16384, in place of 16.
 
 Words are separated by one space. NAME is 1 to 16 letters a to z, and not `server`. HEX is two hexadecimal digits for each
-byte, or `-` for the empty content. The other words in capitals are numbers: 0, or digits of which the first is no 0; at most
-4294967295. Sessions are numbered from 1, servers, volumes, files and messages from 0.
+byte, or `-` for the empty content, or `=` and the bytes themselves (docs/FORMATS.md, Contents in bytes). The other words in
+capitals are numbers: 0, or digits of which the first is no 0; at most 4294967295. Sessions are numbered from 1, servers,
+volumes, files and messages from 0.
 
 An operation goes on in rounds, numbered from 1. An odd round asks each server of a row for its copy of the file, and ends
 when the servers of some full row have answered. An even round sends a copy to each server of a column to be stored, and ends
