@@ -37,6 +37,7 @@ bob open 8 4
 """
 SECONDS = 60
 STOPS = 6  # interrupted puts
+ATTEMPTS = 5  # of a command that may find a node silent that is up
 
 
 class Commands:
@@ -121,7 +122,8 @@ class Commands:
             with open(f"tree/{path}", "wb") as out:
                 out.write(content)
         every = [f"back/{path}".encode() for path in sorted(contents)]
-        self.lines("mirror, dry", ["mirror", "--dry-run", "tree", "grid:back"], [b"would put " + name for name in every], b"would put 3, remove 0; 0 the same")
+        would = [b"would put " + name for name in every]
+        self.lines("mirror, dry", ["mirror", "--dry-run", "tree", "grid:back"], would, b"would put 3, remove 0; 0 the same")
         self.told("what a dry one has put", ["ls"], b"")
         self.lines("mirror to the grid", ["mirror", "tree", "grid:back/"], [b"put " + name for name in every], b"put 3, removed 0; 0 the same")
         self.told("the same once more", ["mirror", "tree", "grid:back"], b"put 0, removed 0; 3 the same\n")
@@ -137,7 +139,8 @@ class Commands:
         self.told("rm of a name", ["rm", "back/a"], b"")
         self.told("put of another content", ["put", "-", "back/b/ä b"], b"", given=bytes(5_000))
         self.told("put of a new name", ["put", "-", "new"], b"", given=b"new")
-        self.lines("a restore", ["mirror", "--delete", "backup", "grid:"], [b"put back/a", "put back/b/ä b".encode(), b"removed new"], b"put 2, removed 1; 2 the same")
+        done = [b"put back/a", "put back/b/ä b".encode(), b"removed new"]
+        self.lines("a restore", ["mirror", "--delete", "backup", "grid:"], done, b"put 2, removed 1; 2 the same")
         for path, content in contents.items():
             self.told(f"get of {path} after it", ["get", f"back/{path}"], content)
         os.symlink("/etc/passwd", "tree/link")
@@ -159,14 +162,23 @@ class Commands:
         *lines, end = told.splitlines()
         self.held(name, (status, sorted(lines), end, why), (0, sorted(wanted), last, ""))
 
+    def run_until(self, silence, *words, **more):
+        """Runs a command until it tells that these nodes are silent, and no others: on a machine that is very busy one that is up may be silent too."""
+        for _ in range(ATTEMPTS):
+            done = self.run(*words, **more)
+            if silence in done[1].decode() + done[2]:
+                break
+        return done
+
     def status(self):
         self.told("put for a status", ["put", "-", "long"], b"", given=bytes(3_000))
-        status, told, why = self.run("status")
+        status, told, why = self.run_until("\nall 4 nodes answer\n", "status")
         self.held("status", (status, why), (0, ""))
         for line in (b"  row 1   2   3 ", b"all 4 nodes answer", b"wholly up: rows 0 and 1, columns 0 and 1", b"session 4: home 3", b"names: 1"):
             self.held(f"status tells {line}", line in told.splitlines(), True)
-        value = json.loads(self.run("--grid", "2x2", "status", "--json")[1])
-        keys = ["tenant", "nodes", "rows", "columns", "is_arrangement_said", "rows_up", "columns_up", "goes_on", "sessions", "names", "pages", "slots", "bytes", "left_out"]
+        value = json.loads(self.run_until('"columns_up": [0, 1]', "--grid", "2x2", "status", "--json")[1])
+        keys = ["tenant", "nodes", "rows", "columns", "is_arrangement_said", "rows_up", "columns_up", "goes_on", "sessions"]
+        keys += ["names", "pages", "slots", "bytes", "left_out"]
         self.held("status --json", (list(value), value["goes_on"], value["names"], value["bytes"]["used"]), (keys, True, 1, 3_000))
         slots = value["slots"]
         self.held("its slots", (slots["used"] - slots["without_a_name"], slots["used"] + slots["free"]), (4, 192))
@@ -383,7 +395,11 @@ def served(program):
         grid.wait()
 
 
-PARTS = (["names", "numbered_files", "status", "mirror", "full", "carriers", "sessions", "terminal"], ["bad_input", "streams", "finished_by_an_interrupted_put", "interrupts"])
+PARTS = (
+    ["names", "numbered_files", "full", "carriers", "sessions"],
+    ["bad_input", "streams", "finished_by_an_interrupted_put", "interrupts"],
+    ["status", "mirror", "terminal"],
+)
 
 
 def try_commands(program, parts):

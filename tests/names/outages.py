@@ -39,16 +39,17 @@ def has(lines, text):
 
 def one_is_down(commands):
     lines = ["  row 1   2  (3)", "node 3 is silent", "wholly up: row 0, column 0", "session 4: home 3, silent", "names: 1", "bytes: 5 used, 30720 free"]
-    status, told, why = commands.run("status")
+    status, told, why = commands.run_until("\nnode 3 is silent\n", "status")
     commands.held("status with a node down", (status, has(lines, told), why), (0, lines, ""))
 
 
 def a_row_is_down(commands):
     """Nodes 2 and 3 are a row, so no column is wholly up."""
     silence = "nodes 2 and 3 are silent: no column is wholly up"
-    asked = (["status"], ["--grid", "2x2", "status", "--json"], ["--timeout", SHORT, "put", "told", "a"], ["--timeout", SHORT, "--grid", "2x2", "mirror", "tree", "grid:"])
+    said = ["--grid", "2x2"]
+    asked = (["status"], [*said, "status", "--json"], ["--timeout", SHORT, "put", "told", "a"], [*said, "--timeout", SHORT, "mirror", "tree", "grid:"])
     with ThreadPoolExecutor(len(asked)) as pool:
-        status, value, put, mirror = pool.map(lambda words: commands.run(*words), asked)
+        status, value, put, mirror = pool.map(lambda words: commands.run_until(silence, *words), asked)
     doubt = ", if the grid is 2 by 2"
     lines = ["  row 1  (2) (3)", silence + doubt, "wholly up: row 0, no column", f"names, pages, slots, bytes: left out: {silence}{doubt}"]
     commands.held("status with a row down", (status[0], has(lines, status[1]), status[2]), (4, lines, f"gridfs-client: {silence}{doubt}\n"))

@@ -2,6 +2,7 @@
 
 import contextlib
 import os
+import shutil
 import sys
 import tempfile
 import unittest
@@ -300,6 +301,56 @@ class Interrupted(Mirrors):
         with mock.patch.object(ToFolder, "entries", then_removed):
             report = self.down()
         self.assertEqual((self.read_all(self.other), report.moved, report.status), ({"b": b"2"}, ["b"], 0))
+
+
+class Used(Mirrors):
+    """Another client changes names at a step of a mirror, by a session that the mirror does not have then."""
+
+    def change_at(self, step):
+        def at_step(now):
+            if now == step and not self.changed:
+                self.changed = True
+                other = self.memory.client(self.taken[-1] % 3 + 1)
+                other.put("b/x", b"3" * 200)
+                with contextlib.suppress(NoSuchName):
+                    other.remove("a")
+                other.put("new", b"new")
+
+        self.changed, self.at_step = False, at_step
+
+    def test_to_the_folder(self):
+        for step in range(1, 60):
+            self.memory, self.at_step = Memory(sessions=3, pages=2, slots=12), None
+            self.put(FILES)
+            shutil.rmtree(self.other, ignore_errors=True)
+            self.change_at(step)
+            self.assertEqual(self.down().status, 0)
+            found = self.read_all(self.other)
+            self.assertIn(found.get("b/x"), (FILES["b/x"], b"3" * 200))
+            self.assertIn(found.get("a"), (FILES["a"], None))
+            self.assertEqual([found[path] for path in ("b/c/ä b", "b/c/-")], [FILES[path] for path in ("b/c/ä b", "b/c/-")])
+            if not self.changed:
+                break
+            self.at_step = None
+            self.down(removes=True)
+            self.assertEqual(self.read_all(self.other), self.held())
+        self.assertGreater(step, 8)
+
+    def test_to_the_grid(self):
+        self.write_all()
+        for step in range(1, 60):
+            self.memory = Memory(sessions=3, pages=2, slots=12)
+            self.change_at(step)
+            self.assertEqual(self.up().status, 0)
+            found = self.held()
+            self.assertIn(found.get("b/x"), (FILES["b/x"], b"3" * 200))
+            self.assertEqual((found.get("new"), found["b/c/-"]), (b"new" if self.changed else None, b"4"))
+            if not self.changed:
+                break
+            self.at_step = None
+            self.up(removes=True)
+            self.assertEqual(self.held(), FILES)
+        self.assertGreater(step, 15)
 
 
 class Turns(Mirrors):
