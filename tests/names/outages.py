@@ -46,18 +46,16 @@ def one_is_down(commands):
 def a_row_is_down(commands):
     """Nodes 2 and 3 are a row, so no column is wholly up."""
     silence = "nodes 2 and 3 are silent: no column is wholly up"
-    said = ["--grid", "2x2"]
-    asked = (["status"], [*said, "status", "--json"], ["--timeout", SHORT, "put", "told", "a"], [*said, "--timeout", SHORT, "mirror", "tree", "grid:"])
+    asked = (["status"], ["status", "--json"], ["--timeout", SHORT, "put", "told", "a"], ["--timeout", SHORT, "mirror", "tree", "grid:"])
     with ThreadPoolExecutor(len(asked)) as pool:
         status, value, put, mirror = pool.map(lambda words: commands.run_until(silence, *words), asked)
-    doubt = ", if the grid is 2 by 2"
-    lines = ["  row 1  (2) (3)", silence + doubt, "wholly up: row 0, no column", f"names, pages, slots, bytes: left out: {silence}{doubt}"]
-    commands.held("status with a row down", (status[0], has(lines, status[1]), status[2]), (4, lines, f"gridfs-client: {silence}{doubt}\n"))
+    lines = ["  row 1  (2) (3)", silence, "wholly up: row 0, no column", f"names, pages, slots, bytes: left out: {silence}"]
+    commands.held("status with a row down", (status[0], has(lines, status[1]), status[2]), (4, lines, f"gridfs-client: {silence}\n"))
     told = json.loads(value[1])
     seen = value[0], told["goes_on"], told["names"], told["left_out"], value[2]
     commands.held("status --json with a row down", seen, (4, False, None, silence, f"gridfs-client: {silence}\n"))
     commands.held("its nodes", [(node["node"], node["answers"]) for node in told["nodes"]], [(0, True), (1, True), (2, False), (3, False)])
-    commands.held("put with a row down", (put[0], put[2]), (4, f"gridfs-client: no session was answered in 6 s, of 1, 2, 3 and 4; {silence}{doubt}\n"))
+    commands.held("put with a row down", (put[0], put[2]), (4, f"gridfs-client: no session was answered in 6 s, of 1, 2, 3 and 4; {silence}\n"))
     commands.held("mirror with a row down", (mirror[0], mirror[2]), (4, f"gridfs-client: no session was answered in 6 s, of 1, 2, 3 and 4; {silence}\n"))
 
 

@@ -143,7 +143,7 @@ def commands_over_a_broker(program):
     tried = commands.Commands(settings)
     try:
         grid.start()
-        for part in (tried.names, tried.sessions, lambda: tried.broker(grid)):
+        for part in (tried.names, tried.status, tried.sessions, lambda: tried.broker(grid)):
             part()
     finally:
         grid.end()
