@@ -20,6 +20,9 @@ SETTINGS: dict[str, tuple[str | None, str]] = {
     "broker": ("localhost:8884", "HOST:PORT of the MQTT broker, for tenants"),
     "ca-file": (None, "a file of certificates of authorities: use TLS, and trust these"),
     "password-file": (None, "the first line of this file is the tenant's password; others may not read it"),
+    "hosts": (None, "the file that says where each node is: links to the nodes, in place of a broker"),
+    "certificate": (None, "with hosts, the tenant's certificate"),
+    "key": (None, "with hosts, its key; others may not read it"),
     "socket": (None, "a socket of examples/grid, in place of a broker"),
     "via": (None, "a command that carries lines TO FROM BODY, in place of a broker"),
     "session": ("all", "N, FIRST-LAST or all: the first of these that no other command here uses and whose home answers is used"),
@@ -132,6 +135,10 @@ class Settings:
             return ProcessCarrier(tenant, shlex.split(self.values["via"]))
         if "socket" in self.values:
             return SocketCarrier(tenant, self.values["socket"])
+        if "hosts" in self.values:
+            from .links import LinkCarrier
+
+            return LinkCarrier(tenant, self.need("hosts"), self.need("ca-file"), self.need("certificate"), self.need("key"), patience)
         try:
             from .broker import MqttCarrier
         except ImportError:
