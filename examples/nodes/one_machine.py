@@ -1,4 +1,4 @@
-"""What a grid on one machine owes to whoever runs it, whichever way its lines go: examples/grid and deploy/mqtt/grid."""
+"""What a grid on one machine owes to whoever runs it, whichever way its lines go: examples/grid, deploy/links/grid and deploy/mqtt/grid."""
 
 import fcntl
 import os

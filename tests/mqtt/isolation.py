@@ -8,20 +8,14 @@ import subprocess
 import threading
 import time
 
-from peers import DEPLOY, Speaker, message, wait_for
+from grid_commands import NAMES, wait_for, write_plan
+from peers import DEPLOY, Speaker, message
 
-NAMES = ["ann", "bob"]
 CLIENT = os.path.join(DEPLOY, "client")
 HEARD = 0.7  # seconds in which what was said would have come
 SESSIONS, LOAD = 4, 2  # of ann's, amid a flood, and its seconds
 MOST_TIMES = 4  # that ann's median may be of the one without a flood
 RECORD = 200_000  # bytes that bob gives to TLS at once, so that messages lie across its records
-
-
-def write_plan(path):
-    rows = "".join(f"tenant {name} 256 16 1\n" for name in NAMES)
-    with open(path, "w", encoding="ascii") as out:
-        out.write(f"grid 2 2\nblocks 4096\n{rows}go\n" + "".join(f"{name} open 64 2\n" for name in NAMES))
 
 
 def password(grid, name):

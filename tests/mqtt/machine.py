@@ -1,210 +1,35 @@
-"""deploy/mqtt/grid, the command: what it tells, refuses and leaves behind, and how long its test authority is trusted."""
+"""deploy/mqtt/grid, the command, and how long its test authority is trusted."""
 
-import contextlib
 import os
-import re
 import shutil
-import signal
 import subprocess
-import sys
 
-from isolation import write_plan
-from mqtt_grid import children_of, free_ports
-from one_machine import InUse, lock
-from peers import DEPLOY, SECONDS, wait_for
-
-CLIENT = os.path.join(DEPLOY, "..", "..", "clients", "python", "gridfs-client")
-UP = "nodes are up"
-FILES = {"plan", "begun"}  # what others may read, as far as the folder lets them
+import grid_commands
+from grid_commands import signed
+from peers import DEPLOY
 
 
-def state_of(folder):
-    """All files, each with its bytes and the time of its last change."""
-    state = {}
-    for at, _, names in os.walk(folder):
-        for name in names:
-            with open(os.path.join(at, name), "rb") as file:
-                state[os.path.join(at, name)] = file.read(), os.fstat(file.fileno()).st_mtime_ns
-    return state
+class Machine(grid_commands.Machine):
+    COMMAND, NAME, ENGINE, CARRIER = os.path.join(DEPLOY, "grid"), "deploy/mqtt/grid", "broker", "carry"
+    CERTIFICATES = "the test authority and its certificate end"
 
-
-def ignore_interrupt():
-    signal.signal(signal.SIGINT, signal.SIG_IGN)
-
-
-def end_all(pids):
-    """Ends what a grid left that was killed, if it is there still. (By SIGTERM: nginx would leave its worker.)"""
-    for pid in pids:
-        with contextlib.suppress(ProcessLookupError):
-            os.kill(pid, signal.SIGTERM)
-
-
-class Command:
-    """A run of the command, as a script's background job is started: with SIGINT ignored."""
-
-    def __init__(self, machine, *words):
-        words = [sys.executable, os.path.join(DEPLOY, "grid"), "--program", machine.program, "--tls", machine.tls, "--port", str(machine.port), *words, "grid"]
-        self.told_to = f"told.{machine.runs}"
-        machine.runs += 1
-        with open(self.told_to, "wb") as told:
-            self.process = subprocess.Popen(words, stdin=subprocess.DEVNULL, stdout=told, stderr=told, preexec_fn=ignore_interrupt)
-        machine.commands.append(self)
-
-    def told(self):
-        with open(self.told_to, encoding="utf-8") as file:
-            return file.read()
-
-    def says(self, text):
-        return wait_for(lambda: text in self.told() or self.process.poll() is not None) and text in self.told()
-
-    def end(self, number):
-        """The status with which it ends by this signal, and whether it tells a traceback."""
-        self.process.send_signal(number)
-        return self.status(), "Traceback" in self.told()
-
-    def status(self):
-        """The status with which it ends by itself. One that runs on is ended, with all that it started."""
-        try:
-            return self.process.wait(SECONDS)
-        except subprocess.TimeoutExpired:
-            started = children_of(self.process.pid)
-            self.process.kill()
-            self.process.wait()
-            end_all(started)
-            return "it runs on"
-
-
-class Machine:
     def __init__(self, program, tls):
-        self.program, self.tls, self.port, self.runs = program, tls, free_ports(), 0
-        self.tried, self.wrong, self.commands = 0, [], []
-        write_plan("first")
+        super().__init__(program)
+        self.tls = tls
 
-    def held(self, name, seen, wanted):
-        self.tried += 1
-        if seen != wanted:
-            self.wrong.append(f"{name}: {seen!r}, not {wanted!r}")
-
-    def client(self, *words, given=""):
-        done = subprocess.run([CLIENT, "--config", "grid/ann.ini", *words], input=given, stdout=subprocess.PIPE, stderr=subprocess.PIPE, text=True, timeout=60)
-        return done.returncode, done.stdout or done.stderr
-
-    def is_free(self):
-        """Whether nothing that the command started still runs: it would have the lock."""
-        try:
-            os.close(lock("grid"))
-        except InUse as fault:
-            return str(fault)
-        return True
-
-    def starts(self):
-        grid = Command(self, "--plan", "first")
-        self.held("a first start", (grid.says(UP), "grid: 4 nodes are up, in " in grid.told()), (True, True))
-        open_to_others = {name for name in os.listdir("grid") if os.stat(f"grid/{name}").st_mode & 0o077} - FILES
-        secrets = {name for name in os.listdir("grid/broker/secret") if os.stat(f"grid/broker/secret/{name}").st_mode & 0o077}
-        self.held("what others may read", (open_to_others - {"broker"}, secrets, os.stat("grid").st_mode & 0o077), (set(), set(), 0))
-        # (journals of more than one batch, so that a wrong byte in the first is no torn end)
-        writes = [self.client("--session", str(session), "write", "0", "1", "-", given="hi")[0] for session in range(1, 5)]
-        self.held("writes", writes, [0] * 4)
-        before = state_of("grid")
-        self.held("a second start", self.is_refused(), (1, True))
-        self.held("what it has changed", {path for path, seen in state_of("grid").items() if before.get(path) != seen}, set())
-        self.held("the first one goes on", self.client("read", "0", "1"), (0, "hi"))
-        self.held("SIGINT to a background job", (grid.end(signal.SIGINT), self.is_free()), ((0, False), True))
+    def words(self):
+        return *super().words(), "--tls", self.tls
 
     def renew(self):
-        """Makes certificates that end soon, as they are after some weeks."""
         shutil.copy("grid/broker/ca.crt", "old.crt")
-        words = ["-CA", "grid/broker/ca.crt", "-CAkey", "grid/broker/ca.key", "-set_serial", "7", "-days", "5", "-out", "grid/broker/broker.crt"]
-        with open("names", "w", encoding="ascii") as out:
-            out.write("subjectAltName=DNS:localhost\n")
-        for command in (
-            ["req", "-new", "-key", "grid/broker/broker.key", "-subj", "/CN=localhost", "-out", "request"],
-            ["x509", "-req", "-in", "request", "-extfile", "names", *words],
-        ):
-            subprocess.run(["openssl", *command], check=True, stderr=subprocess.DEVNULL)
+        words = ["req", "-new", "-key", "grid/broker/broker.key", "-subj", "/CN=localhost", "-out", "request"]
+        subprocess.run(["openssl", *words], check=True, stderr=subprocess.DEVNULL)
+        signed("grid/broker", "request", "localhost", "grid/broker/broker.crt")
+        return "grid/broker/broker.crt"
 
-    def goes_on(self):
-        """With a journal that is gone, one that is damaged, and a certificate that ends in five days."""
-        self.renew()
-        os.unlink("grid/node3.journal")
-        with open("grid/node2.journal", "r+b") as file:
-            file.seek(20)
-            byte = file.read(1)[0]
-            file.seek(20)
-            file.write(bytes([byte ^ 1]))
-        self.refuses_plan()
-        grid = Command(self)
-        self.held("a start that lacks two nodes", (grid.says(UP), "grid: 2 of 4 nodes are up, in " in grid.told()), (True, True))
-        told = grid.told().splitlines()
-        replacing = [f"`deploy/mqtt/grid --replace {number} grid` puts a new node in its place" for number in (2, 3)]
-        gone = f"grid: node 3 is down: its journal is gone ({replacing[1]})"
-        self.held("a journal that is gone", gone in told or told, True)
-        damaged = "grid: node 2 is down: its journal is damaged: a person has to look (docs/OPERATING.md, Faults); where it is lost, " + replacing[0]
-        self.held("a journal that is damaged", damaged in told or told, True)
-        days = [line for line in told if line.startswith("grid: the test authority and its certificate end on ")]
-        lasts = subprocess.run(["openssl", "x509", "-in", "grid/broker/broker.crt", "-noout", "-checkend", str(20 * 86_400)], stdout=subprocess.DEVNULL)
-        self.held("a certificate that was about to end", (len(days), lasts.returncode), (1, 0))
-        self.held("a client that trusts the old authority", self.client("--ca-file", "old.crt", "plan")[0], 0)
-        # a node whose journal is gone, and one that does not start, once each has ended
-        os.unlink("grid/node1.journal")
-        self.kill(1)
-        self.held("a journal that goes meanwhile", grid.says("grid: node 1 has ended with status 137, and stays down: its journal is gone (`deploy/"), True)
-        shutil.copy("first", "grid/plan")
-        with open("grid/plan", "a", encoding="ascii") as out:
-            out.write("ann open 1 65\n")
-        self.kill(0)
-        self.held("a node that can't start", grid.says("grid: node 0 has ended with status 1, and stays down: a person has to look"), True)
-        status = grid.status()
-        self.held("a grid without nodes", (status, grid.told().splitlines()[-1], self.is_free()), (1, "grid: all nodes are down", True))
-
-    def is_refused(self):
-        """The status of one more start, and whether it tells why it is refused."""
-        start = Command(self)
-        status, why = start.status(), r"grid: \S+/grid: a grid runs there \(processes [\d, ]+\)\n"
-        return status, re.fullmatch(why, start.told()) is not None
-
-    def is_killed(self):
-        """A grid that is killed itself, whose processes run on."""
-        grid = Command(self)
-        self.held("a start again", grid.says(UP), True)
-        started = children_of(grid.process.pid)
-        grid.end(signal.SIGKILL)
-        self.held("a start on what a killed grid left", self.is_refused(), (1, True))
-        end_all(started)
-        self.held("once that has ended", wait_for(lambda: self.is_free() is True), True)
-
-    def refuses_plan(self):
-        """A plan that nodes refuse is not kept."""
-        with open("first", encoding="ascii") as file, open("wrong", "w", encoding="ascii") as out:
-            out.write(file.read().replace("tenant bob 256", "tenant bob 128"))
-        refused = Command(self, "--plan", "wrong")
-        status, told = refused.status(), refused.told()
-        self.held("a plan that does not go on", (status, ": of another node or plan" in told or told), (1, True))
-        with open("first", "rb") as first, open("grid/plan", "rb") as kept:
-            self.held("the plan that is kept", kept.read() == first.read(), True)
-
-    def kill(self, number):
-        """Ends the process of a node, below its carrier (kill -9)."""
-        for carrier in children_of(self.commands[-1].process.pid):
-            with open(f"/proc/{carrier}/cmdline", encoding="utf-8") as file:
-                words = file.read().split("\0")
-            if os.path.basename(words[0]) == "carry" and words[words.index("--") - 1] == str(number):
-                for node in children_of(carrier):
-                    os.kill(node, signal.SIGKILL)
-
-    def end(self):
-        for command in self.commands:
-            if command.process.poll() is None:
-                command.end(signal.SIGTERM)
+    def old_words(self):
+        return "--ca-file", "old.crt"
 
 
 def told(program, tls):
-    machine = Machine(program, tls)
-    try:
-        machine.starts()
-        machine.is_killed()
-        machine.goes_on()
-    finally:
-        machine.end()
-    return machine.tried, machine.wrong
+    return grid_commands.told(Machine(program, tls))

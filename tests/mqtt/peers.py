@@ -9,22 +9,10 @@ import sys
 import threading
 import time
 
+from grid_commands import SECONDS, wait_for
+
 HERE = os.path.dirname(os.path.abspath(__file__))
 DEPLOY = os.path.join(HERE, "..", "..", "deploy", "mqtt")
-SECONDS = 25  # that something may take until it is told to be wrong
-
-
-def wait_for(test, seconds=SECONDS):
-    """Whether the test holds at last. A file that is not there yet is one of which it does not."""
-    until = time.monotonic() + seconds
-    while True:
-        try:
-            is_so = bool(test())
-        except FileNotFoundError:
-            is_so = False
-        if is_so or time.monotonic() > until:
-            return is_so
-        time.sleep(0.01)
 
 
 def text16(text):

@@ -30,6 +30,9 @@ SETTINGS: dict[str, Setting] = {
     "broker": Setting("localhost:8884", "HOST:PORT", "the MQTT broker, by its port for tenants"),
     "ca-file": Setting(None, "FILE", "certificates of authorities: use TLS, and trust these"),
     "password-file": Setting(None, "FILE", "its first line is the tenant's password; others may not read it"),
+    "hosts": Setting(None, "FILE", "where each node is: links to the nodes, in place of a broker"),
+    "certificate": Setting(None, "FILE", "with hosts, the tenant's certificate"),
+    "key": Setting(None, "FILE", "with hosts, its key; others may not read it"),
     "socket": Setting(None, "PATH", "a socket of examples/grid, in place of a broker"),
     "via": Setting(None, "COMMAND", "a command that carries lines TO FROM BODY, in place of a broker"),
     "session": Setting("all", "N|N-M|all", "the first of these sessions that no other command here uses and whose home answers"),
@@ -152,6 +155,10 @@ class Settings:
             return ProcessCarrier(tenant, shlex.split(self.values["via"]))
         if "socket" in self.values:
             return SocketCarrier(tenant, self.values["socket"])
+        if "hosts" in self.values:
+            from .links import LinkCarrier
+
+            return LinkCarrier(tenant, self.need("hosts"), self.need("ca-file"), self.need("certificate"), self.need("key"), patience)
         try:
             from .broker import MqttCarrier
         except ImportError:

@@ -1,0 +1,242 @@
+"""The command `grid` of an engine: deploy/links/grid and deploy/mqtt/grid."""
+
+import argparse
+import os
+import shutil
+import subprocess
+import sys
+import tempfile
+import time
+
+from carried_grid import NotStarted
+from one_machine import STAY_DOWN, begin, end, how_ended, how_many_are_up, is_ready, way_out
+
+HERE = os.path.dirname(os.path.realpath(__file__))
+TOP = os.path.join(HERE, "..", "..")
+TRIES = 3  # starts of a node that ends with status 1 before it is ready: its journal may be in use by a process that is about to end
+DAY = 86_400  # seconds
+CLIENT = os.path.join(TOP, "clients", "python", "gridfs-client")
+
+
+def tell(text):
+    print(f"grid: {text}", file=sys.stderr, flush=True)
+
+
+def text_of(path):
+    """What a file has; None where there is none."""
+    if not os.path.exists(path):
+        return None
+    with open(path, "rb") as file:
+        return file.read()
+
+
+def put_back(grid, before):
+    """Puts the plan back that was there before, where no node has taken the new one. (From then on it can't be taken back.)"""
+    if before is not None and not any(number in grid.told_before and is_ready(number, grid.told_since_start(number)) for number in grid.nodes):
+        with open(grid.plan, "wb") as out:
+            out.write(before)
+
+
+class GridCommand:
+    """What the command does with any engine. A class for an engine says the rest."""
+
+    NAME = USAGE = HELP = ""  # as a person calls it; its words; what --help tells
+    PORT = 0  # the first port, where no other is named
+    WANTS = ()  # commands that have to be on the path
+    PACKAGES = ""  # of Debian, that are wanted
+    MAKE = ()  # the words of `make` for the carrier, which is the last one
+    CERTIFICATES = "its certificates end"
+    UP = ""  # what is up, as `try` tells it
+
+    # What an engine has
+
+    def add_words(self, parser):
+        """Adds the engine's own words."""
+
+    def new_grid(self, asked, folder, carry, port):
+        raise NotImplementedError
+
+    def setup_words(self, asked):
+        """Words for the engine's `setup`."""
+        return ()
+
+    def tenants(self, grid):
+        raise NotImplementedError
+
+    def settings(self, grid, name):
+        """By which a tenant's client finds the grid."""
+        raise NotImplementedError
+
+    # The words
+
+    def words_of(self, words):
+        parser = argparse.ArgumentParser(prog=self.NAME, usage=self.USAGE, add_help=False)
+        parser.add_argument("-h", "--help", action="store_true")
+        parser.add_argument("--plan")
+        parser.add_argument("--program", default=os.environ.get("GRIDFS") or os.path.join(TOP, "gridfs"))
+        parser.add_argument("--port", type=int, default=self.PORT)
+        parser.add_argument("--replace", type=int)
+        self.add_words(parser)
+        parser.add_argument("folder", nargs="?")
+        asked = parser.parse_args(words)
+        if asked.help:
+            print(self.HELP.strip())
+            sys.exit(0)
+        if not asked.folder:
+            parser.error("a folder is wanted, or the word try")
+        return asked
+
+    # The start
+
+    def built(self):
+        """The carrier, which is built where its source is newer."""
+        done = subprocess.run(["make", "-s", "-C", *self.MAKE], stdout=subprocess.PIPE, stderr=subprocess.STDOUT, text=True)
+        if done.returncode:
+            raise NotStarted(f"the carrier can't be built; what is wanted are the packages {self.PACKAGES}\n{done.stdout.strip()}")
+        return os.path.join(self.MAKE[0], self.MAKE[-1])
+
+    def started(self, asked, folder, port):
+        """A grid whose nodes are all connected."""
+        for command in self.WANTS:
+            if not shutil.which(command):
+                raise NotStarted(f"there is no {command}; what is wanted are the packages {self.PACKAGES}")
+        try:
+            known = subprocess.run([asked.program, "node", "--help"], stdin=subprocess.DEVNULL, stdout=subprocess.DEVNULL).returncode
+            grid = self.new_grid(asked, os.path.abspath(folder), self.built(), port)
+            os.makedirs(grid.folder, exist_ok=True)
+            grid.take()
+            before = text_of(grid.plan)
+            if asked.plan or before is None:
+                shutil.copy(asked.plan or os.path.join(TOP, "examples", "nodes", "plan-with-room"), grid.plan)
+        except OSError as error:
+            raise NotStarted(f"{error.filename}: {error.strerror}") from error
+        try:
+            if known:
+                raise NotStarted(f"{asked.program} has no command `node`")
+            self.start(grid, asked)
+        except BaseException:
+            end()
+            grid.end()
+            put_back(grid, before)
+            raise
+        return grid
+
+    def start(self, grid, asked):
+        """Makes the engine's folder and the settings of tenants, and starts all. Which nodes are down is told, and what to do about them."""
+        grid.set_up(*self.setup_words(asked))
+        if asked.replace is not None and asked.replace not in grid.nodes:
+            raise NotStarted(f"there are the nodes {', '.join(map(str, grid.nodes))}")
+        new = None if asked.replace is None else grid.note_loss(asked.replace)
+        for name in self.tenants(grid):
+            with open(os.path.join(grid.folder, f"{name}.ini"), "w", encoding="utf-8") as out:
+                out.write(f"[gridfs]\ntenant = {name}\ngrid = {grid.shape}\n" + "".join(f"{key} = {value}\n" for key, value in self.settings(grid, name).items()))
+        for number, status in grid.start(new).items():
+            tell(f"node {number} is down: {self.way_out_of(grid, number, status)}")
+
+    def way_out_of(self, grid, number, status):
+        return way_out(status, grid.has_journal(number), f"`{self.NAME} --replace {number} {os.path.relpath(grid.folder)}`")
+
+    def tell_end_of_certificates(self, grid):
+        """Tells the day on which the certificates end."""
+        ends = grid.certificates_end()
+        if ends is not None:
+            tell(f"{self.CERTIFICATES} on {time.strftime('%Y-%m-%d', time.gmtime(ends))}, and are made anew before, as long as the grid runs or is started")
+
+    # The show
+
+    def ask(self, grid, name, *words, given=""):
+        """Has the client ask, and tells both; its status and what it told."""
+        command = [CLIENT, "--config", os.path.join(grid.folder, f"{name}.ini"), *words]
+        told = subprocess.run(command, input=given, stdout=subprocess.PIPE, text=True)
+        print(f"    gridfs-client of {name}: {' '.join(words):<24} {given:<10} status {told.returncode}{': ' if told.stdout else ''}{told.stdout.strip()}", flush=True)
+        return told.returncode, told.stdout
+
+    def show(self, grid):
+        """The status: 0 where all that was acknowledged is read."""
+        print(f"{self.UP.format(grid.count)} are up. carol puts a content under a name and gets it, bob reads his own file 0:", flush=True)
+        seen = [self.ask(grid, "carol", "put", "-", "greeting", given="hello"), self.ask(grid, "carol", "get", "greeting"), self.ask(grid, "bob", "read", "0", "0")]
+        print("Node 1 is killed (kill -9). The others go on, and it starts again:", flush=True)
+        grid.kill_node(1)
+        seen.append(self.ask(grid, "carol", "put", "-", "greeting", given="once more"))
+        grid.start_node(1)
+        grid.wait_until_ready([1])
+        print(f"{'The broker and all' if 'broker' in grid.SERVERS else 'All'} nodes are killed, and start again:", flush=True)
+        for name in [*({"broker"} & set(grid.SERVERS)), *grid.nodes]:
+            grid.kill(name) if name == "broker" else grid.kill_node(name)
+        for name in {"broker"} & set(grid.SERVERS):
+            grid.start_server(name)
+        for number in grid.nodes:
+            grid.start_node(number)
+        seen.append(self.ask(grid, "carol", "get", "greeting"))
+        is_right = seen == [(0, ""), (0, "hello"), (0, ""), (0, ""), (0, "once more")]
+        print("All that was acknowledged is there." if is_right else "Something is not as it was acknowledged.")
+        return 0 if is_right else 1
+
+    # From then on
+
+    def look_after(self, grid):
+        """Starts again what has ended, as a unit of systemd does, and makes certificates anew; until it is interrupted, or all nodes are down."""
+        fails, next_day = dict.fromkeys(grid.nodes, 0), time.time() + DAY
+        while any(number in grid.processes for number in grid.nodes):
+            for name, process in list(grid.processes.items()):
+                if process.poll() is not None:
+                    self.start_again(grid, name, process.returncode, fails)
+            if time.time() > next_day:
+                next_day = time.time() + DAY
+                self.renew(grid)
+            time.sleep(0.2)
+        raise NotStarted("all nodes are down")
+
+    def renew(self, grid):
+        try:
+            if grid.renew():
+                self.tell_end_of_certificates(grid)
+        except NotStarted as fault:
+            tell(f"certificates can't be made anew: {fault}")
+
+    def start_again(self, grid, name, status, fails):
+        """Starts what has ended, but for a node that would end again and again."""
+        ended = f"{f'node {name}' if name in grid.nodes else f'the {name}'} has ended {how_ended(status)}"
+        if name in grid.nodes:
+            was_ready = is_ready(name, grid.told_since_start(name))
+            fails[name] = 0 if was_ready else fails[name] + 1
+            may_mend = status == 1 and not was_ready and fails[name] < TRIES
+            if not grid.has_journal(name) or (status in STAY_DOWN and not may_mend):
+                tell(f"{ended}, and stays down: {self.way_out_of(grid, name, status)}; log.{name} has what it said")
+                del grid.processes[name]
+                return
+        tell(f"{ended}; log.{name} says why. It starts again")
+        time.sleep(1)
+        grid.start_server(name) if name in grid.SERVERS else grid.start_node(name)
+
+    def run(self, words):
+        """Does what the words say; the status."""
+        asked = self.words_of(words)
+        with tempfile.TemporaryDirectory(prefix="gridfs-grid-") as room:
+            is_try, grid = asked.folder == "try", None
+            try:
+                grid = self.started(asked, room if is_try else asked.folder, None if is_try else asked.port)
+                if is_try:
+                    return self.show(grid)
+                self.tell_end_of_certificates(grid)
+                up = sum(number in grid.processes for number in grid.nodes)
+                tell(f"{how_many_are_up(up, grid.count)}, in {grid.folder}. Now for instance:")
+                print(f"{os.path.relpath(CLIENT)} --config {os.path.join(grid.folder, f'{self.tenants(grid)[-1]}.ini')} plan", flush=True)
+                self.look_after(grid)
+            except NotStarted as fault:
+                tell(fault)
+                return 1
+            except OSError as error:
+                tell(f"{error.filename}: {error.strerror}" if error.filename else error)
+                return 1
+            except KeyboardInterrupt:
+                return 0
+            finally:
+                end()
+                if grid:
+                    grid.end()
+
+
+def main(command):
+    begin()
+    sys.exit(command.run(sys.argv[1:]))

@@ -1,0 +1,413 @@
+/* carry: runs a node, or any program that reads and writes lines `TO FROM BODY`, and carries its lines by an engine. Lines that
+   can't be carried are dropped whole and counted: a node bears their loss. Nothing here waits for the node or for anybody. */
+#define _GNU_SOURCE
+#include "node.h"
+#include <errno.h>
+#include <fcntl.h>
+#include <poll.h>
+#include <stdarg.h>
+#include <stdio.h>
+#include <stdlib.h>
+#include <string.h>
+#include <sys/ioctl.h>
+#include <sys/syscall.h>
+#include <sys/wait.h>
+#include <unistd.h>
+
+enum {
+    WRITE = 4096,               /* bytes of writes to the node: whole lines, that a pipe takes whole (PIPE_BUF) */
+    TURN = 1024,                /* bytes that one name gives to a write before the next one has its turn */
+    PIPE = 8192,                /* bytes of the pipe to the node: a flood can put so many before another's line */
+    PRICE = 800                 /* bytes that each line adds to its own in a tenant's rate */
+};
+
+const char *me;
+size_t longest = LONGEST, bound = 1 << 20;
+int fault;
+struct counts count;
+
+static size_t own, rate = 8 << 20;              /* the length of our number; bytes of a tenant in a second */
+static const double burst = 0.02;               /* seconds of its rate that a tenant may use at once */
+static struct { struct queue of[NAMES]; size_t many, turn; } from;
+static struct queue *mine;                      /* the node's lines to itself */
+static struct watch node_in = {.fd = -1}, node_out = {.fd = -1};    /* our ends of its pipes */
+static char *piece, *chunk;                     /* output of the node that was read; what is being written to it */
+static size_t piece_held, chunk_held, chunk_at;
+static bool skipping, node_full;                /* in a line that is too long; the node's pipe is full */
+static double rested;                           /* when a tenant that waits for his rate may go on */
+static uint64_t given, tick_end;                /* bytes written to the node, in all and up to its last tick */
+static size_t tick_waits;                       /* bytes of its own queue up to the end of a tick; 0 without one */
+static double tick_time, tick_due;
+static bool engine_runs;
+static volatile sig_atomic_t ending, asked_counts, hung_up;
+
+static double about(double seconds) { return seconds * (0.9 + 0.2 * (double)random() / RAND_MAX); }
+
+/* One write for a line, so that it is not mixed with lines of the node. */
+void say(const char *form, ...) {
+    char text[900] = "carry: ";
+    va_list words;
+    va_start(words, form);
+    vsnprintf(text + 7, sizeof text - 8, form, words);
+    va_end(words);
+    size_t length = strlen(text);
+    text[length] = '\n';
+    struct pollfd log = {.fd = STDERR_FILENO, .events = POLLOUT};       /* (a log that nobody reads must not stop us) */
+    if (poll(&log, 1, 0) == 1 && log.revents == POLLOUT && write(STDERR_FILENO, text, length + 1) < 0) return;
+}
+
+static void say_counts(void) {
+    for (size_t i = 0; i < from.many; i++)
+        if (from.of[i].dropped) say("%ld lines from %s were more than the bound", from.of[i].dropped, from.of[i].name);
+    say("in %ld out %ld lost %ld full %ld slow %ld long %ld strange %ld memory %ld connected %ld", count.in, count.out,
+        count.lost, count.full, count.slow, count.too_long, count.strange, count.memory, count.connected);
+    engine_counts();
+}
+
+static void memory_refused(void) {
+    if (!count.memory++) say("out of memory: drops lines");
+}
+
+/* Queues of whole lines */
+
+bool is_name(const char *text, size_t length) {
+    size_t letters = 0, digits = 0;
+    while (letters < length && text[letters] >= 'a' && text[letters] <= 'z') letters++;
+    while (digits < length && text[digits] >= '0' && text[digits] <= '9') digits++;
+    if (digits) return digits == length && (length == 1 || (length <= 3 && *text != '0'));
+    return letters && letters == length && length <= NAME;
+}
+
+/* The queue of a name. Where there are too many names, a new one gets a queue that is empty and has no user. */
+struct queue *queue_of(const char *name, size_t length) {
+    struct queue *empty = NULL;
+    for (size_t i = 0; i < from.many; i++) {
+        struct queue *queue = &from.of[i];
+        if (!memcmp(queue->name, name, length) && !queue->name[length]) return queue;
+        if (!held(queue) && !queue->users) empty = queue;
+    }
+    if (from.many < NAMES) empty = &from.of[from.many++];
+    if (!empty) return NULL;
+    memset(empty->name, 0, sizeof empty->name);
+    memcpy(empty->name, name, length);
+    snprintf(empty->head, sizeof empty->head, "%s %s ", me, empty->name);
+    empty->dropped = 0, empty->paid_until = 0;
+    return empty;
+}
+
+static bool make_room(struct queue *queue, size_t more) {
+    size_t stay = held(queue), room = (queue->end + more) / 2 * 3 + 1024;
+    if (queue->end + more <= queue->room) return true;
+    if (queue->first >= stay + more) {              /* (so a byte is moved only after as many others have gone) */
+        memmove(queue->bytes, queue->bytes + queue->first, stay);
+        queue->first = 0, queue->end = stay;
+        return true;
+    }
+    char *bytes = realloc(queue->bytes, room);
+    if (!bytes) return false;
+    queue->bytes = bytes, queue->room = room;
+    return true;
+}
+
+static bool add(struct queue *queue, const char *body, size_t length) {
+    size_t before = strlen(queue->head), more = before + length + 1;
+    if (held(queue) + more > bound) {
+        queue->dropped++, count.full++;
+        return false;
+    }
+    if (!make_room(queue, more)) {
+        memory_refused();
+        return false;
+    }
+    memcpy(queue->bytes + queue->end, queue->head, before);
+    memcpy(queue->bytes + queue->end + before, body, length);
+    queue->end += more;
+    queue->bytes[queue->end - 1] = '\n';
+    return true;
+}
+
+/* Bytes of the first whole lines: at most `most`, but always one line. */
+static size_t lines_in(const struct queue *queue, size_t most) {
+    const char *text = queue->bytes + queue->first, *last = NULL;
+    if (held(queue) <= most) return held(queue);
+    if (!(last = memrchr(text, '\n', most))) last = memchr(text, '\n', held(queue));
+    return (size_t)(last - text) + 1;
+}
+
+static void forget(struct queue *queue, size_t bytes) {
+    queue->first += bytes;
+    if (queue->first < queue->end) return;
+    queue->first = queue->end = 0;
+    if (queue->room > CHUNK) free(queue->bytes), queue->bytes = NULL, queue->room = 0;     /* (a flood is over) */
+}
+
+size_t count_lines(const char *text, size_t length) {
+    size_t lines = 0;
+    for (const char *end = text + length; (text = memchr(text, '\n', (size_t)(end - text))); text++) lines++;
+    return lines;
+}
+
+/* To the node */
+
+void for_node(struct queue *queue, const char *text, size_t length) {
+    const char *end = text + length, *stop;
+    if (!queue) count.full++;
+    for (; queue && text < end; text = stop + 1) {
+        if (!(stop = memchr(text, '\n', (size_t)(end - text)))) stop = end;
+        size_t body = (size_t)(stop - text);
+        if (strlen(queue->head) + body > longest) count.too_long++;
+        else if (body && add(queue, text, body)) count.in++;
+    }
+}
+
+void charge(struct queue *queue, size_t bytes, double time) {
+    if (queue->paid_until < time) queue->paid_until = time;
+    queue->paid_until += (double)bytes / (double)rate;
+}
+
+double rests_until(const struct queue *queue, double time) { return queue->paid_until > time + burst ? queue->paid_until - burst : 0; }
+
+static void give_lines(struct queue *queue, size_t bytes, double time) {
+    const char *text = queue->bytes + queue->first;
+    memcpy(chunk + chunk_held, text, bytes);
+    chunk_held += bytes;
+    if (queue == mine && tick_waits) {
+        tick_waits -= bytes < tick_waits ? bytes : tick_waits;
+        if (!tick_waits) tick_end = given + chunk_held;
+    }
+    if (is_tenant(queue->name)) charge(queue, bytes + PRICE * count_lines(text, bytes), time);
+    forget(queue, bytes);
+}
+
+/* Fills the next write with some whole lines of each name, by turns: so a flood of one does not stop another's lines. A tenant
+   who has used more than his rate waits, so that he can't keep the node busy alone. */
+static void fill_chunk(double time) {
+    chunk_at = chunk_held = 0, rested = time + 1;
+    for (size_t i = 0; i < from.many; i++) {
+        struct queue *queue = &from.of[from.turn % from.many];
+        double waits = held(queue) ? rests_until(queue, time) : 0;
+        size_t bytes = held(queue) && waits == 0 ? lines_in(queue, TURN) : 0;
+        if (chunk_held && chunk_held + bytes > WRITE) return;
+        from.turn = (from.turn + 1) % from.many;
+        if (waits > 0 && waits < rested) rested = waits;
+        if (bytes) give_lines(queue, bytes, time);
+    }
+}
+
+static void end_input(void) {
+    if (node_in.fd < 0) return;
+    watch(&node_in, 0);
+    close(node_in.fd);
+    node_in.fd = -1;
+}
+
+static void feed_node(double time) {
+    while (node_in.fd >= 0 && !node_full) {
+        if (chunk_at == chunk_held) fill_chunk(time);
+        if (chunk_at == chunk_held) return;
+        size_t bytes = chunk_held - chunk_at < CHUNK ? chunk_held - chunk_at : CHUNK;
+        ssize_t written = write(node_in.fd, chunk + chunk_at, bytes);
+        if (written > 0) chunk_at += (size_t)written, given += (uint64_t)written;
+        else if (errno == EAGAIN) node_full = true, watch(&node_in, EPOLLOUT);
+        else if (errno != EINTR) end_input();
+    }
+}
+
+static void node_takes(struct watch *it, uint32_t events) {
+    (void)events;
+    node_full = false, watch(it, 0);
+}
+
+/* A tick follows the node's own lines, and comes only once the node has read the tick before. */
+static void give_tick(void) {
+    int unread = 0;
+    if (node_in.fd < 0 || tick_waits) return;
+    if (ioctl(node_in.fd, FIONREAD, &unread) || given - (uint64_t)unread < tick_end) return;
+    if (add(mine, "tick", 4)) tick_waits = held(mine);
+}
+
+/* From the node */
+
+static void take_line(const char *text, size_t length) {
+    const char *space = memchr(text, ' ', length);
+    size_t name = space ? (size_t)(space - text) : 0, head = name + own + 2;
+    if (length == 2 && !memcmp(text, " ?", 2)) return;         /* (a node begins with this) */
+    bool good = is_name(text, name) && length > head && !memcmp(space + 1, me, own) && text[head - 1] == ' ';
+    if (length > longest) count.too_long++;
+    else if (!good) count.strange++;
+    else if (name == own && !memcmp(text, me, own)) for_node(mine, text + head, length - head);
+    else engine_carry(text, name, text + head, length - head);
+}
+
+/* (What follows the last LF at the end of its output is no line.) */
+static void read_node(struct watch *it, uint32_t events) {
+    (void)events;
+    ssize_t came = read(it->fd, piece + piece_held, CHUNK);
+    if (came < 0 && (errno == EAGAIN || errno == EINTR)) return;
+    if (came <= 0) {
+        watch(it, 0);
+        close(it->fd);
+        it->fd = -1;
+        return;
+    }
+    char *text = piece, *end = piece + piece_held + came, *search = piece + piece_held;
+    for (char *stop; (stop = memchr(search, '\n', (size_t)(end - search))); text = search = stop + 1) {
+        if (!skipping) take_line(text, (size_t)(stop - text));
+        skipping = false;
+    }
+    piece_held = (size_t)(end - text);
+    if (piece_held > longest && !skipping) skipping = true, count.too_long++;
+    if (skipping) piece_held = 0;
+    memmove(piece, text, piece_held);
+}
+
+/* The process */
+
+static void on_signal(int number) {
+    if (number == SIGUSR1) asked_counts = 1;
+    else if (number == SIGHUP) hung_up = 1;
+    else ending = 1;
+}
+
+static bool start(char **command, const sigset_t *open_mask, pid_t *child) {
+    int in[2], out[2];
+    if (pipe2(in, O_CLOEXEC) || pipe2(out, O_CLOEXEC)) return false;
+    if ((*child = fork()) < 0) return false;
+    if (*child == 0) {
+        setpgid(0, 0);      /* (Ctrl-C is for carry alone; setsid would also make a group of the scheduler) */
+        signal(SIGPIPE, SIG_DFL);
+        sigprocmask(SIG_SETMASK, open_mask, NULL);
+        if (dup2(in[0], STDIN_FILENO) >= 0 && dup2(out[1], STDOUT_FILENO) >= 0) execvp(*command, command);
+        say("%s: %s", *command, strerror(errno));
+        _exit(127);
+    }
+    close(in[0]), close(out[1]);
+    node_in = (struct watch){.fd = in[1], .call = node_takes}, node_out = (struct watch){.fd = out[0], .call = read_node};
+    fcntl(in[1], F_SETPIPE_SZ, PIPE);
+    if (fcntl(in[1], F_SETFL, O_NONBLOCK) || fcntl(out[0], F_SETFL, O_NONBLOCK)) return false;
+    watch(&node_out, EPOLLIN);
+    return true;
+}
+
+/* One turn: does all that can be done now, and waits for more. */
+static void pass(const sigset_t *open_mask) {
+    double time = now(), wake;
+    if (asked_counts) asked_counts = 0, say_counts();
+    if (hung_up) hung_up = 0, engine_runs ? engine_hangup() : (void)0;
+    if (ending || fault) end_input();
+    if (time >= tick_due) give_tick(), tick_due = time + about(tick_time);
+    wake = engine_runs ? engine_turn(time) : time + 0.1;
+    feed_node(time);
+    if (tick_due < wake) wake = tick_due;
+    if (!node_full && rested > time && rested < wake) wake = rested;
+    loop_once(wake - time, open_mask);
+}
+
+/* Waits until the node's last lines have left. */
+static void flush(const sigset_t *open_mask) {
+    for (double until = now() + 3; engine_runs && !engine_is_empty() && now() < until; pass(open_mask)) {}
+}
+
+static const char usage[] =
+    "usage: carry [OPTION ..] [--tick SECONDS] [--plan FILE | --longest BYTES] NUMBER -- COMMAND [ARG ..]\n"
+    "Runs COMMAND as node NUMBER and carries its lines. It gives a tick each 0.25 s, and carries lines of at most 4095\n"
+    "bytes without their end. If the plan, or --longest, has longer lines, it carries these, and ticks come less often:\n"
+    "each 2.25 s for lines of 2 MiB. SIGTERM ends the command's input, and waits for its end; SIGUSR1 prints the counts.\n"
+    "Status: the command's, or 128 and the number of the signal that ended it; 1: a file can't be used; 2: a wrong word;\n"
+    "3: out of memory.\n";
+
+__attribute__((noreturn)) static void wrong(const char *what, const char *word) {
+    say("%s: %s", what, word);
+    fputs(usage, stderr), fputs(engine_usage, stderr);
+    exit(2);
+}
+
+static double number(const char *what, const char *word, double least, double most) {
+    char *end;
+    double value = strtod(word, &end);
+    if (*word < '0' || *word > '9' || *end || !(value >= least && value <= most)) wrong(what, word);
+    return value;
+}
+
+/* The longest line of a plan: 255 bytes, and 128 for each block that a tenant's largest file may have. (The node itself
+   refuses a plan with a fault.) */
+static size_t longest_of(const char *plan) {
+    char row[256];
+    size_t found = LONGEST;
+    FILE *file = fopen(plan, "re");
+    if (!file) say("%s: %s", plan, strerror(errno)), exit(1);
+    while (fgets(row, sizeof row, file) && strcmp(row, "go\n")) {
+        unsigned long most;
+        if (sscanf(row, "tenant %*s %*s %*s %*s %lu", &most) == 1 && most <= (LONGEST_EVER - 255) / 128 && 128 * most + 255 > found)
+            found = 128 * most + 255;
+    }
+    fclose(file);
+    return found;
+}
+
+static char **read_words(char **at) {
+    const char *tick = NULL, *length = NULL, *plan = NULL;
+    struct word words[] = {{"--tick", &tick}, {"--longest", &length}, {"--plan", &plan}, {NULL, NULL}};
+    for (at++; *at && !strncmp(*at, "--", 2); at += 2) {
+        const struct word *found = words;
+        if (!strcmp(*at, "--help")) exit(fputs(usage, stdout) < 0 || fputs(engine_usage, stdout) < 0);
+        while (found->word && strcmp(*at, found->word)) found++;
+        if (!found->word)
+            for (found = engine_words; found->word && strcmp(*at, found->word); found++) {}
+        if (!found->word || !at[1]) wrong(found->word ? "another word has to follow" : "no such word", *at);
+        *found->to = at[1];
+    }
+    if (plan) longest = longest_of(plan);
+    if (length) longest = (size_t)number("--longest", length, LONGEST, LONGEST_EVER);
+    tick_time = tick ? number("--tick", tick, 0.01, 3600) : 0.25 + (double)(longest - LONGEST) / (1 << 20);
+    if (!at[0] || !at[1] || strcmp(at[1], "--") || !at[2]) wrong("NUMBER -- COMMAND", "is wanting");
+    me = at[0], own = strlen(me);
+    if (is_tenant(me) || !is_name(me, own)) wrong("NUMBER", me);
+    if (bound < 4 * longest) bound = 4 * longest;
+    if (rate < 16 * longest) rate = 16 * longest;
+    mine = queue_of(me, own);
+    mine->users = 1;
+    return at + 2;
+}
+
+/* Carrier and node work for some microseconds at a time. So they ask the scheduler for short slices: their turns come sooner, and they
+   get no more of the processor. (Linux before 6.12 ignores this.) */
+static void ask_short_slices(void) {
+    struct { uint32_t size, policy; uint64_t flags; int32_t nice; uint32_t priority; uint64_t runtime, deadline, period; } it = {.size = 48, .runtime = 100000};
+    if (syscall(SYS_sched_getattr, 0, &it, sizeof it, 0)) return;
+    it.size = 48, it.runtime = 100000;
+    syscall(SYS_sched_setattr, 0, &it, 0);
+}
+
+int main(int argc, char **argv) {
+    (void)argc;
+    char **command = read_words(argv);
+    struct sigaction action = {.sa_handler = on_signal};
+    sigset_t blocked, open_mask;
+    int status = 0, signals[] = {SIGTERM, SIGINT, SIGUSR1, SIGHUP};
+    pid_t child = -1;
+    ask_short_slices();
+    while ((status = open("/dev/null", O_RDWR)) >= 0 && status < 3) {}     /* (no pipe of ours may become 0, 1 or 2) */
+    close(status);
+    sigemptyset(&blocked);
+    for (int i = 0; i < 4; i++) sigaddset(&blocked, signals[i]), sigaction(signals[i], &action, NULL);
+    sigprocmask(SIG_BLOCK, &blocked, &open_mask);
+    signal(SIGPIPE, SIG_IGN);
+    srandom((unsigned)getpid());
+    piece = malloc(longest + CHUNK + 1), chunk = malloc(longest < WRITE ? WRITE : longest + 1);
+    if (!piece || !chunk || !loop_begin() || !start(command, &open_mask, &child)) {
+        say("%s: %s", *command, strerror(errno));
+        return errno == ENOMEM ? 3 : 1;
+    }
+    if (!(engine_runs = engine_begin()) && !fault) fault = 1;
+    tick_due = now() + about(tick_time);
+    while (node_out.fd >= 0) pass(&open_mask);
+    end_input();
+    flush(&open_mask);
+    engine_end();
+    while (waitpid(child, &status, 0) < 0 && errno == EINTR) {}
+    if (WIFSIGNALED(status)) say("node %s ended by signal %d", me, WTERMSIG(status));
+    else say("node %s ended with status %d", me, WEXITSTATUS(status));
+    say_counts();
+    return fault ? fault : WIFEXITED(status) ? WEXITSTATUS(status) : 128 + WTERMSIG(status);
+}

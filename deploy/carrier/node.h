@@ -1,0 +1,52 @@
+/* A carrier has two parts. This one runs the node as a child and keeps what waits for it. The other one, an engine, brings
+   lines from others and to them. */
+#ifndef NODE_H
+#define NODE_H
+#include "loop.h"
+#include <stddef.h>
+
+enum {
+    NAME = 16,                  /* letters of a tenant's name */
+    NAMES = 256,                /* most names whose lines wait at one time */
+    LONGEST = 4095,             /* bytes of a line without its LF; a plan with larger files has longer ones */
+    LONGEST_EVER = 2097407,     /* of the longest line of any plan */
+    CHUNK = 65536               /* bytes of a read from the node, or of a write of a longer line */
+};
+
+struct queue {                  /* whole lines from one name that wait for the node */
+    char name[NAME + 1], head[2 * NAME];    /* head: `NUMBER FROM ` */
+    char *bytes;
+    size_t first, end, room;
+    double paid_until;          /* how much of its rate a tenant has used */
+    int users;                  /* as long as there are some, no other name gets this queue */
+    long dropped;
+};
+
+extern const char *me;          /* the node's number */
+extern size_t longest, bound;   /* bytes of a line; bytes that wait from one name, or for one */
+extern int fault;               /* our own status, if it is not 0 */
+struct counts { long in, out, lost, full, slow, too_long, strange, memory, connected; };
+extern struct counts count;
+
+__attribute__((format(printf, 1, 2))) void say(const char *form, ...);
+bool is_name(const char *text, size_t length);
+static inline bool is_tenant(const char *name) { return *name >= 'a'; }
+struct queue *queue_of(const char *name, size_t length);        /* NULL if there are too many names */
+void for_node(struct queue *queue, const char *text, size_t length);    /* takes whole lines, without the last LF */
+static inline size_t held(const struct queue *queue) { return queue->end - queue->first; }
+size_t count_lines(const char *text, size_t length);
+void charge(struct queue *queue, size_t bytes, double time);    /* a tenant has used so much of its rate */
+double rests_until(const struct queue *queue, double time);     /* when a tenant who used more than his rate may go on; 0: now */
+
+/* What an engine has */
+extern const char engine_usage[];
+struct word { const char *word, **to; };
+extern const struct word engine_words[];        /* the last one has no word */
+bool engine_begin(void);                        /* after the node's start; false if it can't begin, with `fault` if that is known */
+void engine_carry(const char *to, size_t name, const char *body, size_t length);    /* takes one line, without its LF */
+double engine_turn(double time);                /* writes what waits; the time at which it has to be called again */
+bool engine_is_empty(void);                     /* whether nothing waits to be written */
+void engine_counts(void);
+void engine_end(void);
+void engine_hangup(void);                       /* SIGHUP: files may have changed */
+#endif

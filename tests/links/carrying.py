@@ -1,0 +1,632 @@
+"""What a carrier over links owes, point by point. The node is a stand-in: what it is given goes to a file, and it says what the test writes into
+a pipe."""
+
+import contextlib
+import os
+import re
+import shutil
+import signal
+import socket
+import ssl
+import subprocess
+import time
+
+from link_grid import free_ports
+from processes import Wrong
+
+HERE = os.path.dirname(os.path.abspath(__file__))
+DEPLOY = os.path.join(HERE, "..", "..", "deploy", "links")
+
+PLAN = "grid 1 2\nblocks 64\ntenant ann 8 16 1\ntenant bob 8 16 1\ngo\nann open 2 2\nbob open 2 2\n"
+THREE = "grid 1 3\nblocks 64\ntenant ann 8 16 1\ngo\nann open 2 2\n"
+ROOM = "grid 1 2\nroom 20000\ntenant ann 16384 16 1 16384\ngo\n"
+SOON = 5  # seconds in which what is to come has come
+NODE = "exec 3<&0; cat <&3 >{folder}/in.{number} & exec cat {folder}/out.{number}"
+STILL = "exec cat {folder}/out.{number}"
+
+
+def check(holds, what):
+    if not holds:
+        raise Wrong(what)
+
+
+def wait_for(holds, what, seconds=SOON):
+    until = time.monotonic() + seconds
+    while not holds():
+        check(time.monotonic() < until, what)
+        time.sleep(0.02)
+
+
+def set_up(folder, plan=PLAN, *words):
+    os.makedirs(folder, exist_ok=True)
+    path = os.path.join(folder, "plan")
+    with open(path, "w", encoding="ascii") as out:
+        out.write(plan)
+    done = subprocess.run([os.path.join(DEPLOY, "setup"), *words, os.path.join(folder, "links"), path], stderr=subprocess.PIPE, text=True)
+    check(done.returncode == 0, done.stderr)
+    return os.path.join(folder, "links")
+
+
+class Carry:
+    """A carrier and its stand-in."""
+
+    def __init__(self, program, folder, number=0, script=NODE, *words):
+        self.folder, self.number, self.links = folder, number, os.path.join(folder, "links")
+        with open(os.path.join(self.links, "hosts"), encoding="ascii") as file:
+            places = {line.split()[0]: [int(word.rpartition(":")[2]) for word in line.split()[1:]] for line in file}
+        self.for_nodes, self.for_tenants = places[str(number)]
+        self.out_path, self.in_path, self.log = (os.path.join(folder, f"{what}.{number}") for what in ("out", "in", "log"))
+        with contextlib.suppress(FileNotFoundError):
+            os.unlink(self.in_path)
+        open(self.in_path, "w").close()
+        if not os.path.exists(self.out_path):
+            os.mkfifo(self.out_path)
+        command = ["sh", "-c", script.format(folder=folder, number=number)]
+        at = lambda what: os.path.join(self.links, what)
+        options = {"--hosts": at("hosts"), "--ca-file": at("ca.crt"), "--certificate": at(f"secret/{number}.crt"), "--key": at(f"secret/{number}.key"), "--denied": at("denied"), "--bind": "127.0.0.1", "--plan": os.path.join(folder, "plan")}
+        options.update(zip(words[::2], words[1::2]))
+        with open(self.log, "wb") as log:
+            environment = {**os.environ, "ASAN_OPTIONS": "quarantine_size_mb=1"}  # (what was given back is not to be counted)
+            self.process = subprocess.Popen([program, *(word for pair in options.items() for word in pair), str(number), "--", *command], stdin=subprocess.DEVNULL, stdout=log, stderr=log, env=environment)
+        self.out = None
+
+    def ready(self):
+        self.out = open(self.out_path, "wb", 0)
+        for port in (self.for_nodes, self.for_tenants):
+            wait_for(lambda: can_connect(port), f"port {port} is not there: {self.told()}")
+        return self
+
+    def told(self):
+        with open(self.log, encoding="latin1") as file:
+            return file.read()
+
+    def lines(self):
+        """What the node was given, but for ticks."""
+        with open(self.in_path, "rb") as file:
+            return [line for line in file.read().split(b"\n")[:-1] if not line.endswith(b" tick")]
+
+    def ticks(self):
+        with open(self.in_path, "rb") as file:
+            return file.read().count(b"tick\n")
+
+    def gets(self, *lines, seconds=SOON):
+        wait_for(lambda: all(line in self.lines() for line in lines), f"not given: {lines}; given: {self.lines()[-5:]}", seconds)
+
+    def says(self, text):
+        self.out.write(text)
+
+    def memory(self):
+        with open(f"/proc/{self.process.pid}/statm") as file:
+            return int(file.read().split()[1]) * os.sysconf("SC_PAGE_SIZE")
+
+    def end(self):
+        if self.out:
+            self.out.close()
+        if self.process.poll() is None:
+            self.process.terminate()
+        try:
+            return self.process.wait(10)
+        except subprocess.TimeoutExpired:
+            self.process.kill()
+            self.process.wait()
+            raise Wrong("it does not end") from None
+
+
+def can_connect(port):
+    try:
+        socket.create_connection(("127.0.0.1", port), 1).close()
+        return True
+    except OSError:
+        return False
+
+
+def context_of(links, name, authority="ca.crt"):
+    context = ssl.SSLContext(ssl.PROTOCOL_TLS_CLIENT)
+    context.load_verify_locations(os.path.join(links, authority))
+    if name:
+        context.load_cert_chain(os.path.join(links, "secret", f"{name}.crt"), os.path.join(links, "secret", f"{name}.key"))
+    return context
+
+
+def come(carry, name, port=None, links=None, context=None):
+    made = (context or context_of(links or carry.links, name)).wrap_socket(socket.create_connection(("127.0.0.1", port or carry.for_tenants), 5), server_hostname=f"node{carry.number}")
+    made.settimeout(5)
+    return made
+
+
+def is_refused(come_in):
+    """Whether a connection that is made so ends, or is never made."""
+    try:
+        with come_in() as made:
+            made.sendall(b"read 1 1 0 0\n")
+            return made.recv(1) == b""
+    except TimeoutError:
+        return False
+    except OSError:
+        return True
+
+
+def has_ended(made):
+    """Whether the other end ends this connection, and says nothing before."""
+    try:
+        return made.recv(1) == b""
+    except TimeoutError:
+        return False
+    except OSError:
+        return True
+
+
+def is_taken(carry, come_in, line):
+    """Whether the node is given a line of a connection that is made so."""
+    try:
+        with come_in() as made:
+            made.sendall(line.encode() + b"\n")
+            carry.gets(b"0 ann " + line.encode())
+            return True
+    except OSError:
+        return False
+
+
+def hear(made, many=1):
+    """So many lines."""
+    parts = []
+    while many > 0:
+        parts.append(made.recv(65536))
+        check(parts[-1], "the connection ended")
+        many -= parts[-1].count(b"\n")
+    return b"".join(parts).split(b"\n")[:-1]
+
+
+def fresh(program, folder, plan=PLAN, script=NODE, *words, other=None):
+    port = free_ports(4)
+    set_up(folder, plan, "--local", str(port))
+    return Carry(program, folder, 0, script, *words).ready()
+
+
+# The checks
+
+def who_may_come(program, folder):
+    carry = fresh(program, folder)
+    try:
+        other = set_up(os.path.join(folder, "other"))  # another authority, with the same names
+        with open(os.path.join(other, "ca.crt"), "a") as both, open(os.path.join(carry.links, "ca.crt")) as ours:
+            both.write(ours.read())
+        check(not is_refused(lambda: come(carry, "bob")), "bob is not taken")
+        check(is_refused(lambda: come(carry, None)), "one without a certificate is taken")
+        check(is_refused(lambda: come(carry, "ann", links=other)), "a certificate of another authority is taken")
+        check(is_refused(lambda: come(carry, "ann", carry.for_nodes)), "a tenant is taken at the port for nodes")
+        check(is_refused(lambda: come(carry, "1")), "a node is taken at the port for tenants")
+        check(is_refused(lambda: come(carry, "0", carry.for_nodes)), "one with the node's own number is taken")
+        old = context_of(carry.links, "ann")
+        old.maximum_version = ssl.TLSVersion.TLSv1_2
+        check(is_refused(lambda: come(carry, None, context=old)), "TLS 1.2 is taken")
+        with socket.create_connection(("127.0.0.1", carry.for_tenants)) as plain:
+            plain.settimeout(5)
+            plain.sendall(b"read 1 1 0 0\n" * 3)
+            with contextlib.suppress(OSError):
+                while plain.recv(4096):
+                    pass
+        with come(carry, "ann") as ann, come(carry, "1", carry.for_nodes) as node:
+            ann.sendall(b"plan\n"), node.sendall(b"ann 1 1 1 0 0 ask\n")
+            carry.gets(b"0 ann plan", b"0 1 ann 1 1 1 0 0 ask")
+            check(len(carry.lines()) == 3, f"the node was given {carry.lines()}")
+            set_up(folder, PLAN, "--deny", "ann")
+            old = context_of(carry.links, "ann")  # (the new one)
+            carry.process.send_signal(signal.SIGHUP)
+            check(has_ended(ann), "who is denied stays")
+            with come(carry, None, context=old) as again:
+                again.sendall(b"again\n")
+                carry.gets(b"0 ann again")
+            node.sendall(b"still here\n")
+            carry.gets(b"0 1 still here")
+    finally:
+        check(carry.end() == 0, carry.told())
+
+
+def a_denied_one_stays_out(program, folder):
+    carry = fresh(program, folder)
+    try:
+        kept = context_of(carry.links, "ann")
+        set_up(folder, PLAN, "--deny", "ann")
+        carry.process.send_signal(signal.SIGHUP)
+        time.sleep(0.3)
+        check(is_refused(lambda: come(carry, None, context=kept)), "a certificate that is denied is taken")
+    finally:
+        carry.end()
+
+
+def who_is_dialed(program, folder):
+    """Node 0 dials node 1, and speaks to nobody else who is there."""
+    port = free_ports(6)
+    links = set_up(folder, THREE, "--local", str(port))
+    for name in ("ann", "0", "2"):
+        context = ssl.SSLContext(ssl.PROTOCOL_TLS_SERVER)
+        context.load_cert_chain(os.path.join(links, "secret", f"{name}.crt"), os.path.join(links, "secret", f"{name}.key"))
+        with socket.create_server(("127.0.0.1", port + 2)) as listener:
+            listener.settimeout(10)
+            carry = Carry(program, folder).ready()
+            try:
+                plain, _ = listener.accept()
+                plain.settimeout(5)
+                carry.says(b"1 0 ann 1 1 1 0 0 ask\n")
+                with contextlib.suppress(OSError):
+                    with context.wrap_socket(plain, server_side=True) as made:
+                        check(made.recv(100) == b"", f"node 0 speaks to {name} as to node 1")
+                check("is linked" not in carry.told(), f"node 0 is linked to {name}")
+            finally:
+                carry.end()
+
+
+def lines_are_whole(program, folder):
+    carry = fresh(program, folder)
+    try:
+        with come(carry, "ann") as ann:
+            ann.sendall(b"0 bob write 1 1 0 0 aa\n\n\nwith \0 and \r\n")
+            carry.gets(b"0 ann 0 bob write 1 1 0 0 aa", b"0 ann with \0 and \r")
+            longest = 4095 - len(b"0 ann ")
+            for byte in b"one byte\n":
+                ann.sendall(bytes([byte]))
+            ann.sendall(b"x" * longest + b"\n" + b"y" * (longest + 1) + b"\n" + b"z" * 100_000)
+            ann.sendall(b"z" * 100_000 + b"\nbehind\n")
+            carry.gets(b"0 ann one byte", b"0 ann " + b"x" * longest, b"0 ann behind")
+            check(not any(b"yy" in line or b"zz" in line for line in carry.lines()), "a line that is too long is given")
+            ann.setsockopt(socket.IPPROTO_TCP, socket.TCP_CORK, 1)  # three records in one packet
+            for line in (b"record 1\n", b"record 2\n", b"record 3\n"):
+                ann.sendall(line)
+            ann.setsockopt(socket.IPPROTO_TCP, socket.TCP_CORK, 0)
+            carry.gets(b"0 ann record 1", b"0 ann record 2", b"0 ann record 3")
+            ann.sendall(b"cut off")
+        with come(carry, "ann") as ann:
+            ann.sendall(b"whole\n")
+            carry.gets(b"0 ann whole")
+        check(not any(b"cut off" in line for line in carry.lines()), "a part of a line is given")
+        many = [b"line %d " % number + b"ab" * (number % 700) for number in range(3000)]
+        with come(carry, "ann") as ann:
+            ann.sendall(b"\n".join(many) + b"\n")
+            wait_for(lambda: len(carry.lines()) >= 3000 + 9, "lines are wanting", 20)
+        check([line for line in carry.lines() if line.startswith(b"0 ann line")] == [b"0 ann " + line for line in many], "lines are not as they were sent")
+    finally:
+        check(carry.end() == 0, carry.told())
+
+
+def answers_go_home(program, folder):
+    carry = fresh(program, folder)
+    try:
+        with come(carry, "ann") as first, come(carry, "ann") as second, come(carry, "bob") as bob:
+            first.sendall(b"read 1 7 0 0\n"), second.sendall(b"write 2 9 0 0 aa\nabandon 3 4\n"), bob.sendall(b"read 1 1 0 0\n")
+            carry.gets(b"0 ann read 1 7 0 0", b"0 ann write 2 9 0 0 aa", b"0 ann abandon 3 4", b"0 bob read 1 1 0 0")
+            carry.says(b"ann 0 done read 1 7 tag 0 0 -\nann 0 done write 2 9 tag 1 2\nann 0 gone 3 4\nann 0 refused home 1 2 9\nann 0 refused early 1 7 6\n")
+            carry.says(b"bob 0 done read 1 1 tag 0 0 bb\nann 0 plan 2 0 16 8 2\nann 0 refused bad\nbob 1 of another\nann 0\nann 0 \n0 0 own\n \ncid 0 nobody\n")
+            check(hear(first, 4) == [b"done read 1 7 tag 0 0 -", b"refused early 1 7 6", b"plan 2 0 16 8 2", b"refused bad"], "the first connection is told something else")
+            check(hear(second, 5) == [b"done write 2 9 tag 1 2", b"gone 3 4", b"refused home 1 2 9", b"plan 2 0 16 8 2", b"refused bad"], "the second is told something else")
+            check(hear(bob) == [b"done read 1 1 tag 0 0 bb"], "bob is told something else")
+            carry.gets(b"0 0 own")
+            second.close()
+            wait_for(lambda: second.fileno() < 0, "")
+            time.sleep(0.2)
+            carry.says(b"ann 0 done write 2 9 tag 1 2\n")
+            check(hear(first) == [b"done write 2 9 tag 1 2"], "an answer of a session whose connection has ended is not told")
+    finally:
+        check(carry.end() == 0, carry.told())
+        check("strange 4 " in carry.told() and "lost 1 " in carry.told(), carry.told())
+
+
+def nodes_are_linked(program, folder):
+    port = free_ports(4)
+    set_up(folder, PLAN, "--local", str(port))
+    nodes = [Carry(program, folder, number) for number in (0, 1)]
+    try:
+        for node in nodes:
+            node.ready()
+        for node in nodes:
+            wait_for(lambda: "is linked to" in node.told(), node.told())
+        text = [b"%d" % number + b" x" * (number % 900) for number in range(2000)]
+        nodes[0].says(b"".join(b"1 0 " + line + b"\n" for line in text)), nodes[1].says(b"0 1 back\n")
+        wait_for(lambda: len(nodes[1].lines()) == 2000, "lines are wanting", 20)
+        check(nodes[1].lines() == [b"1 0 " + line for line in text], "lines are not as they were sent")
+        nodes[0].gets(b"0 1 back")
+        nodes[1].process.kill()
+        nodes[1].process.wait()
+        nodes[1].out.close()
+        nodes[0].says(b"1 0 lost\n")
+        nodes[1] = Carry(program, folder, 1).ready()
+        wait_for(lambda: "is linked to" in nodes[1].told(), nodes[1].told())
+        nodes[0].says(b"1 0 again\n")
+        nodes[1].gets(b"1 0 again")
+        check(b"1 0 lost" not in nodes[1].lines(), "a line for a node that is away is kept")
+    finally:
+        for node in nodes:
+            node.end()
+
+
+def a_still_node(program, folder):
+    """It reads nothing, and writes: the carrier's memory stays, and ticks don't heap up."""
+    carry = fresh(program, folder, PLAN, STILL)
+    try:
+        before = carry.memory()
+        with come(carry, "ann") as ann, come(carry, "bob") as bob:
+            ann.settimeout(1)
+            sent = 0
+            with contextlib.suppress(OSError):
+                while sent < 100_000_000:
+                    sent += ann.send(b"read 1 1 0 0\n" * 1000)
+            check(sent < 20_000_000, f"{sent} bytes are taken for a node that reads nothing")
+            bob.sendall(b"read 1 1 0 0\n")
+            carry.says(b"bob 0 done read 1 1 tag 0 0 -\n")
+            check(hear(bob) == [b"done read 1 1 tag 0 0 -"], "bob is not told")
+            check(carry.memory() < before + (8 << 20), f"memory went from {before} to {carry.memory()}")
+    finally:
+        carry.end()
+
+
+def ticks(program, folder):
+    carry = fresh(program, folder, PLAN, NODE, "--tick", "0.05")
+    try:
+        time.sleep(1)
+        check(10 <= carry.ticks() <= 25, f"{carry.ticks()} ticks in a second")
+        reader = subprocess.run(["pgrep", "-P", str(carry.process.pid)], stdout=subprocess.PIPE, text=True).stdout.split()
+        cat = subprocess.run(["pgrep", "-P", reader[0]], stdout=subprocess.PIPE, text=True).stdout.split()
+        os.kill(int(cat[0]), signal.SIGSTOP)
+        time.sleep(1.5)
+        before = carry.ticks()
+        os.kill(int(cat[0]), signal.SIGCONT)
+        time.sleep(0.2)
+        check(carry.ticks() - before <= 6, f"{carry.ticks() - before} ticks waited for one that stood still")
+    finally:
+        carry.end()
+
+
+def a_slow_reader(program, folder):
+    """Ann reads nothing: lines for her are dropped, her connection ends, and bob is told at once."""
+    carry = fresh(program, folder)
+    try:
+        before = carry.memory()
+        with come(carry, "ann") as ann, come(carry, "bob") as bob:
+            ann.sendall(b"read 1 1 0 0\n"), bob.sendall(b"read 1 1 0 0\n")
+            carry.gets(b"0 ann read 1 1 0 0", b"0 bob read 1 1 0 0")
+            begun = time.monotonic()
+            for _ in range(200):
+                carry.says(b"".join(b"ann 0 done read 1 1 tag 0 0 " + b"ab" * 1900 + b"\n" for _ in range(50)) + b"bob 0 done read 1 1 tag 0 0 -\n")
+            check(time.monotonic() - begun < 10, "the node waits for a reader")
+            check(len(hear(bob, 200)) >= 200, "bob is not told")
+            check(carry.memory() < before + (12 << 20), f"memory went from {before} to {carry.memory()}")
+            carry.process.send_signal(signal.SIGUSR1)
+            wait_for(lambda: re.search(r"slow [1-9]", carry.told()), "nothing was dropped")
+            check(not gone(ann), "it has ended at once")
+            wait_for(lambda: gone(ann), "a reader that takes nothing stays", 20)
+    finally:
+        carry.end()
+
+
+def gone(made):
+    """Whether the other end has ended this connection. (Nothing is read from it, so its own end of it tells.)"""
+    own, other = made.getsockname()[1], made.getpeername()[1]
+    with open("/proc/net/tcp", encoding="ascii") as file:
+        ends = [line.split()[1:4] for line in file.read().splitlines()[1:]]
+    return not any(local.endswith(f":{other:04X}") and remote.endswith(f":{own:04X}") and state == "01" for local, remote, state in ends)
+
+
+def too_many(program, folder):
+    carry = fresh(program, folder)
+    try:
+        here = [come(carry, "ann") for _ in range(32)]
+        check(is_refused(lambda: come(carry, "ann")), "a tenant has more than 32 connections")
+        here[0].sendall(b"read 1 1 0 0\n")
+        carry.gets(b"0 ann read 1 1 0 0")
+        silent = [socket.create_connection(("127.0.0.1", carry.for_tenants)) for _ in range(60)]
+        begun = time.monotonic()
+        with come(carry, "bob") as bob:
+            bob.sendall(b"read 2 1 0 0\n")
+            carry.gets(b"0 bob read 2 1 0 0")
+        check(time.monotonic() - begun < 5, "those who say nothing keep others out")
+        silent += [socket.create_connection(("127.0.0.1", carry.for_nodes)) for _ in range(60)]
+        with come(carry, "1", carry.for_nodes) as node:
+            node.sendall(b"ann 1 1 1 0 0 ask\n")
+            carry.gets(b"0 1 ann 1 1 1 0 0 ask")
+        for made in here + silent:
+            made.close()
+        wait_for(lambda: not is_refused_now(carry), "who has left is still counted")
+    finally:
+        carry.end()
+
+
+def is_refused_now(carry):
+    with come(carry, "ann") as ann:
+        ann.sendall(b"read 3 1 0 0\n")
+        try:
+            ann.settimeout(0.2)
+            return ann.recv(1) == b""
+        except (TimeoutError, ssl.SSLError):
+            return False
+        except OSError:
+            return True
+
+
+def long_lines(program, folder):
+    """Lines of 2 MiB, and thirty beginnings of such lines at once."""
+    carry = fresh(program, folder, ROOM)
+    try:
+        before = carry.memory()
+        content = b"5a" * (1 << 20)
+        with come(carry, "ann") as ann:
+            ann.sendall(b"write 1 1 0 0 " + content + b"\n")
+            wait_for(lambda: b"0 ann write 1 1 0 0 " + content in carry.lines(), "a long line is wanting", 20)
+            carry.says(b"ann 0 done read 1 1 tag 0 0 " + content + b"\n")
+            check(hear(ann)[0] == b"done read 1 1 tag 0 0 " + content, "a long answer is another")
+        many = []
+        for _ in range(30):
+            with contextlib.suppress(OSError):
+                many.append(come(carry, "ann"))
+                many[-1].sendall(b"write 1 1 0 0 " + b"5a" * 1_000_000)
+        time.sleep(0.5)
+        check(carry.memory() < before + (48 << 20), f"memory went from {before} to {carry.memory()}")
+        for made in many:
+            made.close()
+        with come(carry, "ann") as ann:
+            ann.sendall(b"short\n")
+            carry.gets(b"0 ann short")
+    finally:
+        carry.end()
+
+
+def its_end(program, folder):
+    """Ann begins to read when the node has ended: the carrier has what doesn't fit between them, and waits for a second."""
+    carry = fresh(program, folder, ROOM)
+    with come(carry, "ann") as ann:
+        ann.sendall(b"read 1 1 0 0\n")
+        carry.gets(b"0 ann read 1 1 0 0")
+        text = [b"done read 1 1 tag 0 %d " % number + b"ab" * 600_000 for number in range(6)]
+        for line in text:
+            carry.says(b"ann 0 " + line + b"\n")
+        carry.out.close()
+        carry.out = None
+        time.sleep(0.3)
+        check(hear(ann, 6) == text, "last lines are lost")
+    check(carry.process.wait(10) == 0 and "ended with status 0" in carry.told(), carry.told())
+
+
+def its_words(program, folder):
+    set_up(folder, PLAN, "--local", str(free_ports(4)))
+    links = os.path.join(folder, "links")
+    good = {"--hosts": "hosts", "--ca-file": "ca.crt", "--certificate": "secret/0.crt", "--key": "secret/0.key"}
+    os.chmod(os.path.join(links, "secret", "1.key"), 0o644)
+    with open(os.path.join(links, "none"), "w") as out:
+        out.write("1 127.0.0.1:5 127.0.0.1:6\n")
+    for change, status, says in (({"--hosts": "no"}, 1, "No such file"), ({"--hosts": "none"}, 1, "no line of node 0"), ({"--ca-file": "secret/0.key"}, 1, "secret/0.key"), ({"--key": "secret/ann.key"}, 1, "secret/ann.key"), ({"--key": "secret/1.key"}, 1, "others may read"), ({"--denied": "no"}, 1, "No such file"), ({"--port": "1"}, 2, "no such word"), ({"--tick": "0"}, 2, "--tick")):
+        words = [word for key, value in {**good, **change}.items() for word in (key, value if key == "--tick" else os.path.join(links, value))]
+        done = subprocess.run([program, *words, "--bind", "127.0.0.1", "0", "--", "cat"], stdin=subprocess.DEVNULL, stdout=subprocess.PIPE, stderr=subprocess.PIPE, text=True, timeout=20)
+        check(done.returncode == status and says in done.stderr, f"{change}: {done.returncode} {done.stderr[:300]}")
+    done = subprocess.run([program, *(word for key, value in good.items() for word in (key, os.path.join(links, value))), "--bind", "127.0.0.1", "0", "--", "sh", "-c", "exit 4"], stdin=subprocess.DEVNULL, stdout=subprocess.PIPE, stderr=subprocess.PIPE, text=True, timeout=20)
+    check(done.returncode == 4, f"the node's status is lost: {done.returncode}")
+
+
+def odd_files(program, folder):
+    """A number of a certificate counts in each form in which openssl tells it; a file with an odd line takes nothing away."""
+    carry = fresh(program, folder)
+    try:
+        kept = context_of(carry.links, "ann")
+        shown = subprocess.run(["openssl", "x509", "-in", os.path.join(carry.links, "secret", "ann.crt"), "-noout", "-serial"], stdout=subprocess.PIPE, text=True).stdout.strip()
+        number = shown.partition("=")[2]
+        pairs = ":".join(number[at : at + 2] for at in range(0, len(number), 2)).lower()
+        for form in (shown, pairs, f" {number}\t# ann's", f"0x{number}", f"00{number}", f"{number} ann", f"no number\n{number}"):
+            with open(os.path.join(carry.links, "denied"), "w") as out:
+                out.write(form + "\n")
+            carry.process.send_signal(signal.SIGHUP)
+            time.sleep(0.3)
+            check(is_refused(lambda: come(carry, None, context=kept)), f"denied as {form!r} and taken")
+            with open(os.path.join(carry.links, "denied"), "w") as out:
+                out.write("# nobody\n")
+            carry.process.send_signal(signal.SIGHUP)
+            time.sleep(0.3)
+            check(is_taken(carry, lambda: come(carry, None, context=kept), form.encode().hex()), "nobody is denied, and ann is not taken")
+        check("denied: line 1 is no number" in carry.told(), carry.told())
+    finally:
+        check(carry.end() == 0, carry.told())
+
+
+def hosts_amid_a_write(program, folder):
+    port = free_ports(4)
+    links = set_up(folder, PLAN, "--local", str(port))
+    nodes = [Carry(program, folder, number) for number in (0, 1)]
+    try:
+        for node in nodes:
+            node.ready()
+        for node in nodes:
+            wait_for(lambda: "is linked to" in node.told(), node.told())
+        with open(os.path.join(links, "hosts")) as file:
+            own, other = file.read().splitlines()
+        for text, told in ((f"{own}\nodd\n{other}\n", "hosts: line 2"), ("", "no line of node 0"), (f"{own}\n1 127.0.0.1:70000 127.0.0.1:1\n", "hosts: line 2")):
+            before = nodes[0].told().count(told)
+            with open(os.path.join(links, "hosts"), "w") as out:
+                out.write(text)
+            nodes[0].process.send_signal(signal.SIGHUP)
+            wait_for(lambda: nodes[0].told().count(told) > before, nodes[0].told())
+            time.sleep(0.3)
+            check("not linked" not in nodes[0].told(), f"a link is lost by the file of hosts: {nodes[0].told()}")
+    finally:
+        for node in nodes:
+            node.end()
+
+
+def another_authority(program, folder):
+    carry = fresh(program, folder)
+    try:
+        other = set_up(os.path.join(folder, "other"))
+        with come(carry, "ann") as ann:
+            ann.sendall(b"plan\n")
+            carry.gets(b"0 ann plan")
+            carry.process.send_signal(signal.SIGHUP)  # (nothing is another yet)
+            ann.sendall(b"again\n")
+            carry.gets(b"0 ann again")
+            for what in ("ca.crt", "secret/0.crt", "secret/0.key"):
+                shutil.copy(os.path.join(other, what), os.path.join(carry.links, what))
+            carry.process.send_signal(signal.SIGHUP)
+            check(has_ended(ann), "one whom an authority before made stays")
+    finally:
+        carry.end()
+
+
+def costly_ones(program, folder):
+    """Groups that take long to reckon, and new keys without end."""
+    carry = fresh(program, folder)
+    try:
+        place = ["-connect", f"127.0.0.1:{carry.for_tenants}"]
+        done = subprocess.run(["openssl", "s_client", *place, "-groups", "ffdhe8192"], stdin=subprocess.DEVNULL, stdout=subprocess.PIPE, stderr=subprocess.STDOUT, text=True, timeout=60)
+        check("handshake failure" in done.stdout, f"a group of 8192 bits is taken: {done.stdout[-300:]}")
+        secret = [os.path.join(carry.links, "secret", f"ann.{what}") for what in ("crt", "key")]
+        with subprocess.Popen(["openssl", "s_client", *place, "-cert", secret[0], "-key", secret[1]], stdin=subprocess.PIPE, stdout=subprocess.DEVNULL, stderr=subprocess.DEVNULL) as ann:
+            with contextlib.suppress(BrokenPipeError):
+                for turn in range(120):
+                    ann.stdin.write(b"K\n")  # (a key update that asks for one)
+                    ann.stdin.flush()
+                    time.sleep(0.03)
+                    if ann.poll() is not None:
+                        break
+                    if turn == 20:
+                        carry.process.send_signal(signal.SIGUSR1)
+                        wait_for(lambda: "to tenants 1" in carry.told(), f"twenty new keys are too many: {carry.told()}")
+            over = ann.poll() is not None
+            ann.terminate()
+        check(over, "new keys without end are taken")
+    finally:
+        carry.end()
+
+
+def ends_soon(program, folder):
+    """A certificate that ends soon is told at each start, and a new one is taken at SIGHUP."""
+    set_up(folder, PLAN, "--local", str(free_ports(4)), "--days", "20")
+    carry = Carry(program, folder).ready()
+    try:
+        check("secret/0.crt: this certificate ends in 19 days\n" in carry.told(), carry.told())
+        set_up(folder, PLAN)  # (which has it last for a year)
+        with come(carry, "ann") as ann:
+            carry.process.send_signal(signal.SIGHUP)
+            ann.sendall(b"here still\n")
+            carry.gets(b"0 ann here still")
+        check(carry.told().count("this certificate ends") == 1, carry.told())
+    finally:
+        carry.end()
+
+
+def a_slow_name(program, folder):
+    """Node 1 has a name that takes long to look up: node 2 is dialed meanwhile."""
+    slow = os.path.join(folder, "slow")
+    links = set_up(folder, THREE, "--local", str(free_ports(6)))
+    sources = [os.path.join(DEPLOY, "..", "carrier", f"{name}.c") for name in ("node", "links", "loop", "stream")]
+    words = ["-std=c11", "-Wl,--wrap=getaddrinfo", *sources, os.path.join(HERE, "slow_name.c"), "-o", slow, "-lssl", "-lcrypto", "-lpthread"]
+    subprocess.run([os.environ.get("CC", "cc"), *words], check=True)
+    with open(os.path.join(links, "hosts"), encoding="ascii") as file:
+        lines = file.read().replace("1 127.0.0.1:", "1 slow.example:", 1)
+    with open(os.path.join(links, "hosts"), "w", encoding="ascii") as out:
+        out.write(lines)
+    nodes = [Carry(slow, folder), Carry(program, folder, 2)]
+    try:
+        for node in nodes:
+            node.ready()
+        wait_for(lambda: "is linked to node 2" in nodes[0].told(), f"node 2 is not linked: {nodes[0].told()}")
+    finally:
+        for node in nodes:
+            node.end()
+
+
+CHECKS = [odd_files, hosts_amid_a_write, another_authority, costly_ones, who_may_come, a_denied_one_stays_out, who_is_dialed, lines_are_whole, answers_go_home, nodes_are_linked, a_still_node, ticks, a_slow_reader, too_many, long_lines, its_end, its_words, ends_soon, a_slow_name]

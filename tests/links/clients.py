@@ -1,0 +1,115 @@
+"""What the client's transport over links owes, with a stand-in for a node, or without one."""
+
+import os
+import shutil
+import sys
+import threading
+import time
+
+from carrying import HERE, NODE, PLAN, Carry, check, fresh, set_up, wait_for
+
+sys.path.insert(0, os.path.join(HERE, "..", "..", "clients", "python"))
+from gridfs_client.answers import Done, PlanTold
+from gridfs_client.asking import ask_plan
+from gridfs_client.errors import CarrierFault
+from gridfs_client.links import LinkCarrier
+from gridfs_client.sessions import Pace
+
+
+def carrier(links, hosts=None, authority=None, name="ann", patience=1.0):
+    at = lambda what: os.path.join(links, what)
+    return LinkCarrier("ann", hosts or at("hosts"), authority or at("ca.crt"), at(f"secret/{name}.crt"), at(f"secret/{name}.key"), patience)
+
+
+def fault_of(call, seconds=10.0):
+    """What a call is told, in time."""
+    begun = time.monotonic()
+    try:
+        call()
+    except CarrierFault as fault:
+        check(time.monotonic() - begun < seconds, f"{fault}: told after {time.monotonic() - begun:.1f} s")
+        return str(fault)
+    check(False, "no fault")
+
+
+def what_a_client_is_told(program, folder):
+    carry = fresh(program, folder, PLAN)
+    other = set_up(os.path.join(folder, "other"))
+    try:
+        with open(os.path.join(folder, "alone"), "w") as out, open(os.path.join(carry.links, "hosts")) as hosts:
+            out.write(next(line for line in hosts if line.startswith("0 ")))
+        alone = os.path.join(folder, "alone")
+        for text, says in (("", "names no node"), ("0 here there\n", "line 1"), ("0 a:1 b:70000\n", "line 1"), ("x\n", "line 1")):
+            with open(os.path.join(folder, "bad"), "w") as out:
+                out.write(text)
+            check(says in fault_of(lambda: carrier(carry.links, os.path.join(folder, "bad"))), text)
+        check("No such file" in fault_of(lambda: carrier(carry.links, os.path.join(folder, "no"))), "hosts")
+        check("No such file" in fault_of(lambda: carrier(carry.links, authority=os.path.join(folder, "no"))), "authority")
+        os.chmod(os.path.join(carry.links, "secret", "bob.key"), 0o644)
+        check("others may read" in fault_of(lambda: carrier(carry.links, name="bob")), "a key that others may read")
+        told = fault_of(lambda: ask_plan(carrier(carry.links, alone, os.path.join(other, "ca.crt")), Pace(timeout=20)), 5)
+        check("self-signed" in told or "unable to get" in told or "verify" in told or "signature" in told, told)
+        for name in ("crt", "key"):
+            shutil.copy(os.path.join(other, "secret", f"ann.{name}"), os.path.join(carry.links, "secret", f"zed.{name}"))
+        told = fault_of(lambda: ask_plan(carrier(carry.links, alone, name="zed"), Pace(timeout=20)), 5)
+        check("does not take the certificate" in told, told)
+        with open(alone, "w") as out:
+            out.write("0 127.0.0.1:1 127.0.0.1:1\n")
+        check("refused" in fault_of(lambda: ask_plan(carrier(carry.links, alone), Pace(timeout=20)), 8), "no node")
+    finally:
+        carry.end()
+
+
+def sessions_side_by_side(program, folder):
+    """Threads that wait for answers at once, of which one reads for all; and a link that ends and is made again."""
+    carry = fresh(program, folder, PLAN)
+    links, told = carrier(carry.links), []
+    try:
+        links.attach(0)
+        links.send(0, b"plan")
+        carry.gets(b"0 ann plan")
+        carry.says(b"ann 0 plan 2 0 16 8 2 2.2\n")
+        answer = links.receive(0, 5) or links.receive(0, 5)  # (first it is told that there is something new)
+        check(isinstance(answer, PlanTold), f"no plan: {answer}")
+
+        def ask(number):
+            for operation in range(1, 101):
+                links.send(0, b"read %d %d 0 0" % (number, operation))
+                answer = links.receive(number, 10)
+                while answer is None:
+                    answer = links.receive(number, 10)
+                if not isinstance(answer, Done) or (answer.session, answer.operation) != (number, operation):
+                    told.append((number, operation, answer))
+
+        for number in range(1, 9):
+            links.attach(number)
+        threads = [threading.Thread(target=ask, args=(number,)) for number in range(1, 9)]
+        for thread in threads:
+            thread.start()
+        seen = 0
+        until = time.monotonic() + 60
+        while any(thread.is_alive() for thread in threads) and time.monotonic() < until:
+            lines = [line.split() for line in carry.lines()]
+            for words in lines[seen:]:
+                if words[2] == b"read":
+                    carry.says(b"ann 0 done read %s %s tag 0 0 -\n" % (words[3], words[4]))
+            seen = len(lines)
+            time.sleep(0.001)
+        check(not any(thread.is_alive() for thread in threads), "some wait for ever")
+        check(not told, f"told another's: {told[:3]}")
+        carry.end()
+        again = Carry(program, folder, 0, NODE).ready()
+        try:
+            wait_for(lambda: links.receive(1, 0.05) is None and (links.send(0, b"read 1 101 0 0") or b"0 ann read 1 101 0 0" in again.lines()), "the link is not made again")
+            again.says(b"ann 0 done read 1 101 tag 0 0 -\n")
+            answer = links.receive(1, 5)
+            check(isinstance(answer, Done) and answer.operation == 101, f"{answer}")
+        finally:
+            again.end()
+    finally:
+        links.close()
+        if carry.process.poll() is None:
+            carry.end()
+
+
+CHECKS = [what_a_client_is_told, sessions_side_by_side]

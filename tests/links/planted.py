@@ -1,0 +1,61 @@
+"""Faults that are planted in the carrier, and the check of carrying.py that has to find each."""
+
+import os
+import shutil
+import subprocess
+
+HERE = os.path.dirname(os.path.abspath(__file__))
+CARRIER = os.path.join(HERE, "..", "..", "deploy", "carrier")
+# What is planted: the check that finds it; then a file, its text, and the text in its place, once or more often.
+FAULTS = {
+    "any authority is believed": ("who_may_come", "links.c", "SSL_VERIFY_PEER | SSL_VERIFY_FAIL_IF_NO_PEER_CERT, NULL", "SSL_VERIFY_PEER | SSL_VERIFY_FAIL_IF_NO_PEER_CERT, yes", "links.c", "static SSL_CTX *new_context(void) {", "static int yes(int a, X509_STORE_CTX *b) { (void)a, (void)b; return 1; }\nstatic SSL_CTX *new_context(void) {"),
+    "tenants come at the port for nodes": ("who_may_come", "links.c", "link->listener && link->listener->for_nodes == is_tenant(name)", "false"),
+    "TLS 1.2 is taken": ("who_may_come", "links.c", "TLS1_3_VERSION", "TLS1_2_VERSION"),
+    "one may have the node's own number": ("who_may_come", "links.c", "!strcmp(name, me)) return \"it has", "false) return \"it has"),
+    "one who is denied stays": ("who_may_come", "links.c", "is_new && is_denied(shown) ?", "false ?"),
+    "one who is denied comes again": ("a_denied_one_stays_out", "links.c", "bool wrong = shown && is_denied(shown);", "bool wrong = false;"),
+    "anybody of the grid may stand at a node's address": ("who_is_dialed", "links.c", "if (link->host && strcmp(name, link->host->name))", "if (false)", "stream.c", "&& SSL_set1_host(it->ssl, host)", ""),
+    "a part of a line is given": ("lines_are_whole", "links.c", "    if (stream->paused) paused--;", "    if (link->held && link->peer) lines(link, link->part, link->held);\n    if (stream->paused) paused--;", "links.c", "/* The end of a link */", "static void lines(struct link *link, const char *text, size_t length);"),
+    "a line that is too long is given": ("lines_are_whole", "node.c", "strlen(queue->head) + body > longest", "false"),
+    "what waits within TLS is forgotten": ("lines_are_whole", "links.c", "if (stream->more && !link->is_later)", "if (false)"),
+    "an answer goes to all connections": ("answers_go_home", "links.c", "struct link *only = session ? peer->by_session[session] : NULL;", "struct link *only = NULL;\n    (void)session;"),
+    "a plan goes to one connection": ("answers_go_home", "links.c", "    if (*body == 'p') return 0;                 /* (numbers of a `plan` are no session) */\n", ""),
+    "a node may say that it is another": ("answers_go_home", "node.c", "!memcmp(space + 1, me, own) && text[head - 1]", "text[head - 1]"),
+    "a link that ended is not made again": ("nodes_are_linked", "links.c", "host->link = NULL, host->next_try", "host->next_try", "links.c", "host->is_there && !host->link && atoi", "host->is_there && !host->link && host->wait < 0.15 && atoi"),
+    "all is read for a node that reads nothing": ("a_still_node", "links.c", "held(queue) > bound / 2 || ", "", "links.c", "(time > 0 && rests_until(queue, time) > 0)", "false"),
+    "ticks are given to one that does not read": ("ticks", "node.c", "if (ioctl(node_in.fd, FIONREAD, &unread) || given - (uint64_t)unread < tick_end) return;", "(void)unread;"),
+    "all waits for a slow reader": ("a_slow_reader", "links.c", "waits + length + 1 > bound", "waits + length + 1 > bound * 1000"),
+    "a slow reader stays": ("a_slow_reader", "links.c", "(unwritten(stream) || stream->blocked) && time > stream->since + SLOW", "false", "stream.c", "    setsockopt(fd, IPPROTO_TCP, TCP_USER_TIMEOUT, &silence, sizeof silence);\n", "    (void)silence;\n"),
+    "a tenant has as many connections as it likes": ("too_many", "links.c", "OF_A_TENANT = 32", "OF_A_TENANT = 320"),
+    "silent connections keep others out": ("too_many", "links.c", "if (oldest) close_stream(&oldest->stream, \"too many have said nothing\");", "if (oldest) { close(fd); return; }"),
+    "beginnings of lines have no bound": ("long_lines", "links.c", "others + room > bound + 2 * longest", "false"),
+    "last lines are not waited for": ("its_end", "node.c", "    flush(&open_mask);\n", "    (void)flush;\n"),
+    "a number with colons denies nobody": ("odd_files", "links.c", "(*line == ':' && many)", "false"),
+    "an odd line takes the others away": ("odd_files", "links.c", "is no number of a certificate\", denied_file, number), good = false;\n            continue;", "is no number of a certificate\", denied_file, number), good = false;\n            break;"),
+    "a file of hosts counts up to its wrong line": ("hosts_amid_a_write", "links.c", "for (int turn = 0; turn < 2 && good; turn++)", "for (int turn = 1; turn < 2 && good; turn++)"),
+    "an authority that is gone is believed of those who are here": ("another_authority", "links.c", "is_new ? disbelief(shown, &link->stream)", "is_new ? NULL"),
+    "strangers choose the group": ("costly_ones", "links.c", "!SSL_CTX_set1_groups_list(made, \"X25519:P-256:P-384\")", "false"),
+    "new keys have no bound": ("costly_ones", "stream.c", "    if (it->odd_until > time + ODD) SSL_set_shutdown(ssl, SSL_RECEIVED_SHUTDOWN);\n", "    (void)ssl;\n", "stream.c", "if (it->odd_until > now() + ODD)", "if (false)"),
+    "the key may be read by others": ("its_words", "links.c", "kind.st_mode & (S_IROTH | S_IWOTH)", "false"),
+}
+# Those that are tried where not all are
+SOME = ["one who is denied comes again", "anybody of the grid may stand at a node's address", "a part of a line is given", "an answer goes to all connections", "what waits within TLS is forgotten"]
+
+
+def built(folder, what, edits):
+    """The carrier with a fault."""
+    sources = os.path.join(folder, "sources")
+    shutil.copytree(CARRIER, sources, ignore=shutil.ignore_patterns("carry-*", "__pycache__"))
+    for name, old, new in zip(edits[::3], edits[1::3], edits[2::3]):
+        path = os.path.join(sources, name)
+        with open(path, encoding="utf-8") as file:
+            text = file.read()
+        if text.count(old) != 1:
+            raise ValueError(f"{what}: {text.count(old)} times in {name}: {old}")
+        with open(path, "w", encoding="utf-8") as out:
+            out.write(text.replace(old, new))
+    path = os.path.join(folder, "carry")
+    done = subprocess.run(["make", "-s", "-C", sources, f"OUT={path}", "WARNINGS=-std=c11", "CFLAGS=-O1", "LDFLAGS="], stderr=subprocess.PIPE, text=True)
+    if done.returncode:
+        raise ValueError(f"{what}: {done.stderr}")
+    return path
