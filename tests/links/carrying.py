@@ -584,7 +584,7 @@ def costly_ones(program, folder):
                         break
                     if turn == 20:
                         carry.process.send_signal(signal.SIGUSR1)
-                        wait_for(lambda: "to tenants 1" in carry.told(), f"twenty new keys are too many: {carry.told()}")
+                        wait_for(lambda: " tenants 1 " in carry.told(), f"twenty new keys are too many: {carry.told()}")
             over = ann.poll() is not None
             ann.terminate()
         check(over, "new keys without end are taken")
