@@ -77,9 +77,9 @@ struct listener {
 };
 
 static const char *hosts_file, *ca_file, *certificate, *key, *denied_file, *bind_to = "::";     /* (all addresses; without IPv6 it is 0.0.0.0) */
+const char engine_words_usage[] = "--hosts FILE --ca-file FILE --certificate FILE --key FILE [--denied FILE] [--bind ADDRESS]";
 const char engine_usage[] =
-    "options: --hosts FILE --ca-file FILE --certificate FILE --key FILE [--denied FILE] [--bind ADDRESS]\n"
-    "The file of hosts has a line for each node: its number, HOST:PORT for nodes, HOST:PORT for tenants. The carrier takes\n"
+    "Over links: the file of hosts has a line for each node: its number, HOST:PORT for nodes, HOST:PORT for tenants. The carrier takes\n"
     "connections at both ports of its own line, and dials the nodes with greater numbers. At SIGHUP it reads its files again.\n";
 const struct word engine_words[] = {{"--hosts", &hosts_file}, {"--ca-file", &ca_file}, {"--certificate", &certificate},
                                     {"--key", &key}, {"--denied", &denied_file}, {"--bind", &bind_to}, {NULL, NULL}};
@@ -615,12 +615,15 @@ static bool listen_at(struct listener *it, const char *port) {
 
 /* What node.c asks of an engine */
 
+void engine_read_words(void) {
+    const char *wanted[] = {hosts_file, ca_file, certificate, key};
+    for (size_t i = 0; i < 4; i++)
+        if (!wanted[i]) wrong(engine_words[i].word, "is wanting");
+}
+
 bool engine_begin(void) {
     struct rlimit files;
     struct stat kind;
-    const char **wanted[] = {&hosts_file, &ca_file, &certificate, &key};
-    for (size_t i = 0; i < 4; i++)
-        if (!*wanted[i]) return say("%s is wanting", engine_words[i].word), fault = 2, false;
     if (!stat(key, &kind) && kind.st_mode & (S_IROTH | S_IWOTH)) return say("%s: others may read or write it", key), false;
     if (!read_hosts() || !read_denied() || !(context = new_context())) return false;
     if (getrlimit(RLIMIT_NOFILE, &files)) return false;
@@ -712,13 +715,17 @@ bool engine_is_empty(void) {
     return true;
 }
 
-void engine_counts(void) {
+const char *engine_counts(void) {
+    static char text[160];
     size_t nodes = 0, tenants = 0;
     for (struct link *link = all; link; link = link->next)
         if (link->peer) ++*(is_tenant(link->peer->name) ? &tenants : &nodes);
-    say("links to nodes %zu to tenants %zu refused %ld slow %ld", nodes, tenants, refused, slow_links);
+    snprintf(text, sizeof text, " nodes %zu tenants %zu refused %ld cut_off %ld", nodes, tenants, refused, slow_links);
+    return text;
 }
 
 void engine_end(void) {
     for (struct link *link = all; link; link = link->next) close_stream(&link->stream, "the end");
 }
+
+void engine_free(int status) { (void)status; }

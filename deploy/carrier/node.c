@@ -38,10 +38,10 @@ static double rested;                           /* when a tenant that waits for 
 static uint64_t given, tick_end;                /* bytes written to the node, in all and up to its last tick */
 static size_t tick_waits;                       /* bytes of its own queue up to the end of a tick; 0 without one */
 static double tick_time, tick_due;
-static bool engine_runs;
+static bool engine_runs;                        /* from its begin on */
 static volatile sig_atomic_t ending, asked_counts, hung_up;
 
-static double about(double seconds) { return seconds * (0.9 + 0.2 * (double)random() / RAND_MAX); }
+double about(double seconds) { return seconds * (0.9 + 0.2 * (double)random() / RAND_MAX); }
 
 /* One write for a line, so that it is not mixed with lines of the node. */
 void say(const char *form, ...) {
@@ -59,12 +59,11 @@ void say(const char *form, ...) {
 static void say_counts(void) {
     for (size_t i = 0; i < from.many; i++)
         if (from.of[i].dropped) say("%ld lines from %s were more than the bound", from.of[i].dropped, from.of[i].name);
-    say("in %ld out %ld lost %ld full %ld slow %ld long %ld strange %ld memory %ld connected %ld", count.in, count.out,
-        count.lost, count.full, count.slow, count.too_long, count.strange, count.memory, count.connected);
-    engine_counts();
+    say("in %ld out %ld%s lost %ld full %ld slow %ld long %ld strange %ld memory %ld connected %ld", count.in, count.out,
+        engine_runs ? engine_counts() : "", count.lost, count.full, count.slow, count.too_long, count.strange, count.memory, count.connected);
 }
 
-static void memory_refused(void) {
+void memory_refused(void) {
     if (!count.memory++) say("out of memory: drops lines");
 }
 
@@ -109,17 +108,17 @@ static bool make_room(struct queue *queue, size_t more) {
     return true;
 }
 
-static bool add(struct queue *queue, const char *body, size_t length) {
-    size_t before = strlen(queue->head), more = before + length + 1;
+bool add(struct queue *queue, const char *head, const char *body, size_t length, long *full) {
+    size_t before = strlen(head), more = before + length + 1;
     if (held(queue) + more > bound) {
-        queue->dropped++, count.full++;
+        queue->dropped++, ++*full;
         return false;
     }
     if (!make_room(queue, more)) {
         memory_refused();
         return false;
     }
-    memcpy(queue->bytes + queue->end, queue->head, before);
+    memcpy(queue->bytes + queue->end, head, before);
     memcpy(queue->bytes + queue->end + before, body, length);
     queue->end += more;
     queue->bytes[queue->end - 1] = '\n';
@@ -127,14 +126,14 @@ static bool add(struct queue *queue, const char *body, size_t length) {
 }
 
 /* Bytes of the first whole lines: at most `most`, but always one line. */
-static size_t lines_in(const struct queue *queue, size_t most) {
+size_t lines_in(const struct queue *queue, size_t most) {
     const char *text = queue->bytes + queue->first, *last = NULL;
     if (held(queue) <= most) return held(queue);
     if (!(last = memrchr(text, '\n', most))) last = memchr(text, '\n', held(queue));
     return (size_t)(last - text) + 1;
 }
 
-static void forget(struct queue *queue, size_t bytes) {
+void forget(struct queue *queue, size_t bytes) {
     queue->first += bytes;
     if (queue->first < queue->end) return;
     queue->first = queue->end = 0;
@@ -156,7 +155,7 @@ void for_node(struct queue *queue, const char *text, size_t length) {
         if (!(stop = memchr(text, '\n', (size_t)(end - text)))) stop = end;
         size_t body = (size_t)(stop - text);
         if (strlen(queue->head) + body > longest) count.too_long++;
-        else if (body && add(queue, text, body)) count.in++;
+        else if (body && add(queue, queue->head, text, body, &count.full)) count.in++;
     }
 }
 
@@ -223,7 +222,7 @@ static void give_tick(void) {
     int unread = 0;
     if (node_in.fd < 0 || tick_waits) return;
     if (ioctl(node_in.fd, FIONREAD, &unread) || given - (uint64_t)unread < tick_end) return;
-    if (add(mine, "tick", 4)) tick_waits = held(mine);
+    if (add(mine, mine->head, "tick", 4, &count.full)) tick_waits = held(mine);
 }
 
 /* From the node */
@@ -309,20 +308,22 @@ static void flush(const sigset_t *open_mask) {
 }
 
 static const char usage[] =
-    "usage: carry [OPTION ..] [--tick SECONDS] [--plan FILE | --longest BYTES] NUMBER -- COMMAND [ARG ..]\n"
+    "             [--tick SECONDS] [--plan FILE | --longest BYTES] NUMBER -- COMMAND [ARG ..]\n"
     "Runs COMMAND as node NUMBER and carries its lines. It gives a tick each 0.25 s, and carries lines of at most 4095\n"
     "bytes without their end. If the plan, or --longest, has longer lines, it carries these, and ticks come less often:\n"
     "each 2.25 s for lines of 2 MiB. SIGTERM ends the command's input, and waits for its end; SIGUSR1 prints the counts.\n"
     "Status: the command's, or 128 and the number of the signal that ended it; 1: a file can't be used; 2: a wrong word;\n"
     "3: out of memory.\n";
 
-__attribute__((noreturn)) static void wrong(const char *what, const char *word) {
+static bool show_usage(FILE *out) { return fprintf(out, "usage: carry %s\n%s%s", engine_words_usage, usage, engine_usage) < 0 || fflush(out); }
+
+void wrong(const char *what, const char *word) {
     say("%s: %s", what, word);
-    fputs(usage, stderr), fputs(engine_usage, stderr);
+    show_usage(stderr);
     exit(2);
 }
 
-static double number(const char *what, const char *word, double least, double most) {
+double number(const char *what, const char *word, double least, double most) {
     char *end;
     double value = strtod(word, &end);
     if (*word < '0' || *word > '9' || *end || !(value >= least && value <= most)) wrong(what, word);
@@ -350,7 +351,7 @@ static char **read_words(char **at) {
     struct word words[] = {{"--tick", &tick}, {"--longest", &length}, {"--plan", &plan}, {NULL, NULL}};
     for (at++; *at && !strncmp(*at, "--", 2); at += 2) {
         const struct word *found = words;
-        if (!strcmp(*at, "--help")) exit(fputs(usage, stdout) < 0 || fputs(engine_usage, stdout) < 0);
+        if (!strcmp(*at, "--help")) exit(show_usage(stdout));
         while (found->word && strcmp(*at, found->word)) found++;
         if (!found->word)
             for (found = engine_words; found->word && strcmp(*at, found->word); found++) {}
@@ -367,6 +368,7 @@ static char **read_words(char **at) {
     if (rate < 16 * longest) rate = 16 * longest;
     mine = queue_of(me, own);
     mine->users = 1;
+    engine_read_words();
     return at + 2;
 }
 
@@ -409,5 +411,7 @@ int main(int argc, char **argv) {
     if (WIFSIGNALED(status)) say("node %s ended by signal %d", me, WTERMSIG(status));
     else say("node %s ended with status %d", me, WEXITSTATUS(status));
     say_counts();
-    return fault ? fault : WIFEXITED(status) ? WEXITSTATUS(status) : 128 + WTERMSIG(status);
+    if (!fault) fault = WIFEXITED(status) ? WEXITSTATUS(status) : 128 + WTERMSIG(status);
+    engine_free(fault);
+    return fault;
 }

@@ -36,17 +36,26 @@ void for_node(struct queue *queue, const char *text, size_t length);    /* takes
 static inline size_t held(const struct queue *queue) { return queue->end - queue->first; }
 size_t count_lines(const char *text, size_t length);
 void charge(struct queue *queue, size_t bytes, double time);    /* a tenant has used so much of its rate */
+bool add(struct queue *queue, const char *head, const char *body, size_t length, long *full);   /* one line; false if it is dropped */
+size_t lines_in(const struct queue *queue, size_t most);        /* bytes of its first whole lines */
+void forget(struct queue *queue, size_t bytes);                 /* of its front */
+void memory_refused(void);
+double about(double seconds);                                   /* a tenth less or more, by chance */
+__attribute__((noreturn)) void wrong(const char *what, const char *word);      /* ends: a word is no request */
+double number(const char *what, const char *word, double least, double most);
 double rests_until(const struct queue *queue, double time);     /* when a tenant who used more than his rate may go on; 0: now */
 
 /* What an engine has */
-extern const char engine_usage[];
+extern const char engine_words_usage[], engine_usage[];         /* of --help: its words; what it does */
 struct word { const char *word, **to; };
 extern const struct word engine_words[];        /* the last one has no word */
+void engine_read_words(void);                   /* looks at its words, before the node starts */
 bool engine_begin(void);                        /* after the node's start; false if it can't begin, with `fault` if that is known */
 void engine_carry(const char *to, size_t name, const char *body, size_t length);    /* takes one line, without its LF */
 double engine_turn(double time);                /* writes what waits; the time at which it has to be called again */
 bool engine_is_empty(void);                     /* whether nothing waits to be written */
-void engine_counts(void);
+const char *engine_counts(void);                /* its own counts, for the line of counts */
 void engine_end(void);
+void engine_free(int status);                   /* the last call before the carrier ends with this status */
 void engine_hangup(void);                       /* SIGHUP: files may have changed */
 #endif

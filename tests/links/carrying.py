@@ -297,9 +297,9 @@ def answers_go_home(program, folder):
             carry.gets(b"0 ann read 1 7 0 0", b"0 ann write 2 9 0 0 aa", b"0 ann abandon 3 4", b"0 bob read 1 1 0 0")
             carry.says(b"ann 0 done read 1 7 tag 0 0 -\nann 0 done write 2 9 tag 1 2\nann 0 gone 3 4\nann 0 refused home 1 2 9\nann 0 refused early 1 7 6\n")
             carry.says(b"bob 0 done read 1 1 tag 0 0 bb\nann 0 plan 2 0 16 8 2\nann 0 refused bad\nbob 1 of another\nann 0\nann 0 \n0 0 own\n \ncid 0 nobody\n")
-            check(hear(first, 4) == [b"done read 1 7 tag 0 0 -", b"refused early 1 7 6", b"plan 2 0 16 8 2", b"refused bad"], "the first connection is told something else")
-            check(hear(second, 5) == [b"done write 2 9 tag 1 2", b"gone 3 4", b"refused home 1 2 9", b"plan 2 0 16 8 2", b"refused bad"], "the second is told something else")
-            check(hear(bob) == [b"done read 1 1 tag 0 0 bb"], "bob is told something else")
+            check(hear(first, 4) == [b"done read 1 7 tag 0 0 -", b"refused early 1 7 6", b"plan 2 0 16 8 2", b"refused bad"], "the first connection gets something else")
+            check(hear(second, 5) == [b"done write 2 9 tag 1 2", b"gone 3 4", b"refused home 1 2 9", b"plan 2 0 16 8 2", b"refused bad"], "the second gets something else")
+            check(hear(bob) == [b"done read 1 1 tag 0 0 bb"], "bob gets something else")
             carry.gets(b"0 0 own")
             second.close()
             wait_for(lambda: second.fileno() < 0, "")
@@ -377,7 +377,7 @@ def ticks(program, folder):
 
 
 def a_slow_reader(program, folder):
-    """Ann reads nothing: lines for her are dropped, her connection ends, and bob is told at once."""
+    """Ann reads nothing: lines for her are dropped, her connection ends, and bob gets his answer at once."""
     carry = fresh(program, folder)
     try:
         before = carry.memory()
@@ -584,7 +584,7 @@ def costly_ones(program, folder):
                         break
                     if turn == 20:
                         carry.process.send_signal(signal.SIGUSR1)
-                        wait_for(lambda: "to tenants 1" in carry.told(), f"twenty new keys are too many: {carry.told()}")
+                        wait_for(lambda: " tenants 1 " in carry.told(), f"twenty new keys are too many: {carry.told()}")
             over = ann.poll() is not None
             ann.terminate()
         check(over, "new keys without end are taken")
@@ -593,11 +593,11 @@ def costly_ones(program, folder):
 
 
 def ends_soon(program, folder):
-    """A certificate that ends soon is told at each start, and a new one is taken at SIGHUP."""
+    """A certificate that ends soon is reported at each start, and a new one is taken at SIGHUP."""
     set_up(folder, PLAN, "--local", str(free_ports(4)), "--days", "20")
     carry = Carry(program, folder).ready()
     try:
-        check("secret/0.crt: this certificate ends in 19 days\n" in carry.told(), carry.told())
+        check(re.search(r"secret/0\.crt: this certificate ends in (19|20) days\n", carry.told()), carry.told())
         set_up(folder, PLAN)  # (which has it last for a year)
         with come(carry, "ann") as ann:
             carry.process.send_signal(signal.SIGHUP)

@@ -22,7 +22,7 @@ def carrier(links, hosts=None, authority=None, name="ann", patience=1.0):
 
 
 def fault_of(call, seconds=10.0):
-    """What a call is told, in time."""
+    """The fault of a call, which comes in time."""
     begun = time.monotonic()
     try:
         call()
@@ -69,7 +69,7 @@ def sessions_side_by_side(program, folder):
         links.send(0, b"plan")
         carry.gets(b"0 ann plan")
         carry.says(b"ann 0 plan 2 0 16 8 2 2.2\n")
-        answer = links.receive(0, 5) or links.receive(0, 5)  # (first it is told that there is something new)
+        answer = links.receive(0, 5) or links.receive(0, 5)  # (the first one only says that there is something new)
         check(isinstance(answer, PlanTold), f"no plan: {answer}")
 
         def ask(number):

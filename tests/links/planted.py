@@ -55,7 +55,7 @@ def built(folder, what, edits):
         with open(path, "w", encoding="utf-8") as out:
             out.write(text.replace(old, new))
     path = os.path.join(folder, "carry")
-    done = subprocess.run(["make", "-s", "-C", sources, f"OUT={path}", "WARNINGS=-std=c11", "CFLAGS=-O1", "LDFLAGS="], stderr=subprocess.PIPE, text=True)
+    done = subprocess.run(["make", "-s", "-C", sources, f"LINKS={path}", path, "WARNINGS=-std=c11", "CFLAGS=-O1", "LDFLAGS="], stderr=subprocess.PIPE, text=True)
     if done.returncode:
         raise ValueError(f"{what}: {done.stderr}")
     return path

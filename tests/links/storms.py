@@ -156,7 +156,7 @@ class Storm:
         self.wait_for_loads()
 
     def histories(self):
-        """The history of each file, from all loads of its tenant, one behind the other."""
+        """The history of each file, from all loads of its tenant, one after the other."""
         found = {}
         for folder in sorted(os.listdir(".")):
             if not folder.startswith("history."):

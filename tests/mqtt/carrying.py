@@ -103,7 +103,7 @@ def files(checked):
         carry = checked.carry(broker.port, node(COPY), password=name)
         checked.held((carry.status(), carry.first()) == (1, f"carry: {told}"), f"a password file: {told}: {carry.lines}")
     carry = checked.carry(broker.port, node(COPY))
-    carry.says("connected to")
+    checked.held(wait_for(lambda: broker.subscribed == 1), "it subscribes")  # (which it does after it has said that it is connected)
     os.chmod("secret", 0o644)
     broker.peer.shutdown(socket.SHUT_RDWR)
     checked.held(carry.says("secret: others may read or write it") and carry.says("disconnected"), "one that others may read later is told")

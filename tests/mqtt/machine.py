@@ -10,7 +10,7 @@ from peers import DEPLOY
 
 
 class Machine(grid_commands.Machine):
-    COMMAND, NAME, ENGINE, CARRIER = os.path.join(DEPLOY, "grid"), "deploy/mqtt/grid", "broker", "carry"
+    COMMAND, NAME, ENGINE, CARRIER = os.path.join(DEPLOY, "grid"), "deploy/mqtt/grid", "broker", "carry-mqtt"
     CERTIFICATES = "the test authority and its certificate end"
 
     def __init__(self, program, tls):

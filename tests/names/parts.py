@@ -122,7 +122,7 @@ def bug_in_pipes(program, seconds):
 
 def carrier():
     path = os.path.abspath("carry")
-    subprocess.run(["make", "-s", "-C", DEPLOY, f"OUT={path}"], check=True)
+    subprocess.run(["make", "-s", "-C", os.path.join(DEPLOY, "..", "carrier"), f"MQTT={path}", path], check=True)
     return path
 
 
