@@ -15,6 +15,7 @@ HERE = os.path.dirname(os.path.abspath(__file__))
 sys.path.insert(0, os.path.join(HERE, "..", "examples", "nodes"))
 sys.path.insert(0, os.path.join(HERE, "..", "tests", "nodes"))
 from carrier import Carrier, Node, journal_of
+from contents import word_of
 from journals import sealed
 from processes import room, words_of
 from tenant import homes
@@ -27,7 +28,13 @@ BESIDE = 64 * MIB
 PLAN = "grid 2 2\nroom 65536\ntenant ann 65536 4 1000000 16384\ngo\nann open 4 16384\n"
 MESSAGES = 8  # of an operation on 2 by 2
 NAMES = "gridfs run", "four nodes", "sha256sum", "hexadecimal digits"
-JOURNALS = [("each of another file", 1), ("sixteen of each file", 16), ("the last one, written anew", 0)]
+# What a journal has: how many contents of each file, and whether in digits, as nodes wrote them before. The last one is what the node made of the one before it.
+JOURNALS = [
+    ("in digits, each of another file", 1, True),
+    ("in bytes, each of another file", 1, False),
+    ("in bytes, sixteen of each file", 16, False),
+    ("the last one, written anew", 0, False),
+]
 # Bytes to digits, or digits to bytes.
 CODER = r"""
 #include <stdio.h>
@@ -147,7 +154,7 @@ def start(program, folder):
     return time.perf_counter() - begun, used, int(done.stderr.split()[-2])
 
 
-def write_journal(folder, facts, times):
+def write_journal(folder, facts, times, in_digits):
     """A journal of so many facts of 1 MiB, so many of each file."""
     files = max(1, facts // times)
     plan = f"grid 2 2\nroom {16384 * files}\ntenant ann {16384 * files} 4 1 16384\ngo\n"
@@ -157,22 +164,22 @@ def write_journal(folder, facts, times):
     with open(os.path.join(folder, "journal"), "wb") as out:
         out.write(sealed(1, b"node 0 of 2 by 2\n" + plan.encode()))
         for at in range(facts):
-            file = at % files
-            out.write(sealed(at + 2, b"kept ann %d %d %d 4 %s\n" % (file // 64, file % 64, at + 1, os.urandom(MIB).hex().encode())))
+            file, content = at % files, os.urandom(MIB).hex().encode()
+            out.write(sealed(at + 2, b"kept ann %d %d %d 4 %s\n" % (file // 64, file % 64, at + 1, content if in_digits else word_of(content))))
 
 
 def starts(program, mib, turns, sha):
     """Prints what a start takes from a journal of so many MiB, and from the one that the node made of it."""
     with room() as folder:
-        for what, times in JOURNALS:
+        for what, times, in_digits in JOURNALS:
             journal = os.path.join(folder, "journal")
             if times:
-                write_journal(folder, mib // 2, times)
+                write_journal(folder, mib // 2, times, in_digits)
             else:
                 subprocess.run(words_of(program, 0, "plan", "journal"), input=b"0 ann read 1 1 0 0\n", stdout=subprocess.DEVNULL, stderr=subprocess.DEVNULL, cwd=folder, check=True)
             size, taken = os.path.getsize(journal), [start(program, folder) for _ in range(turns)]
             clock, used = min(it[0] for it in taken), min(it[1] for it in taken)
-            print(f"a start from {size / MIB:.0f} MiB, {what}: {clock:.2f} s, {used:.2f} of the processor, {taken[0][2]} facts; {size / used / sha:.2f} of sha256sum's bytes a second", flush=True)
+            print(f"a start from {size / MIB:.0f} MiB {what}: {clock:.2f} s, {used:.2f} of the processor, {taken[0][2]} facts; {size / used / sha:.2f} of sha256sum's bytes a second", flush=True)
             if not times:
                 break
 
