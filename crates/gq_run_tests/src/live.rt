@@ -1,11 +1,12 @@
 //! Live runs of texts, under gates.
 
 use crate::gates::{Counting, Meeting, Overtaking, Shut};
-use gq_cli::{LiveRunFault, MOST_INPUT, Watched, live_run, read_programs};
 use gq_desk::Plan;
 use gq_inspect::{Mismatch, inspect};
 use gq_live::{CellEntry, Entries, Gate, Journal, LiveFault, OpenGate, Records, Said, fits, live};
 use gq_memory::GrowVec;
+use gq_runs::{LiveRunFault, live_run, read_programs};
+use gq_script::{MOST_INPUT, Watched};
 use gq_tag::{Body, Tag};
 use std::alloc::Global;
 use std::process::Abort;

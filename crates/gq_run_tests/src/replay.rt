@@ -3,12 +3,13 @@
 use crate::live::run_of;
 use bytes::Bytes;
 use gq_cell::{BoardEntry, CellEntry};
-use gq_cli::{MOST_INPUT, read_programs};
 use gq_inspect::inspect;
 use gq_live::OpenGate;
 use gq_memory::{GrowVec, OutOfMemory};
 use gq_model::Said;
 use gq_phase::Outcome;
+use gq_runs::read_programs;
+use gq_script::MOST_INPUT;
 use gq_session::{Did, Journal, Records, SessionEntry};
 use gq_tag::{Body, Tag};
 use std::alloc::Global;

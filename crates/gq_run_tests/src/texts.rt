@@ -1,9 +1,9 @@
 //! What is told of records that are no run, and of threads that gave none. No input of the program brings it about.
 
-use gq_cli::{LiveRunFault, NamedMismatch, RequestFault};
 use gq_desk::Name;
 use gq_inspect::Mismatch;
 use gq_live::LiveFault;
+use gq_runs::{LiveRunFault, NamedMismatch, RequestFault};
 use std::alloc::Global;
 use std::test::Fail;
 

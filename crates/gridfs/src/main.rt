@@ -1,10 +1,11 @@
 //! The program: the words, the standard streams and the runtime go down, and a status comes back.
 #![tactic(auto)]
 
-use gq_cli::{
-    CommandLine, Durable, NodeRequest, Notice, Request, Standard, Stream, Told, Usage, Watched,
-    carry_out, read_words, run_node,
-};
+use gq_keeper::Stream;
+use gq_runs::carry_out;
+use gq_script::{Notice, Watched};
+use gq_service::{Durable, Standard, Told, run_node};
+use gq_words::{CommandLine, NodeRequest, Request, Usage, read_words};
 use std::alloc::Global;
 use std::fmt::Display;
 use std::io::IsTerminal;
