@@ -1,0 +1,13 @@
+pub mod Lists
+pub mod Views
+pub mod Pages
+pub mod Standing
+pub mod GoingOn
+pub mod Turns
+pub mod Moves
+pub mod Tellings
+pub mod Endings
+pub mod Steps
+pub mod Counting
+pub mod Completing
+pub mod OwnWrites

@@ -1,0 +1,5 @@
+pub mod Names
+pub mod Laws
+pub mod Completing
+pub mod Worked
+pub mod Files

@@ -1,0 +1,60 @@
+-- A worked case, computed: so the laws speak of runs in which something is told.
+use Rattle.std.specs.Prelude.{◌≡◌, ℕ, List, [], ◌∷◌, Bool, true, false, Some, None}
+use Rattle.gq_tag.specs.declared.Tag.{Tag}
+use Rattle.gq_tag.specs.Tag.{first_copy}
+use Rattle.gq_laws.specs.declared.ops.Kind.TheVariants.{Write as Writes, Read as Reads}
+use Rattle.gq_names.specs.Names.{Setting, World, Step, Enters, PageLate, Begins, Sees, Chooses, ClientWrites, Asks, Finds, Tells, shown, world_after, operations_of}
+
+-- two sessions; the name 7 is watched
+abbrev pub two : Setting
+two = record { sessions = 2; name = 7 }
+
+abbrev pub no_one : ℕ → Bool
+no_one = λ n. false
+
+abbrev pub all_of_them : ℕ → Bool
+all_of_them = λ n. true
+
+abbrev pub steps_worked : List Step
+steps_worked =
+    -- session 0 puts 65 under the name, and announces it; it writes its page, gets no answer, and dies
+    Begins 0 7 (65 ∷ []) ∷ Sees 0 1 ∷ Chooses 0 0 no_one no_one ∷ ClientWrites 0 true ∷ ClientWrites 0 false ∷ Enters 0
+    -- somebody begins to get the name and looks at page 0; the page takes effect late; he looks at page 1, and tells that nothing is there
+    ∷ Asks 4 ∷ Finds 4 0 ∷ PageLate 0 0 ∷ Finds 4 1 ∷ Tells 4
+    -- another one finds 65
+    ∷ Asks 5 ∷ Finds 5 0 ∷ Finds 5 1 ∷ Tells 5
+    -- session 1 takes the name away
+    ∷ Begins 1 7 [] ∷ Sees 1 0 ∷ Chooses 1 0 no_one no_one ∷ ClientWrites 1 true ∷ ClientWrites 1 true
+    -- session 0 puts another name: it sees a greater line of the name 7, so its own goes
+    ∷ Begins 0 8 (66 ∷ []) ∷ Sees 0 1 ∷ Chooses 0 0 all_of_them all_of_them ∷ ClientWrites 0 true ∷ ClientWrites 0 true
+    -- somebody gets the name: nothing is there
+    ∷ Asks 5 ∷ Finds 5 1 ∷ Finds 5 0 ∷ Tells 5
+    -- session 1 changes its page: that of session 0 was made beside one that had the removal, and shows nothing of the name. So the removal is forgotten
+    ∷ Begins 1 9 [] ∷ Sees 1 0 ∷ Chooses 1 0 all_of_them all_of_them ∷ ClientWrites 1 true ∷ ClientWrites 1 true
+    -- somebody gets the name: nothing is there. Session 0 puts 67 under it
+    ∷ Asks 6 ∷ Finds 6 0 ∷ Finds 6 1 ∷ Tells 6
+    ∷ Begins 0 7 (67 ∷ []) ∷ Sees 0 1 ∷ Chooses 0 0 no_one no_one ∷ ClientWrites 0 true ∷ ClientWrites 0 false ∷ []
+
+abbrev pub world_worked : World
+world_worked = world_after two steps_worked
+
+abbrev pub version : (number session : ℕ) → Tag
+version number session = record { number = number; session = session }
+
+pub record IsWorked : Type 0 where
+  -- the put has not ended, and its version is known, since a get told it; the first get tells nothing, with the version of a name never written
+  pub told : operations_of world_worked ≡
+      record { kind = Writes (65 ∷ []); session = 0; op = 0; begin = 0; end = None; tag = Some (version 1 0) }
+      ∷ record { kind = Reads (Some []); session = 4; op = 1; begin = 6; end = Some 10; tag = Some (version 0 0) }
+      ∷ record { kind = Reads (Some (65 ∷ [])); session = 5; op = 2; begin = 11; end = Some 14; tag = Some (version 1 0) }
+      ∷ record { kind = Writes []; session = 1; op = 3; begin = 15; end = Some 19; tag = Some (version 2 1) }
+      ∷ record { kind = Reads (Some []); session = 5; op = 4; begin = 25; end = Some 28; tag = Some (version 2 1) }
+      ∷ record { kind = Reads (Some []); session = 6; op = 5; begin = 34; end = Some 37; tag = Some (version 2 1) }
+      ∷ record { kind = Writes (67 ∷ []); session = 0; op = 6; begin = 38; end = None; tag = Some (version 5 0) }
+      ∷ []
+  -- the line that went is seen no more, and its page asks for the other one
+  pub gone : shown (world_worked.session 0).page 7 ≡ first_copy
+  pub asks : (world_worked.session 0).page.after 1 ≡ 2
+  -- nor is the removal, which was forgotten, and its page asks for that of session 0 as it was then
+  pub forgotten : shown (world_worked.session 1).page 7 ≡ first_copy
+  pub minds : (world_worked.session 1).page.after 0 ≡ 3
