@@ -1,5 +1,6 @@
 """A grid on this machine whose nodes have carriers. The commands deploy/links/grid and deploy/mqtt/grid, tests and benchmarks start it."""
 
+import contextlib
 import os
 import signal
 import socket
@@ -77,6 +78,7 @@ class CarriedGrid:
         self.processes, self.nodes, self.shape, self.count, self.words = {}, [], "", 0, ()
         self.told_before = {}  # of each process, how long its log was when it was started
         self.lock = None  # the handle of the folder's lock, where it was taken
+        self.metrics = None  # the folder of the carriers' metrics, if they are wanted
 
     # What an engine has
 
@@ -130,6 +132,9 @@ class CarriedGrid:
         self.nodes, self.shape = nodes_of(text), shape_of(text)
         self.count = len(self.nodes)
 
+    def metrics_of(self, number):
+        return os.path.join(self.metrics, f"gridfs-{number}.prom")
+
     def has_journal(self, number):
         return os.path.exists(journal_of(self.folder, number))
 
@@ -163,7 +168,8 @@ class CarriedGrid:
         """Starts a node with its carrier. A journal is begun at the grid's first start alone: a node whose journal is lost must not start."""
         journal = journal_of(self.folder, number)
         node = [self.program, "node", str(number), "--plan", self.plan, "--journal", journal]
-        self.run(number, [self.carry, *self.carrier_words(number), "--plan", self.plan, str(number), "--", *node] + ["--new"] * is_new)
+        metrics = ["--metrics", self.metrics_of(number)] if self.metrics else []
+        self.run(number, [self.carry, *self.carrier_words(number), "--plan", self.plan, *metrics, str(number), "--", *node] + ["--new"] * is_new)
 
     def start(self, new=None):
         """Starts all nodes, of which one may begin in the place of one that was lost, and waits until each takes lines. Those whose
@@ -217,6 +223,9 @@ class CarriedGrid:
             text = file.read()
             file.write("\n" * (not text.endswith("\n")) + f"replace {number % PLACES}\n")
         self.set_up(*self.words)
+        if self.metrics:
+            with contextlib.suppress(FileNotFoundError):
+                os.unlink(self.metrics_of(number))
         return number + PLACES
 
     def lose(self, number):

@@ -76,6 +76,7 @@ class GridCommand:
         parser.add_argument("--program", default=os.environ.get("GRIDFS") or os.path.join(TOP, "gridfs"))
         parser.add_argument("--port", type=int, default=self.PORT)
         parser.add_argument("--replace", type=int)
+        parser.add_argument("--metrics")
         self.add_words(parser)
         parser.add_argument("folder", nargs="?")
         asked = parser.parse_args(words)
@@ -100,9 +101,12 @@ class GridCommand:
         for command in self.WANTS:
             if not shutil.which(command):
                 raise NotStarted(f"there is no {command}; what is wanted are the packages {self.PACKAGES}")
+        if asked.metrics is not None and not os.path.isdir(asked.metrics):
+            raise NotStarted(f"{asked.metrics}: no folder")
         try:
             known = subprocess.run([asked.program, "node", "--help"], stdin=subprocess.DEVNULL, stdout=subprocess.DEVNULL).returncode
             grid = self.new_grid(asked, os.path.abspath(folder), self.built(), port)
+            grid.metrics = asked.metrics and os.path.abspath(asked.metrics)
             os.makedirs(grid.folder, exist_ok=True)
             grid.take()
             before = text_of(grid.plan)
