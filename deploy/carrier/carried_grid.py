@@ -66,6 +66,10 @@ def why(told):
     return "\n".join(line for line in told.splitlines() if line.startswith("gridfs: ")) or told.strip()
 
 
+def words_of(settings):
+    return [word for key, value in settings.items() for word in (f"--{key}", value)]
+
+
 class CarriedGrid:
     """The processes of a grid whose files are in a folder: `plan`, the journals, and what they tell, in `log.NAME`. A class for an engine adds its own
     folder, the words of its carrier, and the processes that nodes need beside them, its servers."""
@@ -86,9 +90,16 @@ class CarriedGrid:
         """Makes what the engine needs from the plan, or makes it again."""
         raise NotImplementedError
 
-    def carrier_words(self, number):
-        """The words of a node's carrier."""
+    def settings(self, name):
+        """By which a tenant's client, or a node's carrier, finds the grid and is known there."""
         raise NotImplementedError
+
+    def words_for(self, name):
+        """These settings as words."""
+        return words_of(self.settings(name))
+
+    def carrier_words(self, number):
+        return self.words_for(number)
 
     def is_connected(self, number, told):
         """Whether the node's carrier is connected, by what it told since its start."""
@@ -105,6 +116,14 @@ class CarriedGrid:
         return []
 
     # Files
+
+    def write_settings(self, name):
+        """Writes what a tenant's client has to know into the folder; the path."""
+        path = os.path.join(self.folder, f"{name}.ini")
+        told = {"tenant": name, "grid": self.shape, **self.settings(name)}
+        with open(path, "w", encoding="utf-8") as out:
+            out.write("[gridfs]\n" + "".join(f"{key} = {value}\n" for key, value in told.items()))
+        return path
 
     def log(self, name):
         return open(os.path.join(self.folder, f"log.{name}"), "ab")

@@ -63,10 +63,6 @@ class GridCommand:
     def tenants(self, grid):
         raise NotImplementedError
 
-    def settings(self, grid, name):
-        """By which a tenant's client finds the grid."""
-        raise NotImplementedError
-
     # The words
 
     def words_of(self, words):
@@ -132,8 +128,7 @@ class GridCommand:
             raise NotStarted(f"there are the nodes {', '.join(map(str, grid.nodes))}")
         new = None if asked.replace is None else grid.note_loss(asked.replace)
         for name in self.tenants(grid):
-            with open(os.path.join(grid.folder, f"{name}.ini"), "w", encoding="utf-8") as out:
-                out.write(f"[gridfs]\ntenant = {name}\ngrid = {grid.shape}\n" + "".join(f"{key} = {value}\n" for key, value in self.settings(grid, name).items()))
+            grid.write_settings(name)
         for number, status in grid.start(new).items():
             tell(f"node {number} is down: {self.way_out_of(grid, number, status)}")
 
