@@ -1,5 +1,6 @@
 """A grid on this machine whose nodes have carriers. The commands deploy/links/grid and deploy/mqtt/grid, tests and benchmarks start it."""
 
+import contextlib
 import os
 import signal
 import socket
@@ -65,6 +66,10 @@ def why(told):
     return "\n".join(line for line in told.splitlines() if line.startswith("gridfs: ")) or told.strip()
 
 
+def words_of(settings):
+    return [word for key, value in settings.items() for word in (f"--{key}", value)]
+
+
 class CarriedGrid:
     """The processes of a grid whose files are in a folder: `plan`, the journals, and what they tell, in `log.NAME`. A class for an engine adds its own
     folder, the words of its carrier, and the processes that nodes need beside them, its servers."""
@@ -77,6 +82,7 @@ class CarriedGrid:
         self.processes, self.nodes, self.shape, self.count, self.words = {}, [], "", 0, ()
         self.told_before = {}  # of each process, how long its log was when it was started
         self.lock = None  # the handle of the folder's lock, where it was taken
+        self.metrics = None  # the folder of the carriers' metrics, if they are wanted
 
     # What an engine has
 
@@ -84,9 +90,16 @@ class CarriedGrid:
         """Makes what the engine needs from the plan, or makes it again."""
         raise NotImplementedError
 
-    def carrier_words(self, number):
-        """The words of a node's carrier."""
+    def settings(self, name):
+        """By which a tenant's client, or a node's carrier, finds the grid and is known there."""
         raise NotImplementedError
+
+    def words_for(self, name):
+        """These settings as words."""
+        return words_of(self.settings(name))
+
+    def carrier_words(self, number):
+        return self.words_for(number)
 
     def is_connected(self, number, told):
         """Whether the node's carrier is connected, by what it told since its start."""
@@ -103,6 +116,14 @@ class CarriedGrid:
         return []
 
     # Files
+
+    def write_settings(self, name):
+        """Writes what a tenant's client has to know into the folder; the path."""
+        path = os.path.join(self.folder, f"{name}.ini")
+        told = {"tenant": name, "grid": self.shape, **self.settings(name)}
+        with open(path, "w", encoding="utf-8") as out:
+            out.write("[gridfs]\n" + "".join(f"{key} = {value}\n" for key, value in told.items()))
+        return path
 
     def log(self, name):
         return open(os.path.join(self.folder, f"log.{name}"), "ab")
@@ -129,6 +150,9 @@ class CarriedGrid:
             text = file.read()
         self.nodes, self.shape = nodes_of(text), shape_of(text)
         self.count = len(self.nodes)
+
+    def metrics_of(self, number):
+        return os.path.join(self.metrics, f"gridfs-{number}.prom")
 
     def has_journal(self, number):
         return os.path.exists(journal_of(self.folder, number))
@@ -163,7 +187,8 @@ class CarriedGrid:
         """Starts a node with its carrier. A journal is begun at the grid's first start alone: a node whose journal is lost must not start."""
         journal = journal_of(self.folder, number)
         node = [self.program, "node", str(number), "--plan", self.plan, "--journal", journal]
-        self.run(number, [self.carry, *self.carrier_words(number), "--plan", self.plan, str(number), "--", *node] + ["--new"] * is_new)
+        metrics = ["--metrics", self.metrics_of(number)] if self.metrics else []
+        self.run(number, [self.carry, *self.carrier_words(number), "--plan", self.plan, *metrics, str(number), "--", *node] + ["--new"] * is_new)
 
     def start(self, new=None):
         """Starts all nodes, of which one may begin in the place of one that was lost, and waits until each takes lines. Those whose
@@ -217,6 +242,9 @@ class CarriedGrid:
             text = file.read()
             file.write("\n" * (not text.endswith("\n")) + f"replace {number % PLACES}\n")
         self.set_up(*self.words)
+        if self.metrics:
+            with contextlib.suppress(FileNotFoundError):
+                os.unlink(self.metrics_of(number))
         return number + PLACES
 
     def lose(self, number):

@@ -63,10 +63,6 @@ class GridCommand:
     def tenants(self, grid):
         raise NotImplementedError
 
-    def settings(self, grid, name):
-        """By which a tenant's client finds the grid."""
-        raise NotImplementedError
-
     # The words
 
     def words_of(self, words):
@@ -76,6 +72,7 @@ class GridCommand:
         parser.add_argument("--program", default=os.environ.get("GRIDFS") or os.path.join(TOP, "gridfs"))
         parser.add_argument("--port", type=int, default=self.PORT)
         parser.add_argument("--replace", type=int)
+        parser.add_argument("--metrics")
         self.add_words(parser)
         parser.add_argument("folder", nargs="?")
         asked = parser.parse_args(words)
@@ -100,9 +97,12 @@ class GridCommand:
         for command in self.WANTS:
             if not shutil.which(command):
                 raise NotStarted(f"there is no {command}; what is wanted are the packages {self.PACKAGES}")
+        if asked.metrics is not None and not os.path.isdir(asked.metrics):
+            raise NotStarted(f"{asked.metrics}: no folder")
         try:
             known = subprocess.run([asked.program, "node", "--help"], stdin=subprocess.DEVNULL, stdout=subprocess.DEVNULL).returncode
             grid = self.new_grid(asked, os.path.abspath(folder), self.built(), port)
+            grid.metrics = asked.metrics and os.path.abspath(asked.metrics)
             os.makedirs(grid.folder, exist_ok=True)
             grid.take()
             before = text_of(grid.plan)
@@ -128,8 +128,7 @@ class GridCommand:
             raise NotStarted(f"there are the nodes {', '.join(map(str, grid.nodes))}")
         new = None if asked.replace is None else grid.note_loss(asked.replace)
         for name in self.tenants(grid):
-            with open(os.path.join(grid.folder, f"{name}.ini"), "w", encoding="utf-8") as out:
-                out.write(f"[gridfs]\ntenant = {name}\ngrid = {grid.shape}\n" + "".join(f"{key} = {value}\n" for key, value in self.settings(grid, name).items()))
+            grid.write_settings(name)
         for number, status in grid.start(new).items():
             tell(f"node {number} is down: {self.way_out_of(grid, number, status)}")
 

@@ -2,6 +2,7 @@
    themselves. Both ends show a certificate of the grid's own authority. Its common name is a node's number or a tenant's name, and no other
    FROM is believed. On a connection each line is a BODY, ended by LF. */
 #define _GNU_SOURCE
+#include "metrics.h"
 #include "node.h"
 #include "stream.h"
 #include <arpa/inet.h>
@@ -16,6 +17,7 @@
 #include <sys/eventfd.h>
 #include <sys/resource.h>
 #include <sys/stat.h>
+#include <time.h>
 #include <unistd.h>
 
 enum {
@@ -715,13 +717,36 @@ bool engine_is_empty(void) {
     return true;
 }
 
+/* Connections now, of nodes or of tenants. */
+static size_t links_of(bool tenants) {
+    size_t many = 0;
+    for (struct link *link = all; link; link = link->next) many += link->peer && is_tenant(link->peer->name) == tenants;
+    return many;
+}
+
 const char *engine_counts(void) {
     static char text[160];
-    size_t nodes = 0, tenants = 0;
-    for (struct link *link = all; link; link = link->next)
-        if (link->peer) ++*(is_tenant(link->peer->name) ? &tenants : &nodes);
+    size_t nodes = links_of(false), tenants = links_of(true);
     snprintf(text, sizeof text, " nodes %zu tenants %zu refused %ld cut_off %ld", nodes, tenants, refused, slow_links);
     return text;
+}
+
+static void tell_links(void) {
+    metric("carrier_link_up", "gauge", "1 where this node is linked to that node of the file of hosts.");
+    for (struct host *it = hosts; it < hosts + hosts_many; it++) {
+        struct peer *peer = it->is_there ? peer_of(it->name, strlen(it->name), false) : NULL;
+        if (it->is_there) sample("peer", it->name, peer && peer->many);
+    }
+}
+
+void engine_metrics(void) {
+    struct tm end;
+    tell_links();
+    single("carrier_tenant_connections", "gauge", "Connections of tenants.", (double)links_of(true));
+    single("carrier_refused_total", "counter", "Newcomers that were refused.", (double)refused);
+    single("carrier_cut_off_total", "counter", "Connections that were ended since the other end took nothing.", (double)slow_links);
+    if (ASN1_TIME_to_tm(X509_get0_notAfter(SSL_CTX_get0_certificate(context)), &end))
+        single("carrier_certificate_end_timestamp_seconds", "gauge", "When the certificate of this node ends.", (double)timegm(&end));
 }
 
 void engine_end(void) {

@@ -1,6 +1,7 @@
 /* The engine over a broker of MQTT. A message's topic is gridfs/TO/FROM, its payload BODY lines parted by LF. FROM is taken from the topic alone: so
    the broker's access list decides who may speak as whom. Nothing here waits for the broker or for a host's address. */
 #define _GNU_SOURCE
+#include "metrics.h"
 #include "node.h"
 #include <errno.h>
 #include <mosquitto.h>
@@ -305,6 +306,12 @@ const char *engine_counts(void) {
     static char text[80];
     snprintf(text, sizeof text, " messages_in %ld messages %ld", messages_in, messages);
     return text;
+}
+
+void engine_metrics(void) {
+    single("carrier_broker_up", "gauge", "1 while the broker is connected.", state == HERE);
+    single("carrier_messages_in_total", "counter", "Messages of the broker.", (double)messages_in);
+    single("carrier_messages_out_total", "counter", "Messages to the broker.", (double)messages);
 }
 
 void engine_end(void) {

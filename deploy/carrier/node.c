@@ -1,6 +1,7 @@
 /* carry: runs a node, or any program that reads and writes lines `TO FROM BODY`, and carries its lines by an engine. Lines that
    can't be carried are dropped whole and counted: a node bears their loss. Nothing here waits for the node or for anybody. */
 #define _GNU_SOURCE
+#include "metrics.h"
 #include "node.h"
 #include <errno.h>
 #include <fcntl.h>
@@ -10,6 +11,7 @@
 #include <stdlib.h>
 #include <string.h>
 #include <sys/ioctl.h>
+#include <sys/stat.h>
 #include <sys/syscall.h>
 #include <sys/wait.h>
 #include <unistd.h>
@@ -18,7 +20,9 @@ enum {
     WRITE = 4096,               /* bytes of writes to the node: whole lines, that a pipe takes whole (PIPE_BUF) */
     TURN = 1024,                /* bytes that one name gives to a write before the next one has its turn */
     PIPE = 8192,                /* bytes of the pipe to the node: a flood can put so many before another's line */
-    PRICE = 800                 /* bytes that each line adds to its own in a tenant's rate */
+    PRICE = 800,                /* bytes that each line adds to its own in a tenant's rate */
+    TENANTS = 64,               /* of a plan; what more of them bring is told in one sum */
+    METRICS = 10                /* seconds between two writes of the metrics */
 };
 
 const char *me;
@@ -30,6 +34,7 @@ static size_t own, rate = 8 << 20;              /* the length of our number; byt
 static const double burst = 0.02;               /* seconds of its rate that a tenant may use at once */
 static struct { struct queue of[NAMES]; size_t many, turn; } from;
 static struct queue *mine;                      /* the node's lines to itself */
+static struct { struct tally of[TENANTS], others; size_t many; } tallies = {.others.name = "OTHERS"};  /* (no tenant has such a name) */
 static struct watch node_in = {.fd = -1}, node_out = {.fd = -1};    /* our ends of its pipes */
 static char *piece, *chunk;                     /* output of the node that was read; what is being written to it */
 static size_t piece_held, chunk_held, chunk_at;
@@ -38,6 +43,10 @@ static double rested;                           /* when a tenant that waits for 
 static uint64_t given, tick_end;                /* bytes written to the node, in all and up to its last tick */
 static size_t tick_waits;                       /* bytes of its own queue up to the end of a tick; 0 without one */
 static double tick_time, tick_due;
+static const char *metrics_file, *journal;      /* NULL where there is none */
+static double metrics_due, last_line;           /* when the metrics are written; when the node last wrote something, 0 before */
+static bool node_ready;                         /* it has read its journal */
+static long ticks;
 static bool engine_runs;                        /* from its begin on */
 static volatile sig_atomic_t ending, asked_counts, hung_up;
 
@@ -77,6 +86,14 @@ bool is_name(const char *text, size_t length) {
     return letters && letters == length && length <= NAME;
 }
 
+static struct tally *tally_of(const char *name, size_t length) {
+    for (size_t i = 0; i < tallies.many; i++)
+        if (!memcmp(tallies.of[i].name, name, length) && !tallies.of[i].name[length]) return &tallies.of[i];
+    if (tallies.many == TENANTS) return &tallies.others;
+    memcpy(tallies.of[tallies.many].name, name, length);
+    return &tallies.of[tallies.many++];
+}
+
 /* The queue of a name. Where there are too many names, a new one gets a queue that is empty and has no user. */
 struct queue *queue_of(const char *name, size_t length) {
     struct queue *empty = NULL;
@@ -87,6 +104,7 @@ struct queue *queue_of(const char *name, size_t length) {
     }
     if (from.many < NAMES) empty = &from.of[from.many++];
     if (!empty) return NULL;
+    empty->tally = is_tenant(name) ? tally_of(name, length) : NULL;
     memset(empty->name, 0, sizeof empty->name);
     memcpy(empty->name, name, length);
     snprintf(empty->head, sizeof empty->head, "%s %s ", me, empty->name);
@@ -112,6 +130,7 @@ bool add(struct queue *queue, const char *head, const char *body, size_t length,
     size_t before = strlen(head), more = before + length + 1;
     if (held(queue) + more > bound) {
         queue->dropped++, ++*full;
+        if (queue->tally) queue->tally->dropped++;
         return false;
     }
     if (!make_room(queue, more)) {
@@ -155,13 +174,18 @@ void for_node(struct queue *queue, const char *text, size_t length) {
         if (!(stop = memchr(text, '\n', (size_t)(end - text)))) stop = end;
         size_t body = (size_t)(stop - text);
         if (strlen(queue->head) + body > longest) count.too_long++;
-        else if (body && add(queue, queue->head, text, body, &count.full)) count.in++;
+        else if (body && add(queue, queue->head, text, body, &count.full)) {
+            count.in++;
+            if (queue->tally) queue->tally->lines++, queue->tally->bytes += (long)body + 1;
+        }
     }
 }
 
 void charge(struct queue *queue, size_t bytes, double time) {
     if (queue->paid_until < time) queue->paid_until = time;
+    double over = queue->paid_until > time + burst ? queue->paid_until : time + burst;
     queue->paid_until += (double)bytes / (double)rate;
+    if (queue->tally && queue->paid_until > over) queue->tally->over_rate += queue->paid_until - over;
 }
 
 double rests_until(const struct queue *queue, double time) { return queue->paid_until > time + burst ? queue->paid_until - burst : 0; }
@@ -222,7 +246,7 @@ static void give_tick(void) {
     int unread = 0;
     if (node_in.fd < 0 || tick_waits) return;
     if (ioctl(node_in.fd, FIONREAD, &unread) || given - (uint64_t)unread < tick_end) return;
-    if (add(mine, mine->head, "tick", 4, &count.full)) tick_waits = held(mine);
+    if (add(mine, mine->head, "tick", 4, &count.full)) tick_waits = held(mine), ticks++;
 }
 
 /* From the node */
@@ -230,7 +254,10 @@ static void give_tick(void) {
 static void take_line(const char *text, size_t length) {
     const char *space = memchr(text, ' ', length);
     size_t name = space ? (size_t)(space - text) : 0, head = name + own + 2;
-    if (length == 2 && !memcmp(text, " ?", 2)) return;         /* (a node begins with this) */
+    if (length == 2 && !memcmp(text, " ?", 2)) {               /* (a node begins with this) */
+        node_ready = true;
+        return;
+    }
     bool good = is_name(text, name) && length > head && !memcmp(space + 1, me, own) && text[head - 1] == ' ';
     if (length > longest) count.too_long++;
     else if (!good) count.strange++;
@@ -246,9 +273,10 @@ static void read_node(struct watch *it, uint32_t events) {
     if (came <= 0) {
         watch(it, 0);
         close(it->fd);
-        it->fd = -1;
+        it->fd = -1, node_ready = false;
         return;
     }
+    last_line = now();
     char *text = piece, *end = piece + piece_held + came, *search = piece + piece_held;
     for (char *stop; (stop = memchr(search, '\n', (size_t)(end - search))); text = search = stop + 1) {
         if (!skipping) take_line(text, (size_t)(stop - text));
@@ -288,16 +316,64 @@ static bool start(char **command, const sigset_t *open_mask, pid_t *child) {
     return true;
 }
 
+/* Metrics */
+
+static void tell_tenants(const char *name, const char *help, double (*value)(const struct tally *)) {
+    metric(name, "counter", help);
+    for (size_t i = 0; i < tallies.many; i++) sample("tenant", tallies.of[i].name, value(&tallies.of[i]));
+    if (tallies.others.lines || tallies.others.dropped) sample("tenant", tallies.others.name, value(&tallies.others));
+}
+
+static double lines_of(const struct tally *it) { return (double)it->lines; }
+static double bytes_of(const struct tally *it) { return (double)it->bytes; }
+static double dropped_of(const struct tally *it) { return (double)it->dropped; }
+static double over_rate_of(const struct tally *it) { return it->over_rate; }
+
+static void tell_dropped(void) {
+    const struct { const char *reason; long lines; } all[] = {{"lost", count.lost}, {"full", count.full}, {"slow", count.slow},
+        {"long", count.too_long}, {"strange", count.strange}, {"memory", count.memory}};
+    metric("carrier_lines_dropped_total", "counter", "Lines that were dropped: lost without a connection, full by the bound of a sender, slow by that of a reader, long, strange by their form, or for want of memory.");
+    for (size_t i = 0; i < sizeof all / sizeof *all; i++) sample("reason", all[i].reason, (double)all[i].lines);
+}
+
+static void tell_metrics(void) {
+    struct stat file;
+    size_t waits = 0;
+    for (size_t i = 0; i < from.many; i++) waits += held(&from.of[i]);
+    single("node_ready", "gauge", "1 once the node has read its journal and takes lines, and as long as it runs.", node_ready);
+    single("node_ticks_total", "counter", "Ticks that the node was given. It gets none as long as it has not read the last one.", (double)ticks);
+    single("node_last_line_timestamp_seconds", "gauge", "When the node last wrote a line; 0 before its first one.", last_line > 0 ? wall_time(last_line) : 0);
+    single("node_waiting_bytes", "gauge", "Bytes of lines that wait for the node.", (double)waits);
+    if (journal && !stat(journal, &file)) single("node_journal_bytes", "gauge", "Size of the node's journal.", (double)file.st_size);
+    single("carrier_lines_in_total", "counter", "Lines that were taken for the node.", (double)count.in);
+    single("carrier_lines_out_total", "counter", "Lines of the node that were taken for others.", (double)count.out);
+    tell_dropped();
+    single("carrier_connections_total", "counter", "Connections that were made.", (double)count.connected);
+    tell_tenants("tenant_lines_total", "Lines of a tenant that were taken for the node.", lines_of);
+    tell_tenants("tenant_bytes_total", "Bytes of these lines.", bytes_of);
+    tell_tenants("tenant_lines_dropped_total", "Lines of a tenant that were more than its bound.", dropped_of);
+    tell_tenants("tenant_over_rate_seconds_total", "Seconds for which a tenant had to wait, since it had used more than its rate.", over_rate_of);
+    if (engine_runs) engine_metrics();
+}
+
+static void mind_metrics(double time) {
+    if (!metrics_file || time < metrics_due) return;
+    write_metrics(metrics_file, tell_metrics);
+    metrics_due = time + METRICS;
+}
+
 /* One turn: does all that can be done now, and waits for more. */
 static void pass(const sigset_t *open_mask) {
     double time = now(), wake;
-    if (asked_counts) asked_counts = 0, say_counts();
+    if (asked_counts) asked_counts = 0, metrics_due = 0, say_counts();
+    mind_metrics(time);
     if (hung_up) hung_up = 0, engine_runs ? engine_hangup() : (void)0;
     if (ending || fault) end_input();
     if (time >= tick_due) give_tick(), tick_due = time + about(tick_time);
     wake = engine_runs ? engine_turn(time) : time + 0.1;
     feed_node(time);
     if (tick_due < wake) wake = tick_due;
+    if (metrics_file && metrics_due < wake) wake = metrics_due;
     if (!node_full && rested > time && rested < wake) wake = rested;
     loop_once(wake - time, open_mask);
 }
@@ -308,10 +384,11 @@ static void flush(const sigset_t *open_mask) {
 }
 
 static const char usage[] =
-    "             [--tick SECONDS] [--plan FILE | --longest BYTES] NUMBER -- COMMAND [ARG ..]\n"
+    "             [--tick SECONDS] [--plan FILE | --longest BYTES] [--metrics FILE] NUMBER -- COMMAND [ARG ..]\n"
     "Runs COMMAND as node NUMBER and carries its lines. It gives a tick each 0.25 s, and carries lines of at most 4095\n"
     "bytes without their end. If the plan, or --longest, has longer lines, it carries these, and ticks come less often:\n"
     "each 2.25 s for lines of 2 MiB. SIGTERM ends the command's input, and waits for its end; SIGUSR1 prints the counts.\n"
+    "FILE gets metrics for Prometheus each ten seconds, at SIGUSR1 and at the end.\n"
     "Status: the command's, or 128 and the number of the signal that ended it; 1: a file can't be used; 2: a wrong word;\n"
     "3: out of memory.\n";
 
@@ -348,7 +425,7 @@ static size_t longest_of(const char *plan) {
 
 static char **read_words(char **at) {
     const char *tick = NULL, *length = NULL, *plan = NULL;
-    struct word words[] = {{"--tick", &tick}, {"--longest", &length}, {"--plan", &plan}, {NULL, NULL}};
+    struct word words[] = {{"--tick", &tick}, {"--longest", &length}, {"--plan", &plan}, {"--metrics", &metrics_file}, {NULL, NULL}};
     for (at++; *at && !strncmp(*at, "--", 2); at += 2) {
         const struct word *found = words;
         if (!strcmp(*at, "--help")) exit(show_usage(stdout));
@@ -363,6 +440,9 @@ static char **read_words(char **at) {
     tick_time = tick ? number("--tick", tick, 0.01, 3600) : 0.25 + (double)(longest - LONGEST) / (1 << 20);
     if (!at[0] || !at[1] || strcmp(at[1], "--") || !at[2]) wrong("NUMBER -- COMMAND", "is wanting");
     me = at[0], own = strlen(me);
+    if (metrics_file && !*metrics_file) metrics_file = NULL;
+    for (char **word = at + 2; *word; word++)
+        if (!strcmp(*word, "--journal")) journal = word[1];
     if (is_tenant(me) || !is_name(me, own)) wrong("NUMBER", me);
     if (bound < 4 * longest) bound = 4 * longest;
     if (rate < 16 * longest) rate = 16 * longest;
@@ -411,6 +491,7 @@ int main(int argc, char **argv) {
     if (WIFSIGNALED(status)) say("node %s ended by signal %d", me, WTERMSIG(status));
     else say("node %s ended with status %d", me, WEXITSTATUS(status));
     say_counts();
+    metrics_due = 0, mind_metrics(now());
     if (!fault) fault = WIFEXITED(status) ? WEXITSTATUS(status) : 128 + WTERMSIG(status);
     engine_free(fault);
     return fault;

@@ -13,6 +13,12 @@ enum {
     CHUNK = 65536               /* bytes of a read from the node, or of a write of a longer line */
 };
 
+struct tally {                  /* what a tenant has brought, for the metrics */
+    char name[NAME + 1];
+    long lines, bytes, dropped;
+    double over_rate;           /* seconds */
+};
+
 struct queue {                  /* whole lines from one name that wait for the node */
     char name[NAME + 1], head[2 * NAME];    /* head: `NUMBER FROM ` */
     char *bytes;
@@ -20,6 +26,7 @@ struct queue {                  /* whole lines from one name that wait for the n
     double paid_until;          /* how much of its rate a tenant has used */
     int users;                  /* as long as there are some, no other name gets this queue */
     long dropped;
+    struct tally *tally;        /* of a tenant; NULL for a node */
 };
 
 extern const char *me;          /* the node's number */
@@ -55,6 +62,7 @@ void engine_carry(const char *to, size_t name, const char *body, size_t length);
 double engine_turn(double time);                /* writes what waits; the time at which it has to be called again */
 bool engine_is_empty(void);                     /* whether nothing waits to be written */
 const char *engine_counts(void);                /* its own counts, for the line of counts */
+void engine_metrics(void);                      /* its own metrics, by the calls of metrics.h */
 void engine_end(void);
 void engine_free(int status);                   /* the last call before the carrier ends with this status */
 void engine_hangup(void);                       /* SIGHUP: files may have changed */

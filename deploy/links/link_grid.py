@@ -7,7 +7,7 @@ import sys
 
 HERE = os.path.dirname(os.path.realpath(__file__))
 sys.path.insert(0, os.path.join(HERE, "..", "carrier"))
-from carried_grid import CarriedGrid, NotStarted, children_of, free_ports, journal_of
+from carried_grid import CarriedGrid, NotStarted, children_of, free_ports, journal_of, words_of
 
 
 class Grid(CarriedGrid):
@@ -41,13 +41,11 @@ class Grid(CarriedGrid):
         return [os.path.join(self.links, "ca.crt")] + [os.path.join(secrets, name) for name in os.listdir(secrets) if name.endswith(".crt")]
 
     def settings(self, name):
-        """By which a tenant's client finds the nodes and is known there."""
         certificate, key = self.secrets(name)
         return {"hosts": self.hosts(), "ca-file": os.path.join(self.links, "ca.crt"), "certificate": certificate, "key": key}
 
     def carrier_words(self, number):
-        words = {**self.settings(number), "denied": os.path.join(self.links, "denied"), "bind": "127.0.0.1"}
-        return [word for key, value in words.items() for word in (f"--{key}", value)]
+        return words_of({**self.settings(number), "denied": os.path.join(self.links, "denied"), "bind": "127.0.0.1"})
 
     def is_connected(self, number, told):
         """Whether it is linked to each other node that runs."""

@@ -49,14 +49,10 @@ class Grid(CarriedGrid):
     def start_front(self):
         self.run("front", ["nginx", "-e", "stderr", "-p", self.broker_folder, "-c", os.path.join(self.broker_folder, "nginx.conf")])
 
-    def words_for(self, name):
-        """The words by which a client or a carrier finds the broker and is known there."""
+    def settings(self, name):
         port = self.port + (not str(name).isdecimal())
-        trusted = [] if self.tls == "none" else ["--ca-file", os.path.join(self.broker_folder, "ca.crt")]
-        return ["--broker", f"localhost:{port}", *trusted, "--password-file", os.path.join(self.broker_folder, "secret", str(name))]
-
-    def carrier_words(self, number):
-        return self.words_for(number)
+        trusted = {} if self.tls == "none" else {"ca-file": os.path.join(self.broker_folder, "ca.crt")}
+        return {"broker": f"localhost:{port}", **trusted, "password-file": os.path.join(self.broker_folder, "secret", str(name))}
 
     def is_connected(self, number, told):
         return "connected to" in told

@@ -4,6 +4,7 @@ a pipe."""
 import contextlib
 import os
 import re
+import resource
 import shutil
 import signal
 import socket
@@ -11,6 +12,7 @@ import ssl
 import subprocess
 import time
 
+import metrics
 from link_grid import free_ports
 from processes import Wrong
 
@@ -61,13 +63,15 @@ class Carry:
         open(self.in_path, "w").close()
         if not os.path.exists(self.out_path):
             os.mkfifo(self.out_path)
-        command = ["sh", "-c", script.format(folder=folder, number=number)]
+        command = ["sh", "-c", script.format(folder=folder, number=number), "--journal", os.path.join(folder, "journal")]
         at = lambda what: os.path.join(self.links, what)
         options = {"--hosts": at("hosts"), "--ca-file": at("ca.crt"), "--certificate": at(f"secret/{number}.crt"), "--key": at(f"secret/{number}.key"), "--denied": at("denied"), "--bind": "127.0.0.1", "--plan": os.path.join(folder, "plan")}
         options.update(zip(words[::2], words[1::2]))
-        with open(self.log, "wb") as log:
+        with contextlib.suppress(FileNotFoundError):
+            os.unlink(self.log)
+        with open(self.log, "ab") as log:
             environment = {**os.environ, "ASAN_OPTIONS": "quarantine_size_mb=1"}  # (what was given back is not to be counted)
-            self.process = subprocess.Popen([program, *(word for pair in options.items() for word in pair), str(number), "--", *command], stdin=subprocess.DEVNULL, stdout=log, stderr=log, env=environment)
+            self.process = subprocess.Popen([program, *(word for pair in options.items() for word in pair), str(number), "--", *command], stdin=subprocess.DEVNULL, stdout=log, stderr=log, env=environment, restore_signals=False)  # (so that a file that gets too long is a fault, as on a full disk)
         self.out = None
 
     def ready(self):
@@ -94,6 +98,14 @@ class Carry:
 
     def says(self, text):
         self.out.write(text)
+
+    def tells(self, path, holds, what):
+        """Has it write its metrics until they are so; they."""
+        def told():
+            self.process.send_signal(signal.SIGUSR1)
+            return holds(metrics.read(path))
+        wait_for(told, what)
+        return metrics.read(path)
 
     def memory(self):
         with open(f"/proc/{self.process.pid}/statm") as file:
@@ -612,7 +624,7 @@ def a_slow_name(program, folder):
     """Node 1 has a name that takes long to look up: node 2 is dialed meanwhile."""
     slow = os.path.join(folder, "slow")
     links = set_up(folder, THREE, "--local", str(free_ports(6)))
-    sources = [os.path.join(DEPLOY, "..", "carrier", f"{name}.c") for name in ("node", "links", "loop", "stream")]
+    sources = [os.path.join(DEPLOY, "..", "carrier", f"{name}.c") for name in ("node", "metrics", "links", "loop", "stream")]
     words = ["-std=c11", "-Wl,--wrap=getaddrinfo", *sources, os.path.join(HERE, "slow_name.c"), "-o", slow, "-lssl", "-lcrypto", "-lpthread"]
     subprocess.run([os.environ.get("CC", "cc"), *words], check=True)
     with open(os.path.join(links, "hosts"), encoding="ascii") as file:
@@ -629,4 +641,107 @@ def a_slow_name(program, folder):
             node.end()
 
 
-CHECKS = [odd_files, hosts_amid_a_write, another_authority, costly_ones, who_may_come, a_denied_one_stays_out, who_is_dialed, lines_are_whole, answers_go_home, nodes_are_linked, a_still_node, ticks, a_slow_reader, too_many, long_lines, its_end, its_words, ends_soon, a_slow_name]
+def metrics_are_true(program, folder):
+    port, path = free_ports(4), os.path.join(folder, "0.prom")
+    set_up(folder, PLAN, "--local", str(port))
+    nodes = [Carry(program, folder, 0, NODE, "--metrics", path), Carry(program, folder, 1)]
+    carry = nodes[0]
+    try:
+        for node in nodes:
+            node.ready()
+        begun = time.time()
+        told = carry.tells(path, lambda told: told.of("carrier_link_up", 'peer="1"') == 1, "the link is not told")
+        check((told.of("node_ready"), told.of("node_last_line_timestamp_seconds"), told.of("node_journal_bytes")) == (0, 0, None), f"before the node is ready: {told}")
+        with open(os.path.join(folder, "journal"), "wb") as out:
+            out.write(b"x" * 5000)
+        carry.says(b" ?\n")
+        told = carry.tells(path, lambda told: told.of("node_ready") == 1, "a node that is ready is not told")
+        check(begun - 1 < told.of("node_last_line_timestamp_seconds") < time.time() + 1 and told.of("node_journal_bytes") == 5000, f"when it is ready: {told}")
+        with come(carry, "ann") as ann, come(carry, "bob"):
+            ann.sendall(b"read 1 1 0 0\n" * 10)
+            told = carry.tells(path, lambda told: told.of("tenant_lines_total", 'tenant="ann"') == 10, "ann's lines are not told")
+            check((told.of("tenant_bytes_total", 'tenant="ann"'), told.of("carrier_lines_in_total"), told.of("carrier_tenant_connections")) == (130, 10, 2), f"of ann's lines: {told}")
+            check((told.of("tenant_lines_total", 'tenant="bob"'), told.of("tenant_over_rate_seconds_total", 'tenant="ann"')) == (0, 0), f"of bob's and of waits: {told}")
+            carry.says(b"ann 0 done read 1 1 tag 0 0 -\nbob 1 of another\ncid 0 nobody\n")
+            told = carry.tells(path, lambda told: told.of("carrier_lines_out_total") == 1, "a line of the node is not told")
+            dropped = {reason: told.of("carrier_lines_dropped_total", f'reason="{reason}"') for reason in ("lost", "full", "slow", "long", "strange", "memory")}
+            check(dropped == {"lost": 1, "full": 0, "slow": 0, "long": 0, "strange": 1, "memory": 0}, f"of lines that were dropped: {dropped}")
+            for _ in range(50):
+                ann.sendall(b"read 1 1 0 0\n" * 1000)
+            told = carry.tells(path, lambda told: told.of("tenant_lines_total", 'tenant="ann"') == 50_010, "a flood is not told")
+            check(told.of("tenant_over_rate_seconds_total", 'tenant="ann"') > 1, f"that ann had to wait: {told}")
+            ticks = told.of("node_ticks_total")
+            carry.tells(path, lambda told: told.of("node_ticks_total") > ticks, "ticks are not told")
+        nodes[1].process.kill()
+        carry.tells(path, lambda told: told.of("carrier_link_up", 'peer="1"') == 0, "a link that is lost is not told")
+        ends = subprocess.run(["openssl", "x509", "-noout", "-enddate", "-in", os.path.join(carry.links, "secret", "0.crt")], stdout=subprocess.PIPE, text=True).stdout
+        check(told.of("carrier_certificate_end_timestamp_seconds") == ssl.cert_time_to_seconds(ends.strip().partition("=")[2]), f"the end of the certificate: {told}")
+        carry.out.close()
+        carry.out = None
+        check(carry.process.wait(10) == 0 and metrics.read(path).of("node_ready") == 0, "a node that has ended is told to be ready")
+    finally:
+        for node in nodes:
+            node.end()
+
+
+def metrics_are_whole(program, folder):
+    """Whoever reads the file has all of it, while it is written anew, and also on a disk that is full. What is wrong is told once, and stops nothing."""
+    at = os.path.join(folder, "metrics")
+    path = os.path.join(at, "0.prom")
+    carry = fresh(program, folder, PLAN, NODE, "--metrics", path)
+    told = lambda what: carry.told().count(f"carry: {path}: {what}: there are no metrics\n")
+
+    def asks(times):
+        for _ in range(times):
+            before = carry.told().count("carry: in ")
+            carry.process.send_signal(signal.SIGUSR1)
+            wait_for(lambda: carry.told().count("carry: in ") > before, carry.told())
+
+    try:
+        asks(3)
+        check(told("No such file or directory") == 1, f"a folder that is not there: {carry.told()}")
+        os.mkdir(at)
+        asks(2)
+        check(os.listdir(at) == ["0.prom"] and os.stat(path).st_mode & 0o777 == 0o644, f"what is there: {os.listdir(at)}")
+        until, seen = time.monotonic() + 2, 0
+        while time.monotonic() < until:
+            carry.process.send_signal(signal.SIGUSR1)
+            for _ in range(20):
+                seen += metrics.read(path).of("carrier_cut_off_total") is not None
+        check(seen > 0, "nothing was read")
+        time.sleep(0.3)  # (what was asked for is done)
+        with open(path, "rb") as file:
+            whole = file.read()
+        os.truncate(carry.log, 0)  # (so that it is shorter than the bound)
+        resource.prlimit(carry.process.pid, resource.RLIMIT_FSIZE, (3000, resource.RLIM_INFINITY))
+        asks(3)
+        check(told("File too large") == 1, f"a disk that is full: {carry.told()}")
+        with open(path, "rb") as file:
+            check(file.read() == whole and os.listdir(at) == ["0.prom"], "what was there is gone")
+        resource.prlimit(carry.process.pid, resource.RLIMIT_FSIZE, (resource.RLIM_INFINITY, resource.RLIM_INFINITY))
+        with come(carry, "ann") as ann:
+            ann.sendall(b"plan\n")
+            carry.gets(b"0 ann plan")
+        carry.tells(path, lambda told: told.of("carrier_lines_in_total") == 1, "metrics are not written again")
+        shutil.rmtree(at)
+        asks(1)
+        check(told("No such file or directory") == 1, f"what is wrong again is not told: {carry.told()}")
+    finally:
+        check(carry.end() == 0, carry.told())
+
+
+def metrics_as_prometheus_reads(program, folder):
+    path = os.path.join(folder, "0.prom")
+    carry = fresh(program, folder, PLAN, NODE, "--metrics", path)
+    try:
+        with come(carry, "ann") as ann:
+            ann.sendall(b"plan\n")
+            told = carry.tells(path, lambda told: told.of("carrier_lines_in_total") == 1, "ann's line is not told")
+        seen = metrics.as_prometheus_reads(path)
+        check(seen.keys() == told.keys() and seen[("carrier_lines_in_total", "")] == 1, f"{seen} and not {told}")
+    finally:
+        carry.end()
+
+
+CHECKS = [odd_files, hosts_amid_a_write, another_authority, costly_ones, who_may_come, a_denied_one_stays_out, who_is_dialed, lines_are_whole, answers_go_home, nodes_are_linked, a_still_node, ticks, a_slow_reader, too_many, long_lines, its_end, its_words, ends_soon, a_slow_name, metrics_are_true, metrics_are_whole]
+LONG_CHECKS = [metrics_as_prometheus_reads]

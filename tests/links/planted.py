@@ -36,6 +36,12 @@ FAULTS = {
     "an authority that is gone is believed of those who are here": ("another_authority", "links.c", "is_new ? disbelief(shown, &link->stream)", "is_new ? NULL"),
     "strangers choose the group": ("costly_ones", "links.c", "!SSL_CTX_set1_groups_list(made, \"X25519:P-256:P-384\")", "false"),
     "new keys have no bound": ("costly_ones", "stream.c", "    if (it->odd_until > time + ODD) SSL_set_shutdown(ssl, SSL_RECEIVED_SHUTDOWN);\n", "    (void)ssl;\n", "stream.c", "if (it->odd_until > now() + ODD)", "if (false)"),
+    "a lost link is told to be up": ("metrics_are_true", "links.c", "peer && peer->many)", "peer != NULL)"),
+    "a node that has ended is told to be ready": ("metrics_are_true", "node.c", "it->fd = -1, node_ready = false;", "it->fd = -1;"),
+    "waits of a tenant are not counted": ("metrics_are_true", "node.c", "queue->tally->over_rate += queue->paid_until - over;", "(void)over;"),
+    "metrics are written in their place": ("metrics_are_whole", "metrics.c", "\"%s.new\", file", "\"%s\", file"),
+    "metrics of a full disk are taken": ("metrics_are_whole", "metrics.c", "!fflush(out) && !ferror(out) && ", ""),
+    "metrics that can't be written are told each time": ("metrics_are_whole", "metrics.c", "if (strcmp(why, told)) ", ""),
     "the key may be read by others": ("its_words", "links.c", "kind.st_mode & (S_IROTH | S_IWOTH)", "false"),
 }
 # Those that are tried where not all are

@@ -12,6 +12,7 @@ import subprocess
 import threading
 import time
 
+import metrics
 from mqtt_grid import free_ports
 from peers import COPY, DEPLOY, HERE, Broker, Carry, end_all, got, got_size, node, wait_for
 
@@ -257,6 +258,42 @@ def flood_for_node(checked):
     checked.held(0 < len(bobs) < 180_000 and all(re.fullmatch(rb"0 bob \d{4} b{60}", line) for line in bobs), "bob's are dropped in whole lines")
     checked.held(carry.stop() == 0 and carry.counts()["full"] == 180_000 - len(bobs), "each dropped one is counted")
     checked.held(carry.says("lines from bob were more than the bound"), "and told whose they were")
+
+
+@check
+def told_metrics(checked):
+    """Of a broker that comes and goes, a tenant of whom more waits than may, and more tenants than a plan has."""
+    broker = checked.broker()
+    carry = checked.carry(broker.port, node(COPY), *NO_TICKS, "--metrics", "0.prom")
+
+    def tells(holds):
+        def is_so():
+            carry.process.send_signal(signal.SIGUSR1)
+            told = metrics.read("0.prom")
+            return told and holds(told)
+        return wait_for(is_so)
+
+    wait_for(lambda: broker.subscribed and os.path.exists("got"))
+    checked.held(tells(lambda told: told.of("carrier_broker_up") == 1 and told.of("carrier_messages_in_total") > 0), "a broker that is there")
+    os.kill(carry.child(), signal.SIGSTOP)
+    for _ in range(40):
+        broker.tells(b"gridfs/0/bob", b"\n".join([b"b" * 60] * 900))
+    broker.tells(b"gridfs/0/ann", b"one")
+    checked.held(tells(lambda told: told.of("tenant_lines_total", 'tenant="ann"') == 1), "lines that came")
+    told = metrics.read("0.prom")
+    lines, dropped = (told.of(f"tenant_{what}_total", 'tenant="bob"') for what in ("lines", "lines_dropped"))
+    checked.held(dropped > 0 and lines + dropped == 36_000 and told.of("tenant_bytes_total", 'tenant="bob"') == 61 * lines, f"bob's: {lines}, {dropped}")
+    checked.held(told.of("carrier_lines_dropped_total", 'reason="full"') == dropped, "the same of all")
+    checked.held(told.of("tenant_lines_dropped_total", 'tenant="ann"') == 0, "none of ann's")
+    checked.held(told.of("node_waiting_bytes") > 1_000_000, f"what waits: {told.of('node_waiting_bytes')}")
+    os.kill(carry.child(), signal.SIGCONT)
+    for number in range(70):
+        broker.tells(b"gridfs/0/many" + bytes([97 + number // 26, 97 + number % 26]), b"one\ntwo")
+    checked.held(tells(lambda told: told.of("tenant_lines_total", 'tenant="OTHERS"') == 16), f"more tenants than a plan has: {metrics.read('0.prom')}")
+    checked.held(sum(name == "tenant_lines_total" for name, _ in metrics.read("0.prom")) == 65, "their labels are bounded")
+    broker.end()
+    checked.held(tells(lambda told: told.of("carrier_broker_up") == 0), "a broker that is gone")
+    checked.held(carry.stop() == 0, "status 0")
 
 
 @check

@@ -1,5 +1,6 @@
 """Who may say and read what at the broker, and what a flood of one tenant does to another."""
 
+import base64
 import json
 import os
 import re
@@ -9,11 +10,11 @@ import threading
 import time
 
 from grid_commands import NAMES, wait_for, write_plan
-from peers import DEPLOY, Speaker, message
+from carried_storms import LOAD
+from peers import CLIENT, Speaker, message
 
-CLIENT = os.path.join(DEPLOY, "client")
 HEARD = 0.7  # seconds in which what was said would have come
-SESSIONS, LOAD = 4, 2  # of ann's, amid a flood, and its seconds
+SESSIONS, SECONDS = 4, 2  # of ann's, amid a flood, and its seconds
 MOST_TIMES = 4  # that ann's median may be of the one without a flood
 RECORD = 200_000  # bytes that bob gives to TLS at once, so that messages lie across its records
 
@@ -33,7 +34,8 @@ def speaker(grid, user, name=None):
 
 def asked(grid, *words):
     """What the client answers ann, as JSON."""
-    done = subprocess.run([CLIENT, *grid.words_for("ann"), "--json", "ann", *words], stdout=subprocess.PIPE, stderr=subprocess.PIPE, text=True, timeout=40)
+    command = [CLIENT, "--config", grid.write_settings("ann"), "--locks", os.path.join(grid.folder, "locks"), *words, "--json"]
+    done = subprocess.run(command, input="secret", stdout=subprocess.PIPE, stderr=subprocess.PIPE, text=True, timeout=40)
     if done.returncode:
         raise OSError(f"the client says {done.stderr!r}, status {done.returncode}")
     return json.loads(done.stdout)
@@ -43,8 +45,8 @@ def told_apart(grid):
     """What was wrong of who may say and read what. It is the same list for a broker that refuses nothing, which has to be long."""
     wrong, bob = [], speaker(grid, "bob")
     bob.listen_to("#", "gridfs/#", "gridfs/ann/+", "gridfs/+/+", "gridfs/0/+", "gridfs/+/0", "$SYS/#")
-    asked(grid, "write", "0", "0", "secret")
-    if asked(grid, "read", "0", "0")["content"] != b"secret".hex():
+    asked(grid, "write", "0", "0", "-")
+    if base64.b64decode(asked(grid, "read", "0", "0")["content"]) != b"secret":
         wrong.append("ann does not read what she wrote")
     time.sleep(HEARD)
     wrong += [f"bob reads {topic}" for topic in {topic for topic, _ in bob.heard}]
@@ -147,10 +149,10 @@ class Flood:
         self.speaker.end()
 
 
-def load(grid, seconds=LOAD, timeout=30):
+def load(grid, seconds=SECONDS, timeout=30):
     """Ann's operations a second and their median and 99th of 100 in ms; None where the client did not end by itself."""
-    words = ["--sessions", str(SESSIONS), "--seconds", str(seconds), "--timeout", str(timeout), "--json", "ann", "bench"]
-    done = subprocess.run([CLIENT, *grid.words_for("ann"), *words], stdout=subprocess.PIPE, stderr=subprocess.PIPE, text=True)
+    words = ["--sessions", str(SESSIONS), "--seconds", str(seconds), "--timeout", str(timeout), "--json", grid.write_settings("ann")]
+    done = subprocess.run([LOAD, *words], stdout=subprocess.PIPE, stderr=subprocess.PIPE, text=True)
     if done.returncode:
         return None
     told = json.loads(done.stdout)

@@ -9,7 +9,7 @@ import sys
 import threading
 import time
 
-from grid_commands import SECONDS, wait_for
+from grid_commands import CLIENT, SECONDS, wait_for
 
 HERE = os.path.dirname(os.path.abspath(__file__))
 DEPLOY = os.path.join(HERE, "..", "..", "deploy", "mqtt")

@@ -11,6 +11,7 @@ import time
 
 HERE = os.path.dirname(os.path.abspath(__file__))
 sys.path.insert(0, os.path.join(HERE, "..", "..", "deploy", "carrier"))
+import metrics
 from carried_grid import children_of, end_of, free_ports
 from one_machine import InUse, lock
 
@@ -143,7 +144,9 @@ class Machine:
         return True
 
     def starts(self):
-        grid = Command(self, "--plan", "first")
+        self.held("a folder of metrics that is not there", (Command(self, "--plan", "first", "--metrics", "metrics").status(), os.path.exists("grid")), (1, False))
+        os.mkdir("metrics")
+        grid = Command(self, "--plan", "first", "--metrics", "metrics")
         self.held("a first start", (grid.says(UP), "grid: 4 nodes are up, in " in grid.told()), (True, True))
         open_to_others = {name for name in os.listdir("grid") if os.stat(f"grid/{name}").st_mode & 0o077} - FILES
         folder = f"grid/{self.ENGINE}/secret"
@@ -157,6 +160,8 @@ class Machine:
         self.held("what it has changed", {path for path, seen in state_of("grid").items() if before.get(path) != seen}, set())
         self.held("the first one goes on", self.client("read", "0", "1"), (0, "hi"))
         self.held("SIGINT to a background job", (grid.end(signal.SIGINT), self.is_free()), ((0, False), True))
+        told = [metrics.read(f"metrics/gridfs-{number}.prom", number) for number in range(4)]
+        self.held("metrics", [(it.of("node_ready"), it.of("node_journal_bytes") > 0, it.of("carrier_lines_in_total") > 0) for it in told], [(0, True, True)] * 4)
 
     def goes_on(self):
         """With a journal that is gone, one that is damaged, and a certificate that ends in five days."""
