@@ -10,6 +10,7 @@ pub mod Disks
 pub mod Clusters
 pub mod Reading
 pub mod Registers
+pub mod OwnWrites
 pub mod Keeping
 pub mod Reserving
 pub mod Restarting

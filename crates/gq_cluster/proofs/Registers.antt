@@ -59,7 +59,7 @@ answers_at-moved f from base same (d ∷ done) =
     λ i. record { place = same 0 i; turn = turn_in d.came; told = told_in d.said; session = session_in d.came } ∷ rest i
 
 -- the operations of the model's run are those at the nodes, at the places of the tenant's own lines
-operations_are : (grid : Grid) (row : TenantRow) (opens : List VolumeRow) (turns : List Turn) (vs : List VolumeRow) (done : List Exchange) (file : File) → volumes (past_of grid row (openings opens ++ turns)).trace ≡ vs → exchanges_from grid row (opened grid row opens) turns ≡ done →
+pub operations_are : (grid : Grid) (row : TenantRow) (opens : List VolumeRow) (turns : List Turn) (vs : List VolumeRow) (done : List Exchange) (file : File) → volumes (past_of grid row (openings opens ++ turns)).trace ≡ vs → exchanges_from grid row (opened grid row opens) turns ≡ done →
     lone_operations grid row (openings opens ++ turns) file ≡ map (moved_op (own_places (0 + length opens) turns)) (node_operations vs done file)
 operations_are grid row opens turns vs done file opened did = ap of volumes_are ∙ ap at begun ∙ by (nat_lt file.place (files_of vs file.volume)) refl
   where

@@ -3,6 +3,7 @@
 ghost use Rattle.gq_cluster.specs.Keeping.{AllActsKeep, AllFactsSuffice, AllUsedReserved};
 ghost use Rattle.gq_cluster.specs.Laws.{AllClustersServe};
 ghost use Rattle.gq_cluster.specs.Operations.{AllClustersLegal};
+ghost use Rattle.gq_cluster.specs.OwnWrites.{AllClustersOwnWritesRise, AllOwnWritesRise};
 ghost use Rattle.gq_cluster.specs.Restarts.{AllRestartsGiveUp};
 
 /// Take any steps of nodes, in which each letter that comes was written before. Letters may be lost, repeated, late and out of
@@ -19,6 +20,14 @@ pub fn clusters()
 /// ACM TOPLAS 12(3), 1990).
 pub fn registers()
     ensures { AllClustersLegal }
+{}
+
+/// Of two writes of one session to a file the later one has the greater tag, so that it comes after the other one in the file's order, even where
+/// that one never ended: in a tenant's run by itself (`runs`), and read off what was done at the nodes (`clusters`). So an open write takes no
+/// effect once a later one of its session has.
+pub fn own_writes_rise()
+    ensures runs { AllOwnWritesRise }
+    ensures clusters { AllClustersOwnWritesRise }
 {}
 
 /// A restart is said as an abandonment of each operation that the node's sessions have, and a leap of each of them over the numbers

@@ -10,4 +10,3 @@ pub mod Endings
 pub mod Steps
 pub mod Counting
 pub mod Completing
-pub mod OwnWrites

@@ -2,4 +2,3 @@ pub mod Names
 pub mod Laws
 pub mod Completing
 pub mod Worked
-pub mod Files

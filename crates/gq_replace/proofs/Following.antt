@@ -13,6 +13,7 @@ use Rattle.gq_cluster.specs.Cluster.{Setting, Cluster, NodeStep, Loses, new_clus
 use Rattle.gq_cluster.specs.Laws.{setting_of, StepsEnough}
 use Rattle.gq_cluster.proofs.Clusters.{all_clusters_serve}
 use Rattle.gq_cluster.proofs.Registers.{all_clusters_legal}
+use Rattle.gq_cluster.proofs.OwnWrites.{all_clusters_own_writes_rise}
 use Rattle.gq_replace.specs.Plans.{Plan, IsChain, place_of}
 use Rattle.gq_replace.specs.Fleet.{World, Fleet, FleetStep, Begins, StartsAgain, Does, Answers, Hears, Gives, Takes, new_fleet, plan_of, heard_all, with_heard, is_ready_by, with_ready, after_fleet_step, fleet_after, MayHappen, AllMayHappen, ends_of_gone, node_steps, all_node_steps}
 use Rattle.gq_replace.specs.Laws.{SaidBy, AllSaid, Follows, world_of, HomesStand, AllFollow, AllRight}
@@ -144,4 +145,5 @@ all_right grid row home opens plans steps stand chain enough may =
     record {
       served = all_clusters_serve grid row home opens (all_node_steps (world_of grid row home opens plans) new_fleet steps) enough can;
       legal = λ file. all_clusters_legal grid row home opens (all_node_steps (world_of grid row home opens plans) new_fleet steps) enough can file;
+      own_writes = λ file. all_clusters_own_writes_rise grid row home opens (all_node_steps (world_of grid row home opens plans) new_fleet steps) enough can file;
     }

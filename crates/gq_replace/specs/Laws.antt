@@ -9,6 +9,7 @@ use Rattle.gq_laws.specs.Orders.{order}
 use Rattle.gq_cluster.specs.Cluster.{Cluster, NodeStep, new_cluster, copy_in, step_of, step_in, after_step, cluster_after, CanFollow}
 use Rattle.gq_cluster.specs.Laws.{IsServed, StepsEnough, setting_of}
 use Rattle.gq_cluster.specs.Operations.{operations_at}
+use Rattle.gq_cluster.specs.OwnWrites.{OwnWritesRise}
 use Rattle.gq_replace.specs.Plans.{Plan, IsChain, place_of}
 use Rattle.gq_replace.specs.Fleet.{World, Fleet, FleetStep, Does, new_fleet, has_file, after_fleet_step, fleet_after, AllMayHappen, node_steps, all_node_steps}
 
@@ -51,6 +52,8 @@ AllFollow = (grid : Grid) (row : TenantRow) (home : ℕ → ℕ) (opens : List V
 pub record IsRight (grid : Grid) (row : TenantRow) (home : ℕ → ℕ) (opens : List VolumeRow) (steps : List NodeStep) : Type 0 where
   pub served : IsServed grid row home opens steps
   pub legal : (file : File) → Legal (operations_at (setting_of grid row home opens) steps file) (order (operations_at (setting_of grid row home opens) steps file))
+  -- and of each session's writes the later one has the greater tag
+  pub own_writes : (file : File) → OwnWritesRise (operations_at (setting_of grid row home opens) steps file)
 
 abbrev pub AllRight : Type 0
 AllRight = (grid : Grid) (row : TenantRow) (home : ℕ → ℕ) (opens : List VolumeRow) (plans : ℕ → Plan) (steps : List FleetStep) →

@@ -1,6 +1,7 @@
 -- Of two writes of one session to a file the later one has the greater tag: a session's last number never falls, and each tag that its writes make is
 -- above it. A tag is made while its operation goes on, so before the next one of the session begins.
-use Rattle.std.proofs.Common.{◌≡◌, ◌⊎◌, ℕ, ◌<◌, ◌≤◌, Bool, true, false, List, [], ◌∷◌, length, refl, sym, ap, ◌∙◌, subst, inl, inr, Some, None, arith, nat_lt}
+use Rattle.std.proofs.Common.{◌≡◌, ◌⊎◌, ℕ, ◌+◌, ◌*◌, ◌<◌, ◌≤◌, Bool, true, false, List, [], ◌∷◌, ◌++◌, length, map, refl, sym, ap, ◌∙◌, subst, inl, inr, Some, None, arith, nat_lt}
+use Rattle.std.specs.Prelude.{filter_map}
 use Rattle.std.proofs.lemmas.Bool.{cases_lt}
 use Rattle.std.proofs.lemmas.List.{length-append}
 use Rattle.gq_grid.specs.Grid.{Grid}
@@ -8,6 +9,7 @@ use Rattle.gq_tag.specs.declared.Tag.{Tag}
 use Rattle.gq_tag.specs.Tag.{is_less, File}
 use Rattle.gq_tag.proofs.Order.{less_from}
 use Rattle.gq_desk.specs.declared.plans.TenantRow.{TenantRow}
+use Rattle.gq_desk.specs.declared.volumes.VolumeRow.{VolumeRow}
 use Rattle.gq_model.specs.Trace.{files_of, Turn, Entry, Trace, Deed, Elsewhere, Begins, Hears, Moves, Ends, Leaps, Past, start}
 use Rattle.gq_model.specs.Lone.{after, said, is_refusal}
 use Rattle.gq_laws.specs.Laws.{lone_operations}
@@ -21,7 +23,15 @@ use Rattle.gq_laws.proofs.Reaching.{Reach, Here, Later, Goes, goes_or_not, reach
 use Rattle.gq_laws.proofs.Telling.{tells}
 use Rattle.gq_laws.proofs.Beginnings.{OpAt, op_at}
 use Rattle.gq_laws.proofs.Completed.{MadeTag, made_tag}
-use Rattle.gq_names.specs.Files.{OwnWritesRise, AllOwnWritesRise}
+use Rattle.gq_laws.proofs.OtherPlaces.{moved_op, op_is}
+use Rattle.gq_laws.specs.Laws.{IsRising}
+use Rattle.gq_cluster.specs.Cluster.{NodeStep, new_cluster, cluster_after, exchanges}
+use Rattle.gq_cluster.specs.Laws.{openings, opened, setting_of, disk_step}
+use Rattle.gq_cluster.specs.Operations.{operations_at}
+use Rattle.gq_cluster.specs.OwnWrites.{OwnWritesRise, AllOwnWritesRise, AllClustersOwnWritesRise}
+use Rattle.gq_cluster.proofs.Reading.{own_places, places_rise}
+use Rattle.gq_cluster.proofs.Clusters.{Runs, run_of, run_stands}
+use Rattle.gq_cluster.proofs.Registers.{operations_are}
 
 -- ---- where the session's operation began never falls back
 
@@ -95,3 +105,23 @@ all_own_writes_rise grid row turns file = go (nat_lt file.place (files_of (opene
     go : (b : Bool) → nat_lt file.place (files_of (opened_in (all_told grid row turns)) file.volume) ≡ b → OwnWritesRise (lone_operations grid row turns file)
     go true e = rw e (rises_there grid row turns file)
     go false e = rw e none
+
+-- ---- at nodes: a run of the model has the same operations, at the places of the tenant's own lines
+
+unmoved : (f : ℕ → ℕ) → IsRising f → (ops : List Op) → OwnWritesRise (map (moved_op f) ops) → OwnWritesRise ops
+unmoved f rising ops there i j a b x y at_a at_b write_a write_b same before tag_a tag_b =
+    there i j (moved_op f a) (moved_op f b) x y (op_is f ops i a at_a) (op_is f ops j b at_b) write_a write_b same (rising a.begin b.begin before) tag_a tag_b
+
+rises_at : (grid : Grid) (row : TenantRow) (home : ℕ → ℕ) (opens : List VolumeRow) (steps : List NodeStep) (most : ℕ) → Runs (setting_of grid row home opens) (opened grid row opens) (cluster_after (setting_of grid row home opens) steps) (exchanges (setting_of grid row home opens) new_cluster steps) (filter_map disk_step steps) most →
+    (file : File) → OwnWritesRise (operations_at (setting_of grid row home opens) steps file)
+rises_at grid row home opens steps most run file =
+    unmoved (own_places (0 + length opens) run.turns) (places_rise (0 + length opens) run.turns) (operations_at (setting_of grid row home opens) steps file)
+    (subst P (operations_are grid row opens run.turns (setting_of grid row home opens).volumes (exchanges (setting_of grid row home opens) new_cluster steps) file (run_stands grid row home opens steps most run).opened run.did)
+    (all_own_writes_rise grid row (openings opens ++ run.turns) file))
+  where
+    P : List Op → Type 0
+    P z = OwnWritesRise z
+
+pub all_clusters_own_writes_rise : AllClustersOwnWritesRise
+all_clusters_own_writes_rise grid row home opens steps enough can file =
+    rises_at grid row home opens steps (length steps * (row.sessions + 1)) (run_of grid row home opens steps enough can) file
