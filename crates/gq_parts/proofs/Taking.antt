@@ -290,8 +290,8 @@ one_takes old m new t x out b y acts fit q = record {
     its local agrees = ap (λ z. map own_message (to_itself old.plan old.here z)) (acts.gives local agrees).letters ∙ itself_is old.plan old.here t (does x site local).letters
 
 -- and what that appends
-pub one_took : (old m new : Tables) (t : ℕ) (x : Input) (out : Output) (f0 f1 t0 t1 : List ℕ) → Acts old t (does x) out m → PutAll m t (asked_in x) out f0 f1 t0 t1 new → TookOf old t (x ∷ []) f0 f1 t0 t1 new
-one_took old m new t x out f0 f1 t0 t1 acts put =
+pub one_took : (old : Tables) (t : ℕ) (x : Input) (out : Output) (m new : Tables) (f0 f1 t0 t1 : List ℕ) → Acts old t (does x) out m → PutAll m t (asked_in x) out f0 f1 t0 t1 new → TookOf old t (x ∷ []) f0 f1 t0 t1 new
+one_took old t x out m new f0 f1 t0 t1 acts put =
     let b : List Fact = put.own.facts in
     let y : List ℕ = put.own.told in
     let f : List ℕ = put.facts_between in
