@@ -30,6 +30,6 @@ pub returns-in_ok-put-in-Ok : goal.returns-in_ok-put-in-Ok
 returns-in_ok-put-in-Ok c =
     let w = c.args.self.now.node.tables in
     let file = c.args.file in
-    let P : StoredCopy → Type 0 = λ copy. TookOf w file.tenant (Fetched c.args.from (file_place file) copy ∷ []) c.args.facts.now.items c.put.new.facts.items c.args.told.now.items c.put.new.told.items c.fetched.new.self.tables in
+    let P : StoredCopy → Type 0 = λ copy. TookOf w file.tenant (Fetched c.args.from (file_place file) copy ∷ []) c.args.facts.now.items c.put.new.facts.items c.args.told.now.items c.put.new.told.items c.put.new.self.node.tables in
     subst P c.in_ok-shared.ensures
     (one_took w file.tenant (Fetched c.args.from (file_place file) c.in_ok-shared.shared) c.in-Ok.out _ _ _ _ _ _ c.in-Ok.ensures.acts c.in_ok-put-in-Ok.ensures)
