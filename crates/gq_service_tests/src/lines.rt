@@ -9,7 +9,7 @@ use std::alloc::Global;
 use std::process::Abort;
 use std::test::Fail;
 
-fn row(rt: &impl Abort, name: &[u8], sessions: u8) -> TenantRow {
+fn row(rt: &impl Abort, name: &[u8], sessions: u32) -> TenantRow {
     TenantRow {
         name: Name::new(name).expect(rt, "a name"),
         share: 8,
@@ -20,7 +20,7 @@ fn row(rt: &impl Abort, name: &[u8], sessions: u8) -> TenantRow {
 }
 
 // Node 0 of so many servers in one row; each tenant has so many sessions.
-fn machine(rt: &impl Abort, alloc: Global, servers: u8, sessions: u8) -> NodeMachine {
+fn machine(rt: &impl Abort, alloc: Global, servers: usize, sessions: u32) -> NodeMachine {
     let grid = Grid::new(1, servers).expect(rt, "a grid");
     let rows = [row(rt, b"ann", sessions), row(rt, b"bob", sessions)];
     let plan = Plan::check(alloc, grid, 16, &rows).expect(rt, "a plan");
