@@ -1,11 +1,10 @@
 -- Each tenant's parts of all nodes are those of the law of nodes.
-use Rattle.std.proofs.Common.{◌≡◌, ◌≢◌, ◌∙◌, ℕ, ◌+◌, ◌*◌, ◌<◌, ◌≤◌, Bool, true, false, List, [], ◌∷◌, ◌++◌, length, map, cond, arith, refl, sym, ap, subst, inl, inr, append_assoc, append-nil, Some, None}
+use Rattle.std.proofs.Common.{◌≡◌, ◌≢◌, ◌∙◌, ℕ, ◌*◌, ◌<◌, ◌≤◌, Bool, true, false, List, [], ◌∷◌, ◌++◌, length, map, cond, arith, refl, sym, ap, subst, inl, inr, append_assoc, append-nil, Some, None}
 use Rattle.std.specs.Prelude.{◌&&◌, not, nat_lt}
 use Rattle.std.specs.Option.{option_to_list}
 use Rattle.std.proofs.lemmas.Bool.{cases_eq, and_parts, eq-eqb, ne_eqb, eqb-true, leb-true}
 use Rattle.std.proofs.lemmas.Nat.{div-mul-add, mod-mul-add}
 use Rattle.std.proofs.Math.Nat.{mod-lt, mul-le-mul_left, mul-le-mul_right}
-use Rattle.std.proofs.lemmas.Grind.{flat_map-append}
 use Rattle.gq_desk.specs.CheckedPlan.{CheckedPlan, row_at}
 use Rattle.gq_text.specs.Canonical.{IsPlan}
 use Rattle.gq_grid.specs.Grid.{Grid}
@@ -32,7 +31,7 @@ use Rattle.gq_parts.specs.Recalls.{facts_said}
 use Rattle.gq_parts.specs.Resting.{IsNodeOf}
 use Rattle.gq_parts.specs.Steps.{AllAgree}
 use Rattle.gq_parts.specs.AllNodes.{GridPlans, here_in, volumes_in, plans_of, world_with, world_at, steps_with, AreSound, AllNodes, Happening, Took, Starts, StartsBy, first_of, TakesStep, TakesStart, Stays, Happens, AllHappen, came_events, events_of, events_from, all_events, nodes_at, InputsCanCome, IncomingCanCome, HappeningCanCome, LinesCanCome, AreNodes, TellsAt, TellsAll, AllByLaw}
-use Rattle.gq_parts.specs.Within.{taken, after_taken}
+use Rattle.gq_parts.specs.Within.{taken}
 use Rattle.gq_parts.proofs.Within.{can_more, taken_can}
 use Rattle.gq_parts.proofs.Apart.{StepByParts, step_by_parts}
 use Rattle.gq_parts.proofs.Reading.{those-append, said-append, said_back, those-by, same_node, all_recalled}

@@ -1,7 +1,7 @@
 -- One hop more: what `hops` and `left_behind` say from the last hop on, as a loop goes.
-use Rattle.std.proofs.Common.{◌≡◌, ◌∙◌, ℕ, zero, suc, ◌+◌, List, [], ◌∷◌, ◌++◌, refl, sym, ap, subst, arith, append_assoc, append-nil}
+use Rattle.std.proofs.Common.{◌≡◌, ◌∙◌, ℕ, zero, suc, List, ◌++◌, refl, sym, ap, append_assoc, append-nil}
 use Rattle.gq_tag.specs.Tag.{OwnMessage}
-use Rattle.gq_node.specs.Inputs.{Input, after_all, doings}
+use Rattle.gq_node.specs.Inputs.{after_all, doings}
 use Rattle.gq_node.specs.Local.{Local}
 use Rattle.gq_node.specs.Sites.{Site}
 use Rattle.gq_parts.specs.Within.{own_letters, brought, hops, left_behind}

@@ -1,6 +1,6 @@
 -- What the code does with letters to the node itself: one letter more, one hop more, and the end.
-use Rattle.std.proofs.Common.{◌≡◌, ◌≢◌, ◌∙◌, ℕ, zero, suc, ◌+◌, ◌<◌, List, [], ◌∷◌, ◌++◌, length, get_or, take, map, refl, sym, ap, subst, arith, append_assoc, append-nil, add-one}
-use Rattle.std.specs.Prelude.{All, filter, not}
+use Rattle.std.proofs.Common.{◌≡◌, ◌≢◌, ◌∙◌, ℕ, suc, ◌+◌, ◌<◌, List, [], ◌∷◌, ◌++◌, length, get_or, take, map, refl, sym, ap, subst, arith, append_assoc, append-nil, add-one}
+use Rattle.std.specs.Prelude.{All, not}
 use Rattle.std.specs.List.{flat_map}
 use Rattle.std.specs.Option.{option_to_list}
 use Rattle.std.proofs.lemmas.List.{map-append, take_more}
@@ -15,12 +15,12 @@ use Rattle.gq_node.specs.declared.output.Fact.{Fact}
 use Rattle.gq_node.specs.Inputs.{Input, Brought, does, after_all, doings}
 use Rattle.gq_node.specs.Local.{Local, Doing}
 use Rattle.gq_node.specs.Sites.{Here, Site, site_of}
-use Rattle.gq_node.specs.Tables.{Tables, Agrees, Acts, Gives, fact_of}
+use Rattle.gq_node.specs.Tables.{Tables, Agrees, Acts, fact_of}
 use Rattle.gq_facts.specs.Laws.{FitsFact}
 use Rattle.gq_parts.specs.declared.laws.TheConstants.{MOST_HOPS}
 use Rattle.gq_parts.specs.Within.{own_of, own_letters, brought, hops, left_behind}
 use Rattle.gq_parts.specs.Texts.{sent_line, step_text, doing_text, steps_text, own_facts}
-use Rattle.gq_parts.specs.Steps.{IsOfTenant, Appended, goes_home, to_itself, to_others, TakesOwn, TakesHop, TookHop, TookOwn}
+use Rattle.gq_parts.specs.Steps.{IsOfTenant, Appended, goes_home, to_itself, to_others, TakesHop, TookHop, TookOwn}
 use Rattle.gq_parts.proofs.Taking.{after_more, own_more, steps_more, doings_more, map_option, text_is, itself_is, appended_more, appended_none}
 use Rattle.gq_parts.proofs.Hops.{hops_more, left_more}
 

@@ -30,9 +30,9 @@ use Rattle.gq_wire.specs.declared.incoming.Incoming.{Incoming}
 use Rattle.gq_wire.specs.Incoming.{incoming_of}
 use Rattle.gq_parts.specs.Inputs.{asked_in, inputs_of, ticks_of}
 use Rattle.gq_parts.specs.declared.laws.TheConstants.{MOST_HOPS}
-use Rattle.gq_parts.specs.Within.{is_own, own_of, others_of, own_letters, brought, hops, left_behind, within, left, taken, after_taken}
+use Rattle.gq_parts.specs.Within.{is_own, own_of, others_of, own_letters, hops, left_behind, within, left, taken, after_taken}
 use Rattle.gq_parts.specs.Texts.{step_text, doing_text, steps_text, lines_of_letters, outside_text, written_for, own_facts, facts_for, written_by, facts_by, node_text}
-use Rattle.gq_parts.specs.Steps.{fact_lines, TakesAll, StepsTo, HasAddress, IsOfPlan, IsOfTenant, Appended, goes_home, to_itself, to_others, TakesOwn, PutAll, TakesOf, TookOf, TookAll, TookIncoming}
+use Rattle.gq_parts.specs.Steps.{fact_lines, TakesAll, StepsTo, HasAddress, IsOfPlan, IsOfTenant, Appended, to_itself, to_others, TakesOwn, PutAll, TakesOf, TookOf, TookAll, TookIncoming}
 
 -- what holds where a call gave Ok leads on
 pub on_ok : {T E : Type 0} (r : Result T E) {P Q : Type 0} → (P → Q) → OnOk r P → OnOk r Q

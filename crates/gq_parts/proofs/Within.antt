@@ -1,5 +1,5 @@
 -- What is taken within was written before, in the same step: nothing is asked of it.
-use Rattle.std.proofs.Common.{◌≡◌, ◌∙◌, ℕ, zero, suc, ◌<◌, true, false, Bool, List, [], ◌∷◌, ◌++◌, length, map, refl, sym, ap, subst, arith, inl, inr, append-nil}
+use Rattle.std.proofs.Common.{◌≡◌, ◌∙◌, ℕ, zero, suc, true, false, List, [], ◌∷◌, ◌++◌, map, refl, sym, ap, subst, arith, inl, inr, append-nil}
 use Rattle.std.specs.Prelude.{Contains, ⊤}
 use Rattle.std.proofs.lemmas.Bool.{cases_Bool, eq-eqb, eqb-true}
 use Rattle.std.proofs.lemmas.List.{map-append}
@@ -7,7 +7,7 @@ use Rattle.std.proofs.lemmas.List.Elements.{Contains-append_left, Contains-appen
 use Rattle.gq_tag.specs.Tag.{OwnMessage}
 use Rattle.gq_replace.specs.Fleet.{Posted}
 use Rattle.gq_node.specs.Inputs.{Input, Asked, AskedPlan, Brought, Ticked, Looked, Joined as HeardJoined, Fetching, Fetched as WasFetched, does, after_one, after_all, doings}
-use Rattle.gq_node.specs.Local.{Local, Doing}
+use Rattle.gq_node.specs.Local.{Doing}
 use Rattle.gq_node.specs.Nodes.{NodeWorld, Nodes, Event, Came, site_in, site_at, posts, after_doing, after_event, nodes_after, CanCome, AllCanCome}
 use Rattle.gq_node.specs.Sites.{Site}
 use Rattle.gq_parts.specs.Within.{address_in, is_own, own_of, own_letters, brought, hops, within, taken}

@@ -2,7 +2,7 @@
 use Rattle.std.specs.List.{list_any, sum_by}
 use Rattle.std.specs.Prelude.{◌≡◌, ◌≢◌, ℕ, ◌<◌, nat_lt, Bool, List, ◌++◌, length, map, filter, not, ◌==◌, Option, Some, None, All}
 use Rattle.gq_tag.specs.declared.Message.{Message}
-use Rattle.gq_tag.specs.Tag.{OwnMessage, message_of, own_message}
+use Rattle.gq_tag.specs.Tag.{OwnMessage, own_message}
 use Rattle.gq_desk.specs.CheckedPlan.{CheckedPlan}
 use Rattle.gq_text.specs.Canonical.{IsPlan}
 use Rattle.gq_journal.specs.Batches.{lines_text}

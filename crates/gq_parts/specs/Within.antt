@@ -6,7 +6,7 @@
 use Rattle.std.specs.Prelude.{ℕ, zero, suc, List, [], ◌∷◌, ◌++◌, Bool, ◌==◌, not, map, filter, if◌then◌else◌}
 use Rattle.std.specs.List.{flat_map}
 use Rattle.gq_tag.specs.Tag.{OwnMessage, to_server}
-use Rattle.gq_node.specs.Inputs.{Input, Brought, does, after_one, after_all, doings}
+use Rattle.gq_node.specs.Inputs.{Input, Brought, after_one, after_all, doings}
 use Rattle.gq_node.specs.Local.{Local, Doing}
 use Rattle.gq_node.specs.Sites.{Site}
 use Rattle.gq_parts.specs.declared.laws.TheConstants.{MOST_HOPS}

@@ -1,5 +1,4 @@
 -- One letter more.
-use Rattle.std.proofs.Common.{◌++◌}
 use Rattle.std.specs.List.{flat_map}
 use Rattle.gq_tag.specs.declared.Message.{Message}
 use Rattle.gq_node.specs.Tables.{Tables}

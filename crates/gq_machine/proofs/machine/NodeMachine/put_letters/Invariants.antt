@@ -1,6 +1,5 @@
 use Rattle.std.proofs.Common.{◌≡◌, ◌++◌, take}
 use Rattle.std.specs.List.{flat_map}
-use Rattle.gq_node.specs.Tables.{Tables}
 use Rattle.gq_parts.specs.Texts.{sent_line}
 use Rattle.gq_parts.specs.Steps.{to_itself, to_others}
 use Rattle.gq_machine.proofs.machine.NodeMachine.put_letters.Given as goal

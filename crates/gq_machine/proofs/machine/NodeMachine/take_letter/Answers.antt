@@ -1,6 +1,6 @@
 -- What the letter gives is of the tenant, and is appended.
-use Rattle.std.proofs.Common.{◌≡◌, ◌<◌, ◌∷◌, [], ℕ, List, length, ap, sym, subst, ◌∙◌}
-use Rattle.std.specs.Prelude.{All, IfSome}
+use Rattle.std.proofs.Common.{◌<◌, ℕ, length, sym, subst}
+use Rattle.std.specs.Prelude.{IfSome}
 use Rattle.gq_tag.specs.Tag.{own_message}
 use Rattle.gq_desk.specs.CheckedPlan.{CheckedPlan}
 use Rattle.gq_node.specs.Inputs.{Brought, does}
