@@ -296,6 +296,7 @@ class Storm:
             life, given = self.alive(number), self.batch(number)
             self.given += given.count(b"\n")
             life.given.append(given)
+            self.numbers.given(number, given)
             if number not in amid:
                 life.stepped.give(given)
         for number in stepped:
