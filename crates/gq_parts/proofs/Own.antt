@@ -47,7 +47,7 @@ letters_back t [] theirs = refl
 letters_back t (m ∷ ms) theirs =
     let its : IsOfTenant t m = theirs 0 m (omega arith) in
     let of : ℕ → ℕ → Message = λ u v.
-        record { tenant = u; session = m.session; op = m.op; round = m.round; server = m.server; file = record { tenant = v; volume = m.file.volume; file = m.file.file }; body = m.body } in
+    record { tenant = u; session = m.session; op = m.op; round = m.round; server = m.server; file = record { tenant = v; volume = m.file.volume; file = m.file.file }; body = m.body } in
     ap (λ u. of u t ∷ map (message_of t) (map own_message ms)) (sym its.0)
     ∙ ap (λ v. of m.tenant v ∷ map (message_of t) (map own_message ms)) (sym its.1)
     ∙ ap (λ z. m ∷ z) (letters_back t ms (λ i d below. theirs (suc i) d (omega arith)))
@@ -87,9 +87,9 @@ pub took_letter : (old new : Tables) (t : ℕ) (letter : OwnMessage) (out : Outp
     o1 ≡ o0 ++ to_itself new.plan new.here out.letters.items → TookHop old t (letter ∷ []) o0 o1 f0 f1 t0 t1 new
 took_letter old new t letter out o0 o1 f0 f1 t0 t1 acts theirs fit appended own =
     let P : CheckedPlan → Here → Type 0 = λ p s.
-        All (FitsFact p) (option_to_list out.fact)
-        × Appended p (option_to_list out.fact) (step_text p s t NoLine out.answer (to_others p s out.letters.items) out.parcel) f0 f1 t0 t1
-        × (o1 ≡ o0 ++ to_itself p s out.letters.items) in
+    All (FitsFact p) (option_to_list out.fact)
+    × Appended p (option_to_list out.fact) (step_text p s t NoLine out.answer (to_others p s out.letters.items) out.parcel) f0 f1 t0 t1
+    × (o1 ≡ o0 ++ to_itself p s out.letters.items) in
     let h : P old.plan old.here = subst (λ p. P p old.here) acts.leads.plan (subst (λ s. P new.plan s) acts.leads.here (fit, appended, own)) in
     record {
       facts = option_to_list out.fact;

@@ -297,10 +297,10 @@ one_took old t x out m new f0 f1 t0 t1 acts put =
     let f : List ℕ = put.facts_between in
     let told : List ℕ = put.told_between in
     let P : CheckedPlan → Here → Type 0 = λ p s.
-        All (FitsFact p) (option_to_list out.fact)
-        × Appended p (option_to_list out.fact) (step_text p s t (asked_in x) out.answer (to_others p s out.letters.items) out.parcel) f0 f t0 told
-        × TakesOwn MOST_HOPS m t (map own_message (to_itself p s out.letters.items)) b y new
-        × Appended p b y f f1 told t1 in
+    All (FitsFact p) (option_to_list out.fact)
+    × Appended p (option_to_list out.fact) (step_text p s t (asked_in x) out.answer (to_others p s out.letters.items) out.parcel) f0 f t0 told
+    × TakesOwn MOST_HOPS m t (map own_message (to_itself p s out.letters.items)) b y new
+    × Appended p b y f f1 told t1 in
     let h : P old.plan old.here = subst (λ p. P p old.here) acts.leads.plan (subst (λ s. P m.plan s) acts.leads.here (put.fit, put.step, put.own.takes, put.own.appended)) in
     let first : List ℕ = step_text old.plan old.here t (asked_in x) out.answer (to_others old.plan old.here out.letters.items) out.parcel in
     record {

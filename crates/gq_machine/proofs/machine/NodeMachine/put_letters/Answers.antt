@@ -10,8 +10,9 @@ use Rattle.gq_machine.proofs.machine.NodeMachine.put_letters.Goals as goal
 pub loop-letter-preserved : goal.loop-letter-preserved
 loop-letter-preserved c =
     let w : Tables = c.args.self.now.node.tables in
-    let letter : Message = c.letter-item.result in
-    (one_piece (λ ms. flat_map (sent_line w.plan w.here) (to_others w.plan w.here ms)) (lines_pieces w.plan w.here) c.args.told.now.items c.loop-letter.told.items c.put_letter.new.told.items c.args.letters.now c.loop-letter.letter-index letter c.loop-letter-test.true c.letter-item.is c.loop-letter.invariant.0
-    c.in_ok-put_letter.ensures.told,
-    one_piece (to_itself w.plan w.here) (own_pieces w.plan w.here) c.args.own.now.items c.loop-letter.own.items c.put_letter.new.own.items c.args.letters.now c.loop-letter.letter-index letter c.loop-letter-test.true c.letter-item.is c.loop-letter.invariant.1
-    c.in_ok-put_letter.ensures.own)
+    let letter : Message = c.letter-item.result in (
+      one_piece (λ ms. flat_map (sent_line w.plan w.here) (to_others w.plan w.here ms)) (lines_pieces w.plan w.here) c.args.told.now.items c.loop-letter.told.items c.put_letter.new.told.items c.args.letters.now c.loop-letter.letter-index letter c.loop-letter-test.true c.letter-item.is c.loop-letter.invariant.0
+          c.in_ok-put_letter.ensures.told,
+      one_piece (to_itself w.plan w.here) (own_pieces w.plan w.here) c.args.own.now.items c.loop-letter.own.items c.put_letter.new.own.items c.args.letters.now c.loop-letter.letter-index letter c.loop-letter-test.true c.letter-item.is c.loop-letter.invariant.1
+          c.in_ok-put_letter.ensures.own,
+    )

@@ -29,7 +29,7 @@ loop-hop-preserved c =
     let new : Tables = c.take_hop.new.self.node.tables in
     let next : List Message = c.take_hop.new.own.items in
     let P : List Message → List Message → Type 0 = λ own before.
-        TookHop m c.args.tenant (map own_message own) before next c.loop-hop.facts.items c.take_hop.new.facts.items c.loop-hop.told.items c.take_hop.new.told.items new in
+    TookHop m c.args.tenant (map own_message own) before next c.loop-hop.facts.items c.take_hop.new.facts.items c.loop-hop.told.items c.take_hop.new.told.items new in
     let one : P c.loop-hop.own.items [] = subst (λ own. P own []) c.as_slice.ensures.value (subst (P c.as_slice.result.now) c.new-next.ensures.items c.in_ok-take_hop.ensures) in
     took_hop c.loop-hop._hop w m new c.args.tenant (map own_message c.args.first.items) c.loop-hop.own.items next _ _ _ _ _ _ c.loop-hop.invariant one
 
