@@ -12,15 +12,10 @@ import time
 HERE = os.path.dirname(os.path.realpath(__file__))
 sys.path.insert(0, os.path.join(HERE, "..", "..", "examples", "nodes"))
 from carrier import journal_of
-from one_machine import DAMAGED, InUse, how_ended, is_ready, lock
+from one_machine import DAMAGED, NotStarted, how_ended, is_ready, keep, lock, remove_journal, seconds_to_start, with_loss, write_settings
 from tenant import PLACES, nodes_of, shape_of
 
-PATIENCE = 15  # seconds that a process has to end, or to be ready
-READ = 1 << 21  # bytes of its journal for which a node is given one second more
-
-
-class NotStarted(Exception):
-    """What keeps a grid from its start."""
+PATIENCE = 15  # seconds that a process has to end
 
 
 def free_ports(many=2):
@@ -119,11 +114,7 @@ class CarriedGrid:
 
     def write_settings(self, name):
         """Writes what a tenant's client has to know into the folder; the path."""
-        path = os.path.join(self.folder, f"{name}.ini")
-        told = {"tenant": name, "grid": self.shape, **self.settings(name)}
-        with open(path, "w", encoding="utf-8") as out:
-            out.write("[gridfs]\n" + "".join(f"{key} = {value}\n" for key, value in told.items()))
-        return path
+        return write_settings(self.folder, name, self.shape, self.settings(name))
 
     def log(self, name):
         return open(os.path.join(self.folder, f"log.{name}"), "ab")
@@ -140,10 +131,7 @@ class CarriedGrid:
     def take(self):
         """Takes the folder, which one grid has at a time: as long as a process of it runs, also where the grid itself was killed. NotStarted where
         another one runs there."""
-        try:
-            self.lock = lock(self.folder)
-        except InUse as fault:
-            raise NotStarted(fault) from None
+        self.lock = lock(self.folder)
 
     def read_plan(self):
         with open(self.plan, encoding="latin1") as file:
@@ -156,9 +144,6 @@ class CarriedGrid:
 
     def has_journal(self, number):
         return os.path.exists(journal_of(self.folder, number))
-
-    def length_of_journal(self, number):
-        return os.path.getsize(journal_of(self.folder, number)) if self.has_journal(number) else 0
 
     def certificates_end(self):
         """The second of the clock at which the first certificate ends; None where there is none."""
@@ -212,7 +197,7 @@ class CarriedGrid:
     def wait_until_ready(self, numbers):
         """Waits until each of these nodes, since it was started, has read its journal and its carrier is connected. Those whose journal is damaged,
         which end. NotStarted where another one ends, or is not ready in time."""
-        until = time.monotonic() + PATIENCE + sum(self.length_of_journal(number) for number in numbers) / READ
+        until = time.monotonic() + sum(seconds_to_start(journal_of(self.folder, number)) for number in numbers)
         return [number for number in numbers if not self.is_ready_by(number, until)]
 
     def is_ready_by(self, number, until):
@@ -238,9 +223,8 @@ class CarriedGrid:
 
     def note_loss(self, number):
         """Writes into the plan, and into the engine's files, that a node was lost. The one that stands in its place."""
-        with open(self.plan, "r+", encoding="latin1") as file:
-            text = file.read()
-            file.write("\n" * (not text.endswith("\n")) + f"replace {number % PLACES}\n")
+        with open(self.plan, encoding="latin1") as file:
+            keep(self.plan, with_loss(file.read(), number % PLACES))
         self.set_up(*self.words)
         if self.metrics:
             with contextlib.suppress(FileNotFoundError):
@@ -250,7 +234,7 @@ class CarriedGrid:
     def lose(self, number):
         """Ends a node, and removes its journal."""
         self.kill_node(number)
-        os.unlink(journal_of(self.folder, number))
+        remove_journal(self.folder, number)
         del self.processes[number]
 
     def replace(self, number):

@@ -8,18 +8,14 @@ import sys
 import tempfile
 import time
 
-from carried_grid import NotStarted
-from one_machine import STAY_DOWN, begin, end, how_ended, how_many_are_up, is_ready, way_out
-
 HERE = os.path.dirname(os.path.realpath(__file__))
 TOP = os.path.join(HERE, "..", "..")
+sys.path.insert(0, os.path.join(TOP, "examples", "nodes"))
+from one_machine import DEFAULT_PLAN, STAY_DOWN, NotStarted, begin, end, how_ended, how_many_are_up, is_ready, look_at, tell, way_out
+
 TRIES = 3  # starts of a node that ends with status 1 before it is ready: its journal may be in use by a process that is about to end
 DAY = 86_400  # seconds
 CLIENT = os.path.join(TOP, "clients", "python", "gridfs-client")
-
-
-def tell(text):
-    print(f"grid: {text}", file=sys.stderr, flush=True)
 
 
 def text_of(path):
@@ -99,20 +95,18 @@ class GridCommand:
                 raise NotStarted(f"there is no {command}; what is wanted are the packages {self.PACKAGES}")
         if asked.metrics is not None and not os.path.isdir(asked.metrics):
             raise NotStarted(f"{asked.metrics}: no folder")
+        look_at(asked.program)
         try:
-            known = subprocess.run([asked.program, "node", "--help"], stdin=subprocess.DEVNULL, stdout=subprocess.DEVNULL).returncode
             grid = self.new_grid(asked, os.path.abspath(folder), self.built(), port)
             grid.metrics = asked.metrics and os.path.abspath(asked.metrics)
             os.makedirs(grid.folder, exist_ok=True)
             grid.take()
             before = text_of(grid.plan)
             if asked.plan or before is None:
-                shutil.copy(asked.plan or os.path.join(TOP, "examples", "nodes", "plan-with-room"), grid.plan)
+                shutil.copy(asked.plan or DEFAULT_PLAN, grid.plan)
         except OSError as error:
             raise NotStarted(f"{error.filename}: {error.strerror}") from error
         try:
-            if known:
-                raise NotStarted(f"{asked.program} has no command `node`")
             self.start(grid, asked)
         except BaseException:
             end()

@@ -1,17 +1,32 @@
 """What a grid on one machine owes to whoever runs it, whichever way its lines go: examples/grid, deploy/links/grid and deploy/mqtt/grid."""
 
+import contextlib
 import fcntl
 import os
 import re
 import signal
+import subprocess
+import sys
 
+from carrier import journal_of
+
+DEFAULT_PLAN = os.path.join(os.path.dirname(os.path.realpath(__file__)), "plan-with-room")
+START, READ = 15, 1 << 21  # seconds in which a node has to be ready, and bytes of its journal that it reads in one more
 DAMAGED = 4  # the status of a node whose journal is damaged
 STAY_DOWN = (1, 2, DAMAGED, 125, 127)  # statuses of a node, or of what is to start it, that a further start would not mend
 SIGNALS = (signal.SIGINT, signal.SIGTERM, signal.SIGHUP)
 
 
-class InUse(Exception):
+class NotStarted(Exception):
+    """What keeps a grid from its start."""
+
+
+class InUse(NotStarted):
     """Another grid runs in the folder."""
+
+
+def tell(text):
+    print(f"grid: {text}", file=sys.stderr, flush=True)
 
 
 def begin():
@@ -54,6 +69,48 @@ def has_open(pid, wanted):
             return any(os.path.samestat(it.stat(), wanted) for it in handles)
     except OSError:  # (it has ended, or is another user's)
         return False
+
+
+def look_at(program):
+    """The program has to be there, and to know nodes: else NotStarted. (`./gridfs` may build it now, for some minutes.)"""
+    try:
+        known = subprocess.run([program, "node", "--help"], stdin=subprocess.DEVNULL, stdout=subprocess.DEVNULL).returncode
+    except OSError as error:
+        raise NotStarted(f"{program}: {error.strerror}") from error
+    if known:
+        raise NotStarted(f"{program} has no command `node`")
+
+
+def write_settings(folder, name, shape, how):
+    """Writes what a tenant's client has to know: which grid it is, and how it is found. The path."""
+    path = os.path.join(folder, f"{name}.ini")
+    with open(path, "w", encoding="utf-8") as out:
+        out.write("[gridfs]\n" + "".join(f"{key} = {value}\n" for key, value in {"tenant": name, "grid": shape, **how}.items()))
+    return path
+
+
+def seconds_to_start(journal):
+    """In which a node has to be ready, by the length of its journal."""
+    return START + (os.path.getsize(journal) / READ if os.path.exists(journal) else 0)
+
+
+def remove_journal(folder, number):
+    """As a disk does that is lost: with what was about to take the journal's place."""
+    for path in (journal_of(folder, number), journal_of(folder, number) + ".new"):
+        with contextlib.suppress(FileNotFoundError):
+            os.unlink(path)
+
+
+def keep(path, text):
+    """Writes a plan anew, at once."""
+    with open(path + ".new", "w", encoding="latin1") as out:
+        out.write(text)
+    os.replace(path + ".new", path)
+
+
+def with_loss(plan, place):
+    """The text of a plan that says besides that a node was lost at this place."""
+    return plan + "\n" * (not plan.endswith("\n")) + f"replace {place}\n"
 
 
 def is_ready(number, told):

@@ -132,7 +132,7 @@ class Machine:
             self.wrong.append(f"{name}: {seen!r}, not {wanted!r}")
 
     def client(self, *words, given=""):
-        done = subprocess.run([CLIENT, "--config", "grid/ann.ini", *words], input=given, stdout=subprocess.PIPE, stderr=subprocess.PIPE, text=True, timeout=60)
+        done = subprocess.run([CLIENT, "--config", "grid/ann.ini", "--locks", "locks", *words], input=given, stdout=subprocess.PIPE, stderr=subprocess.PIPE, text=True, timeout=60)
         return done.returncode, done.stdout or done.stderr
 
     def is_free(self):

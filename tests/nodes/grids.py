@@ -152,6 +152,9 @@ class Grids:
         self.held("an option that is not there", self.run("--fast", folder)[0], 2)
         status, shown, _ = self.run("--help")
         self.held("--help", (status, "examples/grid" in shown), (0, True))
+        for engine in ("links", "mqtt"):
+            status, shown, _ = self.run(f"--{engine}", "--help")
+            self.held(f"--{engine} --help", (status, f"deploy/{engine}/grid [OPTION..] FOLDER" in shown), (0, True))
         self.held("a program that is not there", self.run("--program", "/none", folder)[::2], (1, ["grid: /none: No such file or directory"]))
         self.held("a plan that is not there", self.run("--plan", "/none", folder + ".none")[::2], (1, ["grid: /none: No such file or directory"]))
         with open(folder + ".plan", "w", encoding="ascii") as out:
@@ -200,7 +203,8 @@ class Grids:
             text[20] ^= 1
             file.seek(0)
             file.write(text)
-        wanted = "its journal is damaged: a person has to look (docs/OPERATING.md, Faults); where it is lost, `replace 3` puts a new node in its place"
+        replacing = f"`examples/grid --replace 3 --serve {os.path.relpath(folder)}`"
+        wanted = f"its journal is damaged: a person has to look (docs/OPERATING.md, Faults); where it is lost, {replacing} puts a new node in its place"
         with self.served(folder, "--serve") as (grid, told):
             self.held("a journal that is damaged", (told[1:2], told[-1].split(",")[0]), ([f"grid: node 3 is down: {wanted}"], "grid: 3 of 4 nodes are up"))
             with open(f"/proc/{grid.pid}/task/{grid.pid}/children", encoding="ascii") as children:
@@ -213,8 +217,14 @@ class Grids:
                 told = ""
             told = [line for line in told.splitlines() if line.startswith("grid: ")]
             self.held("a grid for clients whose nodes are dead", (grid.poll(), sorted(told[:3]), told[3:]), (1, ends, ["grid: all nodes are down"]))
-        status, answers, _ = self.run(folder, given="replace 3\nwait 67\nann read 3 0 0\nann read 4 0 1\n")
-        self.held("a new node in its place", (status, sorted(line.split()[-1] for line in answers.splitlines())), (0, ["3", "6869", "ff"]))
+        self.held("a new node in the place of one that is up", self.run("--replace", "0", folder)[2][-1:], ["grid: node 0 is up"])
+        self.held("in a place that is not there", self.run("--replace", "9", folder)[2][-1:], ["grid: there are the nodes 0, 1, 2, 3"])
+        with self.served(folder, "--replace", "3", "--serve") as (grid, told):
+            self.held("a new node at a start", told[-1].split(",")[0], "grid: 4 nodes are up")
+            grid.send_signal(signal.SIGINT)
+            self.held("the status of one that is interrupted", grid.wait(SECONDS), 0)
+        status, answers, _ = self.run(folder, given="wait 67\nann read 3 0 0\nann read 4 0 1\n")
+        self.held("a new node in its place", (status, sorted(line.split()[-1] for line in answers.splitlines())), (0, ["6869", "ff"]))
 
     def is_interrupted(self, folder, number):
         """A signal ends it, also a script's background job, and with it its nodes: another grid starts in the folder at once."""
