@@ -296,6 +296,9 @@ static void on_signal(int number) {
     else ending = 1;
 }
 
+/* For the node's C library: what a large content took is kept for the next one, and not given back to the system page by page. */
+static const char keep_memory[] = "glibc.malloc.mmap_threshold=8388608:glibc.malloc.trim_threshold=67108864";
+
 static bool start(char **command, const sigset_t *open_mask, pid_t *child) {
     int in[2], out[2];
     if (pipe2(in, O_CLOEXEC) || pipe2(out, O_CLOEXEC)) return false;
@@ -304,6 +307,7 @@ static bool start(char **command, const sigset_t *open_mask, pid_t *child) {
         setpgid(0, 0);      /* (Ctrl-C is for carry alone; setsid would also make a group of the scheduler) */
         signal(SIGPIPE, SIG_DFL);
         sigprocmask(SIG_SETMASK, open_mask, NULL);
+        setenv("GLIBC_TUNABLES", keep_memory, 0);
         if (dup2(in[0], STDIN_FILENO) >= 0 && dup2(out[1], STDOUT_FILENO) >= 0) execvp(*command, command);
         say("%s: %s", *command, strerror(errno));
         _exit(127);

@@ -15,6 +15,8 @@ from tenant import PLACES
 READ = 65_536  # bytes of one read; a line may take several
 MOST_WAITING = 1 << 22  # bytes that may wait for one node, or some of the longest lines
 PATIENCE = 5  # seconds that a node has to end by itself
+# For a node's C library, as deploy/carrier/node.c has it: what a large content took is kept for the next one.
+KEEP_MEMORY = {"GLIBC_TUNABLES": "glibc.malloc.mmap_threshold=8388608:glibc.malloc.trim_threshold=67108864"}
 
 
 def journal_of(folder, number):
@@ -53,7 +55,7 @@ class Node:
     def start(self, is_new=False, **more):
         """Starts the process, whose standard error is ours. A signal from the terminal does not reach it."""
         words = [self.program, "node", str(self.number), "--plan", self.plan, "--journal", self.journal] + ["--new"] * is_new
-        self.child = subprocess.Popen(words, stdin=subprocess.PIPE, stdout=subprocess.PIPE, bufsize=0, start_new_session=True, **more)
+        self.child = subprocess.Popen(words, stdin=subprocess.PIPE, stdout=subprocess.PIPE, bufsize=0, start_new_session=True, env={**KEEP_MEMORY, **os.environ}, **more)
         for pipe in (self.child.stdin, self.child.stdout):
             os.set_blocking(pipe.fileno(), False)
         self.waiting, self.begun, self.is_ready = bytearray(), Lines(), False
