@@ -98,14 +98,29 @@ ROOM_LINES = {
 }
 
 
+# The only server of a grid takes all letters itself: of a listing those of 8 hops, here of four files, at once, and the rest by a line.
+ALONE = b"grid 1 1\nblocks 8\ntenant ann 8 1 100\ngo\nann open 6 1\n"
+LISTING = b"0 ann list 1 1 0\n"
+LEFT = b"0 0 ann 1 1 9 0 4 ask\n"
+LISTED = b"ann 0 done list 1 1 0:0.0 0:0.0 0:0.0 0:0.0 0:0.0 0:0.0\n"
+ALONE_LINES = {
+    "alone, a write": (WRITE + b"aB\n", b"ann 0 done write 1 1 tag 1 1\n"),
+    "alone, a listing of six files": (LISTING, LEFT),
+    "alone, what is left of it": (LISTING + LEFT, LEFT + LISTED),
+    "alone, what is left of it twice": (LISTING + 2 * LEFT + LISTING, LEFT + 2 * LISTED),
+}
+
+
 def tell_lines(program, folder):
     """How many were tried, and what is wrong."""
     put(os.path.join(folder, "plan"), PLAN)
     put(os.path.join(folder, "room"), ROOM)
+    put(os.path.join(folder, "alone"), ALONE)
     wrong = []
-    for plan, lines in ("plan", LINES), ("room", ROOM_LINES):
+    for plan, lines in ("plan", LINES), ("room", ROOM_LINES), ("alone", ALONE_LINES):
         for place, (name, (given, wanted)) in enumerate(lines.items()):
             seen = ended(words_of(program, 0, plan, f"journal-{plan}{place}", True), given, cwd=folder)
-            if seen != (0, b"gridfs: node 0 of 2 by 2: 0 facts\n", b" ?\n" + in_bytes(wanted)):
+            grid = b"1 by 1" if plan == "alone" else b"2 by 2"
+            if seen != (0, b"gridfs: node 0 of %s: 0 facts\n" % grid, b" ?\n" + in_bytes(wanted)):
                 wrong.append(f"{name}: {seen}, not {wanted}")
-    return len(LINES) + len(ROOM_LINES), wrong
+    return len(LINES) + len(ROOM_LINES) + len(ALONE_LINES), wrong
