@@ -23,15 +23,17 @@ PYTHON = "/usr/bin/python3"  # (which finds the library for MQTT that Debian has
 # ann has room, and bob next to none.
 PLAN = """grid 2 2
 blocks 4096
-tenant ann 2432 4 1
-tenant bob 96 2 1
+tenant ann 2560 4 1
+tenant bob 160 2 1
 go
+ann open 8 16
 ann open 8 16
 ann open 8 16
 ann open 8 16
 ann open 64 15
 ann open 64 15
 ann open 64 2
+bob open 4 16
 bob open 4 16
 bob open 8 4
 """
@@ -95,22 +97,29 @@ class Commands:
         self.told("put of nothing", ["put", "-", "x/y"], b"")
         self.told("get of nothing", ["get", "x/y"], b"")
         self.told("rm", ["rm", "x/y", "ä b"], b"")
+        before = self.run("ls")
+        status, told, why = self.run("sweep", GRIDFS_SESSION="1")
+        self.held("a sweep of one session", (status, told.endswith(b" left; sessions 2, 3 and 4 could not be had\n"), why), (0, True, ""))
+        status, told, why = self.run("sweep")
+        self.held("sweep", (status, told.startswith(b"removals: ") and told.endswith(b" forgotten, 0 left\n"), why), (0, True, ""))
+        self.told("a sweep behind it", ["sweep", "--json"], b'{"forgotten": 0, "left": 0, "absent": []}\n')
+        self.held("ls behind a sweep", self.run("ls"), before)
         self.told("ls of nothing", ["ls"], b"")
         for word in ("get", "stat", "rm"):
             self.refused(f"{word} of no name", [word, "x/y"], 1, "x/y: no such name")
 
     def numbered_files(self):
-        status, told, _ = self.run("write", "5", "63", "-", "--json", given=b"hi\n", GRIDFS_SESSION="4")
+        status, told, _ = self.run("write", "6", "63", "-", "--json", given=b"hi\n", GRIDFS_SESSION="4")
         tag = json.loads(told)["tag"]
         self.held("write", (status, tag[1]), (0, 4))
-        self.told("read", ["read", "5", "63"], b"hi\n")
-        rows = json.loads(self.run("list", "5", "--json")[1])
+        self.told("read", ["read", "6", "63"], b"hi\n")
+        rows = json.loads(self.run("list", "6", "--json")[1])
         self.held("list", (len(rows), rows[63]), (64, {"file": 63, "length": 3, "tag": tag}))
-        self.refused("a content that is too long", ["write", "5", "62", "-"], 3, "more than 128 bytes are too long", given=bytes(5_000))
+        self.refused("a content that is too long", ["write", "6", "62", "-"], 3, "more than 128 bytes are too long", given=bytes(5_000))
         self.refused("a volume that is not there", ["read", "9", "0"], 3, "there is no volume 9")
-        self.refused("a file that is not there", ["read", "5", "64"], 3, "there is no file 64 of volume 5")
+        self.refused("a file that is not there", ["read", "6", "64"], 3, "there is no file 64 of volume 6")
         has = json.loads(self.run("plan", "--json")[1])
-        self.held("plan", (has["nodes"], has["sessions"], has["share"], has["volumes"][5]), (4, 4, 2432, {"files": 64, "blocks": 2}))
+        self.held("plan", (has["nodes"], has["sessions"], has["share"], has["volumes"][6]), (4, 4, 2560, {"files": 64, "blocks": 2}))
 
     # Mirrors and the status
 

@@ -18,7 +18,7 @@ from gridfs_client import NamedFiles, PlanTold, Session, Threads, layout_of
 from gridfs_client.carriers import Carrier
 
 MIB = 1 << 20
-PLAN = PlanTold(4, 0, 4, 4_000_000, 16_384, ((8, 1024), *[(64, 16_384)] * 20))
+PLAN = PlanTold(4, 0, 4, 4_000_000, 16_384, ((8, 1024), (8, 1024), *[(64, 16_384)] * 20))
 
 
 class AllNodes(Carrier):

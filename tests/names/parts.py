@@ -1,7 +1,6 @@
 """What tests/names tries: each call gives what was counted, and what is wrong."""
 
 import collections
-import contextlib
 import io
 import os
 import shutil
@@ -32,12 +31,12 @@ DEPLOY, PACKAGE = os.path.join(TOP, "deploy", "mqtt"), os.path.join(TOP, "client
 LONG, MOST_MEMORY = 100, 84  # MiB of a content, and of a process that moves it and plays the nodes too
 ATTEMPTS, LEAST_OPERATIONS, MOST_OPERATIONS = 10, 50, 2_000  # of trials over nodes; a bug has to be found within the most
 GROUPS = {"broker": "broker", "package": "checkers"}  # of tests/packages, which these parts want
-SHAPES = ("MIXED", "CROWDED", "LENDING", "REMOVING", "DYING", "UNSURE")
+SHAPES = ("MIXED", "CROWDED", "LENDING", "REMOVING", "DYING", "SWEEPING", "UNSURE")
 
 
 def steps():
     loader, told = unittest.TestLoader(), io.StringIO()
-    suite = loader.loadTestsFromNames(["test_parts", "test_sessions", "test_names", "test_status", "test_mirror"])
+    suite = loader.loadTestsFromNames(["test_core", "test_parts", "test_sessions", "test_names", "test_status", "test_mirror"])
     result = unittest.TextTestRunner(told, verbosity=0).run(suite)
     return f"{result.testsRun} tests", [f"{test}: {text.splitlines()[-1]}" for test, text in result.failures + result.errors]
 
@@ -77,21 +76,29 @@ def bugs():
 
 
 def bugs_in_worlds():
-    missed = []
-    for bug, most_pending in planted.FOUND_IN_WORLDS.items():
-        with contextlib.suppress(worlds.Wrong):
-            worlds.search(bug, most_pending, removes=False)
-            missed.append(f"{bug.__name__} is not found")
-    return f"{len(planted.FOUND_IN_WORLDS)} bugs in worlds", missed
+    """Each wrong variant of the core is found."""
+    missed = [f"{name} is not found" for name in worlds.VARIANTS if not worlds.refuses(name)]
+    return f"{len(worlds.VARIANTS)} wrong variants in worlds", missed
 
 
-def search(most_pending, operations, removes=True):
+def search(bounds):
+    bounds = worlds.Bounds(**bounds)
+    what = ", ".join(f"{number} {name}" for name, number in bounds._asdict().items() if number)
     try:
-        count, ways = worlds.search(most_pending=most_pending, operations=operations, removes=removes)
+        count, ways = worlds.search(bounds)
     except worlds.Wrong as wrong:
-        return "not whole", ["what is seen is not that of one register: " + "; ".join(wrong.args[0])]
-    what = "puts and removals" if removes else "puts alone"
-    return f"{count} worlds of {what} with at most {most_pending} pending writes, {ways} ways of a client of {operations} operations", []
+        return what, ["; ".join(wrong.args)]
+    return f"{count} worlds, {ways} steps from them, of {what}", []
+
+
+def wander(ways, bounds):
+    bounds = worlds.Bounds(**bounds)
+    what = ", ".join(f"{number} {name}" for name, number in bounds._asdict().items() if number)
+    try:
+        _, count = worlds.wander(bounds, ways)
+    except worlds.Wrong as wrong:
+        return what, ["; ".join(wrong.args)]
+    return f"{ways} random ways, {count} steps, of {what}", []
 
 
 def in_pipes(program, seconds, kills, has_room=False):

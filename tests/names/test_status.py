@@ -243,7 +243,8 @@ class Used(unittest.TestCase):
         self.assertEqual((used.names, used.bytes_used), (3, 511))
         self.assertEqual((used.slots_taken, used.slots_free, used.slots_without_a_name), (5, 11, 0))
         self.assertEqual((empty.bytes_free - used.bytes_free) // 128, 5)
-        longest = max((len(copy.content), place) for place, copy in memory.registers.items() if copy.content.startswith(b"names"))
+        pages = [memory.layout.page(session, page) for session in (1, 2) for page in (0, 1)]
+        longest = max((len(memory.read(place).content.partition(b"\n")[2]), place) for place in pages)
         self.assertEqual((used.fullest.bytes, memory.layout.page(used.fullest.session, used.fullest.page)), longest)
         self.assertEqual(used.fullest.percent, 100 * longest[0] // (memory.layout.page_room * 7 // 8))
 

@@ -1,390 +1,479 @@
-"""A small world of one session's page, searched whole: its claims, its announcements, and the pending writes of clients that died.
+"""Small worlds of names, searched whole: every step of clients is one of `gridfs_client.core`, the code of the client itself.
 
-    worlds.py [--pending N] [--operations N] [--puts] [--bug NAME]
+    worlds.py [--sessions N] [--readers N] [--changes N] [--removals N] [--others N] [--gets N] [--clients N] [--pending N] [--anew N] [--behind 1]
+              [--random N] [--seed N] [--variant NAME]
+    worlds.py --ways
 
-One session has a slot table and one page, and clients one after another. Each gives a name a content of its own or takes the name away,
-through the calls of gridfs_client, and may die at each of its writes. A write whose client died is pending: it takes effect at any later
-moment, or never, and not once a later write to the same file has. A write may be asked for twice, as where a node tells `gone`: then
-the first one is pending too. Somebody looks at the name whenever the page changes, which shows more than any other reader sees; what he
-saw and was acknowledged has to be that of one register.
+A session has two files, its journal and its page. Each write may be answered, or not: then it is pending, takes effect at any later moment
+or never, and not once a later write to the same file has. A client may ask again, so that a write is pending twice, or die. Gets are those of readers,
+or where there are none those of the sessions' clients between their changes. In each world that can come about the search looks at what was seen
+of one name:
 
-Two worlds that differ in numbers that are only compared, or in contents that nobody can see any more, are one. So there are finitely
-many as long as at most N writes are pending, and the search ends when it has seen what follows from each, whatever number of clients
-that takes. It tells how many there are, and how many ways clients went.
+- a page never goes back: it is written over only by one with a greater number, which of no name has a smaller version;
+- the pages as they stand ask for no more than there is;
+- the operations are *tagged*, as gq_laws has the word: an order by version is then one in which one register gives the same answers. Gets that are shown
+  nothing have no version, so besides it is looked whether there is an order of all (linearizability.py).
+
+All worlds with at most so many changes of the name (so many of which may be removals), of another one and of none, gets, clients of a session, and
+pending writes of a file are looked at. With --behind 1 they begin where session 1 has put the name and session 2 has taken it away. `now` counts
+beginnings and ends alone, since nothing else of it is compared. With --random N it goes N random ways instead, each to its end. With --ways it goes
+the ways to wrong worlds that are known for some variants. It ends with status 1 at the first world that is wrong, and writes the steps that led there.
 """
 
 import argparse
 import collections
 import contextlib
-import dataclasses
 import functools
+import random
+import re
 import sys
-import time
-import types
+from dataclasses import replace
 from typing import NamedTuple
+from unittest import mock
 
 sys.dont_write_bytecode = True
-from histories import Killed
+from histories import HERE  # (and where the client is found)
+from linearizability import Operation, is_linearizable
 
-from gridfs_client import Copy, Layout, NamedFiles, NoSuchName, OneByOne, Row, Tag, Unanswered, Volume
-from gridfs_client.buckets import Bucket
-from gridfs_client.pages import Inline, parse_page
-from gridfs_client.tables import parse_table
+from gridfs_client import Tag, core
+from gridfs_client.core import Carries, Known, Line, ListPages, Page, ReadPage, Version, WriteJournal, WritePage
 
-LAYOUT = Layout(1, (Volume(2, 16), Volume(1, 1)))
-TABLE, PAGE = LAYOUT.table(1), LAYOUT.page(1, 0)
-NAME = "a"
-MOST_REMOVALS = 2  # that are remembered of those that may still take effect: fewer make the judge stricter
+assert HERE
+N, M = "n", "m"  # the name that is watched, and another
+INFINITE = float("inf")
+
+
+class Bounds(NamedTuple):
+    sessions: int = 1
+    readers: int = 0
+    changes: int = 3
+    removals: int = 0
+    others: int = 0
+    gets: int = 0
+    clients: int = 4
+    pending: int = 2
+    anew: int = 0
+    behind: int = 0
 
 
 class Wrong(Exception):
-    """What was seen is not that of one register: the events that led there."""
+    """What was seen is not that of one register: the steps that led there."""
 
 
-class Register(NamedTuple):
-    """What a file holds, with the number of its tag."""
-
-    number: int = 0
-    content: bytes = b""
-
-
-class Pending(NamedTuple):
-    """A write that may still take effect."""
-
-    place: tuple
-    content: bytes
+class Session(NamedTuple):
+    journal: Page = Page()
+    page: Page = Page()
+    journal_pending: tuple = ()
+    page_pending: tuple = ()
+    client: object = None  # a state of the core, or none
+    task: tuple = ()  # what it is to do: ("put" or "remove" or "get", the number of the operation or None, the name, the content)
+    tags: tuple = None  # of a listing that is under way
+    clients: int = 0
 
 
-class Change(NamedTuple):
-    """An operation that was begun and may still take effect: its number, and whether it takes the name away."""
-
-    number: int
-    is_removal: bool
-
-    @property
-    def value(self):
-        return None if self.is_removal else self.number
-
-
-class Seen(NamedTuple):
-    """What may have happened, as far as it was seen: what the register holds, and which of the changes that were begun have taken effect.
-    `ways` has each way in which the history so far can be put in order."""
-
-    ways: frozenset = frozenset([(None, frozenset())])
-    begun: frozenset = frozenset()
-
-    def all_ways(self):
-        """The ways, with each change that may take place now or not."""
-        found, left = set(self.ways), list(self.ways)
-        while left:
-            _, done = left.pop()
-            for change in self.begun:
-                if change.number not in done and (way := (change.value, done | {change.number})) not in found:
-                    found.add(way)
-                    left.append(way)
-        return found
-
-    def begin(self, change):
-        return Seen(self.ways, self.begun | {change})
-
-    def look(self, value):
-        """Somebody sees the name hold this."""
-        return self.kept(way for way in self.all_ways() if way[0] == value)
-
-    def end(self, change, is_done):
-        """The change has ended: it took place before, or changed nothing."""
-        seen = self.kept(way for way in self.all_ways() if (change.number in way[1]) == is_done)
-        return seen.without({change})
-
-    def without(self, changes):
-        """The same without changes that can't take effect any more."""
-        numbers = frozenset(change.number for change in changes)
-        return Seen(frozenset((value, done - numbers) for value, done in self.ways), self.begun - changes)
-
-    def kept(self, ways):
-        ways = frozenset(ways)
-        if not ways:
-            raise Wrong([])
-        return Seen(ways, self.begun)
+class Op(NamedTuple):
+    is_write: bool
+    value: object
+    session: int
+    begin: int
+    end: object = None
+    tag: object = None
+    is_change: bool = True  # a removal too of a name that holds nothing, which then is a get
 
 
 class World(NamedTuple):
-    """The two files, the writes that are pending in the order in which they were begun, and what was seen."""
-
-    page: Register = Register()
-    table: Register = Register()
-    pending: tuple = ()
-    seen: Seen = Seen()
-
-
-@functools.cache
-def page_of(content):
-    return parse_page(content, "the page")
+    sessions: tuple
+    now: int = 0
+    ops: tuple = ()
+    others: int = 0
+    anew: int = 0
 
 
-@functools.cache
-def table_of(content):
-    return parse_table(content, "the table")
+def at(items, place, item):
+    return items[:place] + (item,) + items[place + 1 :]
 
 
-@functools.cache
-def held_in(content):
-    """The number of the change whose content a reader of this page finds, or None."""
-    bucket = Bucket(types.SimpleNamespace(number=1), LAYOUT, 0)
-    bucket.take(1, Tag(1, 1), page_of(content))
-    held = bucket.held(NAME)
-    return held and int(held.content.content)
+def tag_of(page):
+    """Pages that differ have different tags; a file that was never written has none."""
+    return Tag(0, 0) if page == Page() else Tag(page.number, page)
 
 
-def change_in(line):
-    return int(line.content.content)
+def with_tags(ops, session, journal):
+    """A journal was written and answered: the operation whose line of the watched name it has has its version from then on."""
+    line = journal.shown(N)
+    if line is None or not line.words:
+        return ops
+    op = int(line.words)
+    return at(ops, op, ops[op]._replace(tag=Version(line.version, session)))
 
 
-@functools.cache
-def in_order(content):
-    """The numbers of the changes whose contents stand in a page, in force or to come."""
-    return [change_in(line) for line in page_of(content).lines if line.content]
+class Steps:
+    """What may happen next in a world."""
 
+    def __init__(self, world, bounds):
+        self.world, self.bounds, self.found = world, bounds, []
 
-# Worlds that are one
+    def to(self, words, number, session, **changes):
+        sessions = at(self.world.sessions, number - 1, session)
+        self.found.append((f"session {number} {words}", self.world._replace(sessions=sessions, **changes)))
 
-NOBODYS, CLAIMED = 1_000_000, 1_000_001  # a claim of which no table tells, and one under which no page was written
+    def all(self):
+        for number, session in enumerate(self.world.sessions, 1):
+            self.late(number, session)
+            if number <= self.bounds.sessions:
+                self.enters(number, session)
+            self.client(number, session)
+        return self.found
 
+    def late(self, number, session):
+        for place, write in enumerate(session.journal_pending):
+            self.to("journal takes effect late", number, session._replace(journal=write, journal_pending=session.journal_pending[place + 1 :]))
+        for place, write in enumerate(session.page_pending):
+            self.to("page takes effect late", number, session._replace(page=write, page_pending=session.page_pending[place + 1 :]))
 
-def renamed(world):
-    """The world with the least numbers that compare as its own do, and without changes that nobody can see any more.
+    def entered(self, number, session):
+        client = core.told(core.enter(core.new_client(number, self.bounds.sessions)), Known(tag_of(session.journal), session.journal))
+        return session._replace(client=client, task=(), tags=None)
 
-    Of versions the session's own next one is above all, and no other session has any. A claim's base is a copy that can
-    still be read, or another; its number is a page's, or another's."""
-    contents = {PAGE: [world.page.content], TABLE: [world.table.content]}
-    for write in world.pending:
-        contents[write.place].append(write.content)
-    told = [page_of(content).claim for content in contents[PAGE]]
-    claims = [claim.number for content in contents[TABLE] for claim in table_of(content).claims.values()]
-    numbers = {each: place for place, each in enumerate(sorted(set(told) & set(claims), key=told.index))}
-    order = [each for content in contents[PAGE] for each in in_order(content)]
-    seen = forgotten(world.seen, frozenset(order))
-    order += sorted(each.number for each in seen.begun)
-    changes = {each: place for place, each in enumerate(dict.fromkeys(order), 1)}
+    def enters(self, number, session):
+        if session.clients < self.bounds.clients:
+            new = self.entered(number, session)._replace(clients=session.clients + 1)
+            ops = self.world.ops
+            if isinstance(new.client, Carries):  # (of a variant)
+                ops = with_tags(ops, number, session.journal)
+            self.to("has a new client, which reads the journal", number, new, ops=ops)
 
-    def new_page(content):
-        page = page_of(content)
-        lines = tuple(dataclasses.replace(line, version=1, content=line.content and Inline(b"%d" % changes[change_in(line)])) for line in page.lines)
-        claim = None if page.claim is None else numbers.get(page.claim, NOBODYS)
-        return dataclasses.replace(page, lines=lines, claim=claim).to_bytes() if content else b""
-
-    bases = {page_of(content).base(): page_of(new_page(content)).base() for content in contents[PAGE]}
-
-    def new_claim(claim):
-        return dataclasses.replace(claim, number=numbers.get(claim.number, CLAIMED), base=bases.get(claim.base, "-"))
-
-    def new_table(content):
-        table = table_of(content)
-        return dataclasses.replace(table, claims={page: new_claim(claim) for page, claim in table.claims.items()}).to_bytes() if content else b""
-
-    new = {PAGE: new_page, TABLE: new_table}
-    ways = frozenset((value and changes[value], frozenset(changes[each] for each in done)) for value, done in seen.ways)
-    return World(
-        Register(min(1, world.page.number), new_page(world.page.content)),
-        Register(min(1, world.table.number) and 1 + len(numbers), new_table(world.table.content)),
-        tuple(Pending(each.place, new[each.place](each.content)) for each in world.pending),
-        Seen(ways, frozenset(Change(changes[each.number], each.is_removal) for each in seen.begun)),
-    )
-
-
-def forgotten(seen, named):
-    """What was seen without what doesn't matter any more, once the client of each change that has not ended is dead. A change need not take
-    effect then: so of two ways, one that leaves more of them for later is as good as the other. Nobody can see the changes that took
-    place, nor those whose content stands nowhere; of removals nobody can say which one he sees, so that
-    the first ones do."""
-    removals = sorted(each for each in seen.begun if each.is_removal)
-    ways = {(value, in_turn(done, removals)) for value, done in seen.ways}
-    ways = frozenset(way for way in ways if not any(other[0] == way[0] and other[1] < way[1] for other in ways))
-    seen = Seen(ways, seen.begun)
-    is_done = {each for each in seen.begun if all(each.number in done for _, done in ways)}
-    puts = {each for each in seen.begun if not each.is_removal and each.number not in named}
-    may_be_done = {number for _, done in ways for number in done}
-    open_ones = [each for each in removals if each.number not in may_be_done]
-    return seen.without(frozenset(is_done | puts | set(open_ones[MOST_REMOVALS:])))
-
-
-def in_turn(done, removals):
-    """The changes that took effect, as if of the removals among them the first ones had."""
-    numbers = [each.number for each in removals]
-    count = len(done.intersection(numbers))
-    return done.difference(numbers).union(numbers[:count])
-
-
-# One client
-
-
-class Client:
-    """The session of a client in a world. `choose` says what happens: it is given how many things may, and tells the number of one."""
-
-    number = 1
-
-    def __init__(self, world, choose, most_pending):
-        self.choose, self.most_pending = choose, most_pending
-        self.files = {PAGE: world.page, TABLE: world.table}
-        self.pending, self.seen = list(world.pending), world.seen
-        self.events = []
-
-    def tell(self, what, place, content):
-        name = "page" if place == PAGE else "table"
-        self.events.append(f"{what} {name}: " + content.decode().replace("\n", " | "))
-
-    def world(self):
-        seen = self.seen.look(held_in(self.files[PAGE].content))
-        return World(self.files[PAGE], self.files[TABLE], tuple(self.pending), seen)
-
-    def take(self, place, content):
-        self.tell("there is in the", place, content)
-        self.files[place] = Register(self.files[place].number + 1, content)
-        if place == PAGE:
-            self.seen = self.seen.look(held_in(content))
-
-    def surface(self, place):
-        """Some writes that are pending for the file take effect, in the order in which they were begun, and others never do."""
-        while waiting := [at for at, write in enumerate(self.pending) if write.place == place]:
-            choice = self.choose(1 + len(waiting))
-            if not choice:
-                return
-            at = waiting[choice - 1]
-            content = self.pending[at].content
-            self.pending = [write for each, write in enumerate(self.pending) if write.place != place or each > at]
-            self.take(place, content)
-
-    def read(self, volume, file):
-        self.surface((volume, file))
-        register = self.files[volume, file]
-        self.tell("reads the", (volume, file), register.content)
-        return Copy(Tag(register.number, 1), register.content)
-
-    def list(self, volume):
-        # (of the table's row nothing is used)
-        self.surface(PAGE)
-        return tuple(Row(len(each.content), Tag(each.number, 1)) for each in (self.files[TABLE], self.files[PAGE]))
-
-    def write(self, volume, file, content):
-        place, what = (volume, file), self.choose(FATES if self.may_go_on else FATES - 1)
-        self.tell(f"{WORDS[what]} the", place, content)
-        for _ in range(COPIES[what]):
-            if len(self.pending) == self.most_pending:
-                raise TooMany
-            self.pending.append(Pending(place, content))
-        if what != ANSWERED:
-            raise Unanswered("no answer") if what == UNANSWERED else Killed
-        self.surface(place)
-        self.pending = [write for write in self.pending if write.place != place]
-        self.take(place, content)
-        return Tag(self.files[place].number, 1)
-
-    may_go_on = False
-
-
-# What becomes of a write, and how many copies of it are left pending. (One that is asked for twice and answered is as one that was answered.)
-ANSWERED, DIES, DIES_TWICE, UNANSWERED = range(4)
-FATES, COPIES = 4, (0, 1, 2, 1)
-WORDS = "writes", "dies writing", "dies writing twice", "is not answered writing"
-
-
-class TooMany(BaseException):
-    """More writes would be pending than there may be."""
-
-
-def change_name(client, files, number, is_removal):
-    """A client's operation, with what was seen of it."""
-    change = Change(number, is_removal)
-    client.events.append("a client takes the name away" if is_removal else f"a client puts {number}")
-    client.seen = client.seen.begin(change)
-    try:
-        if is_removal:
-            files.remove(NAME)
-        else:
-            files.put(NAME, b"%d" % number)
-    except NoSuchName:
-        client.seen = client.seen.end(change, False)
-    except Unanswered:
-        pass
-    else:
-        client.seen = client.seen.end(change, True)
-
-
-def lives(world, kind, most_pending, operations, removes=True):
-    """The worlds that one more client may leave, each way that it may go, with the events of each way."""
-    pages = [world.page.content, *(write.content for write in world.pending if write.place == PAGE)]
-    number = 1 + max([0, *(each.number for each in world.seen.begun), *(each for content in pages for each in in_order(content))])
-    path = []
-    while True:
-        taken = []
-
-        def choose(count):
-            if len(taken) == len(path):
-                path.append(0)
-            taken.append(count)
-            return path[len(taken) - 1]
-
-        client = Client(world, choose, most_pending)
-        client.may_go_on = operations > 1
-        files = kind(client, LAYOUT, team=OneByOne())
-        try:
-            with contextlib.suppress(Killed):
-                for each in range(operations):
-                    change_name(client, files, number + each, removes and choose(2) == 1)
-            yield client.world(), client.events
-        except TooMany:
-            pass
-        except Wrong:
-            raise Wrong(client.events) from None
-        while path and path[-1] + 1 == taken[len(path) - 1]:
-            path.pop()
-        if not path:
+    def client(self, number, session):
+        state, world = session.client, self.world
+        if state is None:
             return
-        path[-1] += 1
+        match core.request_of(state):
+            case None:
+                if session.task:
+                    self.has_looked(number, session)
+                else:
+                    self.begins(number, session)
+            case ListPages():
+                # One tag after another; those that the client doesn't look at are no matter.
+                whose, tags = sorted(state.whose), session.tags or ()
+                if len(tags) < len(whose):
+                    tags = (*tags, tag_of(world.sessions[whose[len(tags)] - 1].page))
+                if len(tags) == len(whose):
+                    every = [known.tag for known in state.client.seen]
+                    for each, tag in zip(whose, tags):
+                        every[each - 1] = tag
+                    self.to("lists a page, the last one", number, session._replace(client=core.told(state, tuple(every)), tags=None))
+                else:
+                    self.to("lists a page", number, session._replace(tags=tags))
+            case ReadPage(other):
+                page = world.sessions[other - 1].page
+                self.to(f"looks at page {other}", number, session._replace(client=core.told(state, Known(tag_of(page), page))))
+            case WriteJournal(journal):
+                done = session._replace(client=core.told(state, tag_of(journal)), journal=journal, journal_pending=())
+                self.to(f"announces {journal}", number, done, ops=with_tags(world.ops, number, journal))
+                if len(session.journal_pending) < self.bounds.pending:
+                    self.to("gets no answer for its journal", number, session._replace(journal_pending=(*session.journal_pending, journal)))
+            case WritePage(page):
+                done = session._replace(client=core.told(state, tag_of(page)), page=page, page_pending=(), task=())
+                ops, now = self.ended(session.task)
+                self.to(f"carries {page}", number, done, ops=ops, now=now)
+                if len(session.page_pending) < self.bounds.pending:
+                    self.to("gets no answer for its page", number, session._replace(page_pending=(*session.page_pending, page)))
+
+    def ended(self, task, **changes):
+        op = task[1] if task else None
+        if op is None:
+            return self.world.ops, self.world.now
+        return at(self.world.ops, op, self.world.ops[op]._replace(end=self.world.now, **changes)), self.world.now + 1
+
+    def begins(self, number, session):
+        """A client that has nothing to do begins something."""
+        world, op = self.world, len(self.world.ops)
+        written, is_reader = [each for each in world.ops if each.is_change], number > self.bounds.sessions
+        if len(written) < self.bounds.changes and not is_reader:
+            for value in (op + 1, None):
+                if value is None and sum(each.value is None for each in written) == self.bounds.removals:
+                    continue
+                kind = "put" if value else "remove"
+                client = core.look_for_change(session.client) if value else core.look(session.client)
+                new = session._replace(client=client, task=(kind, op, N, value))
+                self.to(f"begins to {kind} {value}", number, new, now=world.now + 1, ops=(*world.ops, Op(True, value, number, world.now)))
+        if sum(not each.is_change for each in world.ops) < self.bounds.gets and is_reader == (self.bounds.readers > 0):
+            new = session._replace(client=core.look(session.client), task=("get", op, N, None))
+            self.to("begins to get", number, new, now=world.now + 1, ops=(*world.ops, Op(False, None, number, world.now, is_change=False)))
+        if world.others < self.bounds.others and not is_reader:
+            new = session._replace(client=core.look_for_change(session.client), task=("put", None, M, world.others + 1))
+            self.to("begins to put another name", number, new, others=world.others + 1)
+        if world.anew < self.bounds.anew and not is_reader:
+            new = session._replace(client=core.look_for_change(session.client), task=("change", None, None, None))
+            self.to("begins a change of no name", number, new, anew=world.anew + 1)
+
+    def has_looked(self, number, session):
+        """The look of an operation has ended: it chooses, or tells."""
+        kind, op, name, value = session.task
+        pages = core.view(session.client, range(1, self.bounds.sessions + 1))
+        found = core.greatest_shown(core.lines_of(pages, N))
+        holds = found[1].content if found else None
+        if kind == "get" or kind == "remove" and holds is None:
+            version = found[0] if found else None
+            ops, now = self.ended(session.task, is_write=False, value=holds, tag=version)
+            self.to(f"tells {holds}", number, session._replace(task=()), ops=ops, now=now)
+            return
+        line = Line(name, core.new_version(session.client).number, value, "" if op is None else str(op)) if name else None
+        journal = core.changed(session.client, line)
+        self.to(f"chooses {journal}", number, session._replace(client=core.announce(session.client, journal)))
 
 
-def search(kind=NamedFiles, most_pending=2, operations=1, removes=True):
-    """Goes through all worlds, of puts alone or of removals too: how many there are, and how many ways clients went. Wrong where one is not that of a register."""
-    first = World()
-    known, left, ways = {first: None}, collections.deque([first]), 0  # how each world came about: the one before, and the events
+def judge(before, after):
+    for old, new in zip(before.sessions, after.sessions):
+        if old.page != new.page and not old.page.number < new.page.number:
+            raise Wrong("a page goes back")
+        for line in old.page.lines:
+            following = new.page.shown(line.name)
+            if following and following != line and not line.version < following.version:
+                raise Wrong("a line goes back")
+    for session in after.sessions:
+        if any(after.sessions[each - 1].page.number < number for each, number in session.page.asks()):
+            raise Wrong("a page asks for what there is not")
+    if before.ops != after.ops:
+        judge_ops(after.ops)
+
+
+@functools.cache
+def judge_ops(ops):
+    """*Tagged* of gq_laws/specs/Operations, of those that have versions; and whether there is an order of all."""
+    writes = [op for op in ops if op.is_write and op.tag]
+    if len({op.tag for op in writes}) < len(writes):
+        raise Wrong("two puts have the same version")
+    for a in ops:
+        if a.end is None:
+            continue
+        if a.tag is None and (a.is_write or a.value is not None):
+            raise Wrong("an operation that has ended has no version")
+        if not a.is_write and a.tag:
+            if a.value not in [op.value for op in writes if op.tag == a.tag and op.begin < a.end]:
+                raise Wrong(f"a get tells {a.value}, which nobody put with that version")
+        for b in ops if a.tag else ():
+            if b.tag and a.end < b.begin and not (a.tag < b.tag or a.tag == b.tag and not b.is_write):
+                raise Wrong(f"{a} ended before {b} began")
+    every = [Operation(op.is_write, op.value, op.begin, INFINITE if op.end is None else op.end) for op in ops if op.is_write or op.end is not None]
+    if not is_linearizable(every):
+        raise Wrong(f"no order of {ops}")
+
+
+def first_world(bounds):
+    reader = Session(client=core.new_client(0, bounds.sessions))
+    world = World((Session(),) * bounds.sessions + (reader,) * bounds.readers)
+    for words in [*client(1), *change(1, "put 1"), *client(2), *change(2, "remove")] if bounds.behind else []:
+        _, world = step(world, bounds, words)
+    return world
+
+
+def search(bounds):
+    """All worlds: how many there are, and how many steps from them. Wrong at the first that is wrong."""
+    first = first_world(bounds)
+    known, left, ways = {first: None}, collections.deque([first]), 0
     while left:
         world = left.popleft()
-        try:
-            for following, events in lives(world, kind, most_pending, operations, removes):
-                ways += 1
-                following = renamed(following)
-                if following not in known:
-                    known[following] = world, events
-                    left.append(following)
-        except Wrong as wrong:
-            (events,) = wrong.args
-            while known[world]:
-                world, before = known[world]
-                events = before + events
-            raise Wrong(events) from None
+        for words, following in Steps(world, bounds).all():
+            ways += 1
+            try:
+                judge(world, following)
+            except Wrong as wrong:
+                told = [words]
+                while known[world]:
+                    world, before = known[world]
+                    told.append(before)
+                raise Wrong(str(wrong), *told[::-1]) from None
+            if following not in known:
+                known[following] = world, words
+                left.append(following)
     return len(known), ways
+
+
+def wander(bounds, ways, seed=1):
+    """Random ways, each until nothing can happen any more. (New clients are the rarer steps.)"""
+    chance, count = random.Random(seed), 0
+    for _ in range(ways):
+        world, told = first_world(bounds), []
+        while following := Steps(world, bounds).all():
+            words, then = chance.choice(following)
+            if " has a new client" in words and told and chance.random() < 0.7:
+                if len(following) == 1:
+                    break
+                continue
+            told.append(words)
+            count += 1
+            try:
+                judge(world, then)
+            except Wrong as wrong:
+                raise Wrong(str(wrong), *told) from None
+            world = then
+    return ways, count
+
+
+# Ways: patterns of steps, one after another. A look goes on to its end.
+
+
+def client(number):
+    return [f"session {number} has a new client"]
+
+
+def change(number, what, until="carries"):
+    """A change of a session up to one of its steps."""
+    every = [f"session {number} {words}" for words in (f"begins (to )?{what}", "chooses", "announces", "carries")]
+    return every[: next(place for place, words in enumerate(every) if words.endswith(f" {until}")) + 1]
+
+
+def step(world, bounds, pattern):
+    """The first step that has these words, behind as many steps as its session's look takes; LookupError where there is none."""
+    look = re.compile(re.match(r"session \d+ ", pattern)[0] + "(lists a page|looks at page)")
+    while True:
+        following = Steps(world, bounds).all()
+        for words, then in following:
+            if re.match(pattern, words):
+                return words, then
+        words, world = next((each for each in following if look.match(each[0])), (None, None))
+        if words is None:
+            raise LookupError(pattern)
+
+
+def go(sessions, patterns):
+    """Goes a way to its end, if that can be gone; Wrong at the first world that is wrong."""
+    bounds = Bounds(sessions, 1, 5, removals=1, others=5, gets=2, clients=3, pending=0)
+    world = first_world(bounds)
+    for pattern in patterns:
+        try:
+            _, then = step(world, bounds, pattern)
+        except LookupError:
+            return False
+        judge(world, then)
+        world = then
+    return True
+
+
+# Wrong variants of the core, each with bounds within which the search refuses it, or a way to a world in which it is wrong.
+
+
+def vanishing(client, but=None):
+    own = core.for_change(client)[client.session]
+    return core.Going({line.name for line in own.lines} - {but}, set())
+
+
+def unasked(client, line, besides=()):
+    page = CHANGED(client, line, besides)
+    return Page(page.lines, client.journal.after, page.number)
+
+
+def unminded(client, line, besides=()):
+    """The page that forgets a removal doesn't ask for the others."""
+    page, own = CHANGED(client, line, besides), client.journal
+    is_forgotten = any(not page.shown(each.name) for each in own.removals())
+    return Page(page.lines, own.after, page.number) if is_forgotten else page
+
+
+def unknowing(line, session, others):
+    return True
+
+
+def half_swept(line, session, others):
+    return any(page.after_of(session) >= line.version for page in others.values())
+
+
+def eager(state, answer):
+    found = TOLD(state, answer)
+    return Carries(found, found.journal) if isinstance(state, core.Enters) else found
+
+
+def forgetful(client):
+    numbers = [page.number for each, page in core.for_change(client).items() if each != client.session]
+    return Version(1 + max(numbers, default=0), client.session)
+
+
+def restarting(client, line, besides=()):
+    """A version above the lines of the name alone; the page's number is as it was to be."""
+    page = CHANGED(client, line, besides)
+    if line is None:
+        return page
+    found = core.greatest_shown(core.lines_of(core.for_change(client), line.name))
+    lower = replace(line, version=1 + (found[0].number if found else 0))
+    return Page((*page.lines[:-1], lower), page.after, page.number)
+
+
+def half_seen(client, whose=None):
+    return core.Looks(client, frozenset([client.session]))
+
+
+TOLD, CHANGED = core.told, core.changed
+ALONE = Bounds()
+TWO = Bounds(2, 0, 2, gets=2, clients=1, pending=1)
+BESIDE = Bounds(2, 1, 2, others=1, gets=1, clients=1, pending=0)
+TAKEN_AWAY = [*client(1), *change(1, "put 1"), *client(2), *change(2, "remove")]
+GOES_BESIDE = (2, [
+    *client(2), *change(2, "put 1"), *client(1), "session 3 begins to get", "session 3 lists a page$", *change(1, "put 3"), *change(2, "put another name"),
+    "session 3 lists a page, the last one", "session 3 looks at page 2", "session 3 tells"])  # fmt: skip
+READS_ONE = [f"session 3 {words}" for words in ("begins to get", "lists a page$", "lists a page, the last one", "looks at page 1")]
+VARIANTS = {
+    "eager": ("told", eager, ALONE),
+    "forgetful": ("new_version", forgetful, ALONE),
+    "own-page": ("look_for_change", half_seen, TWO),
+    "half-seen": ("look", half_seen, TWO),
+    "open": ("asked", lambda client, whose: (), GOES_BESIDE),
+    "unasked": ("changed", unasked, GOES_BESIDE),
+    "vanishing": ("going", vanishing, BESIDE),
+    "unminded": ("changed", unminded, (2, [
+        *TAKEN_AWAY, *READS_ONE, *change(1, "put another name"), *change(2, "put another name"), "session 3 tells"])),
+    "unknowing": ("is_known_to", unknowing, (2, [
+        *client(1), *change(1, "put 1", "chooses"), *client(2), *change(2, "put 2"), *change(2, "remove"), *change(2, "put another name"),
+        "session 1 announces", "session 1 carries", "session 3 begins to get", "session 3 tells"])),
+    "half-swept": ("is_known_to", half_swept, (3, [
+        *client(1), *change(1, "put 1", "chooses"), *client(2), *change(2, "put 2"), *change(2, "remove"), *client(3), *change(3, "put another name"),
+        *change(2, "put another name"), "session 1 announces", "session 1 carries", "session 4 begins to get", "session 4 tells"])),
+    "restarting": ("changed", restarting, (2, [
+        *TAKEN_AWAY, *change(1, "put another name"), *change(2, "put another name"), *change(1, "put 3")])),
+}  # fmt: skip
+
+
+def planted(name):
+    what, bug, _ = VARIANTS[name]
+    return mock.patch.object(core, what, bug)
+
+
+def refuses(name):
+    """Whether the search, or the way, ends in a wrong world with this variant, and the way without it in none."""
+    *_, where = VARIANTS[name]
+    with planted(name), contextlib.suppress(Wrong):
+        judge_ops.cache_clear()
+        search(where) if isinstance(where, Bounds) else go(*where)
+        return False
+    if not isinstance(where, Bounds):
+        go(*where)
+    return True
 
 
 def main(words):
     parser = argparse.ArgumentParser(description=__doc__, formatter_class=argparse.RawDescriptionHelpFormatter)
-    parser.add_argument("--pending", type=int, default=2, metavar="N", help="at most so many writes are pending at a time (2)")
-    parser.add_argument("--operations", type=int, default=1, metavar="N", help="of a client; from 2 on it may get no answer and go on (1)")
-    parser.add_argument("--puts", action="store_true", help="of puts alone, without removals")
-    parser.add_argument("--bug", metavar="NAME", help="clients with a bug of planted.py")
-    asked = parser.parse_args(words)
-    kind = NamedFiles
-    if asked.bug:
-        import planted
-
-        kind = getattr(planted, asked.bug)
-    begun = time.monotonic()
-    try:
-        count, ways = search(kind, asked.pending, asked.operations, not asked.puts)
-    except Wrong as wrong:
-        print("what is seen is not that of one register (numbers of claims and contents may change from client to client):")
-        print("\n".join(wrong.args[0]))
-        return 1
-    print(f"{count} worlds, {ways} ways, {time.monotonic() - begun:.0f} seconds: all is as of one register")
+    for name, default in Bounds()._asdict().items():
+        parser.add_argument(f"--{name}", type=int, default=default, metavar="N")
+    parser.add_argument("--random", type=int, default=0, metavar="N")
+    parser.add_argument("--seed", type=int, default=1, metavar="N")
+    parser.add_argument("--variant", choices=VARIANTS)
+    parser.add_argument("--ways", action="store_true")
+    args = vars(parser.parse_args(words))
+    if args["ways"]:
+        found = {name: refuses(name) for name, (*_, where) in VARIANTS.items() if not isinstance(where, Bounds)}
+        print("\n".join(f"{name}: {'wrong' if is_refused else 'not found'}" for name, is_refused in found.items()))
+        return 0 if all(found.values()) else 1
+    bounds = Bounds(**{name: args[name] for name in Bounds._fields})
+    with planted(args["variant"]) if args["variant"] else contextlib.nullcontext():
+        try:
+            if args["random"]:
+                print("{} ways, {} steps: none is wrong".format(*wander(bounds, args["random"], args["seed"])))
+            else:
+                print("{} worlds, {} steps from them: none is wrong".format(*search(bounds)))
+        except Wrong as wrong:
+            print("\n    ".join(wrong.args))
+            return 1
     return 0
 
 

@@ -18,7 +18,7 @@ from .answers import PlanTold
 from .asking import SILENCE, ask_all, ask_plan, why_unanswered
 from .carriers import Carrier
 from .errors import BadFile, BadSettings, ClientError, Refused, Silent, Skipped, Unanswered
-from .grid import Nodes
+from .grid import Nodes, listed
 from .layout import BLOCK, layout_of
 from .local import INPUT, complain, content_of, out, to_target
 from .mirror import GRID, ToFolder, ToGrid, prefix_of, shown
@@ -63,8 +63,8 @@ status  meaning                                                                 
    130  interrupted (143: by SIGTERM)                                              yes
    141  whoever read the answer has gone
 
-What an interrupted command left undone, the next change of its session finishes or takes back. `mirror` skips what it can't move, tells it, and
-ends with the status of the first one.
+What an interrupted command left undone, the next change of its session to the same page completes, or drops. `mirror` skips what it can't
+move, tells it, and ends with the status of the first one.
 """
 
 
@@ -96,15 +96,15 @@ class Opened:
         return self.sessions.first()
 
     def names(self) -> NamedFiles:
-        layout = layout_of(self.told)
-        return NamedFiles(self.session, layout, self.progress, self.sessions.helpers)
+        layout, sessions = layout_of(self.told), self.sessions
+        return NamedFiles(self.session, layout, self.progress, sessions.helpers, others=sessions.others)
 
     @contextmanager
     def names_for(self, name: str) -> Iterator[NamedFiles]:
         """The names by a session of their own, the one that depends on the name if that is free; others may have it again afterwards."""
         told = self.carrier.told or self.told
         with closing(OpenSessions(self.settings, told, self.carrier, name)) as sessions:
-            names = NamedFiles(sessions.first(), layout_of(told), self.progress, sessions.helpers)
+            names = NamedFiles(sessions.first(), layout_of(told), self.progress, sessions.helpers, others=sessions.others)
             yield names
             names.close()
 
@@ -157,6 +157,7 @@ def parser() -> argparse.ArgumentParser:
          **{"--dry-run": dict(is_given, help="tell what would be done, and do nothing"),
             "--delete": dict(is_given, help="remove what is in the target and not in the source")})  # fmt: skip
     word("status", status, "tell which nodes answer, and what the tenant has used of its room")
+    word("sweep", sweep, "forget names that were taken away, and find room that dead commands left taken; of all sessions that nobody uses")
     # What lies below names: the numbered files themselves.
     word("write", write, "write a numbered file; what names stand on can be spoilt so", volume=volume, file=number, path=source)
     word("read", read, "tell a numbered file's content", volume=volume, file=number, path=target)
@@ -181,17 +182,22 @@ def put(opened: Opened, args: argparse.Namespace) -> None:
     with content_of(args.path) as content:
         entry = names.put(args.name, content)
     names.close()
-    tell(args, vars(entry))
+    tell(args, told_of(entry))
 
 
 def get(opened: Opened, args: argparse.Namespace) -> None:
     names = opened.names()
     if args.json and args.path == "-":
         content, entry = names.get(args.name)
-        tell(args, vars(entry) | {"content": base64.b64encode(content).decode()})
+        tell(args, told_of(entry) | {"content": base64.b64encode(content).decode()})
         return
     told = to_target(args.path, lambda target: names.get_to(args.name, target))
-    tell(args, vars(told))
+    tell(args, told_of(told))
+
+
+def told_of(entry: Entry) -> dict[str, object]:
+    """An entry, with words where there are any."""
+    return {key: value for key, value in vars(entry).items() if key != "words" or value}
 
 
 def line_of(entry: Entry) -> str:
@@ -200,7 +206,7 @@ def line_of(entry: Entry) -> str:
 
 def ls(opened: Opened, args: argparse.Namespace) -> None:
     entries = opened.names().names(args.prefix)
-    tell(args, [vars(entry) for entry in entries], "\n".join(map(line_of, entries)) or None)
+    tell(args, [told_of(entry) for entry in entries], "\n".join(map(line_of, entries)) or None)
 
 
 def rm(opened: Opened, args: argparse.Namespace) -> None:
@@ -212,8 +218,16 @@ def rm(opened: Opened, args: argparse.Namespace) -> None:
 
 
 def stat(opened: Opened, args: argparse.Namespace) -> None:
-    entry = vars(opened.names().stat(args.name))
+    entry = told_of(opened.names().stat(args.name))
     tell(args, entry, "\n".join(f"{key}: {value}" for key, value in entry.items()))
+
+
+def sweep(opened: Opened, args: argparse.Namespace) -> None:
+    swept = opened.names().sweep()
+    text = f"removals: {swept.forgotten} forgotten, {swept.left} left"
+    if swept.absent:
+        text += f"; {'sessions' if len(swept.absent) > 1 else 'session'} {listed(swept.absent)} could not be had"
+    tell(args, vars(swept), text)
 
 
 def write(opened: Opened, args: argparse.Namespace) -> None:

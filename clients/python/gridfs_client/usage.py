@@ -2,15 +2,16 @@
 
 from dataclasses import dataclass
 
+from .contents import parts_of
 from .layout import Layout
 from .names import NamedFiles
-from .pages import InSlots
+from .pages import length_of_lines
 from .tables import parse_table
 
 
 @dataclass(frozen=True)
 class Fullest:
-    """The fullest page: whose it is, its bytes, and how many it has room for before a put is refused."""
+    """The fullest page: whose it is, the bytes of its lines, and how many they may have before a put is refused."""
 
     session: int
     page: int
@@ -69,14 +70,13 @@ def taken_slots(files: NamedFiles) -> dict[int, frozenset[int]]:
 def named_slots(files: NamedFiles) -> set[tuple[int, int]]:
     """Session and number of each slot that has a piece of what a name holds."""
     contents = (held.content for bucket in files.writer.buckets.values() for held in bucket.names())
-    return {choice for content in contents if isinstance(content, InSlots) for choice in content.order()}
+    return {choice for part in parts_of(contents) for choice in part.order()}
 
 
 def fullest_page(files: NamedFiles, layout: Layout) -> Fullest:
-    most = layout.page_room * 7 // 8
     pages = [
-        Fullest(session, number, len(known.page.to_bytes()), most)
+        Fullest(session, number, length_of_lines(known.page.lines), layout.contents_room)
         for number, bucket in files.writer.buckets.items()
-        for session, known in bucket.known.items()
+        for session, known in enumerate(bucket.client.seen, 1)
     ]
     return max(pages, key=lambda page: page.bytes)

@@ -1,17 +1,19 @@
-"""What the one client of a session writes: its pages and its slots."""
+"""What the one client of a session writes: its journals, its pages and its slots."""
 
-from collections.abc import Iterable
-from dataclasses import replace
+from collections.abc import Collection, Iterable
+from contextlib import suppress
 
 from .buckets import Bucket
+from .core import Line, Page
+from .errors import Unanswered
 from .layout import Layout
-from .pages import Line, Page
+from .pages import length_of_lines
 from .sessions import Files
-from .tables import Borrower, Claim, SlotKeeper
+from .tables import Borrower, SlotKeeper
 
 
 class Writer:
-    """The pages and the slots of one session."""
+    """The journals, pages and slots of one session."""
 
     keeper_type = SlotKeeper
 
@@ -27,77 +29,52 @@ class Writer:
             self.buckets[page] = Bucket(self.session, self.layout, page)
         return self.buckets[page]
 
-    def write(self, bucket: Bucket, page: Page) -> None:
-        """Writes a page, claimed before where this client doesn't own it yet, and notes the slots that it doesn't name any more.
+    def change(self, bucket: Bucket, journal: Page) -> None:
+        """Announces and carries a journal, and notes the slots that its page doesn't name any more: once that was carried, no page that does is seen
+        again."""
+        before = bucket.change(journal)
+        self.keeper.release(before.slots(self.me) - journal.slots(self.me))
+        ended = before.puts() - journal.puts()
+        self.release_puts(ended)
+        if any(strand.session != self.me for part in before.parts() if part.put in ended for strand in part.strands):
+            with suppress(Unanswered):
+                self.keeper.flush()  # so that those who lent slots can see it
 
-        Where no answer comes it may still take effect.
-        """
-        if not bucket.is_owned and bucket.claim is None:
-            self.claim(bucket)
-        before = bucket.write(page)
-        self.keeper.keep_claim(bucket.number)
-        self.keeper.release(before.slots(self.me) - page.slots(self.me))
-        for put in before.puts() - page.puts():
+    def release_puts(self, puts: Iterable[int]) -> None:
+        """These puts need no slots of others any more."""
+        for put in puts:
+            self.keeper.end_borrowing(put)
             for lender in self.lenders.values():
-                lender.give_back(Borrower(self.me, bucket.number, put))
+                lender.give_back(Borrower(self.me, put))
 
-    def settle(self, bucket: Bucket) -> None:
-        """Refreshes a bucket, and finishes what an earlier client began in the session's page, or this one without an answer."""
-        bucket.refresh()
-        while not bucket.mine.is_settled():
-            takes_back = not bucket.is_owned and self.claim(bucket).takes_back
-            self.write(bucket, bucket.mine.reverted() if takes_back else bucket.mine.done())
-            bucket.refresh()
+    def tidy(self, bucket: Bucket, anew: bool = False) -> int:
+        """Changes no name, where a line can go, or the page is to say that it was made beside another one's removal. With `anew` also where this client
+        hasn't carried the page yet, so that nothing that an earlier one wrote can come into it. How many removals are forgotten by that."""
+        bucket.look()
+        before, journal = bucket.journal, bucket.changed(None)
+        if (journal.lines, journal.after) == (before.lines, before.after) and (bucket.is_carried or not anew):
+            return 0
+        self.change(bucket, journal)
+        return len(before.removals()) - len(journal.removals())
 
-    def claim(self, bucket: Bucket) -> Claim:
-        """Claims the session's page of a bucket, as it was read last."""
-        if self.keeper.is_full(bucket.number):
-            self.write_claimed()
-        claim = self.keeper.claim(bucket.number, bucket.mine)
-        bucket.claim = claim.number
-        return claim
-
-    def write_claimed(self) -> None:
-        """Writes each page that a client claimed and died before it wrote it: so these claims can go."""
-        for page in sorted(self.keeper.needed().claims):
-            bucket = self.bucket(page)
-            self.settle(bucket)
-            if not bucket.is_owned:
-                self.write(bucket, bucket.mine)
-
-    def announcement(self, bucket: Bucket, line: Line) -> Page | None:
-        """The page that announces a line, once lines that can go have made room where it is needed; None for no room.
-
-        An eighth of the page is kept for removals, so that names can be taken away from a full one.
-        """
-        room = self.layout.page_room if line.content is None else self.layout.page_room * 7 // 8
-        while True:
-            page = bucket.mine.announcing(line, *bucket.going(line.name))
-            if len(page.to_bytes()) <= room:
-                return page
-            if not self.drop_gone(bucket):
-                return None
-
-    def drop_gone(self, bucket: Bucket) -> bool:
-        """Drops the lines that can go; whether there were any."""
-        names, after = bucket.going(None)
-        if names:
-            taking = bucket.mine.taking
-            self.write(bucket, bucket.mine.announcing(None, names, after))
-            self.write(bucket, replace(bucket.mine.done(), taking=taking))
-        return bool(names)
+    def announcement(self, bucket: Bucket, line: Line, besides: Collection[str] = ()) -> Page | None:
+        """The journal that announces a line; None for no room. An eighth of the page is kept for removals, so that names can be taken away from a
+        full one."""
+        room = self.layout.lines_room if line.content is None else self.layout.contents_room
+        journal = bucket.changed(line, besides)
+        return journal if length_of_lines(journal.lines) <= room else None
 
     def find_room(self) -> None:
-        """Looks through all pages of the session for slots that are taken and not needed: left by a client that died, or of lines
-        that can go. Three requests for each page or more."""
-        named: set[int] = set()
+        """Looks through all pages of the session for slots that are taken and not needed: left by a client that died, or of lines that can go. A
+        request for each page, and four where this client hasn't carried it yet."""
+        slots, puts = set[int](), set[int]()
         for page in range(self.layout.pages):
             bucket = self.bucket(page)
-            self.settle(bucket)
-            if not self.drop_gone(bucket) and not bucket.is_owned:
-                self.write(bucket, bucket.mine)  # so that nothing that an earlier client wrote can come into it
-            named |= bucket.mine.slots(self.me)
-        self.keeper.retain(named)
+            self.tidy(bucket, anew=True)
+            slots |= bucket.journal.slots(self.me)
+            puts |= bucket.journal.puts()
+        self.keeper.retain(slots, puts)
+        self.keeper.flush()
 
     def release(self, choices: Iterable[tuple[int, int]]) -> None:
         """Slots (session, number) that no line was ever to name are needed no more."""

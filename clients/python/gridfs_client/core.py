@@ -1,0 +1,345 @@
+"""The protocol of names without input and output: a state and an answer in, a state and the next request out.
+
+Words are those of the law of names (`gq_names/specs/Names`). Each session has two files of a bucket, its *page* and its *journal*: the page
+as it is to be. A client that enters reads its journal. For a change it *looks* at the pages of the others, chooses a version above the numbers of all
+that it saw, that of its own journal among them, *announces* the change by writing the journal, and once that was answered, and not before, it *carries*
+it: it writes the page as the journal has it. Who gets no answer enters anew. A get looks at all pages and takes the greatest line.
+
+A line is *gone* where a page doesn't show it any more: another page shows a greater one, or it is a removal that is *forgotten*. The page says *after*
+which numbers other pages have to be seen from then on: who looks at pages looks again until all that they ask for is so.
+
+    state = look(client)
+    while request := request_of(state):
+        state = told(state, ..)           # what came of the request
+"""
+
+from collections.abc import Collection, Iterable, Iterator
+from dataclasses import dataclass, field, replace
+
+from .answers import Tag
+from .contents import Content, InSlots, parts_of
+
+
+@dataclass(frozen=True, order=True)
+class Version:
+    """Versions of one name are ordered by number, those with one number by session."""
+
+    number: int
+    session: int
+
+
+@dataclass(frozen=True)
+class Line:
+    """What a page says of one name: what it holds from this version on, nothing where it was removed. `words` are those of whoever put it: nothing
+    here looks into them."""
+
+    name: str
+    version: int
+    content: Content | None
+    words: str = ""
+
+
+@dataclass(frozen=True)
+class Page:
+    """The lines of one session for the names of a bucket, at most one of each; *after* which number the page of each session has to be seen beside
+    this one, session 1 first; and its number, that of the version of its latest change: no line has a greater one."""
+
+    lines: tuple[Line, ...] = ()
+    after: tuple[int, ...] = ()
+    number: int = 0
+
+    def shown(self, name: str) -> Line | None:
+        return next((line for line in self.lines if line.name == name), None)
+
+    def after_of(self, session: int) -> int:
+        return self.after[session - 1] if session <= len(self.after) else 0
+
+    def removals(self) -> list[Line]:
+        return [line for line in self.lines if line.content is None]
+
+    def asks(self) -> Iterator[tuple[int, int]]:
+        """Sessions, and the number that the page of each has at least, where it is seen beside this one."""
+        return ((session, number) for session, number in enumerate(self.after, 1) if number)
+
+    def slots(self, session: int) -> set[int]:
+        """The slots of a session that lines name."""
+        return {slot for part in self.parts() for strand in part.strands if strand.session == session for slot in strand.slots}
+
+    def parts(self) -> Iterator[InSlots]:
+        """What lines say of contents in slots."""
+        return parts_of(line.content for line in self.lines)
+
+    def puts(self) -> set[int]:
+        """The puts whose slots lines name."""
+        return {part.put for part in self.parts()}
+
+
+@dataclass(frozen=True)
+class Known:
+    """A page as it was seen, with the tag of its file."""
+
+    tag: Tag = Tag(0, 0)
+    page: Page = Page()
+
+
+# What a client knows and does. `seen` has what it saw last of each session's page.
+
+
+@dataclass(frozen=True)
+class Knows:
+    """It has nothing to do. It knows its journal, or has not entered (None)."""
+
+    session: int
+    seen: tuple[Known, ...]
+    journal: Page | None = None
+
+
+@dataclass(frozen=True)
+class Enters:
+    """It reads its journal."""
+
+    client: Knows
+
+
+@dataclass(frozen=True)
+class Looks:
+    """It looks at the pages of these sessions, one after another: first at the tags of all (`left` is None), then at each that it doesn't know
+    as it is, or that another one asks for, each with the number that it has at least."""
+
+    client: Knows
+    whose: frozenset[int]
+    left: tuple[tuple[int, int], ...] | None = None
+
+
+@dataclass(frozen=True)
+class Announces:
+    """It writes this journal."""
+
+    client: Knows
+    journal: Page
+
+
+@dataclass(frozen=True)
+class Carries:
+    """That was answered: it writes the page."""
+
+    client: Knows
+    journal: Page
+
+
+State = Knows | Enters | Looks | Announces | Carries
+
+
+# What it asks for, and what it is told: a page where it reads one, with the tag; the tags of all pages; the tag of what it wrote.
+
+
+@dataclass(frozen=True)
+class ReadJournal:
+    pass
+
+
+@dataclass(frozen=True)
+class ListPages:
+    pass
+
+
+@dataclass(frozen=True)
+class ReadPage:
+    session: int
+
+
+@dataclass(frozen=True)
+class WriteJournal:
+    page: Page
+
+
+@dataclass(frozen=True)
+class WritePage:
+    page: Page
+
+
+Request = ReadJournal | ListPages | ReadPage | WriteJournal | WritePage
+Answer = Known | tuple[Tag, ...] | Tag
+
+
+class Older(Exception):
+    """The page of this session is older than another one that was written behind it: so they are not what such clients write."""
+
+
+def new_client(session: int, sessions: int) -> Knows:
+    return Knows(session, (Known(),) * sessions)
+
+
+def enter(client: Knows) -> Enters:
+    return Enters(client)
+
+
+def look(client: Knows, whose: Collection[int] | None = None) -> Looks:
+    """A look at the pages of these sessions, or of all. Of its own session's page a client that knows its journal need not look at more than that."""
+    return Looks(client, frozenset(range(1, len(client.seen) + 1) if whose is None else whose))
+
+
+def look_for_change(client: Knows) -> Looks:
+    return look(client, set(range(1, len(client.seen) + 1)) - {client.session})
+
+
+def announce(client: Knows, journal: Page) -> Announces:
+    return Announces(client, journal)
+
+
+def request_of(state: State) -> Request | None:
+    """What the client asks for next; None where it has nothing to do."""
+    match state:
+        case Enters():
+            return ReadJournal()
+        case Looks(_, _, None):
+            return ListPages()
+        case Looks(_, _, ((session, _), *_)):
+            return ReadPage(session)
+        case Announces(_, journal):
+            return WriteJournal(journal)
+        case Carries(_, journal):
+            return WritePage(journal)
+    return None
+
+
+def told(state: State, answer: Answer) -> State:
+    """The state once that was answered."""
+    match state, answer:
+        case Enters(client), Known(_, journal):
+            return replace(client, journal=journal)
+        case Looks(client, whose, None), tuple(tags):
+            return looking(client, whose, tuple((each, 0) for each in sorted(whose) if tags[each - 1] != client.seen[each - 1].tag))
+        case Looks(client, whose, ((session, least), *left)), Known() as known:
+            if known.page.number < least:
+                raise Older(session)
+            return looking(with_seen(client, session, known), whose, tuple(left))
+        case Announces(client, journal), Tag():
+            return Carries(replace(client, journal=journal), journal)
+        case Carries(client, journal), Tag() as tag:
+            return with_seen(client, client.session, Known(tag, journal))
+    raise TypeError(state, answer)
+
+
+def unanswered(client: Knows) -> Knows:
+    """The client behind a write that got no answer: what it would do it has forgotten, and it has to enter anew."""
+    return replace(client, journal=None)
+
+
+def looking(client: Knows, whose: frozenset[int], left: tuple[tuple[int, int], ...]) -> State:
+    """What is to be looked at still, and where that is nothing, what pages ask for; the client, where they ask for nothing."""
+    left = left or asked(client, whose)
+    return Looks(client, whose, left) if left else client
+
+
+def with_seen(client: Knows, session: int, known: Known) -> Knows:
+    return replace(client, seen=client.seen[: session - 1] + (known,) + client.seen[session:])
+
+
+# What pages say together
+
+
+def view(client: Knows, whose: Collection[int]) -> dict[int, Page]:
+    """What is seen of the pages of all sessions. Where a client doesn't look at its own page, its journal counts as if it were in force."""
+    pages = {each: known.page for each, known in enumerate(client.seen, 1)}
+    if client.session not in whose and client.journal is not None:
+        pages[client.session] = client.journal
+    return pages
+
+
+def asked(client: Knows, whose: Collection[int]) -> tuple[tuple[int, int], ...]:
+    """The pages that others ask to be seen with a later number, each with that number: none where the view is *closed*."""
+    pages = view(client, whose)
+    wanted: dict[int, int] = {}
+    for page in pages.values():
+        for session, number in page.asks():
+            if pages[session].number < number:
+                if session == client.session and session not in whose:
+                    raise Older(session)  # (its own journal)
+                wanted[session] = max(number, wanted.get(session, 0))
+    return tuple(sorted(wanted.items()))
+
+
+def for_change(client: Knows) -> dict[int, Page]:
+    """What counts for a change: what was seen of the other pages, and the own journal."""
+    return view(client, ())
+
+
+def lines_of(pages: dict[int, Page], name: str) -> list[tuple[Version, Line]]:
+    found = ((session, page.shown(name)) for session, page in pages.items())
+    return [(Version(line.version, session), line) for session, line in found if line]
+
+
+def greatest_shown(lines: Iterable[tuple[Version, Line]]) -> tuple[Version, Line] | None:
+    found = list(lines)
+    return max(found, key=lambda pair: pair[0]) if found else None
+
+
+def new_version(client: Knows) -> Version:
+    """A version for a change: its number is above those of all pages that were seen, and of the own journal. (Above the lines alone is too little:
+    of a removal that was forgotten no line is left.)"""
+    return Version(1 + max(page.number for page in for_change(client).values()), client.session)
+
+
+@dataclass(frozen=True)
+class Going:
+    """Names of which the own line goes, and sessions whose pages have to be seen from then on with the numbers that they have."""
+
+    names: set[str] = field(default_factory=set)
+    asks: set[int] = field(default_factory=set)
+
+
+def going(client: Knows, but: str | None = None) -> Going:
+    """What goes with a change of the name `but`, or of none. Lines of which another page shows a greater one; and removals that are *forgotten*."""
+    others = for_change(client)
+    own = others.pop(client.session)
+    shown = greatest_of_each(others)
+    found = Going()
+    for line in own.lines:
+        if line.name == but:
+            continue
+        beaten_by = shown.get(line.name)
+        if beaten_by and beaten_by > Version(line.version, client.session):
+            found.names.add(line.name)
+            found.asks.add(beaten_by.session)
+        elif not beaten_by and line.content is None and is_known_to(line, client.session, others):
+            found.names.add(line.name)
+            found.asks.update(others)
+    return found
+
+
+def greatest_of_each(pages: dict[int, Page]) -> dict[str, Version]:
+    """Of each name the greatest version that is shown."""
+    found: dict[str, Version] = {}
+    for session, page in pages.items():
+        for line in page.lines:
+            version = Version(line.version, session)
+            found[line.name] = max(version, found.get(line.name, version))
+    return found
+
+
+def is_known_to(line: Line, session: int, others: dict[int, Page]) -> bool:
+    """Whether each other page says that it was made beside a page of the session that had the line, or a later one."""
+    return all(page.after_of(session) >= line.version for page in others.values())
+
+
+def unknown(client: Knows) -> set[int]:
+    """Sessions whose pages show removals that the own journal doesn't say it was made beside: it has to, before they can be forgotten."""
+    others = for_change(client)
+    own = others.pop(client.session)
+    return {each for each, page in others.items() if any(own.after_of(each) < line.version for line in page.removals())}
+
+
+def changed(client: Knows, line: Line | None, besides: Collection[str] = ()) -> Page:
+    """The journal of a client that has looked, with a line on top of a new version, or none; and without lines that go. `besides` may go the lines of
+    names that no other session ever wrote or will."""
+    assert client.journal is not None
+    journal, pages, name = client.journal, for_change(client), line.name if line else None
+    found = going(client, name)
+    gone = (found.names | set(besides)) - {name}
+    asks = found.asks | unknown(client)
+    after = [max(journal.after_of(each), pages[each].number if each in asks else 0) for each in sorted(pages)]
+    while after and not after[-1]:
+        after.pop()
+    kept = tuple(each for each in journal.lines if each.name not in gone and each.name != name)
+    return Page((*kept, line) if line else kept, tuple(after), line.version if line else new_version(client).number)
