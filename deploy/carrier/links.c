@@ -653,7 +653,7 @@ static const char *disbelief(X509 *shown, const struct stream *stream) {
 static void deny(struct link *link) {
     struct peer *peer = link->peer;
     close_stream(&link->stream, "its certificate is denied");
-    if (peer->many) return;
+    if (peer->many || !held(peer->queue)) return;
     count.lost += (long)count_lines(peer->queue->bytes + peer->queue->first, held(peer->queue));
     forget(peer->queue, held(peer->queue));
 }
