@@ -649,22 +649,35 @@ static const char *disbelief(X509 *shown, const struct stream *stream) {
     return why;
 }
 
+/* Ends the link of one who is denied. What he said and the node was not given yet is dropped. */
+static void deny(struct link *link) {
+    struct peer *peer = link->peer;
+    close_stream(&link->stream, "its certificate is denied");
+    if (peer->many || !held(peer->queue)) return;
+    count.lost += (long)count_lines(peer->queue->bytes + peer->queue->first, held(peer->queue));
+    forget(peer->queue, held(peer->queue));
+}
+
 /* Ends links whose certificate has ended; and after files have changed, those whose certificate would not be taken now. */
 static void check_links(bool is_new) {
     for (struct link *link = all; link; link = link->next) {
         X509 *shown = link->peer ? SSL_get1_peer_certificate(link->stream.ssl) : NULL;
-        const char *why = !shown ? NULL : is_new && is_denied(shown) ? "its certificate is denied" : is_new ? disbelief(shown, &link->stream)
+        const char *why = !shown ? NULL : is_new ? disbelief(shown, &link->stream)
                           : X509_cmp_current_time(X509_get0_notAfter(shown)) < 0 ? "its certificate has ended" : NULL;
-        if (why) close_stream(&link->stream, why);
+        if (shown && is_new && is_denied(shown)) deny(link);
+        else if (why) close_stream(&link->stream, why);
         X509_free(shown);
     }
 }
 
 void engine_hangup(void) {
     SSL_CTX *made = new_context();
+    char before[2][6];
+    memcpy(before, own_ports, sizeof before);
     if (made) SSL_CTX_free(context), context = made;
     read_denied(), check_links(true);
-    read_hosts();
+    if (read_hosts() && memcmp(before, own_ports, sizeof before)) say("%s: node %s has other ports there: it takes them at its next start", hosts_file, me);
+    memcpy(own_ports, before, sizeof before);
 }
 
 static void mind_links(double time) {

@@ -21,6 +21,7 @@ enum {
     TURN = 1024,                /* bytes that one name gives to a write before the next one has its turn */
     PIPE = 8192,                /* bytes of the pipe to the node: a flood can put so many before another's line */
     PRICE = 800,                /* bytes that each line adds to its own in a tenant's rate */
+    ENDS = 10,                  /* seconds that the node has to end once it has closed its output */
     TENANTS = 64,               /* of a plan; what more of them bring is told in one sum */
     METRICS = 10                /* seconds between two writes of the metrics */
 };
@@ -465,6 +466,18 @@ static void ask_short_slices(void) {
     syscall(SYS_sched_setattr, 0, &it, 0);
 }
 
+/* Waits for the end of a node that has closed its output: not for ever, since we serve nobody meanwhile. */
+static int status_of(pid_t child) {
+    int status = 0;
+    double until = now() + ENDS;
+    for (pid_t ended; (ended = waitpid(child, &status, WNOHANG)) != child;) {
+        if (ended < 0 && errno != EINTR) return status;
+        if (now() > until) say("node %s has closed its output, and does not end: it is killed", me), kill(child, SIGKILL), until += 3600;
+        poll(NULL, 0, 10);
+    }
+    return status;
+}
+
 int main(int argc, char **argv) {
     (void)argc;
     char **command = read_words(argv);
@@ -491,7 +504,7 @@ int main(int argc, char **argv) {
     end_input();
     flush(&open_mask);
     engine_end();
-    while (waitpid(child, &status, 0) < 0 && errno == EINTR) {}
+    status = status_of(child);
     if (WIFSIGNALED(status)) say("node %s ended by signal %d", me, WTERMSIG(status));
     else say("node %s ended with status %d", me, WEXITSTATUS(status));
     say_counts();

@@ -555,6 +555,10 @@ def hosts_amid_a_write(program, folder):
             wait_for(lambda: nodes[0].told().count(told) > before, nodes[0].told())
             time.sleep(0.3)
             check("not linked" not in nodes[0].told(), f"a link is lost by the file of hosts: {nodes[0].told()}")
+        with open(os.path.join(links, "hosts"), "w") as out:
+            out.write(f"0 127.0.0.1:1 127.0.0.1:2\n{other}\n")
+        nodes[0].process.send_signal(signal.SIGHUP)
+        wait_for(lambda: "hosts: node 0 has other ports there: it takes them at its next start" in nodes[0].told(), nodes[0].told())
     finally:
         for node in nodes:
             node.end()
@@ -639,6 +643,44 @@ def a_slow_name(program, folder):
     finally:
         for node in nodes:
             node.end()
+
+
+def a_node_that_does_not_end(program, folder):
+    """It has closed its output: it is killed after ten seconds, also where the carrier is told to end meanwhile."""
+    carry = fresh(program, folder, PLAN, "exec 3<{folder}/out.{number}; exec 1>&-; exec sleep 60")
+    try:
+        carry.process.terminate()
+        begun = time.monotonic()
+        check(carry.process.wait(30) == 137 and "does not end: it is killed" in carry.told(), carry.told())
+        check(time.monotonic() - begun > 5, "it is given no time")
+    finally:
+        carry.end()
+
+
+def what_a_denied_one_said(program, folder):
+    """Lines of one who is denied, and that the node has not taken yet, are dropped; those of others are not."""
+    carry = fresh(program, folder)
+    reader = subprocess.run(["pgrep", "-P", str(carry.process.pid)], stdout=subprocess.PIPE, text=True).stdout.split()[0]
+    cat = int(subprocess.run(["pgrep", "-P", reader], stdout=subprocess.PIPE, text=True).stdout.split()[0])
+    try:
+        with come(carry, "ann") as ann, come(carry, "bob") as bob:
+            os.kill(cat, signal.SIGSTOP)
+            ann.sendall(b"".join(b"early %d " % number + b"x" * 90 + b"\n" for number in range(1000)))
+            bob.sendall(b"of bob's\n" * 3)
+            wait_for(lambda: carry.process.send_signal(signal.SIGUSR1) or re.findall(r"in (\d+) ", carry.told())[-1:] >= ["1003"], "they do not come")
+            ann.sendall(b"late\n")
+            time.sleep(0.3)
+            set_up(folder, PLAN, "--deny", "ann")
+            carry.process.send_signal(signal.SIGHUP)
+            check(has_ended(ann), "who is denied stays")
+            os.kill(cat, signal.SIGCONT)
+            wait_for(lambda: carry.lines().count(b"0 bob of bob's") == 3, "bob's lines are lost")
+            time.sleep(1)
+            check(b"0 ann late" not in carry.lines() and len(carry.lines()) < 900, f"{len(carry.lines())} lines are given, also of one who is denied")
+    finally:
+        with contextlib.suppress(ProcessLookupError):
+            os.kill(cat, signal.SIGCONT)
+        check(carry.end() == 0, carry.told())
 
 
 def metrics_are_true(program, folder):
@@ -743,5 +785,5 @@ def metrics_as_prometheus_reads(program, folder):
         carry.end()
 
 
-CHECKS = [odd_files, hosts_amid_a_write, another_authority, costly_ones, who_may_come, a_denied_one_stays_out, who_is_dialed, lines_are_whole, answers_go_home, nodes_are_linked, a_still_node, ticks, a_slow_reader, too_many, long_lines, its_end, its_words, ends_soon, a_slow_name, metrics_are_true, metrics_are_whole]
+CHECKS = [odd_files, hosts_amid_a_write, another_authority, costly_ones, who_may_come, a_denied_one_stays_out, who_is_dialed, lines_are_whole, answers_go_home, nodes_are_linked, a_still_node, ticks, a_slow_reader, too_many, long_lines, its_end, its_words, ends_soon, a_slow_name, a_node_that_does_not_end, what_a_denied_one_said, metrics_are_true, metrics_are_whole]
 LONG_CHECKS = [metrics_as_prometheus_reads]
