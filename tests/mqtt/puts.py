@@ -8,7 +8,7 @@ import threading
 from mqtt_grid import Grid
 from peers import CLIENT
 
-PLAN = "grid 2 2\nroom 300000\ntenant ann 280000 4 1 16384\ngo\nann open 8 1024\nann open 16 16384\n"
+PLAN = "grid 2 2\nroom 300000\ntenant ann 280000 4 1 16384\ngo\nann open 8 1024\nann open 8 1024\nann open 16 16384\n"
 SIZE = 10_000_000
 # Half of what `setup` gives: four pieces at once, of 2 MiB of digits each, then take eight seconds, longer than a client waits that reckons with
 # its whole rate for each of them.
