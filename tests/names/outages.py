@@ -15,6 +15,7 @@ tenant ann 1024 4 1
 tenant bob 64 2 1
 go
 ann open 8 16
+ann open 8 16
 ann open 32 15
 bob open 8 2
 """
