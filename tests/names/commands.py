@@ -324,17 +324,26 @@ class Commands:
         self.told("all slots are free", ["put", "-", "all"], b"", given=bytes(100_000), GRIDFS_HELPERS="3")
         self.told("rm of it", ["rm", "all", "torn"], b"")
 
-    def finished_by_an_interrupted_put(self):
-        """A put is interrupted after its announcement, and the next one once it has finished that: then a get tells the first one's content. The same
-        with a third and a fourth one."""
+    def interrupted(self, content, write):
+        """A put by session 1, which is interrupted in place of the answer to its first write, of the journal, or to its second one, of the page."""
+        ended = self.run("put", "-", "ended", given=content, GRIDFS_VIA=shlex.join([PYTHON, "-B", ENDING, "grid/socket", str(write)]), GRIDFS_SESSION="1")
+        self.held(f"put of {content} that is interrupted", ended, (130, b"", ""))
+
+    def carried_by_another_put(self):
+        """A put that was interrupted after its announcement takes effect with the session's next change of the page, of whatever name; and one
+        that was interrupted after it was carried has taken effect."""
+        beside = [f"beside{number}" for number in range(8)]  # (there are three buckets)
         self.told("put of an old content", ["put", "-", "ended"], b"", given=b"old", GRIDFS_SESSION="1")
-        for content, told in ((b"first", b"old"), (b"second", b"first"), (b"third", b"first"), (b"fourth", b"third")):
-            ended = self.run("put", "-", "ended", given=content, GRIDFS_VIA=shlex.join([PYTHON, "-B", ENDING, "grid/socket", "2"]), GRIDFS_SESSION="1")
-            self.held(f"put of {content} that is interrupted", ended, (130, b"", ""))
-            self.told(f"get after the put of {content}", ["get", "ended"], told)
+        self.interrupted(b"first", 1)
+        self.told("get of what was announced", ["get", "ended"], b"old")
+        for name in beside:
+            self.told(f"put of {name}", ["put", "-", name], b"", GRIDFS_SESSION="1")
+        self.told("get of what was carried by another put", ["get", "ended"], b"first")
+        self.interrupted(b"second", 2)
+        self.told("get of what was carried", ["get", "ended"], b"second")
         self.told("a put after them", ["put", "-", "ended"], b"", given=b"last", GRIDFS_SESSION="1")
         self.told("a get after it", ["get", "ended"], b"last")
-        self.told("rm of it", ["rm", "ended"], b"")
+        self.told("rm of it", ["rm", "ended", *beside], b"")
 
     def terminal(self):
         """A bar of progress stands on a terminal, and only behind a second."""
@@ -406,7 +415,7 @@ def served(program):
 
 PARTS = (
     ["names", "numbered_files", "full", "carriers", "sessions"],
-    ["bad_input", "streams", "finished_by_an_interrupted_put", "interrupts"],
+    ["bad_input", "streams", "carried_by_another_put", "interrupts"],
     ["status", "mirror", "terminal"],
 )
 
