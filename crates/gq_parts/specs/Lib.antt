@@ -1,6 +1,5 @@
 pub mod Inputs
 pub mod Texts
-pub mod Within
 pub mod Steps
 pub mod Recalls
 pub mod Resting
