@@ -63,6 +63,7 @@ struct host {                   /* another node, as the file of hosts has it */
     char told[120];
     bool is_there;              /* its line is in the file */
     bool is_looked_up;          /* by a thread, now */
+    unsigned failures;          /* attempts at its addresses; the next one after each is tried */
 };
 struct lookup {                 /* of an address, by a thread of its own: a name may take long */
     struct host *host;
@@ -204,6 +205,7 @@ static void closed(struct stream *stream) {
     if (host) {
         snprintf(host->told, sizeof host->told, "%s", stream->why);
         if (was_node && now() > link->began + 10) host->wait = 0.1;     /* (if two have the same number they end each other's links: not too often) */
+        if (!was_node) host->failures++;
         host->link = NULL, host->next_try = now() + host->wait;
         host->wait = host->wait < 1 ? 2 * host->wait : 2;
     }
@@ -401,6 +403,14 @@ static void begin_lookup(struct host *host) {
     else pthread_detach(thread), host->is_looked_up = true;
 }
 
+/* Of the addresses that were found the one that is tried now: a name may have some that can't be reached from here. */
+static const struct addrinfo *address_of(const struct addrinfo *found, unsigned failures) {
+    unsigned many = 0;
+    for (const struct addrinfo *it = found; it; it = it->ai_next) many++;
+    for (unsigned left = failures % many; left; left--) found = found->ai_next;
+    return found;
+}
+
 /* Takes what a thread has found, if the file of hosts still has this place. */
 static void end_lookup(struct lookup *it) {
     struct host *host = it->host;
@@ -410,8 +420,9 @@ static void end_lookup(struct lookup *it) {
         const char *why = gai_strerror(it->error);
         if (strcmp(why, host->told)) say("%s: %s: tries again", it->name, why), snprintf(host->told, sizeof host->told, "%s", why);
     } else {
-        if (it->found->ai_addrlen <= sizeof host->address && !strcmp(it->name, host->host) && !strcmp(it->port, host->port))
-            memcpy(&host->address, it->found->ai_addr, it->found->ai_addrlen), host->length = it->found->ai_addrlen;
+        const struct addrinfo *found = address_of(it->found, host->failures);
+        if (found->ai_addrlen <= sizeof host->address && !strcmp(it->name, host->host) && !strcmp(it->port, host->port))
+            memcpy(&host->address, found->ai_addr, found->ai_addrlen), host->length = found->ai_addrlen;
         freeaddrinfo(it->found);
     }
     free(it);

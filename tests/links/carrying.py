@@ -624,25 +624,42 @@ def ends_soon(program, folder):
         carry.end()
 
 
-def a_slow_name(program, folder):
-    """Node 1 has a name that takes long to look up: node 2 is dialed meanwhile."""
-    slow = os.path.join(folder, "slow")
-    links = set_up(folder, THREE, "--local", str(free_ports(6)))
-    sources = [os.path.join(DEPLOY, "..", "carrier", f"{name}.c") for name in ("node", "metrics", "links", "loop", "stream")]
-    words = ["-std=c11", "-Wl,--wrap=getaddrinfo", *sources, os.path.join(HERE, "slow_name.c"), "-o", slow, "-lssl", "-lcrypto", "-lpthread"]
+def with_names(program, folder):
+    """A carrier whose names are those of slow_name.c."""
+    made = os.path.join(folder, "names")
+    planted = os.path.join(os.path.dirname(program), "sources")  # (those of a program with a planted fault)
+    of = planted if os.path.exists(planted) else os.path.join(DEPLOY, "..", "carrier")
+    sources = [os.path.join(of, f"{name}.c") for name in ("node", "metrics", "links", "loop", "stream")]
+    words = ["-std=c11", "-Wl,--wrap=getaddrinfo", *sources, os.path.join(HERE, "slow_name.c"), "-o", made, "-lssl", "-lcrypto", "-lpthread"]
     subprocess.run([os.environ.get("CC", "cc"), *words], check=True)
+    return made
+
+
+def linked_by_name(program, folder, name, other):
+    """Node 1 has this name in the file of hosts: node 0 is linked to another node."""
+    links = set_up(folder, THREE, "--local", str(free_ports(6)))
     with open(os.path.join(links, "hosts"), encoding="ascii") as file:
-        lines = file.read().replace("1 127.0.0.1:", "1 slow.example:", 1)
+        lines = file.read().replace("1 127.0.0.1:", f"1 {name}:", 1)
     with open(os.path.join(links, "hosts"), "w", encoding="ascii") as out:
         out.write(lines)
-    nodes = [Carry(slow, folder), Carry(program, folder, 2)]
+    nodes = [Carry(with_names(program, folder), folder), Carry(program, folder, other)]
     try:
         for node in nodes:
             node.ready()
-        wait_for(lambda: "is linked to node 2" in nodes[0].told(), f"node 2 is not linked: {nodes[0].told()}")
+        wait_for(lambda: f"is linked to node {other}" in nodes[0].told(), f"node {other} is not linked: {nodes[0].told()}")
     finally:
         for node in nodes:
             node.end()
+
+
+def a_slow_name(program, folder):
+    """Node 1 has a name that takes long to look up: node 2 is dialed meanwhile."""
+    linked_by_name(program, folder, "slow.example", 2)
+
+
+def a_name_of_two_addresses(program, folder):
+    """Nobody is at the first address of node 1's name: the next one is tried."""
+    linked_by_name(program, folder, "two.example", 1)
 
 
 def a_node_that_does_not_end(program, folder):
@@ -785,5 +802,5 @@ def metrics_as_prometheus_reads(program, folder):
         carry.end()
 
 
-CHECKS = [odd_files, hosts_amid_a_write, another_authority, costly_ones, who_may_come, a_denied_one_stays_out, who_is_dialed, lines_are_whole, answers_go_home, nodes_are_linked, a_still_node, ticks, a_slow_reader, too_many, long_lines, its_end, its_words, ends_soon, a_slow_name, a_node_that_does_not_end, what_a_denied_one_said, metrics_are_true, metrics_are_whole]
+CHECKS = [odd_files, hosts_amid_a_write, another_authority, costly_ones, who_may_come, a_denied_one_stays_out, who_is_dialed, lines_are_whole, answers_go_home, nodes_are_linked, a_still_node, ticks, a_slow_reader, too_many, long_lines, its_end, its_words, ends_soon, a_slow_name, a_name_of_two_addresses, a_node_that_does_not_end, what_a_denied_one_said, metrics_are_true, metrics_are_whole]
 LONG_CHECKS = [metrics_as_prometheus_reads]
