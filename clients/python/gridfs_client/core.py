@@ -275,10 +275,10 @@ def greatest_shown(lines: Iterable[tuple[Version, Line]]) -> tuple[Version, Line
     return max(found, key=lambda pair: pair[0]) if found else None
 
 
-def new_version(client: Knows) -> Version:
-    """A version for a change: its number is above those of all pages that were seen, and of the own journal. (Above the lines alone is too little:
-    of a removal that was forgotten no line is left.)"""
-    return Version(1 + max(page.number for page in for_change(client).values()), client.session)
+def new_version(client: Knows, least: int = 0) -> Version:
+    """A version for a change: its number is `least` or more, and above those of all pages that were seen, and of the own journal. (Above the lines
+    alone is too little: of a removal that was forgotten no line is left.)"""
+    return Version(max(least, 1 + max(page.number for page in for_change(client).values())), client.session)
 
 
 @dataclass(frozen=True)
