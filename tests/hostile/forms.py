@@ -1,4 +1,4 @@
-"""The forms of docs/FORMATS.md, read anew in Python: what a plan's fault is, whose line a line is and what it asks, and which
+"""The forms of docs/REFERENCE.md and docs/FORMATS.md, read anew in Python: what a plan's fault is, whose line a line is and what it asks, and which
 answers it may have. Nothing here knows of messages' contents or of what servers hold; what follows from the answers before is
 followed, as how many messages were sent, so that most answers are known byte for byte."""
 

@@ -1,4 +1,4 @@
-"""The history of a file, read off a script and its answers by what docs/FORMATS.md says of them. This is another reading than that of
+"""The history of a file, read off a script and its answers by what docs/REFERENCE.md says of them. This is another reading than that of
 `gridfs history`, which has to write the same lines."""
 
 import re
