@@ -44,6 +44,7 @@ class Play:
         self.draw, self.is_large = draw, is_large
         self.copies = {}  # of each server and file, the copy as a store's words
         self.given = {file: {(0, 0): b"-"} for file in FILES}  # of each file, the contents of tags
+        self.asked_for = {(session, file): set() for session in SESSIONS for file in FILES}  # contents that a session was asked to write
         self.before = {session: 0 for session in SESSIONS}  # the last number of an earlier play
         self.asked = {session: 0 for session in SESSIONS}  # the number of the last request
         self.stores = {}  # of the other homes' stores, by their heads: file and tag
@@ -89,7 +90,9 @@ class Play:
             return b"3 ann abandon %d %d" % (session, number)
         file = self.draw.choice(FILES)
         if self.draw.random() < 0.7:
-            return b"3 ann write %d %d %d %d %s" % (session, number, *file, self.content(file))
+            content = self.content(file)
+            self.asked_for[session, file].add(content)
+            return b"3 ann write %d %d %d %d %s" % (session, number, *file, content)
         return b"3 ann read %d %d %d %d" % (session, number, *file)
 
     def hear(self, wrote):
@@ -129,6 +132,8 @@ class Play:
         if what == b"ask":
             self.due.append(reply + b"copy %d %d %s" % self.copy(to, place))
         elif what.startswith(b"store "):
+            if to == 1:  # of the node's own column: it has the copy itself, in the same batch
+                self.acknowledged[place] = max(self.acknowledged[place], (int(letter[8]), int(letter[9])))
             self.copies[to, place] = max(self.copies.get((to, place), (0, 0, b"-")), (int(letter[8]), int(letter[9]), letter[10]))
             self.due.append(reply + b"stored")
 
@@ -152,15 +157,17 @@ def check_copies(play, answers):
             raise Wrong(f"an ask is answered {line!r}")
         number, session, content = line[len(head) :].split(b" ")
         tag, place = (int(number), int(session)), (volume, file)
-        if play.given[place].get(tag) != in_digits(content):
+        # (what the node itself stored may be synced where no line of that store has left it)
+        if play.given[place].get(tag) != in_digits(content) and not (tag not in play.given[place] and in_digits(content) in play.asked_for.get((tag[1], place), ())):
             raise Wrong(f"the copy of {place} is {line!r}, which nobody gave")
         if tag < play.acknowledged[place]:
             raise Wrong(f"the copy of {place} has tag {tag}, and {play.acknowledged[place]} was acknowledged")
 
 
-def check_session(play, node, session, line, reserved):
+def check_session(play, node, session, line, reserved, own):
     """The last number is the last of a run that was reserved, which none was unless something was asked for, and no less than was seen. The
-    next write has the first number behind those that are reserved for tags, and none that was seen."""
+    next write has the first number behind those that are reserved for tags and behind `own`, the number of the copy that the node itself has, and
+    none that was seen. That is the number of the node's own copy then."""
     told = re.fullmatch(rb"ann 3 refused early %d %d (\d+)" % (session, TOO_HIGH), line)
     before = play.before[session]
     runs = [before] * (play.begun[session] == before) + [before + RUN] * (play.asked[session] > before)
@@ -170,8 +177,9 @@ def check_session(play, node, session, line, reserved):
     head = b"3 %%d ann %d %d 1 0 0 copy 0 0 -\n" % (session, number)
     wrote, lives = node.step(b"3 ann write %d %d 0 0 ee\n" % (session, number) + head % 2 + head % 3)
     stores = [LETTER.fullmatch(it) for it in wrote.split(b"\n") if b" store " in it]
-    if not lives or not stores or reserved < play.numbers[session] or any(int(it[8]) != reserved + 1 for it in stores):
+    if not lives or not stores or reserved < play.numbers[session] or any(int(it[8]) != max(reserved, own) + 1 for it in stores):
         raise Wrong(f"session {session} had the number {play.numbers[session]}, {reserved} is reserved, and it writes {wrote!r}")
+    return max(reserved, own) + 1
 
 
 def words(program, folder):
@@ -198,8 +206,9 @@ def check_again(program, folder, play):
         if len(answers) != len(FILES) + len(SESSIONS):
             raise Wrong(f"it is asked {len(FILES) + len(SESSIONS)} questions and answers {answers}")
         check_copies(play, answers)
+        own = int(answers[0].split(b" ")[-3])
         for session, line in zip(SESSIONS, answers[len(FILES) :]):
-            check_session(play, node, session, line, reserved.get((b"ann", b"%d" % session), 0))
+            own = check_session(play, node, session, line, reserved.get((b"ann", b"%d" % session), 0), own)
     finally:
         node.kill()
 
