@@ -7,9 +7,9 @@ from faults import PLAN
 from processes import ended, put, words_of
 
 READ, WRITE = b"0 ann read 1 1 0 0\n", b"0 ann write 1 1 0 0 "
-ASK = b"1 0 ann 1 1 1 0 0 ask\n"  # (what goes to the node itself is taken within, and is no line)
+ASK = b"1 0 ann 1 1 1 0 0 ask\n"  # (that to the node itself is taken within, and is no line)
 BAD = b"ann 0 refused bad\n"
-STORE, OWN = b"0 1 ann 2 1 2 0 0 store ", b"0 0 ann 1 1 2 0 0 store "  # of a session of node 1, and of one of this node, as an old carrier brings it
+STORE, OWN = b"0 1 ann 2 1 2 0 0 store ", b"0 0 ann 1 1 2 0 0 store "  # of a session of node 1, and of one of this node
 STORED = b"1 0 ann 2 1 2 0 0 stored\n"
 GREATEST = 18_446_744_073_709_551_614
 
@@ -56,7 +56,7 @@ LINES = {
     ),
     "an answer that is asked for again": (
         READ + b"0 0 ann 1 1 1 0 0 copy 3 2 aB\n0 1 ann 1 1 1 0 0 copy 0 0 -\n0 0 ann 1 1 2 0 0 stored\n0 2 ann 1 1 2 0 0 stored\n" + READ + WRITE + b"cd\n0 ann abandon 1 1\n",
-        ASK + b"2 0 ann 1 1 2 0 0 store 3 2 ab\n" + 4 * b"ann 0 done read 1 1 tag 3 2 ab\n",
+        ASK + OWN + b"3 2 ab\n2 0 ann 1 1 2 0 0 store 3 2 ab\n" + 4 * b"ann 0 done read 1 1 tag 3 2 ab\n",
     ),
     "the row that served stays": (
         READ + 2 * b"0 0 tick\n" + b"0 2 ann 1 1 1 0 0 copy 0 0 -\n0 3 ann 1 1 1 0 0 copy 0 0 -\n0 0 ann 1 1 2 0 0 stored\n0 2 ann 1 1 2 0 0 stored\n0 ann read 1 2 0 0\n",
@@ -66,7 +66,7 @@ LINES = {
     ),
     "a listing": (
         b"0 ann list 1 1 1\n0 0 ann 1 1 1 1 0 copy 3 2 aB\n0 1 ann 1 1 1 1 0 copy 0 0 -\n0 0 ann 1 1 2 1 0 stored\n0 2 ann 1 1 2 1 0 stored\n",
-        b"1 0 ann 1 1 1 1 0 ask\n2 0 ann 1 1 2 1 0 store 3 2 ab\nann 0 done list 1 1 1:3.2\n",
+        b"1 0 ann 1 1 1 1 0 ask\n0 0 ann 1 1 2 1 0 store 3 2 ab\n2 0 ann 1 1 2 1 0 store 3 2 ab\nann 0 done list 1 1 1:3.2\n",
     ),
     "ticks": (READ + 3 * b"0 0 tick\n", ASK + b"2 0 ann 1 1 1 0 0 ask\n3 0 ann 1 1 1 0 0 ask\n" + ASK),
     "a number of a tag at its limit": (
@@ -93,18 +93,21 @@ ROOM_LINES = {
     "with room, a content of one byte more": (WRITE + b"ab" * 2561 + b"\n", b"ann 0 refused toolong 1 1 0 0 2561\n"),
     "with room, a content in bytes of the most bytes": (WRITE + b"=" + b"\\b" * 2560 + b"\n", ASK),
     "with room, a content in bytes of one byte more": (WRITE + b"=" + b"\\b" * 2561 + b"\n", b"ann 0 refused toolong 1 1 0 0 2561\n"),
-    "with room, a store of the most bytes": (OWN + b"1 1 " + b"ab" * 2560 + b"\n" + HEARD, ASK + b"2 0 ann 1 1 2 0 0 store 1 1 " + b"ab" * 2560 + b"\n"),
-    "with room, a store of one byte more": (OWN + b"1 1 " + b"ab" * 2561 + b"\n" + HEARD, ASK + b"2 0 ann 1 1 2 0 0 store 0 0 -\n"),
+    "with room, a store of the most bytes": (OWN + b"1 1 " + b"ab" * 2560 + b"\n" + HEARD, ASK + OWN + b"1 1 " + b"ab" * 2560 + b"\n2 0 ann 1 1 2 0 0 store 1 1 " + b"ab" * 2560 + b"\n"),
+    "with room, a store of one byte more": (OWN + b"1 1 " + b"ab" * 2561 + b"\n" + HEARD, ASK + OWN + b"0 0 -\n2 0 ann 1 1 2 0 0 store 0 0 -\n"),
 }
 
 
-# The only server of a grid takes all letters itself: of a listing those of 8 hops, here of four files, at once, and the rest by a line.
+# The only server of a grid takes all letters itself, but stores: of a listing those of 8 hops, here of four files, at once, and the rest by a line.
 ALONE = b"grid 1 1\nblocks 8\ntenant ann 8 1 100\ngo\nann open 6 1\n"
 LISTING = b"0 ann list 1 1 0\n"
 LEFT = b"0 0 ann 1 1 9 0 4 ask\n"
 LISTED = b"ann 0 done list 1 1 0:0.0 0:0.0 0:0.0 0:0.0 0:0.0 0:0.0\n"
 ALONE_LINES = {
-    "alone, a write": (WRITE + b"aB\n", b"ann 0 done write 1 1 tag 1 1\n"),
+    "alone, a write": (WRITE + b"aB\n", OWN + b"1 1 ab\n"),
+    "alone, its store": (WRITE + b"aB\n" + OWN + b"1 1 ab\n", OWN + b"1 1 ab\nann 0 done write 1 1 tag 1 1\n"),
+    "alone, its store twice": (WRITE + b"aB\n" + 2 * (OWN + b"1 1 ab\n"), OWN + b"1 1 ab\nann 0 done write 1 1 tag 1 1\n"),
+    "alone, a read of the first copy": (READ, b"ann 0 done read 1 1 tag 0 0 -\n"),
     "alone, a listing of six files": (LISTING, LEFT),
     "alone, what is left of it": (LISTING + LEFT, LEFT + LISTED),
     "alone, what is left of it twice": (LISTING + 2 * LEFT + LISTING, LEFT + 2 * LISTED),

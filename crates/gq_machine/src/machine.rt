@@ -17,7 +17,7 @@ ghost use Rattle.gq_facts.specs.Facts.{fact_text};
 ghost use Rattle.gq_facts.specs.Laws.{FitsFact};
 ghost use Rattle.gq_parts.specs.Inputs.{session_ticks, ticks_of};
 ghost use Rattle.gq_parts.specs.Texts.{answer_text, sent_line, parcel_text, step_text, joins_text, joined_text};
-ghost use Rattle.gq_parts.specs.Steps.{AskedToJoin, fact_lines, HasAddress, IsOfPlan, IsOfTenant, to_itself, to_others, Appended, TookHop, TookOwn, PutAll, TookOf, TookAll, TookIncoming, some_lacks, all_lacked};
+ghost use Rattle.gq_parts.specs.Steps.{AskedToJoin, fact_lines, HasAddress, IsOfPlan, IsOfTenant, goes_home, going_home, going_by_lines, Appended, TookHop, TookOwn, PutAll, TookOf, TookAll, TookIncoming, some_lacks, all_lacked};
 
 use crate::ranges::{fact_fits, plan_is_sound};
 use gq_facts::{put_fact, read_fact};
@@ -26,7 +26,7 @@ use gq_memory::{GrowVec, OutOfMemory};
 use gq_model::Line;
 use gq_node::{Answer, Ended, Fact, NeedRefused, Node, Output, Parcel};
 use gq_parts::laws::MOST_HOPS;
-use gq_tag::{FileId, Message, StoredCopy};
+use gq_tag::{Body, FileId, Message, StoredCopy};
 use gq_wire::{Incoming, put_joined, put_joins, put_letter, put_parcel, put_told, read_incoming};
 use std::alloc::Global;
 
@@ -117,7 +117,15 @@ impl NodeMachine {
         Ok(())
     }
 
-    // Appends the line of the letter, or puts it behind the node's own ones where it goes to the node itself.
+    // Whether the node takes the letter itself, within the line that it now takes: it goes to this node, and is no store.
+    fn is_own(&self, letter: &Message) -> bool
+        requires { HasAddress self.now.node.tables.plan letter.now }
+        ensures { result ≡ goes_home self.now.node.tables.plan self.now.node.tables.here letter.now }
+    {
+        !matches!(&letter.body, Body::Store(_)) && self.node.address(letter) == self.node.number()
+    }
+
+    // Appends the line of the letter, or puts it behind the node's own ones where the node takes it itself.
     fn put_letter(
         &self,
         letter: &Message,
@@ -125,17 +133,17 @@ impl NodeMachine {
         told: &mut Vec<u8>,
     ) -> Result<(), OutOfMemory>
         requires { HasAddress self.now.node.tables.plan letter.now }
-        ensures told { OnOk result (told.new.items ≡ told.old.items ++ flat_map (sent_line self.now.node.tables.plan self.now.node.tables.here) (to_others self.now.node.tables.plan self.now.node.tables.here (letter.now ∷ []))) }
-        ensures own { OnOk result (own.new.items ≡ own.old.items ++ to_itself self.now.node.tables.plan self.now.node.tables.here (letter.now ∷ [])) }
+        ensures told { OnOk result (told.new.items ≡ told.old.items ++ flat_map (sent_line self.now.node.tables.plan self.now.node.tables.here) (going_by_lines self.now.node.tables.plan self.now.node.tables.here (letter.now ∷ []))) }
+        ensures own { OnOk result (own.new.items ≡ own.old.items ++ going_home self.now.node.tables.plan self.now.node.tables.here (letter.now ∷ [])) }
     {
-        if self.node.address(letter) != self.node.number() {
+        if !self.is_own(letter) {
             return self.put_line(letter, told);
         }
         let shared = letter.share()?;
         own.grow(shared)
     }
 
-    // Appends the lines of the letters to other nodes. Those to this one are put behind its own ones.
+    // Appends the lines of the letters. Those that the node takes itself are put behind its own ones.
     fn put_letters(
         &self,
         letters: &[Message],
@@ -143,8 +151,8 @@ impl NodeMachine {
         told: &mut Vec<u8>,
     ) -> Result<(), OutOfMemory>
         requires { All (HasAddress self.now.node.tables.plan) letters.now }
-        ensures told { OnOk result (told.new.items ≡ told.old.items ++ flat_map (sent_line self.now.node.tables.plan self.now.node.tables.here) (to_others self.now.node.tables.plan self.now.node.tables.here letters.now)) }
-        ensures own { OnOk result (own.new.items ≡ own.old.items ++ to_itself self.now.node.tables.plan self.now.node.tables.here letters.now) }
+        ensures told { OnOk result (told.new.items ≡ told.old.items ++ flat_map (sent_line self.now.node.tables.plan self.now.node.tables.here) (going_by_lines self.now.node.tables.plan self.now.node.tables.here letters.now)) }
+        ensures own { OnOk result (own.new.items ≡ own.old.items ++ going_home self.now.node.tables.plan self.now.node.tables.here letters.now) }
     {
         for letter in letters {
             self.put_letter(letter, own, told)?;
@@ -191,7 +199,7 @@ impl NodeMachine {
         Ok(())
     }
 
-    // Appends what a step gives for the tenant, whose request, if it is one, was this. The letters to this node are put behind its own ones.
+    // Appends what a step gives for the tenant, whose request, if it is one, was this. The letters that the node takes itself are put behind its own ones.
     fn put_step(
         &self,
         tenant: u8,
@@ -205,8 +213,8 @@ impl NodeMachine {
         requires fact { IfSome out.now.fact (λ fact. tenant_of fact < length self.now.node.tables.plan.rows) }
         requires letters { All (IsOfTenant tenant) out.now.letters.items }
         requires parcel { IsOfPlan self.now.node.tables.plan out.now.parcel }
-        ensures appended { OnOk result (Appended self.now.node.tables.plan (option_to_list out.now.fact) (step_text self.now.node.tables.plan self.now.node.tables.here tenant asked.now out.now.answer (to_others self.now.node.tables.plan self.now.node.tables.here out.now.letters.items) out.now.parcel) facts.old.items facts.new.items told.old.items told.new.items) }
-        ensures own { OnOk result (own.new.items ≡ own.old.items ++ to_itself self.now.node.tables.plan self.now.node.tables.here out.now.letters.items) }
+        ensures appended { OnOk result (Appended self.now.node.tables.plan (option_to_list out.now.fact) (step_text self.now.node.tables.plan self.now.node.tables.here tenant asked.now out.now.answer (going_by_lines self.now.node.tables.plan self.now.node.tables.here out.now.letters.items) out.now.parcel) facts.old.items facts.new.items told.old.items told.new.items) }
+        ensures own { OnOk result (own.new.items ≡ own.old.items ++ going_home self.now.node.tables.plan self.now.node.tables.here out.now.letters.items) }
         ensures fit { OnOk result (All (FitsFact self.now.node.tables.plan) (option_to_list out.now.fact)) }
     {
         self.put_fact(&out.fact, facts)?;
@@ -215,7 +223,7 @@ impl NodeMachine {
         self.put_parcel(&out.parcel, told)
     }
 
-    // Takes a letter of the tenant from this node to itself. Those that it gives to this node are put behind its own ones.
+    // Takes a letter of the tenant from this node to itself. Those that this gives, and that the node takes itself, are put behind its own ones.
     fn take_letter(
         &mut self,
         tenant: u8,
@@ -276,7 +284,7 @@ impl NodeMachine {
         self.put_lines(own.as_slice(), told)
     }
 
-    // Appends what a step gives for the tenant, whose request, if it is one, was this, and takes the letters to this node.
+    // Appends what a step gives for the tenant, whose request, if it is one, was this, and takes the letters that it gives this node.
     fn put(
         &mut self,
         tenant: u8,

@@ -1,4 +1,4 @@
--- What the code does with letters to the node itself: one letter more, one hop more, and the end.
+-- What the code does with letters that are taken within: one letter more, one hop more, and the end.
 use Rattle.std.proofs.Common.{◌≡◌, ◌≢◌, ◌∙◌, ℕ, suc, ◌+◌, ◌<◌, List, [], ◌∷◌, ◌++◌, length, get_or, take, map, refl, sym, ap, subst, arith, append_assoc, append-nil, add-one}
 use Rattle.std.specs.Prelude.{All, not}
 use Rattle.std.specs.List.{flat_map}
@@ -20,8 +20,8 @@ use Rattle.gq_facts.specs.Laws.{FitsFact}
 use Rattle.gq_parts.specs.declared.laws.TheConstants.{MOST_HOPS}
 use Rattle.gq_parts.specs.Within.{own_of, own_letters, brought, hops, left_behind}
 use Rattle.gq_parts.specs.Texts.{sent_line, step_text, doing_text, steps_text, own_facts}
-use Rattle.gq_parts.specs.Steps.{IsOfTenant, Appended, goes_home, to_itself, to_others, TakesHop, TookHop, TookOwn}
-use Rattle.gq_parts.proofs.Taking.{after_more, own_more, steps_more, doings_more, map_option, text_is, itself_is, appended_more, appended_none}
+use Rattle.gq_parts.specs.Steps.{IsOfTenant, Appended, goes_home, going_home, going_by_lines, TakesHop, TookHop, TookOwn}
+use Rattle.gq_parts.proofs.Taking.{after_more, own_more, steps_more, doings_more, map_option, text_is, home_is, appended_more, appended_none}
 use Rattle.gq_parts.proofs.Hops.{hops_more, left_more}
 
 -- ---- letters one by one
@@ -34,11 +34,11 @@ one_piece g pieces old mid new xs i x within is before now =
     now ∙ ap (λ z. z ++ g (x ∷ [])) before ∙ append_assoc old (g (take i xs)) (g (x ∷ [])) ∙ ap (λ z. old ++ z) (sym (ap g one ∙ pieces (take i xs) (x ∷ [])))
 
 pub lines_pieces : (plan : CheckedPlan) (here : Here) (a b : List Message) →
-    flat_map (sent_line plan here) (to_others plan here (a ++ b)) ≡ flat_map (sent_line plan here) (to_others plan here a) ++ flat_map (sent_line plan here) (to_others plan here b)
+    flat_map (sent_line plan here) (going_by_lines plan here (a ++ b)) ≡ flat_map (sent_line plan here) (going_by_lines plan here a) ++ flat_map (sent_line plan here) (going_by_lines plan here b)
 lines_pieces plan here a b =
-    ap (flat_map (sent_line plan here)) (filter-append (λ m. not (goes_home plan here m)) a b) ∙ flat_map-append (sent_line plan here) (to_others plan here a) (to_others plan here b)
+    ap (flat_map (sent_line plan here)) (filter-append (λ m. not (goes_home plan here m)) a b) ∙ flat_map-append (sent_line plan here) (going_by_lines plan here a) (going_by_lines plan here b)
 
-pub own_pieces : (plan : CheckedPlan) (here : Here) (a b : List Message) → to_itself plan here (a ++ b) ≡ to_itself plan here a ++ to_itself plan here b
+pub own_pieces : (plan : CheckedPlan) (here : Here) (a b : List Message) → going_home plan here (a ++ b) ≡ going_home plan here a ++ going_home plan here b
 own_pieces plan here a b = filter-append (goes_home plan here) a b
 
 -- letters of one tenant, without it and with it again
@@ -56,7 +56,7 @@ letters_back t (m ∷ ms) theirs =
 
 -- one letter alone
 hop_alone : (old new : Tables) (t : ℕ) (letter : OwnMessage) (out : Output) → Acts old t (does (Brought old.here.node letter)) out new → All (IsOfTenant t) out.letters.items → All (FitsFact old.plan) (option_to_list out.fact) →
-    TakesHop old t (letter ∷ []) (option_to_list out.fact) (step_text old.plan old.here t NoLine out.answer (to_others old.plan old.here out.letters.items) out.parcel) (to_itself old.plan old.here out.letters.items) new
+    TakesHop old t (letter ∷ []) (option_to_list out.fact) (step_text old.plan old.here t NoLine out.answer (going_by_lines old.plan old.here out.letters.items) out.parcel) (going_home old.plan old.here out.letters.items) new
 hop_alone old new t letter out acts theirs fit = record {
   plan = acts.leads.plan;
   here = acts.leads.here;
@@ -70,7 +70,7 @@ hop_alone old new t letter out acts theirs fit = record {
       text_is old.plan old.here t one doing out (acts.gives local agrees) ∙ sym (append-nil (doing_text old.plan old.here t one doing)));
   writes = λ local agrees. (
       let doing : Doing = does one site local in
-      ap (λ z. map own_message (to_itself old.plan old.here z)) (acts.gives local agrees).letters ∙ itself_is old.plan old.here t doing.letters ∙ sym (append-nil (own_of site doing.letters)));
+      ap (λ z. map own_message (going_home old.plan old.here z)) (acts.gives local agrees).letters ∙ home_is old.plan old.here t doing.letters ∙ sym (append-nil (own_of site doing.letters)));
   theirs = All-filter (goes_home old.plan old.here) (IsOfTenant t) out.letters.items theirs;
   fit = fit;
 }
@@ -83,18 +83,18 @@ hop_alone old new t letter out acts theirs fit = record {
 
 -- and what that appends
 pub took_letter : (old new : Tables) (t : ℕ) (letter : OwnMessage) (out : Output) (o0 o1 : List Message) (f0 f1 t0 t1 : List ℕ) → Acts old t (does (Brought old.here.node letter)) out new → All (IsOfTenant t) out.letters.items →
-    All (FitsFact new.plan) (option_to_list out.fact) → Appended new.plan (option_to_list out.fact) (step_text new.plan new.here t NoLine out.answer (to_others new.plan new.here out.letters.items) out.parcel) f0 f1 t0 t1 →
-    o1 ≡ o0 ++ to_itself new.plan new.here out.letters.items → TookHop old t (letter ∷ []) o0 o1 f0 f1 t0 t1 new
+    All (FitsFact new.plan) (option_to_list out.fact) → Appended new.plan (option_to_list out.fact) (step_text new.plan new.here t NoLine out.answer (going_by_lines new.plan new.here out.letters.items) out.parcel) f0 f1 t0 t1 →
+    o1 ≡ o0 ++ going_home new.plan new.here out.letters.items → TookHop old t (letter ∷ []) o0 o1 f0 f1 t0 t1 new
 took_letter old new t letter out o0 o1 f0 f1 t0 t1 acts theirs fit appended own =
     let P : CheckedPlan → Here → Type 0 = λ p s.
     All (FitsFact p) (option_to_list out.fact)
-    × Appended p (option_to_list out.fact) (step_text p s t NoLine out.answer (to_others p s out.letters.items) out.parcel) f0 f1 t0 t1
-    × (o1 ≡ o0 ++ to_itself p s out.letters.items) in
+    × Appended p (option_to_list out.fact) (step_text p s t NoLine out.answer (going_by_lines p s out.letters.items) out.parcel) f0 f1 t0 t1
+    × (o1 ≡ o0 ++ going_home p s out.letters.items) in
     let h : P old.plan old.here = subst (λ p. P p old.here) acts.leads.plan (subst (λ s. P new.plan s) acts.leads.here (fit, appended, own)) in
     record {
       facts = option_to_list out.fact;
-      told = step_text old.plan old.here t NoLine out.answer (to_others old.plan old.here out.letters.items) out.parcel;
-      own = to_itself old.plan old.here out.letters.items;
+      told = step_text old.plan old.here t NoLine out.answer (going_by_lines old.plan old.here out.letters.items) out.parcel;
+      own = going_home old.plan old.here out.letters.items;
       takes = hop_alone old new t letter out acts theirs h.0;
       appended = h.1;
       own_is = h.2;

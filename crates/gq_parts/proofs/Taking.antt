@@ -32,7 +32,7 @@ use Rattle.gq_parts.specs.Inputs.{asked_in, inputs_of, ticks_of}
 use Rattle.gq_parts.specs.declared.laws.TheConstants.{MOST_HOPS}
 use Rattle.gq_parts.specs.Within.{is_own, own_of, others_of, own_letters, hops, left_behind, within, left, taken, after_taken}
 use Rattle.gq_parts.specs.Texts.{step_text, doing_text, steps_text, lines_of_letters, outside_text, written_for, own_facts, facts_for, written_by, facts_by, node_text}
-use Rattle.gq_parts.specs.Steps.{fact_lines, TakesAll, StepsTo, HasAddress, IsOfPlan, IsOfTenant, Appended, to_itself, to_others, TakesOwn, PutAll, TakesOf, TookOf, TookAll, TookIncoming}
+use Rattle.gq_parts.specs.Steps.{fact_lines, TakesAll, StepsTo, HasAddress, IsOfPlan, IsOfTenant, Appended, going_home, going_by_lines, TakesOwn, PutAll, TakesOf, TookOf, TookAll, TookIncoming}
 
 -- what holds where a call gave Ok leads on
 pub on_ok : {T E : Type 0} (r : Result T E) {P Q : Type 0} → (P → Q) → OnOk r P → OnOk r Q
@@ -201,20 +201,20 @@ unfolding left_behind
 left_none zero site local = refl
 left_none (suc n) site local = left_none n site local
 
--- the letters of the code to the node itself are those of the part, and so are those to others
-pub itself_is : (plan : CheckedPlan) (here : Here) (t : ℕ) (ms : List OwnMessage) → map own_message (to_itself plan here (map (message_of t) ms)) ≡ own_of (site_of plan here t) ms
-itself_is plan here t [] = refl
-itself_is plan here t (m ∷ ms) =
-    let rest : map own_message (to_itself plan here (map (message_of t) ms)) ≡ own_of (site_of plan here t) ms = itself_is plan here t ms in
+-- the letters that the code takes within are those of the part, and so are those that go by lines
+pub home_is : (plan : CheckedPlan) (here : Here) (t : ℕ) (ms : List OwnMessage) → map own_message (going_home plan here (map (message_of t) ms)) ≡ own_of (site_of plan here t) ms
+home_is plan here t [] = refl
+home_is plan here t (m ∷ ms) =
+    let rest : map own_message (going_home plan here (map (message_of t) ms)) ≡ own_of (site_of plan here t) ms = home_is plan here t ms in
     elim (cases_Bool (is_own (site_of plan here t) m)) [
       | inl is ↦ (rw is (ap (λ z. m ∷ z) rest))
       | inr is ↦ (rw is rest)
     ]
 
-pub others_are : (plan : CheckedPlan) (here : Here) (t : ℕ) (ms : List OwnMessage) → to_others plan here (map (message_of t) ms) ≡ map (message_of t) (others_of (site_of plan here t) ms)
-others_are plan here t [] = refl
-others_are plan here t (m ∷ ms) =
-    let rest : to_others plan here (map (message_of t) ms) ≡ map (message_of t) (others_of (site_of plan here t) ms) = others_are plan here t ms in
+pub lines_are_those : (plan : CheckedPlan) (here : Here) (t : ℕ) (ms : List OwnMessage) → going_by_lines plan here (map (message_of t) ms) ≡ map (message_of t) (others_of (site_of plan here t) ms)
+lines_are_those plan here t [] = refl
+lines_are_those plan here t (m ∷ ms) =
+    let rest : going_by_lines plan here (map (message_of t) ms) ≡ map (message_of t) (others_of (site_of plan here t) ms) = lines_are_those plan here t ms in
     elim (cases_Bool (is_own (site_of plan here t) m)) [
       | inl is ↦ (rw is rest)
       | inr is ↦ (rw is (ap (λ z. message_of t m ∷ z) rest))
@@ -222,11 +222,11 @@ others_are plan here t (m ∷ ms) =
 
 -- what the code writes of a step is what the part writes
 pub text_is : (plan : CheckedPlan) (here : Here) (t : ℕ) (x : Input) (doing : Doing) (out : Output) → Gives t doing out →
-    step_text plan here t (asked_in x) out.answer (to_others plan here out.letters.items) out.parcel ≡ doing_text plan here t x doing
+    step_text plan here t (asked_in x) out.answer (going_by_lines plan here out.letters.items) out.parcel ≡ doing_text plan here t x doing
 text_is plan here t x doing out g =
-    ap (λ z. step_text plan here t (asked_in x) z (to_others plan here out.letters.items) out.parcel) g.answer
-    ∙ ap (λ z. step_text plan here t (asked_in x) doing.answer (to_others plan here z) out.parcel) g.letters
-    ∙ ap (λ z. step_text plan here t (asked_in x) doing.answer z out.parcel) (others_are plan here t doing.letters)
+    ap (λ z. step_text plan here t (asked_in x) z (going_by_lines plan here out.letters.items) out.parcel) g.answer
+    ∙ ap (λ z. step_text plan here t (asked_in x) doing.answer (going_by_lines plan here z) out.parcel) g.letters
+    ∙ ap (λ z. step_text plan here t (asked_in x) doing.answer z out.parcel) (lines_are_those plan here t doing.letters)
     ∙ ap (λ z. step_text plan here t (asked_in x) doing.answer (map (message_of t) (others_of (site_of plan here t) doing.letters)) z) g.parcel
 
 -- what is taken within, by the plan and the number that the node had before
@@ -243,8 +243,8 @@ own_then old m new t letters b y plan here q =
 
 -- a step, and then what is taken within
 one_takes : (old m new : Tables) (t : ℕ) (x : Input) (out : Output) (b : List Fact) (y : List ℕ) → Acts old t (does x) out m → All (FitsFact old.plan) (option_to_list out.fact) →
-    TakesOwn MOST_HOPS m t (map own_message (to_itself old.plan old.here out.letters.items)) b y new →
-    TakesOf old t (x ∷ []) (option_to_list out.fact ++ b) (step_text old.plan old.here t (asked_in x) out.answer (to_others old.plan old.here out.letters.items) out.parcel ++ y) new
+    TakesOwn MOST_HOPS m t (map own_message (going_home old.plan old.here out.letters.items)) b y new →
+    TakesOf old t (x ∷ []) (option_to_list out.fact ++ b) (step_text old.plan old.here t (asked_in x) out.answer (going_by_lines old.plan old.here out.letters.items) out.parcel ++ y) new
 one_takes old m new t x out b y acts fit q = record {
   plan = q.plan ∙ acts.leads.plan;
   here = q.here ∙ acts.leads.here;
@@ -281,13 +281,13 @@ one_takes old m new t x out b y acts fit q = record {
     site = site_of old.plan old.here t
 
     letters : List OwnMessage
-    letters = map own_message (to_itself old.plan old.here out.letters.items)
+    letters = map own_message (going_home old.plan old.here out.letters.items)
 
     h : OwnThen old.plan old.here m t letters b y new
     h = own_then old m new t letters b y acts.leads.plan acts.leads.here q
 
     its : (local : Local) → Agrees old t local → letters ≡ own_of site (does x site local).letters
-    its local agrees = ap (λ z. map own_message (to_itself old.plan old.here z)) (acts.gives local agrees).letters ∙ itself_is old.plan old.here t (does x site local).letters
+    its local agrees = ap (λ z. map own_message (going_home old.plan old.here z)) (acts.gives local agrees).letters ∙ home_is old.plan old.here t (does x site local).letters
 
 -- and what that appends
 pub one_took : (old : Tables) (t : ℕ) (x : Input) (out : Output) (m new : Tables) (f0 f1 t0 t1 : List ℕ) → Acts old t (does x) out m → PutAll m t (asked_in x) out f0 f1 t0 t1 new → TookOf old t (x ∷ []) f0 f1 t0 t1 new
@@ -298,11 +298,11 @@ one_took old t x out m new f0 f1 t0 t1 acts put =
     let told : List ℕ = put.told_between in
     let P : CheckedPlan → Here → Type 0 = λ p s.
     All (FitsFact p) (option_to_list out.fact)
-    × Appended p (option_to_list out.fact) (step_text p s t (asked_in x) out.answer (to_others p s out.letters.items) out.parcel) f0 f t0 told
-    × TakesOwn MOST_HOPS m t (map own_message (to_itself p s out.letters.items)) b y new
+    × Appended p (option_to_list out.fact) (step_text p s t (asked_in x) out.answer (going_by_lines p s out.letters.items) out.parcel) f0 f t0 told
+    × TakesOwn MOST_HOPS m t (map own_message (going_home p s out.letters.items)) b y new
     × Appended p b y f f1 told t1 in
     let h : P old.plan old.here = subst (λ p. P p old.here) acts.leads.plan (subst (λ s. P m.plan s) acts.leads.here (put.fit, put.step, put.own.takes, put.own.appended)) in
-    let first : List ℕ = step_text old.plan old.here t (asked_in x) out.answer (to_others old.plan old.here out.letters.items) out.parcel in
+    let first : List ℕ = step_text old.plan old.here t (asked_in x) out.answer (going_by_lines old.plan old.here out.letters.items) out.parcel in
     record {
       facts = option_to_list out.fact ++ b;
       told = first ++ y;

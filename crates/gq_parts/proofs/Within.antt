@@ -1,7 +1,7 @@
 -- What is taken within was written before, in the same step: nothing is asked of it.
 use Rattle.std.proofs.Common.{◌≡◌, ◌∙◌, ℕ, zero, suc, true, false, List, [], ◌∷◌, ◌++◌, map, refl, sym, ap, subst, arith, inl, inr, append-nil}
 use Rattle.std.specs.Prelude.{Contains, ⊤}
-use Rattle.std.proofs.lemmas.Bool.{cases_Bool, eq-eqb, eqb-true}
+use Rattle.std.proofs.lemmas.Bool.{cases_Bool, and_parts, eq-eqb, eqb-true}
 use Rattle.std.proofs.lemmas.List.{map-append}
 use Rattle.std.proofs.lemmas.List.Elements.{Contains-append_left, Contains-append_right}
 use Rattle.gq_tag.specs.Tag.{OwnMessage}
@@ -15,7 +15,7 @@ use Rattle.gq_parts.specs.AllNodes.{InputsCanCome}
 use Rattle.gq_parts.specs.declared.laws.TheConstants.{MOST_HOPS}
 use Rattle.gq_parts.proofs.Taking.{joined_silent, hops_none}
 
--- ---- letters of a node to itself that are among those that were written
+-- ---- letters that are taken within are among those that were written
 
 OwnIn : List Posted → (n : ℕ) → List OwnMessage → Type 0
 OwnIn all n [] = ⊤
@@ -35,7 +35,7 @@ own_none : (all : List Posted) (n : ℕ) → OwnIn all n []
 unfolding OwnIn
 own_none all n = tt
 
--- those to the node itself of what it writes are there
+-- those of what it writes that are taken within are there
 own_written : (w : NodeWorld) (nodes : Nodes) (n : ℕ) (letters : List OwnMessage) → OwnIn (posts w nodes n letters) n (own_of (site_at w nodes n) letters)
 unfolding OwnIn
 own_written w nodes n [] = tt
@@ -44,7 +44,7 @@ own_written w nodes n (m ∷ ms) =
     let later : OwnIn (posts w nodes n (m ∷ ms)) n (own_of site ms) =
     own_more (posts w nodes n ms) (posts w nodes n (m ∷ ms)) n (own_of site ms) (λ x c. Contains-append_right (posts w nodes n (m ∷ [])) (posts w nodes n ms) x c) (own_written w nodes n ms) in
     elim (cases_Bool (is_own site m)) [
-      | inl is ↦ (rw is ((0, omega arith, ap (λ z. record { from = n; to = z; letter = m }) (eqb-true (address_in site m) n is)), later))
+      | inl is ↦ (rw is ((0, omega arith, ap (λ z. record { from = n; to = z; letter = m }) (eqb-true (address_in site m) n (and_parts _ _ is).1)), later))
       | inr is ↦ (rw is later)
     ]
 

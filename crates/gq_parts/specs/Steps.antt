@@ -1,6 +1,6 @@
 -- What a line does to a node.
 use Rattle.std.specs.List.{list_any, sum_by}
-use Rattle.std.specs.Prelude.{◌≡◌, ◌≢◌, ℕ, ◌<◌, nat_lt, Bool, List, ◌++◌, length, map, filter, not, ◌==◌, Option, Some, None, All}
+use Rattle.std.specs.Prelude.{◌≡◌, ◌≢◌, ℕ, ◌<◌, nat_lt, Bool, List, ◌++◌, length, map, filter, not, ◌==◌, ◌&&◌, Option, Some, None, All}
 use Rattle.gq_tag.specs.declared.Message.{Message}
 use Rattle.gq_tag.specs.Tag.{OwnMessage, own_message}
 use Rattle.gq_desk.specs.CheckedPlan.{CheckedPlan}
@@ -23,7 +23,7 @@ use Rattle.gq_wire.specs.declared.incoming.Incoming.{Incoming}
 use Rattle.gq_wire.specs.declared.incoming.Incoming.TheVariants.{Tick}
 use Rattle.gq_facts.specs.Laws.{FitsFact}
 use Rattle.gq_parts.specs.declared.laws.TheConstants.{MOST_HOPS}
-use Rattle.gq_parts.specs.Within.{own_letters, brought, hops, left_behind, after_taken}
+use Rattle.gq_parts.specs.Within.{is_store, own_letters, brought, hops, left_behind, after_taken}
 use Rattle.gq_parts.specs.Inputs.{inputs_of, line_inputs}
 use Rattle.gq_parts.specs.Texts.{step_text, steps_text, lines_of_letters, own_facts, written_for, facts_for, written_by, facts_by, places, node_text, line_text_of}
 
@@ -85,17 +85,17 @@ pub record Appended (plan : CheckedPlan) (facts : List Fact) (told facts_before 
   pub facts_are : facts_after ≡ facts_before ++ lines_text (fact_lines plan facts)
   pub told_is : told_after ≡ told_before ++ told
 
--- of letters those that go to the node itself, and those that go to others
+-- of letters those that are taken within, and those that go by lines: all to other nodes, and stores
 abbrev pub goes_home : CheckedPlan → Here → Message → Bool
-goes_home plan here m = address_of plan here m == here.node
+goes_home plan here m = not (is_store m.body) && address_of plan here m == here.node
 
-abbrev pub to_itself : CheckedPlan → Here → List Message → List Message
-to_itself plan here letters = filter (goes_home plan here) letters
+abbrev pub going_home : CheckedPlan → Here → List Message → List Message
+going_home plan here letters = filter (goes_home plan here) letters
 
-abbrev pub to_others : CheckedPlan → Here → List Message → List Message
-to_others plan here letters = filter (λ m. not (goes_home plan here m)) letters
+abbrev pub going_by_lines : CheckedPlan → Here → List Message → List Message
+going_by_lines plan here letters = filter (λ m. not (goes_home plan here m)) letters
 
--- the node takes letters that the part of the tenant at place t wrote to it, and those that they give, for so many hops; the parts of all others stay
+-- the node takes letters of its own that the part of the tenant at place t wrote, and those that they give, for so many hops; the parts of all others stay
 pub record TakesOwn (many : ℕ) (old : Tables) (t : ℕ) (letters : List OwnMessage) (facts : List Fact) (told : List ℕ) (new : Tables) : Type 0 where
   pub plan : new.plan ≡ old.plan
   pub here : new.here ≡ old.here
@@ -113,7 +113,7 @@ pub record TakesOwn (many : ℕ) (old : Tables) (t : ℕ) (letters : List OwnMes
 abbrev pub IsOfTenant : ℕ → Message → Type 0
 IsOfTenant t m = (m.tenant ≡ t) × (m.file.tenant ≡ t)
 
--- one hop alone: the node takes these letters, and the letters to itself that they give are `own`
+-- one hop alone: the node takes these letters, and those that they give to be taken within are `own`
 pub record TakesHop (old : Tables) (t : ℕ) (letters : List OwnMessage) (facts : List Fact) (told : List ℕ) (own : List Message) (new : Tables) : Type 0 where
   pub plan : new.plan ≡ old.plan
   pub here : new.here ≡ old.here
@@ -144,7 +144,7 @@ pub record TookOf (old : Tables) (t : ℕ) (inputs : List Input) (facts_before f
   pub takes : TakesOf old t inputs facts told new
   pub appended : Appended old.plan facts told facts_before facts_after told_before told_after
 
--- it took a hop, and appended the letters to itself that this gave; it took letters and those that they give, for so many hops
+-- it took a hop, and appended those that this gave to be taken within; it took letters and those that they give, for so many hops
 pub record TookHop (old : Tables) (t : ℕ) (letters : List OwnMessage) (own_before own_after : List Message) (facts_before facts_after told_before told_after : List ℕ) (new : Tables) : Type 0 where
   pub facts : List Fact
   pub told : List ℕ
@@ -159,13 +159,13 @@ pub record TookOwn (many : ℕ) (old : Tables) (t : ℕ) (letters : List OwnMess
   pub takes : TakesOwn many old t letters facts told new
   pub appended : Appended old.plan facts told facts_before facts_after told_before told_after
 
--- what a step gave was put: its own text with the letters to others, and then what was taken within
+-- what a step gave was put: its own text with the letters that go by lines, and then what was taken within
 pub record PutAll (w : Tables) (t : ℕ) (asked : Line) (out : Output) (facts_before facts_after told_before told_after : List ℕ) (new : Tables) : Type 0 where
   pub facts_between : List ℕ
   pub told_between : List ℕ
-  pub step : Appended w.plan (option_to_list out.fact) (step_text w.plan w.here t asked out.answer (to_others w.plan w.here out.letters.items) out.parcel) facts_before facts_between told_before told_between
+  pub step : Appended w.plan (option_to_list out.fact) (step_text w.plan w.here t asked out.answer (going_by_lines w.plan w.here out.letters.items) out.parcel) facts_before facts_between told_before told_between
   pub fit : All (FitsFact w.plan) (option_to_list out.fact)
-  pub own : TookOwn MOST_HOPS w t (map own_message (to_itself w.plan w.here out.letters.items)) facts_between facts_after told_between told_after new
+  pub own : TookOwn MOST_HOPS w t (map own_message (going_home w.plan w.here out.letters.items)) facts_between facts_after told_between told_after new
 
 pub record TookAll (old : Tables) (inputs : ℕ → List Input) (facts_before facts_after told_before told_after : List ℕ) (new : Tables) : Type 0 where
   pub facts : List Fact

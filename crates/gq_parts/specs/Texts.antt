@@ -42,7 +42,7 @@ parcel_text plan here (Some parcel) = parcel_line plan here.node parcel
 abbrev pub step_text : CheckedPlan → Here → (t : ℕ) → Line → Option Answer → List Message → Option Parcel → List ℕ
 step_text plan here t asked answer letters parcel = answer_text plan here t asked answer ++ (flat_map (sent_line plan here) letters ++ parcel_text plan here parcel)
 
--- of a step, the letters to other nodes: those to the node itself are taken within
+-- of a step, the letters that go by lines: the others are taken within
 abbrev pub doing_text : CheckedPlan → Here → (t : ℕ) → Input → Doing → List ℕ
 doing_text plan here t input doing =
     step_text plan here t (asked_in input) doing.answer (map (message_of t) (others_of (site_of plan here t) doing.letters)) (option_map (parcel_of t) doing.parcel)

@@ -47,7 +47,7 @@ fn step(
 }
 
 #[test]
-fn a_write_within_its_line(rt: HostRuntime) -> Result<(), Fail> {
+fn a_write_and_its_store(rt: HostRuntime) -> Result<(), Fail> {
     let alloc = rt.alloc();
     let mut m = machine(&rt, alloc, 1, 2);
     let m = &mut m;
@@ -56,7 +56,15 @@ fn a_write_within_its_line(rt: HostRuntime) -> Result<(), Fail> {
         alloc,
         m,
         b"0 ann write 1 1 0 0 aB",
-        b"began ann 1 1024\nnumbered ann 1 1024\nkept ann 0 0 1 1 =\xab\n",
+        b"began ann 1 1024\nnumbered ann 1 1024\n",
+        b"0 0 ann 1 1 2 0 0 store 1 1 =\xab\n",
+    );
+    step(
+        &rt,
+        alloc,
+        m,
+        b"0 0 ann 1 1 2 0 0 store 1 1 ab",
+        b"kept ann 0 0 1 1 =\xab\n",
         b"ann 0 done write 1 1 tag 1 1\n",
     );
     step(
@@ -136,9 +144,27 @@ fn a_write_line_by_line(rt: HostRuntime) -> Result<(), Fail> {
         alloc,
         m,
         b"0 1 ann 1 1 1 0 0 copy 0 0 -",
-        b"numbered ann 1 1024\nkept ann 0 0 1 1 =\xab\n",
+        b"numbered ann 1 1024\n",
+        b"0 0 ann 1 1 2 0 0 store 1 1 =\xab\n",
+    );
+    step(&rt, alloc, m, b"0 0 tick", b"", b"");
+    step(
+        &rt,
+        alloc,
+        m,
+        b"0 0 tick",
+        b"",
+        b"0 0 ann 1 1 2 0 0 store 1 1 =\xab\n",
+    );
+    step(
+        &rt,
+        alloc,
+        m,
+        b"0 0 ann 1 1 2 0 0 store 1 1 ab",
+        b"kept ann 0 0 1 1 =\xab\n",
         b"ann 0 done write 1 1 tag 1 1\n",
     );
+    step(&rt, alloc, m, b"0 0 ann 1 1 2 0 0 stored", b"", b"");
     step(
         &rt,
         alloc,
@@ -294,7 +320,15 @@ fn what_a_start_needs(rt: HostRuntime) -> Result<(), Fail> {
         alloc,
         m,
         b"0 ann write 1 1 0 1 ab",
-        b"began ann 1 1024\nnumbered ann 1 1024\nkept ann 0 1 1 1 =\xab\n",
+        b"began ann 1 1024\nnumbered ann 1 1024\n",
+        b"0 0 ann 1 1 2 0 1 store 1 1 =\xab\n",
+    );
+    step(
+        &rt,
+        alloc,
+        m,
+        b"0 0 ann 1 1 2 0 1 store 1 1 ab",
+        b"kept ann 0 1 1 1 =\xab\n",
         b"ann 0 done write 1 1 tag 1 1\n",
     );
     step(
