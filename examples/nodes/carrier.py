@@ -52,10 +52,10 @@ class Node:
         self.child, self.is_ready = None, False
         self.waiting, self.begun = bytearray(), Lines()
 
-    def start(self, is_new=False, **more):
+    def start(self, is_new=False, env=None, **more):
         """Starts the process, whose standard error is ours. A signal from the terminal does not reach it."""
         words = [self.program, "node", str(self.number), "--plan", self.plan, "--journal", self.journal] + ["--new"] * is_new
-        self.child = subprocess.Popen(words, stdin=subprocess.PIPE, stdout=subprocess.PIPE, bufsize=0, start_new_session=True, env={**KEEP_MEMORY, **os.environ}, **more)
+        self.child = subprocess.Popen(words, stdin=subprocess.PIPE, stdout=subprocess.PIPE, bufsize=0, start_new_session=True, env={**KEEP_MEMORY, **(env or os.environ)}, **more)
         for pipe in (self.child.stdin, self.child.stdout):
             os.set_blocking(pipe.fileno(), False)
         self.waiting, self.begun, self.is_ready = bytearray(), Lines(), False
