@@ -117,7 +117,7 @@ def lengths(program, folder):
     """Contents and lines of the most bytes, and of one more, each with a line behind it that is answered."""
     alone, wrong = Alone(program, folder), []
     content, begun = digits(1), b"0 ann write 1 1 0 0 "
-    read, asked = b"0 ann read 1 1 0 0\n", b"0 0 ann 1 1 1 0 0 ask\n1 0 ann 1 1 1 0 0 ask\n"
+    read, asked = b"0 ann read 1 1 0 0\n", b"1 0 ann 1 1 1 0 0 ask\n"
     trials = {
         "a content of one byte": (begun + b"a0\n", asked),
         "a content of the most bytes": (begun + content + b"\n", asked),

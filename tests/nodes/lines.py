@@ -7,10 +7,10 @@ from faults import PLAN
 from processes import ended, put, words_of
 
 READ, WRITE = b"0 ann read 1 1 0 0\n", b"0 ann write 1 1 0 0 "
-ASK = b"0 0 ann 1 1 1 0 0 ask\n1 0 ann 1 1 1 0 0 ask\n"
+ASK = b"1 0 ann 1 1 1 0 0 ask\n"  # (that to the node itself is taken within, and is no line)
 BAD = b"ann 0 refused bad\n"
-STORE = b"0 0 ann 1 1 2 0 0 store "
-STORED = b"0 0 ann 1 1 2 0 0 stored\n"
+STORE, OWN = b"0 1 ann 2 1 2 0 0 store ", b"0 0 ann 1 1 2 0 0 store "  # of a session of node 1, and of one of this node
+STORED = b"1 0 ann 2 1 2 0 0 stored\n"
 GREATEST = 18_446_744_073_709_551_614
 
 
@@ -38,7 +38,7 @@ LINES = {
     "numbers with no form": (b"0 ann read 01 1 0 0\n0 ann read 1 1 0 4294967296\n0 ann read -1 1 0 0\n", 3 * BAD),
     "contents with no form": (WRITE + b"a\n" + WRITE + b"\n" + WRITE + b"ag\n" + WRITE + b"--\n", 4 * BAD),
     "contents in bytes with no form": (WRITE + b"=\\\n" + WRITE + b"=\\x\n" + WRITE + b"=a b\n" + WRITE + b"-=\n", 4 * BAD),
-    "a content in bytes": (STORE + b"3 2 =a\\sb\\n\\bn\xff=\n0 0 ann 1 1 1 0 0 ask\n", STORED + b"0 0 ann 1 1 1 0 0 copy 3 2 6120620a5c6eff3d\n"),
+    "a content in bytes": (STORE + b"3 2 =a\\sb\\n\\bn\xff=\n0 1 ann 2 1 1 0 0 ask\n", STORED + b"1 0 ann 2 1 1 0 0 copy 3 2 6120620a5c6eff3d\n"),
     "a content in bytes that is too long": (WRITE + b"=" + b"\\s" * 129 + b"\n" + WRITE + b"=" + b"\\s" * 128 + b"\n", b"ann 0 refused toolong 1 1 0 0 129\n" + ASK),
     "what a tenant has": (b"0 ann plan\n0 bob plan\n0 ann plan 1\n0 zed plan\n", b"ann 0 plan 4 0 4 16 16 4.2 1.1\nbob 0 plan 4 0 2 16 16 1.1\n" + BAD),
     "refusals": (
@@ -56,22 +56,22 @@ LINES = {
     ),
     "an answer that is asked for again": (
         READ + b"0 0 ann 1 1 1 0 0 copy 3 2 aB\n0 1 ann 1 1 1 0 0 copy 0 0 -\n0 0 ann 1 1 2 0 0 stored\n0 2 ann 1 1 2 0 0 stored\n" + READ + WRITE + b"cd\n0 ann abandon 1 1\n",
-        ASK + b"0 0 ann 1 1 2 0 0 store 3 2 ab\n2 0 ann 1 1 2 0 0 store 3 2 ab\n" + 4 * b"ann 0 done read 1 1 tag 3 2 ab\n",
+        ASK + OWN + b"3 2 ab\n2 0 ann 1 1 2 0 0 store 3 2 ab\n" + 4 * b"ann 0 done read 1 1 tag 3 2 ab\n",
     ),
     "the row that served stays": (
         READ + 2 * b"0 0 tick\n" + b"0 2 ann 1 1 1 0 0 copy 0 0 -\n0 3 ann 1 1 1 0 0 copy 0 0 -\n0 0 ann 1 1 2 0 0 stored\n0 2 ann 1 1 2 0 0 stored\n0 ann read 1 2 0 0\n",
         ASK
-        + b"2 0 ann 1 1 1 0 0 ask\n3 0 ann 1 1 1 0 0 ask\n0 0 ann 1 1 2 0 0 store 0 0 -\n2 0 ann 1 1 2 0 0 store 0 0 -\nann 0 done read 1 1 tag 0 0 -\n"
+        + b"2 0 ann 1 1 1 0 0 ask\n3 0 ann 1 1 1 0 0 ask\nann 0 done read 1 1 tag 0 0 -\n"
         + b"2 0 ann 1 2 1 0 0 ask\n3 0 ann 1 2 1 0 0 ask\n",
     ),
     "a listing": (
         b"0 ann list 1 1 1\n0 0 ann 1 1 1 1 0 copy 3 2 aB\n0 1 ann 1 1 1 1 0 copy 0 0 -\n0 0 ann 1 1 2 1 0 stored\n0 2 ann 1 1 2 1 0 stored\n",
-        b"0 0 ann 1 1 1 1 0 ask\n1 0 ann 1 1 1 1 0 ask\n0 0 ann 1 1 2 1 0 store 3 2 ab\n2 0 ann 1 1 2 1 0 store 3 2 ab\nann 0 done list 1 1 1:3.2\n",
+        b"1 0 ann 1 1 1 1 0 ask\n0 0 ann 1 1 2 1 0 store 3 2 ab\n2 0 ann 1 1 2 1 0 store 3 2 ab\nann 0 done list 1 1 1:3.2\n",
     ),
     "ticks": (READ + 3 * b"0 0 tick\n", ASK + b"2 0 ann 1 1 1 0 0 ask\n3 0 ann 1 1 1 0 0 ask\n" + ASK),
     "a number of a tag at its limit": (
-        STORE + b"%d 16 AbCd\n" % GREATEST + STORE + b"%d 16 ff\n" % (GREATEST + 1) + STORE + b"018 1 ff\n0 0 ann 1 1 1 0 0 ask\n0 0 ann 1 1 2 0 0 ask\n",
-        STORED + b"0 0 ann 1 1 1 0 0 copy %d 16 abcd\n" % GREATEST,
+        STORE + b"%d 16 AbCd\n" % GREATEST + STORE + b"%d 16 ff\n" % (GREATEST + 1) + STORE + b"018 1 ff\n0 1 ann 2 1 1 0 0 ask\n0 1 ann 2 1 2 0 0 ask\n",
+        STORED + b"1 0 ann 2 1 1 0 0 copy %d 16 abcd\n" % GREATEST,
     ),
     "a session of a tag above 255": (STORE + b"1 256 aa\n" + STORE + b"1 255 aa\n", STORED),
     "a store from another node than its session's home": (b"0 1 ann 1 1 2 0 0 store 1 1 aa\n0 0 ann 2 1 2 0 0 store 1 1 aa\n", b""),
@@ -83,6 +83,7 @@ LINES = {
 # The same, where a file has up to 40 blocks, and so a line up to 128 * 40 + 255 bytes.
 ROOM = b"grid 2 2\nroom 5000\ntenant ann 80 1 1 40\ntenant bob 16 2 1 16\ngo\nann open 2 40\nbob open 1 1\n"
 LONGEST = 128 * 40 + 255
+HEARD = READ + b"0 1 ann 1 1 1 0 0 copy 0 0 -\n"  # a read that stores what this node has
 ROOM_LINES = {
     "with room, a line of the most bytes": (filled(LONGEST) + READ, BAD + ASK),
     "with room, a line of one byte more": (filled(LONGEST + 1) + READ, ASK),
@@ -92,8 +93,24 @@ ROOM_LINES = {
     "with room, a content of one byte more": (WRITE + b"ab" * 2561 + b"\n", b"ann 0 refused toolong 1 1 0 0 2561\n"),
     "with room, a content in bytes of the most bytes": (WRITE + b"=" + b"\\b" * 2560 + b"\n", ASK),
     "with room, a content in bytes of one byte more": (WRITE + b"=" + b"\\b" * 2561 + b"\n", b"ann 0 refused toolong 1 1 0 0 2561\n"),
-    "with room, a store of the most bytes": (STORE + b"1 1 " + b"ab" * 2560 + b"\n", STORED),
-    "with room, a store of one byte more": (STORE + b"1 1 " + b"ab" * 2561 + b"\n", b""),
+    "with room, a store of the most bytes": (OWN + b"1 1 " + b"ab" * 2560 + b"\n" + HEARD, ASK + OWN + b"1 1 " + b"ab" * 2560 + b"\n2 0 ann 1 1 2 0 0 store 1 1 " + b"ab" * 2560 + b"\n"),
+    "with room, a store of one byte more": (OWN + b"1 1 " + b"ab" * 2561 + b"\n" + HEARD, ASK + OWN + b"0 0 -\n2 0 ann 1 1 2 0 0 store 0 0 -\n"),
+}
+
+
+# The only server of a grid takes all letters itself, but stores: of a listing those of 8 hops, here of four files, at once, and the rest by a line.
+ALONE = b"grid 1 1\nblocks 8\ntenant ann 8 1 100\ngo\nann open 6 1\n"
+LISTING = b"0 ann list 1 1 0\n"
+LEFT = b"0 0 ann 1 1 9 0 4 ask\n"
+LISTED = b"ann 0 done list 1 1 0:0.0 0:0.0 0:0.0 0:0.0 0:0.0 0:0.0\n"
+ALONE_LINES = {
+    "alone, a write": (WRITE + b"aB\n", OWN + b"1 1 ab\n"),
+    "alone, its store": (WRITE + b"aB\n" + OWN + b"1 1 ab\n", OWN + b"1 1 ab\nann 0 done write 1 1 tag 1 1\n"),
+    "alone, its store twice": (WRITE + b"aB\n" + 2 * (OWN + b"1 1 ab\n"), OWN + b"1 1 ab\nann 0 done write 1 1 tag 1 1\n"),
+    "alone, a read of the first copy": (READ, b"ann 0 done read 1 1 tag 0 0 -\n"),
+    "alone, a listing of six files": (LISTING, LEFT),
+    "alone, what is left of it": (LISTING + LEFT, LEFT + LISTED),
+    "alone, what is left of it twice": (LISTING + 2 * LEFT + LISTING, LEFT + 2 * LISTED),
 }
 
 
@@ -101,10 +118,12 @@ def tell_lines(program, folder):
     """How many were tried, and what is wrong."""
     put(os.path.join(folder, "plan"), PLAN)
     put(os.path.join(folder, "room"), ROOM)
+    put(os.path.join(folder, "alone"), ALONE)
     wrong = []
-    for plan, lines in ("plan", LINES), ("room", ROOM_LINES):
+    for plan, lines in ("plan", LINES), ("room", ROOM_LINES), ("alone", ALONE_LINES):
         for place, (name, (given, wanted)) in enumerate(lines.items()):
             seen = ended(words_of(program, 0, plan, f"journal-{plan}{place}", True), given, cwd=folder)
-            if seen != (0, b"gridfs: node 0 of 2 by 2: 0 facts\n", b" ?\n" + in_bytes(wanted)):
+            grid = b"1 by 1" if plan == "alone" else b"2 by 2"
+            if seen != (0, b"gridfs: node 0 of %s: 0 facts\n" % grid, b" ?\n" + in_bytes(wanted)):
                 wrong.append(f"{name}: {seen}, not {wanted}")
-    return len(LINES) + len(ROOM_LINES), wrong
+    return len(LINES) + len(ROOM_LINES) + len(ALONE_LINES), wrong

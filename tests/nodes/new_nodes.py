@@ -55,7 +55,7 @@ GIVEN = b"67 1 ann fetched 0 0 5 1 Aa\n"
 COPY = b"0 67 ann 1 1 1 0 0 copy 5 1 aa\n"
 NEXT = b"1 67 ann fetch 0 1\n"
 READ = b"67 ann read 20 1 0 0\n"
-ASKS = b"2 67 ann 20 1 1 0 0 ask\n67 67 ann 20 1 1 0 0 ask\n"
+ASKS = b"2 67 ann 20 1 1 0 0 ask\n"
 ANN, BOB = [b"0 0", b"0 1", b"0 2", b"0 3", b"1 0"], [b"0 0"]
 ALL_GIVEN = b"".join(b"67 1 ann fetched %s 0 0 -\n" % file for file in ANN) + b"67 1 bob fetched 0 0 0 0 -\n"
 # Lines that a new node is given at its first start, and what it writes behind its first line.
@@ -86,7 +86,7 @@ LINES = {
     "one of the node that was lost": (b"67 ann read 4 1 0 0\n67 ann read 36 1 0 0\n", b"ann 67 refused nosession 4 1\nann 67 refused nosession 36 1\n"),
     "one whose home was not lost": (b"67 ann read 1 1 0 0\n67 ann read 17 1 0 0\n", b"ann 67 refused home 0 1 1\nann 67 refused nosession 17 1\n"),
     "a letter of the node that was lost": (GIVEN + b"67 3 ann 4 1 1 0 0 ask\n67 0 ann 4 1 1 0 0 ask\n67 67 ann 4 1 1 0 0 ask\n", NEXT),
-    "a letter of its own": (GIVEN + b"67 67 ann 20 1 1 0 0 ask\n", NEXT + b"67 67 ann 20 1 1 0 0 copy 5 1 aa\n"),
+    "a letter of its own, brought by a line": (READ + GIVEN + b"67 67 ann 20 1 1 0 0 ask\n67 2 ann 20 1 1 0 0 copy 0 0 -\n", ASKS + NEXT + b"1 67 ann 20 1 2 0 0 store 5 1 aa\n67 67 ann 20 1 2 0 0 store 5 1 aa\n"),
     "a late store": (GIVEN + STORE + b"67 0 ann 1 1 2 0 0 store 4 1 bb\n" + ASK, NEXT + 2 * b"0 67 ann 1 1 2 0 0 stored\n" + COPY.replace(b"5 1 aa", b"9 1 ff")),
     "lines for the node that was lost": (b"3 ann plan\n3 0 joins 1\n3 3 tick\n", b""),
 }
@@ -96,9 +96,9 @@ OF_AN_OLD_ONE = {
     "a new node asks whether it has joined": (b"0 67 joins 1\n0 67 joins 0\n0 67 joins 2\n0 3 joins 1\n0 2 joins 1\n", b"67 0 joined 1\n67 0 joined 0\n2 0 joined 1\n"),
     "a tick": (b"0 0 tick\n", b""),
     "a node of another column wants a file": (b"0 67 ann fetch 0 0\n0 1 ann fetch 0 0\n0 2 ann fetch 0 0\n", b"2 0 ann fetched 0 0 0 0 -\n"),
-    "a file that it has is given": (b"0 2 ann fetched 0 0 5 1 aa\n0 0 ann 1 1 1 0 0 ask\n", b"0 0 ann 1 1 1 0 0 copy 0 0 -\n"),
+    "a file that it has is given": (b"0 2 ann fetched 0 0 5 1 aa\n0 1 ann 2 1 1 0 0 ask\n", b"1 0 ann 2 1 1 0 0 copy 0 0 -\n"),
     "a session whose home was lost": (b"0 ann read 4 1 0 0\n0 ann read 20 1 0 0\n", b"ann 0 refused nosession 4 1\nann 0 refused home 67 20 1\n"),
-    "whom a session asks": (b"0 ann read 1 1 0 0\n0 0 tick\n0 0 tick\n", b"0 0 ann 1 1 1 0 0 ask\n1 0 ann 1 1 1 0 0 ask\n2 0 ann 1 1 1 0 0 ask\n67 0 ann 1 1 1 0 0 ask\n"),
+    "whom a session asks": (b"0 ann read 1 1 0 0\n0 0 tick\n0 0 tick\n", b"1 0 ann 1 1 1 0 0 ask\n2 0 ann 1 1 1 0 0 ask\n67 0 ann 1 1 1 0 0 ask\n"),
     "a letter of a session that was lost": (b"0 3 ann 4 1 1 0 0 ask\n0 67 ann 4 1 1 0 0 ask\n0 67 ann 20 1 1 0 0 ask\n", b"67 0 ann 20 1 1 0 0 copy 0 0 -\n"),
 }
 WITH_THE_OLD_PLAN = {

@@ -24,7 +24,7 @@ TOO_HIGH = 4_000_000_000
 SHORT, LONG_JOURNAL, LARGE = "short", "long", "large"
 START = re.compile(rb"(gridfs: journal: cut at byte \d+\n)?gridfs: node 3 of 2 by 2: \d+ facts\n")
 LETTER = re.compile(rb"(\d+) 3 ann (\d+) (\d+) (\d+) (\d+) (\d+) (ask|store (\d+) (\d+) ([^ ]+)|copy \d+ \d+ [^ ]+|stored)")
-STORED = re.compile(rb"(\d+) 3 ann (\d+) (\d+) (\d+) (\d+) (\d+) stored")
+OWN_STORE = re.compile(rb"3 3 ann \d+ \d+ \d+ (\d+) (\d+) store (\d+) (\d+) [^ ]+")
 DONE = re.compile(rb"ann 3 (?:done \w+|gone) (\d+) (\d+)\b")
 # A journal that is written anew behind its next batch: it is over 1 MiB, and of all its facts a start needs few.
 LONG = 1_100_000
@@ -47,7 +47,7 @@ class Play:
         self.before = {session: 0 for session in SESSIONS}  # the last number of an earlier play
         self.asked = {session: 0 for session in SESSIONS}  # the number of the last request
         self.stores = {}  # of the other homes' stores, by their heads: file and tag
-        self.due = []
+        self.due, self.brought = [], []  # what the node is owed; of its own stores that it was given last, file and tag
         self.acknowledged = {file: (0, 0) for file in FILES}
         self.begun = {session: 0 for session in SESSIONS}
         self.numbers = {session: 0 for session in SESSIONS}
@@ -55,6 +55,7 @@ class Play:
     def lines(self, turn):
         """What comes to the node at this turn: what it is owed, a store of another home, a request, a tick."""
         lines, self.due = self.due, []
+        self.brought = [((int(it[1]), int(it[2])), (int(it[3]), int(it[4]))) for it in map(OWN_STORE.fullmatch, lines) if it]
         for _ in range(self.draw.randint(0, 2)):
             lines.append(self.store(turn))
         for session in SESSIONS:
@@ -92,14 +93,16 @@ class Play:
             return b"3 ann write %d %d %d %d %s" % (session, number, *file, self.content(file))
         return b"3 ann read %d %d %d %d" % (session, number, *file)
 
-    def hear(self, wrote):
-        """Takes what the node wrote, whole lines alone."""
+    def hear(self, wrote, lives=False):
+        """Takes what the node wrote, whole lines alone. If it lives and has done with all that it was given, its own stores are synced."""
         for line in wrote.split(b"\n")[:-1]:
             letter, done = LETTER.fullmatch(line), DONE.match(line)
             if done:
                 self.see(int(done[1]), int(done[2]))
             elif letter:
                 self.take(letter, line)
+        for place, tag in self.brought if lives else []:
+            self.acknowledged[place] = max(self.acknowledged[place], tag)
 
     def see(self, session, number):
         if session in self.begun:
@@ -121,9 +124,9 @@ class Play:
                 if self.given[place].setdefault(tag, content) != content:
                     raise Wrong(f"the tag {tag} of file {place} is used twice")
         if to == 3:
+            if not what.startswith(b"store "):
+                raise Wrong(f"the node writes a line to itself that is no store: {line!r}")
             self.due.append(line)
-            if what == b"stored":
-                self.acknowledged[place] = max(self.acknowledged[place], self.copies.get((3, place), (0, 0)))
             return
         reply = b"3 %d ann %d %d %d %d %d " % (to, session, number, turn, volume, file)
         if what == b"ask":
@@ -158,19 +161,19 @@ def check_copies(play, answers):
             raise Wrong(f"the copy of {place} has tag {tag}, and {play.acknowledged[place]} was acknowledged")
 
 
-def check_session(play, node, session, line, reserved):
+def check_session(play, node, session, line, reserved, own):
     """The last number is the last of a run that was reserved, which none was unless something was asked for, and no less than was seen. The
-    next write has the first number behind those that are reserved for tags, and none that was seen."""
+    next write has the first number behind those that are reserved for tags and behind `own`, the number of the copy that the node itself has, and
+    none that was seen."""
     told = re.fullmatch(rb"ann 3 refused early %d %d (\d+)" % (session, TOO_HIGH), line)
     before = play.before[session]
     runs = [before] * (play.begun[session] == before) + [before + RUN] * (play.asked[session] > before)
     if not told or int(told[1]) not in runs:
         raise Wrong(f"the last number of session {session}: {line!r}; {play.begun[session]} was seen, {play.asked[session]} asked for")
     number = int(told[1]) + 1
-    head = b"3 %%d ann %d %d 1 0 0 copy 0 0 -\n" % (session, number)
-    wrote, lives = node.step(b"3 ann write %d %d 0 0 ee\n" % (session, number) + head % 2 + head % 3)
+    wrote, lives = node.step(b"3 ann write %d %d 0 0 ee\n3 2 ann %d %d 1 0 0 copy 0 0 -\n" % (session, number, session, number))
     stores = [LETTER.fullmatch(it) for it in wrote.split(b"\n") if b" store " in it]
-    if not lives or not stores or reserved < play.numbers[session] or any(int(it[8]) != reserved + 1 for it in stores):
+    if not lives or not stores or reserved < play.numbers[session] or any(int(it[8]) != max(reserved, own) + 1 for it in stores):
         raise Wrong(f"session {session} had the number {play.numbers[session]}, {reserved} is reserved, and it writes {wrote!r}")
 
 
@@ -198,8 +201,9 @@ def check_again(program, folder, play):
         if len(answers) != len(FILES) + len(SESSIONS):
             raise Wrong(f"it is asked {len(FILES) + len(SESSIONS)} questions and answers {answers}")
         check_copies(play, answers)
+        own = int(answers[0].split(b" ")[-3])
         for session, line in zip(SESSIONS, answers[len(FILES) :]):
-            check_session(play, node, session, line, reserved.get((b"ann", b"%d" % session), 0))
+            check_session(play, node, session, line, reserved.get((b"ann", b"%d" % session), 0), own)
     finally:
         node.kill()
 
@@ -244,7 +248,7 @@ def played(program, folder, seed, kind, environment):
     try:
         while lives and turn < TURNS:
             wrote, lives = node.step(play.lines(turn))
-            play.hear(wrote)
+            play.hear(wrote, lives)
             turn += 1
         if lives:
             node.child.stdin.close()

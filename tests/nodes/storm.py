@@ -296,6 +296,7 @@ class Storm:
             life, given = self.alive(number), self.batch(number)
             self.given += given.count(b"\n")
             life.given.append(given)
+            self.numbers.given(number, given)
             if number not in amid:
                 life.stepped.give(given)
         for number in stepped:
@@ -314,6 +315,9 @@ class Storm:
         lines = wrote.split(b"\n")[:-1]  # (the last one is torn, or empty)
         for line in lines:
             self.numbers.see(number, line)
+            # (a listing of several files may, where the node is the only server)
+            if self.count > 1 and line.startswith(b"%d %d " % (number, number)) and b" store " not in line:
+                raise Wrong(f"node {number} writes a line to itself that is no store: {line!r}")
             if line[:1].isdigit():
                 if b" store " in line or b" copy " in line:
                     words = line.split(b" ")

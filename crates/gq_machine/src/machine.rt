@@ -1,6 +1,6 @@
 //! The machine of a node.
 
-ghost use Rattle.std.specs.Prelude.{◌≡◌, ◌<◌, ◌++◌, [], ◌∷◌, false, length, OnOk, IfSome, All};
+ghost use Rattle.std.specs.Prelude.{◌≡◌, ◌<◌, ◌++◌, [], ◌∷◌, false, length, map, OnOk, IfSome, All};
 ghost use Rattle.std.specs.List.{flat_map};
 ghost use Rattle.std.specs.Option.{option_to_list};
 ghost use Rattle.gq_tag.specs.Tag.{own_message, file_place};
@@ -17,15 +17,16 @@ ghost use Rattle.gq_facts.specs.Facts.{fact_text};
 ghost use Rattle.gq_facts.specs.Laws.{FitsFact};
 ghost use Rattle.gq_parts.specs.Inputs.{session_ticks, ticks_of};
 ghost use Rattle.gq_parts.specs.Texts.{answer_text, sent_line, parcel_text, step_text, joins_text, joined_text};
-ghost use Rattle.gq_parts.specs.Steps.{AskedToJoin, fact_lines, HasAddress, IsOfPlan, Appended, TookOf, TookAll, TookIncoming, some_lacks, all_lacked};
+ghost use Rattle.gq_parts.specs.Steps.{AskedToJoin, fact_lines, HasAddress, IsOfPlan, IsOfTenant, goes_home, going_home, going_by_lines, Appended, TookHop, TookOwn, PutAll, TookOf, TookAll, TookIncoming, some_lacks, all_lacked};
 
 use crate::ranges::{fact_fits, plan_is_sound};
 use gq_facts::{put_fact, read_fact};
 use gq_keeper::{Fault, Lasting, Machine, Unread};
-use gq_memory::OutOfMemory;
+use gq_memory::{GrowVec, OutOfMemory};
 use gq_model::Line;
 use gq_node::{Answer, Ended, Fact, NeedRefused, Node, Output, Parcel};
-use gq_tag::{FileId, Message, StoredCopy};
+use gq_parts::laws::MOST_HOPS;
+use gq_tag::{Body, FileId, Message, StoredCopy};
 use gq_wire::{Incoming, put_joined, put_joins, put_letter, put_parcel, put_told, read_incoming};
 use std::alloc::Global;
 
@@ -91,19 +92,70 @@ impl NodeMachine {
         }
     }
 
+    // Appends the line of a letter.
+    fn put_line(&self, letter: &Message, told: &mut Vec<u8>) -> Result<(), OutOfMemory>
+        requires { HasAddress self.now.node.tables.plan letter.now }
+        ensures { OnOk result (told.new.items ≡ told.old.items ++ sent_line self.now.node.tables.plan self.now.node.tables.here letter.now) }
+    {
+        put_letter(
+            told,
+            self.node.plan(),
+            self.node.address(letter),
+            self.node.number(),
+            letter,
+        )
+    }
+
     // Appends the lines of the letters.
-    fn put_letters(&self, letters: &[Message], told: &mut Vec<u8>) -> Result<(), OutOfMemory>
+    fn put_lines(&self, letters: &[Message], told: &mut Vec<u8>) -> Result<(), OutOfMemory>
         requires { All (HasAddress self.now.node.tables.plan) letters.now }
         ensures { OnOk result (told.new.items ≡ told.old.items ++ flat_map (sent_line self.now.node.tables.plan self.now.node.tables.here) letters.now) }
     {
         for letter in letters {
-            put_letter(
-                told,
-                self.node.plan(),
-                self.node.address(letter),
-                self.node.number(),
-                letter,
-            )?;
+            self.put_line(letter, told)?;
+        }
+        Ok(())
+    }
+
+    // Whether the node takes the letter itself, within the line that it now takes: it goes to this node, and is no store.
+    fn is_own(&self, letter: &Message) -> bool
+        requires { HasAddress self.now.node.tables.plan letter.now }
+        ensures { result ≡ goes_home self.now.node.tables.plan self.now.node.tables.here letter.now }
+    {
+        !matches!(&letter.body, Body::Store(_)) && self.node.address(letter) == self.node.number()
+    }
+
+    // Appends the line of the letter, or puts it behind the node's own ones where the node takes it itself.
+    fn put_letter(
+        &self,
+        letter: &Message,
+        own: &mut Vec<Message>,
+        told: &mut Vec<u8>,
+    ) -> Result<(), OutOfMemory>
+        requires { HasAddress self.now.node.tables.plan letter.now }
+        ensures told { OnOk result (told.new.items ≡ told.old.items ++ flat_map (sent_line self.now.node.tables.plan self.now.node.tables.here) (going_by_lines self.now.node.tables.plan self.now.node.tables.here (letter.now ∷ []))) }
+        ensures own { OnOk result (own.new.items ≡ own.old.items ++ going_home self.now.node.tables.plan self.now.node.tables.here (letter.now ∷ [])) }
+    {
+        if !self.is_own(letter) {
+            return self.put_line(letter, told);
+        }
+        let shared = letter.share()?;
+        own.grow(shared)
+    }
+
+    // Appends the lines of the letters. Those that the node takes itself are put behind its own ones.
+    fn put_letters(
+        &self,
+        letters: &[Message],
+        own: &mut Vec<Message>,
+        told: &mut Vec<u8>,
+    ) -> Result<(), OutOfMemory>
+        requires { All (HasAddress self.now.node.tables.plan) letters.now }
+        ensures told { OnOk result (told.new.items ≡ told.old.items ++ flat_map (sent_line self.now.node.tables.plan self.now.node.tables.here) (going_by_lines self.now.node.tables.plan self.now.node.tables.here letters.now)) }
+        ensures own { OnOk result (own.new.items ≡ own.old.items ++ going_home self.now.node.tables.plan self.now.node.tables.here letters.now) }
+    {
+        for letter in letters {
+            self.put_letter(letter, own, told)?;
         }
         Ok(())
     }
@@ -147,26 +199,109 @@ impl NodeMachine {
         Ok(())
     }
 
-    // Appends what a step gives for the tenant, whose request, if it is one, was this.
-    fn put(
+    // Appends what a step gives for the tenant, whose request, if it is one, was this. The letters that the node takes itself are put behind its own ones.
+    fn put_step(
         &self,
+        tenant: u8,
+        asked: &Line,
+        out: &Output,
+        own: &mut Vec<Message>,
+        facts: &mut Vec<u8>,
+        told: &mut Vec<u8>,
+    ) -> Result<(), OutOfMemory>
+        requires tenant { tenant < length self.now.node.tables.plan.rows }
+        requires fact { IfSome out.now.fact (λ fact. tenant_of fact < length self.now.node.tables.plan.rows) }
+        requires letters { All (IsOfTenant tenant) out.now.letters.items }
+        requires parcel { IsOfPlan self.now.node.tables.plan out.now.parcel }
+        ensures appended { OnOk result (Appended self.now.node.tables.plan (option_to_list out.now.fact) (step_text self.now.node.tables.plan self.now.node.tables.here tenant asked.now out.now.answer (going_by_lines self.now.node.tables.plan self.now.node.tables.here out.now.letters.items) out.now.parcel) facts.old.items facts.new.items told.old.items told.new.items) }
+        ensures own { OnOk result (own.new.items ≡ own.old.items ++ going_home self.now.node.tables.plan self.now.node.tables.here out.now.letters.items) }
+        ensures fit { OnOk result (All (FitsFact self.now.node.tables.plan) (option_to_list out.now.fact)) }
+    {
+        self.put_fact(&out.fact, facts)?;
+        self.put_answer(tenant, asked, &out.answer, told)?;
+        self.put_letters(out.letters.as_slice(), own, told)?;
+        self.put_parcel(&out.parcel, told)
+    }
+
+    // Takes a letter of the tenant from this node to itself. Those that this gives, and that the node takes itself, are put behind its own ones.
+    fn take_letter(
+        &mut self,
+        tenant: u8,
+        letter: &Message,
+        own: &mut Vec<Message>,
+        facts: &mut Vec<u8>,
+        told: &mut Vec<u8>,
+    ) -> Result<(), OutOfMemory>
+        requires tenant { tenant < length self.old.node.tables.plan.rows }
+        requires letter { IsOfTenant tenant letter.now }
+        ensures { OnOk result (TookHop self.old.node.tables tenant (own_message letter.now ∷ []) own.old.items own.new.items facts.old.items facts.new.items told.old.items told.new.items self.new.node.tables) }
+    {
+        self.goes()?;
+        let here = self.node.number();
+        match self.node.letter(here, letter) {
+            Ok(out) => Ok(self.put_step(tenant, &Line::Bad, &out, own, facts, told)?),
+            Err(ended) => Err(no_memory(ended)),
+        }
+    }
+
+    // Takes a hop: these letters of the tenant from this node to itself, one after another.
+    fn take_hop(
+        &mut self,
+        tenant: u8,
+        letters: &[Message],
+        own: &mut Vec<Message>,
+        facts: &mut Vec<u8>,
+        told: &mut Vec<u8>,
+    ) -> Result<(), OutOfMemory>
+        requires tenant { tenant < length self.old.node.tables.plan.rows }
+        requires letters { All (IsOfTenant tenant) letters.now }
+        ensures { OnOk result (TookHop self.old.node.tables tenant (map own_message letters.now) own.old.items own.new.items facts.old.items facts.new.items told.old.items told.new.items self.new.node.tables) }
+    {
+        for letter in letters {
+            self.take_letter(tenant, letter, own, facts, told)?;
+        }
+        Ok(())
+    }
+
+    // Takes these letters of the tenant from this node to itself, and hop by hop those that they give. What is left behind the most hops goes by lines.
+    fn take_own(
+        &mut self,
+        tenant: u8,
+        first: Vec<Message>,
+        facts: &mut Vec<u8>,
+        told: &mut Vec<u8>,
+    ) -> Result<(), OutOfMemory>
+        requires tenant { tenant < length self.old.node.tables.plan.rows }
+        requires letters { All (IsOfTenant tenant) first.items }
+        ensures { OnOk result (TookOwn MOST_HOPS self.old.node.tables tenant (map own_message first.items) facts.old.items facts.new.items told.old.items told.new.items self.new.node.tables) }
+    {
+        let mut own = first;
+        for _hop in 0..MOST_HOPS {
+            let mut next = Vec::new(self.alloc);
+            self.take_hop(tenant, own.as_slice(), &mut next, facts, told)?;
+            own = next;
+        }
+        self.put_lines(own.as_slice(), told)
+    }
+
+    // Appends what a step gives for the tenant, whose request, if it is one, was this, and takes the letters that it gives this node.
+    fn put(
+        &mut self,
         tenant: u8,
         asked: &Line,
         out: &Output,
         facts: &mut Vec<u8>,
         told: &mut Vec<u8>,
     ) -> Result<(), OutOfMemory>
-        requires tenant { tenant < length self.now.node.tables.plan.rows }
-        requires fact { IfSome out.now.fact (λ fact. tenant_of fact < length self.now.node.tables.plan.rows) }
-        requires letters { All (HasAddress self.now.node.tables.plan) out.now.letters.items }
-        requires parcel { IsOfPlan self.now.node.tables.plan out.now.parcel }
-        ensures appended { OnOk result (Appended self.now.node.tables.plan (option_to_list out.now.fact) (step_text self.now.node.tables.plan self.now.node.tables.here tenant asked.now out.now.answer out.now.letters.items out.now.parcel) facts.old.items facts.new.items told.old.items told.new.items) }
-        ensures fit { OnOk result (All (FitsFact self.now.node.tables.plan) (option_to_list out.now.fact)) }
+        requires tenant { tenant < length self.old.node.tables.plan.rows }
+        requires fact { IfSome out.now.fact (λ fact. tenant_of fact < length self.old.node.tables.plan.rows) }
+        requires letters { All (IsOfTenant tenant) out.now.letters.items }
+        requires parcel { IsOfPlan self.old.node.tables.plan out.now.parcel }
+        ensures { OnOk result (PutAll self.old.node.tables tenant asked.now out.now facts.old.items facts.new.items told.old.items told.new.items self.new.node.tables) }
     {
-        self.put_fact(&out.fact, facts)?;
-        self.put_answer(tenant, asked, &out.answer, told)?;
-        self.put_letters(out.letters.as_slice(), told)?;
-        self.put_parcel(&out.parcel, told)
+        let mut own = Vec::new(self.alloc);
+        self.put_step(tenant, asked, out, &mut own, facts, told)?;
+        self.take_own(tenant, own, facts, told)
     }
 
     // A request comes to the tenant.

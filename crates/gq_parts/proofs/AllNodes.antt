@@ -1,11 +1,10 @@
 -- Each tenant's parts of all nodes are those of the law of nodes.
-use Rattle.std.proofs.Common.{◌≡◌, ◌≢◌, ◌∙◌, ℕ, ◌+◌, ◌*◌, ◌<◌, ◌≤◌, Bool, true, false, List, [], ◌∷◌, ◌++◌, length, map, cond, arith, refl, sym, ap, subst, inl, inr, append_assoc, append-nil, Some, None}
+use Rattle.std.proofs.Common.{◌≡◌, ◌≢◌, ◌∙◌, ℕ, ◌*◌, ◌<◌, ◌≤◌, Bool, true, false, List, [], ◌∷◌, ◌++◌, length, map, cond, arith, refl, sym, ap, subst, inl, inr, append_assoc, append-nil, Some, None}
 use Rattle.std.specs.Prelude.{◌&&◌, not, nat_lt}
 use Rattle.std.specs.Option.{option_to_list}
 use Rattle.std.proofs.lemmas.Bool.{cases_eq, and_parts, eq-eqb, ne_eqb, eqb-true, leb-true}
 use Rattle.std.proofs.lemmas.Nat.{div-mul-add, mod-mul-add}
 use Rattle.std.proofs.Math.Nat.{mod-lt, mul-le-mul_left, mul-le-mul_right}
-use Rattle.std.proofs.lemmas.Grind.{flat_map-append}
 use Rattle.gq_desk.specs.CheckedPlan.{CheckedPlan, row_at}
 use Rattle.gq_text.specs.Canonical.{IsPlan}
 use Rattle.gq_grid.specs.Grid.{Grid}
@@ -19,7 +18,7 @@ use Rattle.gq_node.specs.Joining.{all_joined, tells_joined}
 use Rattle.gq_node.specs.Local.{Local, Doing}
 use Rattle.gq_node.specs.Nodes.{NodeWorld, Nodes, Event, Came, Started, site_in, site_at, new_nodes, takes_word, with_ready, after_word, after_doing, after_start, after_event, nodes_after, started, first_of as law_first, fact_list, AllCanCome, AllOpen, SessionsStay}
 use Rattle.gq_node.specs.Resting.{recall_all, those_of, begun_local}
-use Rattle.gq_node.specs.Sites.{Here, site_of, numbered, plan_in, seat_place, session_generation, home_place, home_of, is_of_plan}
+use Rattle.gq_node.specs.Sites.{Here, Site, site_of, numbered, plan_in, seat_place, session_generation, home_place, home_of, is_of_plan}
 use Rattle.gq_node.specs.Tables.{Agrees}
 use Rattle.gq_node.proofs.Events.{all_nodes_follow, all_nodes_serve}
 use Rattle.gq_node.proofs.Volumes.{all_volumes_open}
@@ -31,7 +30,9 @@ use Rattle.gq_parts.specs.Texts.{own_facts, facts_by}
 use Rattle.gq_parts.specs.Recalls.{facts_said}
 use Rattle.gq_parts.specs.Resting.{IsNodeOf}
 use Rattle.gq_parts.specs.Steps.{AllAgree}
-use Rattle.gq_parts.specs.AllNodes.{GridPlans, here_in, volumes_in, plans_of, world_with, world_at, steps_with, AreSound, AllNodes, Happening, Took, Starts, StartsBy, first_of, TakesStep, TakesStart, Stays, Happens, AllHappen, came_events, events_of, all_events, nodes_at, AreNodes, TellsAt, TellsAll, AllByLaw}
+use Rattle.gq_parts.specs.AllNodes.{GridPlans, here_in, volumes_in, plans_of, world_with, world_at, steps_with, AreSound, AllNodes, Happening, Took, Starts, StartsBy, first_of, TakesStep, TakesStart, Stays, Happens, AllHappen, came_events, events_of, events_from, all_events, nodes_at, InputsCanCome, IncomingCanCome, HappeningCanCome, LinesCanCome, AreNodes, TellsAt, TellsAll, AllByLaw}
+use Rattle.gq_parts.specs.Within.{taken}
+use Rattle.gq_parts.proofs.Within.{can_more, taken_can}
 use Rattle.gq_parts.proofs.Apart.{StepByParts, step_by_parts}
 use Rattle.gq_parts.proofs.Reading.{those-append, said-append, said_back, those-by, same_node, all_recalled}
 
@@ -107,23 +108,27 @@ after_inputs w p n nodes (a ∷ inputs) plan =
       };
     }
 
+-- all that the node takes by a line that brings this
+abbrev all_taken : GridPlans → (p n t : ℕ) → Nodes → Incoming → List Input
+all_taken g p n t nodes incoming = taken (site_at (world_at g t) nodes n) (nodes.local n) (inputs_of g.plan (here_in g p n) incoming t)
+
 -- a line to the node that brings this
 after_came : (g : GridPlans) (p n t : ℕ) (nodes : Nodes) (incoming : Incoming) → nodes.last_plan n ≡ p →
-    AfterAll (world_at g t) p n nodes (nodes_after (world_at g t) nodes (came_events g p n t incoming)) (inputs_of g.plan (here_in g p n) incoming t)
-after_came g p n t nodes (Request tenant op line) plan = after_inputs (world_at g t) p n nodes (inputs_of g.plan (here_in g p n) (Request tenant op line) t) plan
-after_came g p n t nodes (AsksPlan tenant) plan = after_inputs (world_at g t) p n nodes (inputs_of g.plan (here_in g p n) (AsksPlan tenant) t) plan
-after_came g p n t nodes (Bad tenant) plan = after_inputs (world_at g t) p n nodes (inputs_of g.plan (here_in g p n) (Bad tenant) t) plan
-after_came g p n t nodes (Letter from m) plan = after_inputs (world_at g t) p n nodes (inputs_of g.plan (here_in g p n) (Letter from m) t) plan
+    AfterAll (world_at g t) p n nodes (nodes_after (world_at g t) nodes (came_events g p n t nodes incoming)) (all_taken g p n t nodes incoming)
+after_came g p n t nodes (Request tenant op line) plan = after_inputs (world_at g t) p n nodes (all_taken g p n t nodes (Request tenant op line)) plan
+after_came g p n t nodes (AsksPlan tenant) plan = after_inputs (world_at g t) p n nodes (all_taken g p n t nodes (AsksPlan tenant)) plan
+after_came g p n t nodes (Bad tenant) plan = after_inputs (world_at g t) p n nodes (all_taken g p n t nodes (Bad tenant)) plan
+after_came g p n t nodes (Letter from m) plan = after_inputs (world_at g t) p n nodes (all_taken g p n t nodes (Letter from m)) plan
 after_came g p n t nodes (Joins from losses) plan = by (tells_joined from losses (site_at (world_at g t) nodes n))
   where
     by : (b : Bool) → AfterAll (world_at g t) p n nodes (cond b (record nodes { joined = nodes.joined ++ record { from = n; to = from; losses = losses } ∷ [] }) nodes) []
     by true = record { local = refl; facts = sym (append-nil (nodes.facts n)); others = λ m other. (refl, refl); plans = λ m. record { begun = refl; first_plan = refl; last_plan = refl } }
     by false = record { local = refl; facts = sym (append-nil (nodes.facts n)); others = λ m other. (refl, refl); plans = λ m. record { begun = refl; first_plan = refl; last_plan = refl } }
-after_came g p n t nodes (Joined from losses) plan = after_inputs (world_at g t) p n nodes (inputs_of g.plan (here_in g p n) (Joined from losses) t) plan
-after_came g p n t nodes (Fetch from file) plan = after_inputs (world_at g t) p n nodes (inputs_of g.plan (here_in g p n) (Fetch from file) t) plan
-after_came g p n t nodes (Fetched from file copy) plan = after_inputs (world_at g t) p n nodes (inputs_of g.plan (here_in g p n) (Fetched from file copy) t) plan
-after_came g p n t nodes Tick plan = after_inputs (world_at g t) p n nodes (inputs_of g.plan (here_in g p n) Tick t) plan
-after_came g p n t nodes Nothing plan = after_inputs (world_at g t) p n nodes (inputs_of g.plan (here_in g p n) Nothing t) plan
+after_came g p n t nodes (Joined from losses) plan = after_inputs (world_at g t) p n nodes (all_taken g p n t nodes (Joined from losses)) plan
+after_came g p n t nodes (Fetch from file) plan = after_inputs (world_at g t) p n nodes (all_taken g p n t nodes (Fetch from file)) plan
+after_came g p n t nodes (Fetched from file copy) plan = after_inputs (world_at g t) p n nodes (all_taken g p n t nodes (Fetched from file copy)) plan
+after_came g p n t nodes Tick plan = after_inputs (world_at g t) p n nodes (all_taken g p n t nodes Tick) plan
+after_came g p n t nodes Nothing plan = after_inputs (world_at g t) p n nodes (all_taken g p n t nodes Nothing) plan
 
 -- the node with plan p, as the law and as the node itself has it
 same_site : (g : GridPlans) (p n t : ℕ) → site_in (world_at g t) p n ≡ site_of g.plan (here_in g p n) t
@@ -142,17 +147,26 @@ same_site g p n t = λ i. record {
 
 -- ---- more happenings
 
-more_events : (g : GridPlans) (t : ℕ) (before : List Happening) (h : Happening) → all_events g t (before ++ h ∷ []) ≡ all_events g t before ++ events_of g t h
-more_events g t before h = flat_map-append (events_of g t) before (h ∷ []) ∙ ap (λ z. all_events g t before ++ z) (append-nil (events_of g t h))
-
 fold_more : (w : NodeWorld) (nodes : Nodes) (xs ys : List Event) → nodes_after w nodes (xs ++ ys) ≡ nodes_after w (nodes_after w nodes xs) ys
 fold_more w nodes [] ys = refl
 fold_more w nodes (x ∷ xs) ys = fold_more w (after_event w nodes x) xs ys
 
-more_nodes : (g : GridPlans) (before : List Happening) (h : Happening) (t : ℕ) → nodes_at g (before ++ h ∷ []) t ≡ nodes_after (world_at g t) (nodes_at g before t) (events_of g t h)
+more_events : (g : GridPlans) (t : ℕ) (nodes : Nodes) (before : List Happening) (h : Happening) →
+    events_from g t nodes (before ++ h ∷ []) ≡ events_from g t nodes before ++ events_of g t (nodes_after (world_at g t) nodes (events_from g t nodes before)) h
+more_events g t nodes [] h = append-nil (events_of g t nodes h)
+more_events g t nodes (b ∷ before) h =
+    let w : NodeWorld = world_at g t in
+    let one : List Event = events_of g t nodes b in
+    let next : Nodes = nodes_after w nodes one in
+    let rest : List Event = events_from g t next before in
+    ap (λ z. one ++ z) (more_events g t next before h)
+    ∙ sym (append_assoc one rest (events_of g t (nodes_after w next rest) h))
+    ∙ ap (λ ns. (one ++ rest) ++ events_of g t ns h) (sym (fold_more w nodes one rest))
+
+more_nodes : (g : GridPlans) (before : List Happening) (h : Happening) (t : ℕ) → nodes_at g (before ++ h ∷ []) t ≡ nodes_after (world_at g t) (nodes_at g before t) (events_of g t (nodes_at g before t) h)
 more_nodes g before h t =
-    ap (nodes_after (world_at g t) (new_nodes (world_at g t))) (more_events g t before h)
-    ∙ fold_more (world_at g t) (new_nodes (world_at g t)) (all_events g t before) (events_of g t h)
+    ap (nodes_after (world_at g t) (new_nodes (world_at g t))) (more_events g t (new_nodes (world_at g t)) before h)
+    ∙ fold_more (world_at g t) (new_nodes (world_at g t)) (all_events g t before) (events_of g t (nodes_at g before t) h)
 
 -- ---- what holds behind some happenings
 
@@ -238,20 +252,26 @@ one_holds g before (Took n p did) old new sound holds happens = record {
     one : StepByParts g.plan here parts did.line did.facts did.told (new.tables n)
     one = step_by_parts g.plan here (old.tables n) (new.tables n) parts did.line did.facts did.told was agree goes.step
 
-    at : (t : ℕ) → t < length g.plan.rows → AreNodes g new t (nodes_after (world_at g t) (nodes_at g before t) (events_of g t (Took n p did)))
+    at : (t : ℕ) → t < length g.plan.rows → AreNodes g new t (nodes_after (world_at g t) (nodes_at g before t) (events_of g t (nodes_at g before t) (Took n p did)))
     at t within =
         let w : NodeWorld = world_at g t in
         let nodes : Nodes = nodes_at g before t in
         let are : AreNodes g old t nodes = holds.are t within in
         let inputs : List Input = line_inputs g.plan here did.line t in
-        let after : Nodes = nodes_after w nodes (events_of g t (Took n p did)) in
-        let a : AfterAll w p n nodes after inputs = after_came g p n t nodes (incoming_of g.plan n did.line) (sym (are.last_plan n goes.begun) ∙ goes.plan) in
-        let now : Agrees (new.tables n) t (after_all (site_of g.plan here t) (parts t) inputs) = one.agree t (subst (λ (plan : CheckedPlan). t < length plan.rows) (sym one.node.plan_is) within) in
-        let own : those_of t (facts_said g.plan did.facts) ≡ own_facts (site_of g.plan here t) (parts t) inputs =
+        let after : Nodes = nodes_after w nodes (events_of g t nodes (Took n p did)) in
+        let site : Site = site_of g.plan here t in
+        let last : nodes.last_plan n ≡ p = sym (are.last_plan n goes.begun) ∙ goes.plan in
+        let same : site_at w nodes n ≡ site = ap (λ q. site_in w q n) last ∙ same_site g p n t in
+        let by_law : List Input = taken (site_at w nodes n) (parts t) inputs in
+        let all : List Input = taken site (parts t) inputs in
+        let a : AfterAll w p n nodes after by_law = after_came g p n t nodes (incoming_of g.plan n did.line) last in
+        let now : Agrees (new.tables n) t (after_all site (parts t) all) = one.agree t (subst (λ (plan : CheckedPlan). t < length plan.rows) (sym one.node.plan_is) within) in
+        let own : those_of t (facts_said g.plan did.facts) ≡ own_facts site (parts t) all =
         ap (λ ls. those_of t (facts_said g.plan ls)) one.lines_are ∙ ap (those_of t) (said_back g.plan sound (facts_by g.plan here parts (line_inputs g.plan here did.line)) one.fit) ∙ those-by g.plan here t parts (line_inputs g.plan here did.line) within in
-        let local : after.local n ≡ after_all (site_of g.plan here t) (parts t) inputs = a.local ∙ ap (λ site. after_all site (parts t) inputs) (same_site g p n t) in
-        let given : after.facts n ≡ nodes.facts n ++ own_facts (site_of g.plan here t) (parts t) inputs = a.facts ∙ ap (λ site. nodes.facts n ++ own_facts site (parts t) inputs) (same_site g p n t) in
-        let facts : those_of t (facts_said g.plan (new.kept n)) ≡ nodes.facts n ++ own_facts (site_of g.plan here t) (parts t) inputs =
+        let local : after.local n ≡ after_all site (parts t) all = a.local ∙ ap (λ s. after_all s (parts t) by_law) (same_site g p n t) ∙ ap (λ s. after_all site (parts t) (taken s (parts t) inputs)) same in
+        let given : after.facts n ≡ nodes.facts n ++ own_facts site (parts t) all =
+        a.facts ∙ ap (λ s. nodes.facts n ++ own_facts s (parts t) by_law) (same_site g p n t) ∙ ap (λ s. nodes.facts n ++ own_facts site (parts t) (taken s (parts t) inputs)) same in
+        let facts : those_of t (facts_said g.plan (new.kept n)) ≡ nodes.facts n ++ own_facts site (parts t) all =
         ap (λ ls. those_of t (facts_said g.plan ls)) goes.kept
         ∙ ap (those_of t) (said-append g.plan (old.kept n) did.facts)
         ∙ those-append t (facts_said g.plan (old.kept n)) (facts_said g.plan did.facts)
@@ -348,12 +368,12 @@ home_within plan t place many = mod-lt _ (omega (arith, many))
 
 record HomeIs (plan : CheckedPlan) (t k : ℕ) : Type 0 where
   place : place_of (home_of plan t k) ≡ home_place plan t (seat_place k)
-  turn : generation (home_of plan t k) ≡ session_generation k
+  hop : generation (home_of plan t k) ≡ session_generation k
 
 home_is : (plan : CheckedPlan) (t k : ℕ) → IsPlan plan → 1 < plan.grid.rows * plan.grid.cols → HomeIs plan t k
 home_is plan t k is many =
     let few : home_place plan t (seat_place k) < most_places = omega (arith, home_within plan t (seat_place k) many, few_places plan is) in
-    record { place = mod-mul-add (session_generation k) most_places (home_place plan t (seat_place k)) few; turn = div-mul-add (session_generation k) most_places (home_place plan t (seat_place k)) few }
+    record { place = mod-mul-add (session_generation k) most_places (home_place plan t (seat_place k)) few; hop = div-mul-add (session_generation k) most_places (home_place plan t (seat_place k)) few }
 
 homes_stand : (g : GridPlans) (t : ℕ) → AreSound g → HomesStand g.plan.grid (home_of g.plan t)
 homes_stand g t sound k =
@@ -364,9 +384,9 @@ sessions_stay : (g : GridPlans) (t : ℕ) → AreSound g → SessionsStay (world
 sessions_stay g t sound p q k later has is =
     let home : HomeIs g.plan t k = home_is g.plan t k sound.plan sound.servers in
     let inside : nat_lt (seat_place k) (row_at g.plan t).sessions ≡ true = (and_parts _ _ is).0 in
-    let turn : session_generation k ≡ times (plans_of g t q) (home_place g.plan t (seat_place k)) =
-    sym home.turn ∙ eqb-true (generation (home_of g.plan t k)) (times (plans_of g t q) (place_of (home_of g.plan t k))) has ∙ ap (times (plans_of g t q)) home.place in
-    rw (inside, eq-eqb (session_generation k) (times (plan_in (g.lost q)) (home_place g.plan t (seat_place k))) turn) refl
+    let hop : session_generation k ≡ times (plans_of g t q) (home_place g.plan t (seat_place k)) =
+    sym home.hop ∙ eqb-true (generation (home_of g.plan t k)) (times (plans_of g t q) (place_of (home_of g.plan t k))) has ∙ ap (times (plans_of g t q)) home.place in
+    rw (inside, eq-eqb (session_generation k) (times (plan_in (g.lost q)) (home_place g.plan t (seat_place k))) hop) refl
 
 -- each file is one register
 is_right : (g : GridPlans) (t : ℕ) (events : List Event) → AreSound g → AllCanCome (world_at g t) (new_nodes (world_at g t)) events → AllOpen (numbered (row_at g.plan t)) [] (g.opens t) →
@@ -390,6 +410,41 @@ is_right g t events sound can opens enough = subst P volumes served can enough
         all_nodes_serve grid row (home_of g.plan t) (g.opens t) (plans_of g t) (λ p. (row_at g.plan t).sessions) (λ p k. is_of_plan g.plan (here_in g p 0) t k) (λ p. home_place g.plan t 0) events
         (homes_stand g t sound) (sound.chain t) (sessions_stay g t sound) sound.servers (few_places g.plan sound.plan) may many
 
+-- ---- where what comes by lines can come, all can
+
+goes_on : (w : NodeWorld) (n : ℕ) (nodes : Nodes) (xs : List Input) →
+    ((nodes_after w nodes (map (λ a. Came n a) xs)).local n ≡ after_all (site_at w nodes n) (nodes.local n) xs) × (site_at w (nodes_after w nodes (map (λ a. Came n a) xs)) n ≡ site_at w nodes n)
+goes_on w n nodes xs =
+    let a : AfterAll w (nodes.last_plan n) n nodes (nodes_after w nodes (map (λ a. Came n a) xs)) xs = after_inputs w (nodes.last_plan n) n nodes xs refl in
+    (a.local, ap (λ q. site_in w q n) (a.plans n).last_plan)
+
+some_can : (g : GridPlans) (p n t : ℕ) (nodes : Nodes) (incoming : Incoming) → InputsCanCome (world_at g t) n nodes (inputs_of g.plan (here_in g p n) incoming t) → AllCanCome (world_at g t) nodes (map (λ a. Came n a) (all_taken g p n t nodes incoming))
+some_can g p n t nodes incoming can =
+    taken_can (world_at g t) n nodes (site_at (world_at g t) nodes n) (inputs_of g.plan (here_in g p n) incoming t) refl can (λ ns xs. goes_on (world_at g t) n ns xs)
+
+came_can : (g : GridPlans) (p n t : ℕ) (nodes : Nodes) (incoming : Incoming) → IncomingCanCome g p n t nodes incoming → AllCanCome (world_at g t) nodes (came_events g p n t nodes incoming)
+came_can g p n t nodes (Request tenant op line) can = some_can g p n t nodes (Request tenant op line) can
+came_can g p n t nodes (AsksPlan tenant) can = some_can g p n t nodes (AsksPlan tenant) can
+came_can g p n t nodes (Bad tenant) can = some_can g p n t nodes (Bad tenant) can
+came_can g p n t nodes (Letter from m) can = some_can g p n t nodes (Letter from m) can
+came_can g p n t nodes (Joins from losses) can = (can, tt)
+came_can g p n t nodes (Joined from losses) can = some_can g p n t nodes (Joined from losses) can
+came_can g p n t nodes (Fetch from file) can = some_can g p n t nodes (Fetch from file) can
+came_can g p n t nodes (Fetched from file copy) can = some_can g p n t nodes (Fetched from file copy) can
+came_can g p n t nodes Tick can = some_can g p n t nodes Tick can
+came_can g p n t nodes Nothing can = some_can g p n t nodes Nothing can
+
+of_happening : (g : GridPlans) (t : ℕ) (nodes : Nodes) (h : Happening) → HappeningCanCome g t nodes h → AllCanCome (world_at g t) nodes (events_of g t nodes h)
+of_happening g t nodes (Took n p did) can = came_can g p n t nodes (incoming_of g.plan n did.line) can
+of_happening g t nodes (Starts n p) can = (can, tt)
+
+all_can : (g : GridPlans) (t : ℕ) (nodes : Nodes) (hs : List Happening) → LinesCanCome g t nodes hs → AllCanCome (world_at g t) nodes (events_from g t nodes hs)
+all_can g t nodes [] can = tt
+all_can g t nodes (h ∷ hs) can =
+    let w : NodeWorld = world_at g t in
+    let one : List Event = events_of g t nodes h in
+    can_more w nodes one (events_from g t (nodes_after w nodes one) hs) (of_happening g t nodes h can.0) (all_can g t (nodes_after w nodes one) hs can.1)
+
 -- ---- the whole
 
 pub all_by_law : AllByLaw
@@ -409,7 +464,7 @@ all_by_law g first last hs sound new happen =
       told = all.told;
       nodes = all.holds.are;
       follow = λ t within can. record {
-        follows = all_nodes_follow (world_at g t) (all_events g t hs) (sound.chain t) (sessions_stay g t sound) sound.servers (few_places g.plan sound.plan) can;
-        right = λ opens enough. is_right g t (all_events g t hs) sound can opens enough;
+        follows = all_nodes_follow (world_at g t) (all_events g t hs) (sound.chain t) (sessions_stay g t sound) sound.servers (few_places g.plan sound.plan) (all_can g t (new_nodes (world_at g t)) hs can);
+        right = λ opens enough. is_right g t (all_events g t hs) sound (all_can g t (new_nodes (world_at g t)) hs can) opens enough;
       };
     }

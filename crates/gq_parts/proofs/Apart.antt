@@ -3,7 +3,8 @@ use Rattle.std.proofs.Common.{◌≡◌, ◌∙◌, ℕ, ◌<◌, List, [], ◌�
 use Rattle.std.specs.Prelude.{All}
 use Rattle.gq_desk.specs.CheckedPlan.{CheckedPlan}
 use Rattle.gq_keeper.specs.Runs.{lines_of}
-use Rattle.gq_node.specs.Inputs.{Input, after_all}
+use Rattle.gq_node.specs.Inputs.{Input}
+use Rattle.gq_parts.specs.Within.{after_taken}
 use Rattle.gq_node.specs.Local.{Local}
 use Rattle.gq_node.specs.Sites.{Here, site_of}
 use Rattle.gq_node.specs.Tables.{Tables, Agrees}
@@ -13,7 +14,7 @@ use Rattle.gq_parts.specs.Texts.{written_for, written_by, facts_by, parts_after,
 use Rattle.gq_parts.specs.Steps.{AllAgree, fact_lines, TakesAll, StepsTo}
 use Rattle.gq_parts.specs.Resting.{IsNodeOf}
 use Rattle.gq_parts.specs.Laws.{GoesByParts, AllRunsByParts, AllTextsByParts, AllTenantsApart}
-use Rattle.gq_parts.proofs.Taking.{after_more, written_more}
+use Rattle.gq_parts.proofs.Taking.{after_taken_more, written_more}
 
 -- one step, of a node of this plan and number
 pub record StepByParts (plan : CheckedPlan) (here : Here) (parts : ℕ → Local) (line : List ℕ) (lines : List (List ℕ)) (told : List ℕ) (new : Tables) : Type 0 where
@@ -54,13 +55,13 @@ runs_by_parts plan here first last parts (did ∷ dids) node agree runs =
     record {
       node = rest.node;
       told = (one.told_is, one.lines_are, one.fit, rest.told);
-      ends = λ t within. subst (Agrees last t) (sym (after_more (site_of plan here t) (parts t) (inputs t) (lines_inputs plan here (lines_of dids) t))) (rest.ends t within);
+      ends = λ t within. subst (Agrees last t) (sym (after_taken_more (site_of plan here t) (parts t) (inputs t) (lines_inputs plan here (lines_of dids) t))) (rest.ends t within);
     }
 
 pub texts_by_parts : AllTextsByParts
 texts_by_parts plan here t local [] = refl
 texts_by_parts plan here t local (line ∷ lines) =
-    ap (λ z. written_for plan here t local (line_inputs plan here line t) ++ z) (texts_by_parts plan here t (after_all (site_of plan here t) local (line_inputs plan here line t)) lines)
+    ap (λ z. written_for plan here t local (line_inputs plan here line t) ++ z) (texts_by_parts plan here t (after_taken (site_of plan here t) local (line_inputs plan here line t)) lines)
     ∙ sym (written_more plan here t local (line_inputs plan here line t) (lines_inputs plan here lines t))
 
 pub tenants_apart : AllTenantsApart

@@ -1,4 +1,7 @@
 pub mod Apart
+pub mod Within
+pub mod Hops
+pub mod Own
 pub mod Knowing
 pub mod Lacking
 pub mod Readable

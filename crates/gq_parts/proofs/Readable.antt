@@ -27,6 +27,7 @@ use Rattle.gq_facts.specs.Facts.{fact_line, fact_of_line}
 use Rattle.gq_facts.specs.Laws.{FitsFact}
 use Rattle.gq_facts.proofs.FactsBack.{facts_read_back}
 use Rattle.gq_parts.specs.Inputs.{line_inputs}
+use Rattle.gq_parts.specs.Within.{taken}
 use Rattle.gq_parts.specs.Texts.{own_facts, facts_for}
 use Rattle.gq_parts.specs.Steps.{AllAgree, fact_lines, StepsTo}
 use Rattle.gq_parts.specs.Recalls.{RecallsFact, RecallsTo, reads_fact, reads_line}
@@ -206,9 +207,12 @@ step_fits old line facts told new step = ap (list_all (fits_in old)) (step.takes
     agree t within = of_case_has (Agrees old t) t n (λ h. (step.stand t h).local) (begun_local (site_of old.plan old.here t) [] 0) (λ h. (step.stand t h).agrees) within (cases_Bool (nat_lt t n))
 
     each : (t : ℕ) → 0 ≤ t → t < 0 + n → list_all (fits_in old) (facts_for old.plan old.here t (parts t) (inputs t)) ≡ true
-    each t low high = map_fits old t (own_facts (site_of old.plan old.here t) (parts t) (inputs t))
-        (subst (λ v. list_all (fits_part (site_of old.plan old.here t) v) (own_facts (site_of old.plan old.here t) (parts t) (inputs t)) ≡ true)
-        (sym (its_volumes old t (parts t) (agree t (omega arith)))) (inputs_fit (site_of old.plan old.here t) (parts t) (inputs t)))
+    each t low high =
+        let site : Site = site_of old.plan old.here t in
+        let all : List Input = taken site (parts t) (inputs t) in
+        map_fits old t (own_facts site (parts t) all)
+        (subst (λ v. list_all (fits_part site v) (own_facts site (parts t) all) ≡ true)
+        (sym (its_volumes old t (parts t) (agree t (omega arith)))) (inputs_fit site (parts t) all))
 
 pub gives_readable : (lost : ℕ → ℕ) (old : Tables) (line : List ℕ) (facts : List (List ℕ)) (told : List ℕ) (new other : Tables) → StepsTo old line facts told new → IsBlank lost old other → list_all (reads_line other) facts ≡ true
 gives_readable lost old line facts told new other step blank =

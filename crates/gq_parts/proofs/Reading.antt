@@ -14,10 +14,11 @@ use Rattle.gq_keeper.specs.Runs.{lines_of, facts_of}
 use Rattle.gq_keeper.specs.Starting.{RecallsAll}
 use Rattle.gq_node.specs.declared.output.Fact.{Fact}
 use Rattle.gq_node.specs.Inputs.{Input, after_all}
+use Rattle.gq_parts.specs.Within.{taken, after_taken}
 use Rattle.gq_node.specs.Local.{Local, recalls}
 use Rattle.gq_node.specs.Recalling.{tenant_of, own_fact}
 use Rattle.gq_node.specs.Resting.{recall_one, recall_all, those_of}
-use Rattle.gq_node.specs.Sites.{Here, site_of}
+use Rattle.gq_node.specs.Sites.{Here, Site, site_of}
 use Rattle.gq_node.specs.Tables.{Tables, Agrees, fact_of}
 use Rattle.gq_facts.specs.Facts.{verb_of, fact_words, fact_of_line}
 use Rattle.gq_facts.specs.Laws.{FitsFact}
@@ -29,7 +30,7 @@ use Rattle.gq_parts.specs.Recalls.{RecallsFact, RecallsTo, facts_said}
 use Rattle.gq_parts.specs.Resting.{IsNodeOf}
 use Rattle.gq_parts.specs.Laws.{AllStartsByParts, AllFactsByParts}
 use Rattle.gq_parts.proofs.Knowing.{recall_more}
-use Rattle.gq_parts.proofs.Taking.{its_tenant, own_more}
+use Rattle.gq_parts.proofs.Taking.{its_tenant, own_more, taken_more}
 
 -- ---- the facts of one tenant
 
@@ -76,10 +77,10 @@ its_own g t a (suc n) low high none = elim (cases_eq a t) [
       ∙ its_own g t (a + 1) n (omega arith) (omega arith) none)
 ]
 
-pub those-by : (plan : CheckedPlan) (here : Here) (t : ℕ) (parts : ℕ → Local) (inputs : ℕ → List Input) → t < length plan.rows → those_of t (facts_by plan here parts inputs) ≡ own_facts (site_of plan here t) (parts t) (inputs t)
+pub those-by : (plan : CheckedPlan) (here : Here) (t : ℕ) (parts : ℕ → Local) (inputs : ℕ → List Input) → t < length plan.rows → those_of t (facts_by plan here parts inputs) ≡ own_facts (site_of plan here t) (parts t) (taken (site_of plan here t) (parts t) (inputs t))
 those-by plan here t parts inputs within =
-    its_own (λ u. facts_for plan here u (parts u) (inputs u)) t 0 (length plan.rows) (omega arith) (omega arith) (λ u other. those-other t u (own_facts (site_of plan here u) (parts u) (inputs u)) other)
-    ∙ those-own t (own_facts (site_of plan here t) (parts t) (inputs t))
+    its_own (λ u. facts_for plan here u (parts u) (inputs u)) t 0 (length plan.rows) (omega arith) (omega arith) (λ u other. those-other t u (own_facts (site_of plan here u) (parts u) (taken (site_of plan here u) (parts u) (inputs u))) other)
+    ∙ those-own t (own_facts (site_of plan here t) (parts t) (taken (site_of plan here t) (parts t) (inputs t)))
 
 -- ---- the lines of facts
 
@@ -97,13 +98,17 @@ facts_by_parts plan here t parts [] is within tells = refl
 facts_by_parts plan here t parts (did ∷ dids) is within tells =
     let inputs : ℕ → List Input = line_inputs plan here did.line in
     let first : facts_said plan did.facts ≡ facts_by plan here parts inputs = ap (facts_said plan) tells.1 ∙ said_back plan is (facts_by plan here parts inputs) tells.2 in
-    let rest : those_of t (facts_said plan (facts_of dids)) ≡ own_facts (site_of plan here t) (after_all (site_of plan here t) (parts t) (inputs t)) (lines_inputs plan here (lines_of dids) t) =
+    let site : Site = site_of plan here t in
+    let one : List Input = taken site (parts t) (inputs t) in
+    let more : List Input = taken site (after_taken site (parts t) (inputs t)) (lines_inputs plan here (lines_of dids) t) in
+    let rest : those_of t (facts_said plan (facts_of dids)) ≡ own_facts site (after_all site (parts t) one) more =
     facts_by_parts plan here t (parts_after plan here parts inputs) dids is within tells.3 in
     ap (those_of t) (said-append plan did.facts (facts_of dids))
     ∙ those-append t (facts_said plan did.facts) (facts_said plan (facts_of dids))
     ∙ ap (λ z. z ++ those_of t (facts_said plan (facts_of dids))) (ap (those_of t) first ∙ those-by plan here t parts inputs within)
-    ∙ ap (λ z. own_facts (site_of plan here t) (parts t) (inputs t) ++ z) rest
-    ∙ sym (own_more (site_of plan here t) (parts t) (inputs t) (lines_inputs plan here (lines_of dids) t))
+    ∙ ap (λ z. own_facts site (parts t) one ++ z) rest
+    ∙ sym (own_more site (parts t) one more)
+    ∙ ap (own_facts site (parts t)) (sym (taken_more site (parts t) (inputs t) (lines_inputs plan here (lines_of dids) t)))
 
 -- they are such as may stand in a journal, and begin no plan
 

@@ -10,6 +10,7 @@ use Rattle.gq_cluster.specs.Facts.{OwnFact}
 use Rattle.gq_keeper.specs.Starting.{RecallsAll}
 use Rattle.gq_node.specs.declared.output.Fact.{Fact}
 use Rattle.gq_node.specs.Inputs.{Input, after_all}
+use Rattle.gq_parts.specs.Within.{taken, after_taken}
 use Rattle.gq_node.specs.Local.{Local}
 use Rattle.gq_node.specs.Resting.{recall_all, those_of, IsAtRest, IsBare, Needed, begun_local}
 use Rattle.gq_node.specs.Sites.{Here, Site, site_of}
@@ -57,8 +58,8 @@ step_volumes old line facts told new step t within =
     let inputs : List Input = line_inputs old.plan old.here line t in
     let site : Site = site_of old.plan old.here t in
     let s : Stands old t = step.stand t within in
-    its_volumes new t (after_all site s.local inputs) (step.takes.parts t within s.local s.agrees)
-    ∙ all_volumes site s.local inputs
+    its_volumes new t (after_taken site s.local inputs) (step.takes.parts t within s.local s.agrees)
+    ∙ all_volumes site s.local (taken site s.local inputs)
     ∙ sym (its_volumes old t s.local s.agrees)
 
 pub keeps_blank : (lost : ℕ → ℕ) (old : Tables) (line : List ℕ) (facts : List (List ℕ)) (told : List ℕ) (new other : Tables) → StepsTo old line facts told new → IsBlank lost new other → IsBlank lost old other
@@ -116,6 +117,10 @@ keeps_rest old line facts told new before after step r reads = record {
     parts : ℕ → Local
     parts t = of_case t n (λ within. (r.parts t within).local) (begun_local (site_of old.plan old.here t) [] 0) (cases_Bool (nat_lt t n))
 
+    -- all that the part takes
+    own : ℕ → List Input
+    own t = taken (site_of old.plan old.here t) (parts t) (inputs t)
+
     has : (t : ℕ) → t < n → AtRest old before t (parts t)
     has t within = of_case_has (AtRest old before t) t n (λ h. (r.parts t h).local) (begun_local (site_of old.plan old.here t) [] 0)
         (λ h. record { again = (r.parts t h).again; was = (r.parts t h).was; is = (r.parts t h).is; bare = (r.parts t h).bare; rests = (r.parts t h).rests }) within (cases_Bool (nat_lt t n))
@@ -134,16 +139,16 @@ keeps_rest old line facts told new before after step r reads = record {
         let p : AtRest old before t (parts t) = has t within in
         let site : Site = site_of old.plan old.here t in
         let read : Recalled old.plan old.here t p.again (facts_said old.plan facts) after = all_recalled old.plan old.here t p.again facts before after r.node p.is reads in
-        let own : those_of t (facts_said old.plan facts) ≡ own_facts site (parts t) (inputs t) = ap (those_of t) said ∙ those-by old.plan old.here t parts inputs within in
+        let its : those_of t (facts_said old.plan facts) ≡ own_facts site (parts t) (own t) = ap (those_of t) said ∙ those-by old.plan old.here t parts inputs within in
         record {
-          local = after_all site (parts t) (inputs t);
-          again = recall_all site p.again (own_facts site (parts t) (inputs t));
+          local = after_all site (parts t) (own t);
+          again = recall_all site p.again (own_facts site (parts t) (own t));
           was = step.takes.parts t within (parts t) p.was;
-          is = subst (λ z. Agrees after t (recall_all site p.again z)) own read.agrees;
-          bare = all_bare site (parts t) (inputs t) p.bare;
+          is = subst (λ z. Agrees after t (recall_all site p.again z)) its read.agrees;
+          bare = all_bare site (parts t) (own t) p.bare;
           rests =
-              let R : CheckedPlan → Here → Type 0 = λ plan here. IsAtRest (site_of plan here t) (recall_all site p.again (own_facts site (parts t) (inputs t))) (after_all site (parts t) (inputs t)) in
-              subst (λ plan. R plan new.here) (sym step.takes.plan) (subst (λ here. R old.plan here) (sym step.takes.here) (all_rest site p.again (parts t) (inputs t) p.bare p.rests));
+              let R : CheckedPlan → Here → Type 0 = λ plan here. IsAtRest (site_of plan here t) (recall_all site p.again (own_facts site (parts t) (own t))) (after_all site (parts t) (own t)) in
+              subst (λ plan. R plan new.here) (sym step.takes.plan) (subst (λ here. R old.plan here) (sym step.takes.here) (all_rest site p.again (parts t) (own t) p.bare p.rests));
         }
 
 pub starts_again : (lost : ℕ → ℕ) (first last new again : Tables) (lines : List (List ℕ)) → IsBlank lost first first → RecallsAll RecallsTo first lines last → IsBlank lost last new →

@@ -8,7 +8,7 @@ use Rattle.std.proofs.lemmas.Grind.{flat_map-append}
 use Rattle.std.proofs.lemmas.List.{map-append}
 use Rattle.std.proofs.lemmas.List.Elements.{All-append, All-nil}
 use Rattle.gq_tag.specs.declared.Message.{Message}
-use Rattle.gq_tag.specs.Tag.{OwnMessage, message_of}
+use Rattle.gq_tag.specs.Tag.{OwnMessage, message_of, own_message}
 use Rattle.gq_desk.specs.CheckedPlan.{CheckedPlan}
 use Rattle.gq_text.specs.Canonical.{IsPlan}
 use Rattle.gq_text.specs.AnswerText.{spaced}
@@ -17,7 +17,7 @@ use Rattle.gq_journal.specs.Batches.{ended_line, lines_text, are_batch_lines}
 use Rattle.gq_keeper.specs.Runs.{Takes}
 use Rattle.gq_node.specs.declared.output.Output.{Output}
 use Rattle.gq_node.specs.declared.output.Fact.{Fact}
-use Rattle.gq_node.specs.Inputs.{Input, Joined as HeardJoined, does, after_one, after_all}
+use Rattle.gq_node.specs.Inputs.{Input, Joined as HeardJoined, does, after_one, after_all, doings}
 use Rattle.gq_node.specs.Local.{Local, Doing, Parcel, Wants, Brings}
 use Rattle.gq_node.specs.Recalling.{tenant_of, own_fact}
 use Rattle.gq_node.specs.Resting.{AllOfPlan}
@@ -29,8 +29,10 @@ use Rattle.gq_facts.proofs.FactsBack.{facts_stand_in_batches}
 use Rattle.gq_wire.specs.declared.incoming.Incoming.{Incoming}
 use Rattle.gq_wire.specs.Incoming.{incoming_of}
 use Rattle.gq_parts.specs.Inputs.{asked_in, inputs_of, ticks_of}
-use Rattle.gq_parts.specs.Texts.{step_text, doing_text, written_for, own_facts, facts_for, written_by, facts_by, node_text}
-use Rattle.gq_parts.specs.Steps.{fact_lines, TakesAll, StepsTo, HasAddress, IsOfPlan, Appended, TakesOf, TookOf, TookAll, TookIncoming}
+use Rattle.gq_parts.specs.declared.laws.TheConstants.{MOST_HOPS}
+use Rattle.gq_parts.specs.Within.{is_own, own_of, others_of, own_letters, hops, left_behind, within, left, taken, after_taken}
+use Rattle.gq_parts.specs.Texts.{step_text, doing_text, steps_text, lines_of_letters, outside_text, written_for, own_facts, facts_for, written_by, facts_by, node_text}
+use Rattle.gq_parts.specs.Steps.{fact_lines, TakesAll, StepsTo, HasAddress, IsOfPlan, IsOfTenant, Appended, going_home, going_by_lines, TakesOwn, PutAll, TakesOf, TookOf, TookAll, TookIncoming}
 
 -- what holds where a call gave Ok leads on
 pub on_ok : {T E : Type 0} (r : Result T E) {P Q : Type 0} → (P → Q) → OnOk r P → OnOk r Q
@@ -52,14 +54,14 @@ texts_are plan (fact ∷ facts) =
     ap (λ z. fact_text plan fact ++ z) (texts_are plan facts)
     ∙ ap (λ z. z ++ lines_text (fact_lines plan facts)) (fact_text_is plan fact ∙ append-nil (ended_line (fact_line plan fact)))
 
-appended_more : (plan : CheckedPlan) (a b : List Fact) (x y f0 f1 f2 t0 t1 t2 : List ℕ) → Appended plan a x f0 f1 t0 t1 → Appended plan b y f1 f2 t1 t2 → Appended plan (a ++ b) (x ++ y) f0 f2 t0 t2
+pub appended_more : (plan : CheckedPlan) (a b : List Fact) (x y f0 f1 f2 t0 t1 t2 : List ℕ) → Appended plan a x f0 f1 t0 t1 → Appended plan b y f1 f2 t1 t2 → Appended plan (a ++ b) (x ++ y) f0 f2 t0 t2
 appended_more plan a b x y f0 f1 f2 t0 t1 t2 p q = record {
   facts_are = q.facts_are ∙ ap (λ z. z ++ lines_text (fact_lines plan b)) p.facts_are ∙ append_assoc f0 (lines_text (fact_lines plan a)) (lines_text (fact_lines plan b))
       ∙ ap (λ z. f0 ++ z) (sym (flat_map-append ended_line (fact_lines plan a) (fact_lines plan b)) ∙ ap lines_text (sym (map-append (fact_line plan) a b)));
   told_is = q.told_is ∙ ap (λ z. z ++ y) p.told_is ∙ append_assoc t0 x y;
 }
 
-appended_none : (plan : CheckedPlan) (f t : List ℕ) → Appended plan [] [] f f t t
+pub appended_none : (plan : CheckedPlan) (f t : List ℕ) → Appended plan [] [] f f t t
 appended_none plan f t = record { facts_are = sym (append-nil f); told_is = sym (append-nil t) }
 
 -- ---- more inputs of one part
@@ -68,12 +70,42 @@ pub after_more : (site : Site) (local : Local) (xs ys : List Input) → after_al
 after_more site local [] ys = refl
 after_more site local (x ∷ xs) ys = after_more site (after_one site local x) xs ys
 
+-- what is taken where more comes from outside
+pub taken_more : (site : Site) (local : Local) (xs ys : List Input) → taken site local (xs ++ ys) ≡ taken site local xs ++ taken site (after_taken site local xs) ys
+taken_more site local [] ys = refl
+taken_more site local (x ∷ xs) ys =
+    let one : List Input = within site local x in
+    let next : Local = after_all site local one in
+    ap (λ z. one ++ z) (taken_more site next xs ys)
+    ∙ sym (append_assoc one (taken site next xs) (taken site (after_taken site next xs) ys))
+    ∙ ap (λ l. (one ++ taken site next xs) ++ taken site l ys) (sym (after_more site local one (taken site next xs)))
+
+pub after_taken_more : (site : Site) (local : Local) (xs ys : List Input) → after_taken site local (xs ++ ys) ≡ after_taken site (after_taken site local xs) ys
+after_taken_more site local xs ys =
+    ap (after_all site local) (taken_more site local xs ys) ∙ after_more site local (taken site local xs) (taken site (after_taken site local xs) ys)
+
 pub written_more : (plan : CheckedPlan) (here : Here) (t : ℕ) (local : Local) (xs ys : List Input) →
-    written_for plan here t local (xs ++ ys) ≡ written_for plan here t local xs ++ written_for plan here t (after_all (site_of plan here t) local xs) ys
+    written_for plan here t local (xs ++ ys) ≡ written_for plan here t local xs ++ written_for plan here t (after_taken (site_of plan here t) local xs) ys
 written_more plan here t local [] ys = refl
 written_more plan here t local (x ∷ xs) ys =
-    ap (λ z. doing_text plan here t x (does x (site_of plan here t) local) ++ z) (written_more plan here t (after_one (site_of plan here t) local x) xs ys)
-    ∙ sym (append_assoc (doing_text plan here t x (does x (site_of plan here t) local)) (written_for plan here t (after_one (site_of plan here t) local x) xs) (written_for plan here t (after_all (site_of plan here t) local (x ∷ xs)) ys))
+    let site : Site = site_of plan here t in
+    let one : List Input = within site local x in
+    let next : Local = after_all site local one in
+    ap (λ z. outside_text plan here t local x ++ z) (written_more plan here t next xs ys)
+    ∙ sym (append_assoc (outside_text plan here t local x) (written_for plan here t next xs) (written_for plan here t (after_taken site next xs) ys))
+    ∙ ap (λ l. (outside_text plan here t local x ++ written_for plan here t next xs) ++ written_for plan here t l ys) (sym (after_more site local one (taken site next xs)))
+
+-- and of steps with nothing taken within
+pub steps_more : (plan : CheckedPlan) (here : Here) (t : ℕ) (local : Local) (xs ys : List Input) →
+    steps_text plan here t local (xs ++ ys) ≡ steps_text plan here t local xs ++ steps_text plan here t (after_all (site_of plan here t) local xs) ys
+steps_more plan here t local [] ys = refl
+steps_more plan here t local (x ∷ xs) ys =
+    ap (λ z. doing_text plan here t x (does x (site_of plan here t) local) ++ z) (steps_more plan here t (after_one (site_of plan here t) local x) xs ys)
+    ∙ sym (append_assoc (doing_text plan here t x (does x (site_of plan here t) local)) (steps_text plan here t (after_one (site_of plan here t) local x) xs) (steps_text plan here t (after_all (site_of plan here t) local (x ∷ xs)) ys))
+
+pub doings_more : (site : Site) (local : Local) (xs ys : List Input) → doings site local (xs ++ ys) ≡ doings site local xs ++ doings site (after_all site local xs) ys
+doings_more site local [] ys = refl
+doings_more site local (x ∷ xs) ys = ap (λ z. does x site local ∷ z) (doings_more site (after_one site local x) xs ys)
 
 pub own_more : (site : Site) (local : Local) (xs ys : List Input) → own_facts site local (xs ++ ys) ≡ own_facts site local xs ++ own_facts site (after_all site local xs) ys
 own_more site local [] ys = refl
@@ -82,10 +114,14 @@ own_more site local (x ∷ xs) ys =
     ∙ sym (append_assoc (option_to_list (does x site local).fact) (own_facts site (does x site local).local xs) (own_facts site (after_all site local (x ∷ xs)) ys))
 
 facts_more : (plan : CheckedPlan) (here : Here) (t : ℕ) (local : Local) (xs ys : List Input) →
-    facts_for plan here t local (xs ++ ys) ≡ facts_for plan here t local xs ++ facts_for plan here t (after_all (site_of plan here t) local xs) ys
+    facts_for plan here t local (xs ++ ys) ≡ facts_for plan here t local xs ++ facts_for plan here t (after_taken (site_of plan here t) local xs) ys
 facts_more plan here t local xs ys =
-    ap (map (fact_of t)) (own_more (site_of plan here t) local xs ys)
-    ∙ map-append (fact_of t) (own_facts (site_of plan here t) local xs) (own_facts (site_of plan here t) (after_all (site_of plan here t) local xs) ys)
+    let site : Site = site_of plan here t in
+    let a : List Input = taken site local xs in
+    let b : List Input = taken site (after_taken site local xs) ys in
+    ap (λ z. map (fact_of t) (own_facts site local z)) (taken_more site local xs ys)
+    ∙ ap (map (fact_of t)) (own_more site local a b)
+    ∙ map-append (fact_of t) (own_facts site local a) (own_facts site (after_all site local a) b)
 
 -- ---- one input
 
@@ -108,17 +144,21 @@ fact_own old t x out new stand within acts =
     own (Some fact) = subst (λ n. n < length old.plan.rows) (sym (its_tenant t fact)) within
 
 -- each letter is of the tenant
-pub letters_have : (old : Tables) (t : ℕ) (x : Input) (out : Output) (new : Tables) → AllStand old → t < length old.plan.rows → Acts old t (does x) out new → All (HasAddress old.plan) out.letters.items
+pub letters_have : (old : Tables) (t : ℕ) (x : Input) (out : Output) (new : Tables) → AllStand old → t < length old.plan.rows → Acts old t (does x) out new → All (IsOfTenant t) out.letters.items
 letters_have old t x out new stand within acts =
     let s : Stands old t = stand t within in
     let g : Gives t (does x (site_of old.plan old.here t) s.local) out = acts.gives s.local s.agrees in
-    let P : List Message → Type 0 = λ ms. All (HasAddress old.plan) ms in
+    let P : List Message → Type 0 = λ ms. All (IsOfTenant t) ms in
     subst P (sym g.letters) (own (does x (site_of old.plan old.here t) s.local).letters)
   where
-    own : (ms : List OwnMessage) → All (HasAddress old.plan) (map (message_of t) ms)
+    own : (ms : List OwnMessage) → All (IsOfTenant t) (map (message_of t) ms)
     own [] k d inside = absurd (omega arith)
-    own (m ∷ ms) zero d inside = within
+    own (m ∷ ms) zero d inside = (refl, refl)
     own (m ∷ ms) (suc k) d inside = own ms k d (omega arith)
+
+-- and so goes to a node
+pub with_address : (plan : CheckedPlan) (t : ℕ) (ms : List Message) → t < length plan.rows → All (IsOfTenant t) ms → All (HasAddress plan) ms
+with_address plan t ms within theirs i d inside = subst (λ n. n < length plan.rows) (sym (theirs i d inside).0) within
 
 -- the parcel is of a file of the tenant
 pub parcel_has : (old : Tables) (t : ℕ) (x : Input) (out : Output) (new : Tables) → AllStand old → t < length old.plan.rows → Acts old t (does x) out new → IsOfPlan old.plan out.parcel
@@ -132,38 +172,142 @@ parcel_has old t x out new stand within acts =
     own (Some (Wants to file)) = within
     own (Some (Brings to file copy)) = within
 
-map_option : {A B : Type 0} (f : A → B) (o : Option A) → option_to_list (option_map f o) ≡ map f (option_to_list o)
+pub map_option : {A B : Type 0} (f : A → B) (o : Option A) → option_to_list (option_map f o) ≡ map f (option_to_list o)
 map_option f None = refl
 map_option f (Some x) = refl
 
-one_takes : (old : Tables) (t : ℕ) (x : Input) (out : Output) (new : Tables) → Acts old t (does x) out new → All (FitsFact old.plan) (option_to_list out.fact) →
-    TakesOf old t (x ∷ []) (option_to_list out.fact) (step_text old.plan old.here t (asked_in x) out.answer out.letters.items out.parcel) new
-one_takes old t x out new acts fit = record {
-  plan = acts.leads.plan;
-  here = acts.leads.here;
-  own = acts.leads.own;
-  others = acts.leads.others;
-  gives = λ local agrees. (let doing : Doing = does x (site_of old.plan old.here t) local in
-      ap option_to_list (acts.gives local agrees).fact ∙ map_option (fact_of t) doing.fact ∙ ap (map (fact_of t)) (sym (append-nil (option_to_list doing.fact))));
-  tells = λ local agrees. (let doing : Doing = does x (site_of old.plan old.here t) local in
-      let g : Gives t doing out = acts.gives local agrees in
-      ap (λ z. step_text old.plan old.here t (asked_in x) z out.letters.items out.parcel) g.answer
-      ∙ ap (λ z. step_text old.plan old.here t (asked_in x) doing.answer z out.parcel) g.letters
-      ∙ ap (λ z. step_text old.plan old.here t (asked_in x) doing.answer (map (message_of t) doing.letters) z) g.parcel
-      ∙ sym (append-nil (doing_text old.plan old.here t x doing)));
-  fit = fit;
-}
+-- what comes alone, and what is taken within behind it
+taken_one : (site : Site) (local : Local) (x : Input) → taken site local (x ∷ []) ≡ x ∷ hops MOST_HOPS site (after_one site local x) (own_of site (does x site local).letters)
+unfolding within
+taken_one site local x =
+    append-nil (x ∷ hops MOST_HOPS site (after_one site local x) (own_letters site (doings site local (x ∷ []))))
+    ∙ ap (λ ms. x ∷ hops MOST_HOPS site (after_one site local x) ms) (append-nil (own_of site (does x site local).letters))
 
-pub one_took : (old : Tables) (t : ℕ) (x : Input) (out : Output) (new : Tables) (f0 f1 t0 t1 : List ℕ) → Acts old t (does x) out new → All (FitsFact new.plan) (option_to_list out.fact) →
-    Appended new.plan (option_to_list out.fact) (step_text new.plan new.here t (asked_in x) out.answer out.letters.items out.parcel) f0 f1 t0 t1 → TookOf old t (x ∷ []) f0 f1 t0 t1 new
-one_took old t x out new f0 f1 t0 t1 acts fit appended =
-    let P : CheckedPlan → Here → Type 0 = λ p s. All (FitsFact p) (option_to_list out.fact) × Appended p (option_to_list out.fact) (step_text p s t (asked_in x) out.answer out.letters.items out.parcel) f0 f1 t0 t1 in
-    let h : P old.plan old.here = subst (λ p. P p old.here) acts.leads.plan (subst (λ s. P new.plan s) acts.leads.here (fit, appended)) in
+left_one : (site : Site) (local : Local) (x : Input) → left site local x ≡ left_behind MOST_HOPS site (after_one site local x) (own_of site (does x site local).letters)
+unfolding left
+left_one site local x = ap (left_behind MOST_HOPS site (after_one site local x)) (append-nil (own_of site (does x site local).letters))
+
+within_one : (site : Site) (local : Local) (x : Input) → within site local x ≡ x ∷ hops MOST_HOPS site (after_one site local x) (own_of site (does x site local).letters)
+within_one site local x = sym (append-nil (within site local x)) ∙ taken_one site local x
+
+-- where no letter is there, none is taken, and none is left
+pub hops_none : (many : ℕ) (site : Site) (local : Local) → hops many site local [] ≡ []
+unfolding hops
+hops_none zero site local = refl
+hops_none (suc n) site local = hops_none n site local
+
+left_none : (many : ℕ) (site : Site) (local : Local) → left_behind many site local [] ≡ []
+unfolding left_behind
+left_none zero site local = refl
+left_none (suc n) site local = left_none n site local
+
+-- the letters that the code takes within are those of the part, and so are those that go by lines
+pub home_is : (plan : CheckedPlan) (here : Here) (t : ℕ) (ms : List OwnMessage) → map own_message (going_home plan here (map (message_of t) ms)) ≡ own_of (site_of plan here t) ms
+home_is plan here t [] = refl
+home_is plan here t (m ∷ ms) =
+    let rest : map own_message (going_home plan here (map (message_of t) ms)) ≡ own_of (site_of plan here t) ms = home_is plan here t ms in
+    elim (cases_Bool (is_own (site_of plan here t) m)) [
+      | inl is ↦ (rw is (ap (λ z. m ∷ z) rest))
+      | inr is ↦ (rw is rest)
+    ]
+
+pub lines_are_those : (plan : CheckedPlan) (here : Here) (t : ℕ) (ms : List OwnMessage) → going_by_lines plan here (map (message_of t) ms) ≡ map (message_of t) (others_of (site_of plan here t) ms)
+lines_are_those plan here t [] = refl
+lines_are_those plan here t (m ∷ ms) =
+    let rest : going_by_lines plan here (map (message_of t) ms) ≡ map (message_of t) (others_of (site_of plan here t) ms) = lines_are_those plan here t ms in
+    elim (cases_Bool (is_own (site_of plan here t) m)) [
+      | inl is ↦ (rw is rest)
+      | inr is ↦ (rw is (ap (λ z. message_of t m ∷ z) rest))
+    ]
+
+-- what the code writes of a step is what the part writes
+pub text_is : (plan : CheckedPlan) (here : Here) (t : ℕ) (x : Input) (doing : Doing) (out : Output) → Gives t doing out →
+    step_text plan here t (asked_in x) out.answer (going_by_lines plan here out.letters.items) out.parcel ≡ doing_text plan here t x doing
+text_is plan here t x doing out g =
+    ap (λ z. step_text plan here t (asked_in x) z (going_by_lines plan here out.letters.items) out.parcel) g.answer
+    ∙ ap (λ z. step_text plan here t (asked_in x) doing.answer (going_by_lines plan here z) out.parcel) g.letters
+    ∙ ap (λ z. step_text plan here t (asked_in x) doing.answer z out.parcel) (lines_are_those plan here t doing.letters)
+    ∙ ap (λ z. step_text plan here t (asked_in x) doing.answer (map (message_of t) (others_of (site_of plan here t) doing.letters)) z) g.parcel
+
+-- what is taken within, by the plan and the number that the node had before
+record OwnThen (plan : CheckedPlan) (here : Here) (m : Tables) (t : ℕ) (letters : List OwnMessage) (b : List Fact) (y : List ℕ) (new : Tables) : Type 0 where
+  own : (local : Local) → Agrees m t local → Agrees new t (after_all (site_of plan here t) local (hops MOST_HOPS (site_of plan here t) local letters))
+  gives : (local : Local) → Agrees m t local → b ≡ map (fact_of t) (own_facts (site_of plan here t) local (hops MOST_HOPS (site_of plan here t) local letters))
+  tells : (local : Local) → Agrees m t local → y ≡ steps_text plan here t local (hops MOST_HOPS (site_of plan here t) local letters) ++ lines_of_letters plan here t (left_behind MOST_HOPS (site_of plan here t) local letters)
+  fit : All (FitsFact plan) b
+
+own_then : (old m new : Tables) (t : ℕ) (letters : List OwnMessage) (b : List Fact) (y : List ℕ) → m.plan ≡ old.plan → m.here ≡ old.here → TakesOwn MOST_HOPS m t letters b y new → OwnThen old.plan old.here m t letters b y new
+own_then old m new t letters b y plan here q =
+    subst (λ p. OwnThen p old.here m t letters b y new) plan
+    (subst (λ h. OwnThen m.plan h m t letters b y new) here (record { own = q.own; gives = q.gives; tells = q.tells; fit = q.fit }))
+
+-- a step, and then what is taken within
+one_takes : (old m new : Tables) (t : ℕ) (x : Input) (out : Output) (b : List Fact) (y : List ℕ) → Acts old t (does x) out m → All (FitsFact old.plan) (option_to_list out.fact) →
+    TakesOwn MOST_HOPS m t (map own_message (going_home old.plan old.here out.letters.items)) b y new →
+    TakesOf old t (x ∷ []) (option_to_list out.fact ++ b) (step_text old.plan old.here t (asked_in x) out.answer (going_by_lines old.plan old.here out.letters.items) out.parcel ++ y) new
+one_takes old m new t x out b y acts fit q = record {
+  plan = q.plan ∙ acts.leads.plan;
+  here = q.here ∙ acts.leads.here;
+  own = λ local agrees. (
+      let next : Local = after_one site local x in
+      subst (λ xs. Agrees new t (after_all site local xs)) (sym (taken_one site local x))
+      (subst (λ ms. Agrees new t (after_all site next (hops MOST_HOPS site next ms))) (its local agrees) (h.own next (acts.leads.own local agrees))));
+  others = λ u other local agrees. q.others u other local (acts.leads.others u other local agrees);
+  gives = λ local agrees. (
+      let next : Local = after_one site local x in
+      let doing : Doing = does x site local in
+      let rest : List Input = hops MOST_HOPS site next (own_of site doing.letters) in
+      ap (λ z. z ++ b) (ap option_to_list (acts.gives local agrees).fact ∙ map_option (fact_of t) doing.fact)
+      ∙ ap (λ z. map (fact_of t) (option_to_list doing.fact) ++ z) (h.gives next (acts.leads.own local agrees) ∙ ap (λ ms. map (fact_of t) (own_facts site next (hops MOST_HOPS site next ms))) (its local agrees))
+      ∙ sym (map-append (fact_of t) (option_to_list doing.fact) (own_facts site next rest))
+      ∙ ap (λ xs. map (fact_of t) (own_facts site local xs)) (sym (taken_one site local x)));
+  tells = λ local agrees. (
+      let next : Local = after_one site local x in
+      let doing : Doing = does x site local in
+      let g : Gives t doing out = acts.gives local agrees in
+      let rest : List Input = hops MOST_HOPS site next (own_of site doing.letters) in
+      let gone : List OwnMessage = left_behind MOST_HOPS site next (own_of site doing.letters) in
+      ap (λ z. z ++ y) (text_is old.plan old.here t x doing out g)
+      ∙ ap (λ z. doing_text old.plan old.here t x doing ++ z) (h.tells next (acts.leads.own local agrees)
+      ∙ ap (λ ms. steps_text old.plan old.here t next (hops MOST_HOPS site next ms) ++ lines_of_letters old.plan old.here t (left_behind MOST_HOPS site next ms)) (its local agrees))
+      ∙ sym (append_assoc (doing_text old.plan old.here t x doing) (steps_text old.plan old.here t next rest) (lines_of_letters old.plan old.here t gone))
+      ∙ ap (λ xs. steps_text old.plan old.here t local xs ++ lines_of_letters old.plan old.here t gone) (sym (within_one site local x))
+      ∙ ap (λ ms. steps_text old.plan old.here t local (within site local x) ++ lines_of_letters old.plan old.here t ms) (sym (left_one site local x))
+      ∙ sym (append-nil (outside_text old.plan old.here t local x)));
+  fit = All-append (FitsFact old.plan) (option_to_list out.fact) b fit h.fit;
+}
+  where
+    site : Site
+    site = site_of old.plan old.here t
+
+    letters : List OwnMessage
+    letters = map own_message (going_home old.plan old.here out.letters.items)
+
+    h : OwnThen old.plan old.here m t letters b y new
+    h = own_then old m new t letters b y acts.leads.plan acts.leads.here q
+
+    its : (local : Local) → Agrees old t local → letters ≡ own_of site (does x site local).letters
+    its local agrees = ap (λ z. map own_message (going_home old.plan old.here z)) (acts.gives local agrees).letters ∙ home_is old.plan old.here t (does x site local).letters
+
+-- and what that appends
+pub one_took : (old : Tables) (t : ℕ) (x : Input) (out : Output) (m new : Tables) (f0 f1 t0 t1 : List ℕ) → Acts old t (does x) out m → PutAll m t (asked_in x) out f0 f1 t0 t1 new → TookOf old t (x ∷ []) f0 f1 t0 t1 new
+one_took old t x out m new f0 f1 t0 t1 acts put =
+    let b : List Fact = put.own.facts in
+    let y : List ℕ = put.own.told in
+    let f : List ℕ = put.facts_between in
+    let told : List ℕ = put.told_between in
+    let P : CheckedPlan → Here → Type 0 = λ p s.
+    All (FitsFact p) (option_to_list out.fact)
+    × Appended p (option_to_list out.fact) (step_text p s t (asked_in x) out.answer (going_by_lines p s out.letters.items) out.parcel) f0 f t0 told
+    × TakesOwn MOST_HOPS m t (map own_message (going_home p s out.letters.items)) b y new
+    × Appended p b y f f1 told t1 in
+    let h : P old.plan old.here = subst (λ p. P p old.here) acts.leads.plan (subst (λ s. P m.plan s) acts.leads.here (put.fit, put.step, put.own.takes, put.own.appended)) in
+    let first : List ℕ = step_text old.plan old.here t (asked_in x) out.answer (going_by_lines old.plan old.here out.letters.items) out.parcel in
     record {
-      facts = option_to_list out.fact;
-      told = step_text old.plan old.here t (asked_in x) out.answer out.letters.items out.parcel;
-      takes = one_takes old t x out new acts h.0;
-      appended = h.1;
+      facts = option_to_list out.fact ++ b;
+      told = first ++ y;
+      takes = one_takes old m new t x out b y acts h.0 h.2;
+      appended = appended_more old.plan (option_to_list out.fact) b first y f0 f f1 t0 told t1 h.1 h.3;
     }
 
 -- ---- no input, and more inputs, of one tenant
@@ -178,7 +322,7 @@ none_took w t f told = record {
 
 -- what the second of two calls did, by the plan and the number that the first had
 record TakesThen (plan : CheckedPlan) (here : Here) (m : Tables) (t : ℕ) (ys : List Input) (b : List Fact) (y : List ℕ) (new : Tables) : Type 0 where
-  own : (local : Local) → Agrees m t local → Agrees new t (after_all (site_of plan here t) local ys)
+  own : (local : Local) → Agrees m t local → Agrees new t (after_taken (site_of plan here t) local ys)
   gives : (local : Local) → Agrees m t local → b ≡ facts_for plan here t local ys
   tells : (local : Local) → Agrees m t local → y ≡ written_for plan here t local ys
   fit : All (FitsFact plan) b
@@ -195,10 +339,10 @@ takes_more old m new t xs ys a b x y p q =
     record {
       plan = q.plan ∙ p.plan;
       here = q.here ∙ p.here;
-      own = λ local agrees. subst (Agrees new t) (sym (after_more site local xs ys)) (h.own (after_all site local xs) (p.own local agrees));
+      own = λ local agrees. subst (Agrees new t) (sym (after_taken_more site local xs ys)) (h.own (after_taken site local xs) (p.own local agrees));
       others = λ u other local agrees. q.others u other local (p.others u other local agrees);
-      gives = λ local agrees. ap (λ z. z ++ b) (p.gives local agrees) ∙ ap (λ z. facts_for old.plan old.here t local xs ++ z) (h.gives (after_all site local xs) (p.own local agrees)) ∙ sym (facts_more old.plan old.here t local xs ys);
-      tells = λ local agrees. ap (λ z. z ++ y) (p.tells local agrees) ∙ ap (λ z. written_for old.plan old.here t local xs ++ z) (h.tells (after_all site local xs) (p.own local agrees)) ∙ sym (written_more old.plan old.here t local xs ys);
+      gives = λ local agrees. ap (λ z. z ++ b) (p.gives local agrees) ∙ ap (λ z. facts_for old.plan old.here t local xs ++ z) (h.gives (after_taken site local xs) (p.own local agrees)) ∙ sym (facts_more old.plan old.here t local xs ys);
+      tells = λ local agrees. ap (λ z. z ++ y) (p.tells local agrees) ∙ ap (λ z. written_for old.plan old.here t local xs ++ z) (h.tells (after_taken site local xs) (p.own local agrees)) ∙ sym (written_more old.plan old.here t local xs ys);
       fit = All-append (FitsFact old.plan) a b p.fit h.fit;
     }
 
@@ -263,16 +407,16 @@ takes_next : (old m new : Tables) (inputs : ℕ → List Input) (t : ℕ) (xs : 
     TakesAll old inputs a x m → TakesOf m t xs b y new → TakesAll old (with_inputs inputs t xs) (a ++ b) (x ++ y) new
 takes_next old m new inputs t xs a b x y within none p q =
     let h : TakesThen old.plan old.here m t xs b y new = takes_then old m new t xs b y p.plan p.here q in
-    let still : (local : Local) → Agrees old t local → Agrees m t local = λ local agrees. subst (λ z. Agrees m t (after_all (site_of old.plan old.here t) local z)) (none t (omega arith)) (p.parts t within local agrees) in
+    let still : (local : Local) → Agrees old t local → Agrees m t local = λ local agrees. subst (λ z. Agrees m t (after_taken (site_of old.plan old.here t) local z)) (none t (omega arith)) (p.parts t within local agrees) in
     record {
       plan = q.plan ∙ p.plan;
       here = q.here ∙ p.here;
       parts = λ u inside local agrees. elim (cases_eq u t) [
         | inl same ↦ (
             let at : Agrees old t local = subst (λ z. Agrees old z local) same agrees in
-            let to : Agrees new t (after_all (site_of old.plan old.here t) local (with_inputs inputs t xs t)) = subst (λ z. Agrees new t (after_all (site_of old.plan old.here t) local z)) (sym (with_same inputs t xs)) (h.own local (still local at)) in
-            subst (λ z. Agrees new z (after_all (site_of old.plan old.here z) local (with_inputs inputs t xs z))) (sym same) to)
-        | inr other ↦ (subst (λ z. Agrees new u (after_all (site_of old.plan old.here u) local z)) (sym (with_other inputs t xs u other)) (q.others u other _ (p.parts u inside local agrees)))
+            let to : Agrees new t (after_taken (site_of old.plan old.here t) local (with_inputs inputs t xs t)) = subst (λ z. Agrees new t (after_taken (site_of old.plan old.here t) local z)) (sym (with_same inputs t xs)) (h.own local (still local at)) in
+            subst (λ z. Agrees new z (after_taken (site_of old.plan old.here z) local (with_inputs inputs t xs z))) (sym same) to)
+        | inr other ↦ (subst (λ z. Agrees new u (after_taken (site_of old.plan old.here u) local z)) (sym (with_other inputs t xs u other)) (q.others u other _ (p.parts u inside local agrees)))
       ];
       gives = λ parts agree.
           ap (λ z. z ++ b) (p.gives parts agree)
@@ -313,7 +457,7 @@ took_same old new inputs others f0 f1 t0 t1 same p = record {
   takes = record {
     plan = p.takes.plan;
     here = p.takes.here;
-    parts = λ u inside local agrees. subst (λ z. Agrees new u (after_all (site_of old.plan old.here u) local z)) (same u inside) (p.takes.parts u inside local agrees);
+    parts = λ u inside local agrees. subst (λ z. Agrees new u (after_taken (site_of old.plan old.here u) local z)) (same u inside) (p.takes.parts u inside local agrees);
     gives = λ parts agree. p.takes.gives parts agree
         ∙ same_places (λ u. facts_for old.plan old.here u (parts u) (inputs u)) (λ u. facts_for old.plan old.here u (parts u) (others u)) 0 (length old.plan.rows) (λ u below. ap (facts_for old.plan old.here u (parts u)) (same u (omega arith)));
     tells = λ parts agree. p.takes.tells parts agree
@@ -412,7 +556,7 @@ leads_took old new x f told leads silent = record {
   takes = record {
     plan = leads.plan;
     here = leads.here;
-    parts = leads.parts;
+    parts = λ t within local agrees. subst (λ xs. Agrees new t (after_all (site_of old.plan old.here t) local xs)) (sym (alone (site_of old.plan old.here t) local)) (leads.parts t within local agrees);
     gives = λ parts agree. sym (none_from (λ t. facts_for old.plan old.here t (parts t) (x ∷ [])) 0 (length old.plan.rows) (λ u above. no_facts u (parts u)));
     tells = λ parts agree. sym (none_from (λ t. written_for old.plan old.here t (parts t) (x ∷ [])) 0 (length old.plan.rows) (λ u above. no_text u (parts u)));
     fit = All-nil (FitsFact old.plan);
@@ -420,11 +564,24 @@ leads_took old new x f told leads silent = record {
   appended = appended_none old.plan f told;
 }
   where
+    alone : (site : Site) (local : Local) → taken site local (x ∷ []) ≡ x ∷ []
+    alone site local =
+        taken_one site local x ∙ ap (λ ms. x ∷ hops MOST_HOPS site (after_one site local x) (own_of site ms)) (silent site local).letters ∙ ap (λ xs. x ∷ xs) (hops_none MOST_HOPS site (after_one site local x))
+
     no_facts : (u : ℕ) (local : Local) → facts_for old.plan old.here u local (x ∷ []) ≡ []
-    no_facts u local = let s = silent (site_of old.plan old.here u) local in rw s.fact refl
+    no_facts u local =
+        let site : Site = site_of old.plan old.here u in
+        ap (λ xs. map (fact_of u) (own_facts site local xs)) (alone site local) ∙ ap (λ o. map (fact_of u) (option_to_list o ++ [])) (silent site local).fact
 
     no_text : (u : ℕ) (local : Local) → written_for old.plan old.here u local (x ∷ []) ≡ []
-    no_text u local = let s = silent (site_of old.plan old.here u) local in rw (s.answer, s.letters, s.parcel) refl
+    no_text u local =
+        let site : Site = site_of old.plan old.here u in
+        let s = silent site local in
+        let no : doing_text old.plan old.here u x (does x site local) ≡ [] = rw (s.answer, s.letters, s.parcel) refl in
+        append-nil (outside_text old.plan old.here u local x)
+        ∙ ap (λ xs. steps_text old.plan old.here u local xs ++ lines_of_letters old.plan old.here u (left site local x)) (sym (append-nil (within site local x)) ∙ alone site local)
+        ∙ ap (λ z. (z ++ []) ++ lines_of_letters old.plan old.here u (left site local x)) no
+        ∙ ap (lines_of_letters old.plan old.here u) (left_one site local x ∙ ap (λ ms. left_behind MOST_HOPS site (after_one site local x) (own_of site ms)) s.letters ∙ left_none MOST_HOPS site (after_one site local x))
 
 -- ---- the facts that a start needs
 

@@ -1,6 +1,5 @@
 -- All nodes of a grid, as lines come to them and as they start, with plans by which nodes are lost and replaced and volumes are opened.
-use Rattle.std.specs.Prelude.{◌≡◌, ◌≢◌, ℕ, ◌*◌, ◌<◌, List, [], ◌∷◌, ◌++◌, Bool, true, false, length, map, take, if◌then◌else◌}
-use Rattle.std.specs.List.{flat_map}
+use Rattle.std.specs.Prelude.{◌≡◌, ◌≢◌, ℕ, ◌*◌, ◌<◌, List, [], ◌∷◌, ◌++◌, Bool, true, false, length, map, take, ⊤, if◌then◌else◌}
 use Rattle.gq_desk.specs.CheckedPlan.{CheckedPlan, row_at}
 use Rattle.gq_desk.specs.declared.volumes.VolumeRow.{VolumeRow}
 use Rattle.gq_text.specs.Canonical.{IsPlan}
@@ -11,13 +10,15 @@ use Rattle.gq_cluster.specs.Laws.{StepsEnough}
 use Rattle.gq_replace.specs.Fleet.{new_fleet, all_node_steps}
 use Rattle.gq_replace.specs.Laws.{IsRight}
 use Rattle.gq_replace.specs.Plans.{Plan, IsChain}
-use Rattle.gq_node.specs.Nodes.{NodeWorld, Nodes, Event, Came, AskedToJoin, Started, new_nodes, nodes_after, all_steps, AllCanCome, Follows, AllOpen}
+use Rattle.gq_node.specs.Nodes.{NodeWorld, Nodes, Event, Came, AskedToJoin, Started, site_at, new_nodes, nodes_after, all_steps, CanCome, Follows, AllOpen}
 use Rattle.gq_node.specs.Resting.{those_of}
+use Rattle.gq_node.specs.Inputs.{Input}
 use Rattle.gq_node.specs.Sites.{Here, numbered, home_of, home_place, is_of_plan}
 use Rattle.gq_node.specs.Tables.{Tables, Agrees}
 use Rattle.gq_wire.specs.declared.incoming.Incoming.{Incoming}
 use Rattle.gq_wire.specs.declared.incoming.Incoming.TheVariants.{Joins}
 use Rattle.gq_wire.specs.Incoming.{incoming_of}
+use Rattle.gq_parts.specs.Within.{within, taken}
 use Rattle.gq_parts.specs.Inputs.{inputs_of, line_inputs}
 use Rattle.gq_parts.specs.Texts.{written_by, parts_after, line_text_of}
 use Rattle.gq_parts.specs.Recalls.{RecallsTo, facts_said}
@@ -142,21 +143,48 @@ AllHappen g first (h ∷ hs) last = (next : AllNodes) × Happens g first h next 
 
 -- ---- of one tenant
 
--- what comes to the node, as events of the tenant at place t
-abbrev pub came_events : GridPlans → (p n t : ℕ) → Incoming → List Event
-came_events g p n t (Joins from losses) = AskedToJoin n from losses ∷ []
-came_events g p n t incoming = map (λ input. Came n input) (inputs_of g.plan (here_in g p n) incoming t)
+-- What comes to the node, as events of the tenant at place t, where the nodes are these: what comes from outside, each with what is taken within
+-- behind it.
+abbrev pub came_events : GridPlans → (p n t : ℕ) → Nodes → Incoming → List Event
+came_events g p n t nodes (Joins from losses) = AskedToJoin n from losses ∷ []
+came_events g p n t nodes incoming = map (λ input. Came n input) (taken (site_at (world_at g t) nodes n) (nodes.local n) (inputs_of g.plan (here_in g p n) incoming t))
 
-abbrev pub events_of : GridPlans → (t : ℕ) → Happening → List Event
-events_of g t (Took n p did) = came_events g p n t (incoming_of g.plan n did.line)
-events_of g t (Starts n p) = Started n p ∷ []
+abbrev pub events_of : GridPlans → (t : ℕ) → Nodes → Happening → List Event
+events_of g t nodes (Took n p did) = came_events g p n t nodes (incoming_of g.plan n did.line)
+events_of g t nodes (Starts n p) = Started n p ∷ []
+
+-- of all happenings, from these nodes on, as the law has them
+abbrev pub events_from : GridPlans → (t : ℕ) → Nodes → List Happening → List Event
+events_from g t nodes [] = []
+events_from g t nodes (h ∷ hs) = events_of g t nodes h ++ events_from g t (nodes_after (world_at g t) nodes (events_of g t nodes h)) hs
 
 abbrev pub all_events : GridPlans → (t : ℕ) → List Happening → List Event
-all_events g t hs = flat_map (events_of g t) hs
+all_events g t hs = events_from g t (new_nodes (world_at g t)) hs
 
 -- what all nodes have of it after that, by the law of nodes
 abbrev pub nodes_at : GridPlans → List Happening → (t : ℕ) → Nodes
 nodes_at g hs t = nodes_after (world_at g t) (new_nodes (world_at g t)) (all_events g t hs)
+
+-- ---- what may come by lines
+
+-- Of what comes to the node from outside each may come, where what is taken within behind it was taken. Nothing is asked of that: the node itself wrote
+-- it, in the same step.
+abbrev pub InputsCanCome : NodeWorld → (n : ℕ) → Nodes → List Input → Type 0
+InputsCanCome w n nodes [] = ⊤
+InputsCanCome w n nodes (input ∷ rest) =
+    CanCome w nodes (Came n input) × InputsCanCome w n (nodes_after w nodes (map (λ a. Came n a) (within (site_at w nodes n) (nodes.local n) input))) rest
+
+abbrev pub IncomingCanCome : GridPlans → (p n t : ℕ) → Nodes → Incoming → Type 0
+IncomingCanCome g p n t nodes (Joins from losses) = CanCome (world_at g t) nodes (AskedToJoin n from losses)
+IncomingCanCome g p n t nodes incoming = InputsCanCome (world_at g t) n nodes (inputs_of g.plan (here_in g p n) incoming t)
+
+abbrev pub HappeningCanCome : GridPlans → (t : ℕ) → Nodes → Happening → Type 0
+HappeningCanCome g t nodes (Took n p did) = IncomingCanCome g p n t nodes (incoming_of g.plan n did.line)
+HappeningCanCome g t nodes (Starts n p) = CanCome (world_at g t) nodes (Started n p)
+
+abbrev pub LinesCanCome : GridPlans → (t : ℕ) → Nodes → List Happening → Type 0
+LinesCanCome g t nodes [] = ⊤
+LinesCanCome g t nodes (h ∷ hs) = HappeningCanCome g t nodes h × LinesCanCome g t (nodes_after (world_at g t) nodes (events_of g t nodes h)) hs
 
 -- ---- what all that comes to
 
@@ -185,7 +213,7 @@ TellsAll g before (h ∷ hs) = TellsAt g before h × TellsAll g (before ++ h ∷
 abbrev pub steps_with : GridPlans → (t : ℕ) → List VolumeRow → List Event → List NodeStep
 steps_with g t volumes events = all_node_steps (world_with g t volumes).world new_fleet (all_steps (world_with g t volumes) (new_nodes (world_with g t volumes)) events)
 
--- The events of a tenant, of which each letter was written before and no node that is gone takes a step, are steps of the law of nodes that are lost and
+-- The events of a tenant, where each letter that came by a line was written before and no node that is gone takes a step, are steps of the law of nodes that are lost and
 -- replaced; and each file is one register, where each of the tenant's volumes may be opened behind those before it and the tenant has steps enough.
 pub record FollowsLaw (g : GridPlans) (hs : List Happening) (t : ℕ) : Type 0 where
   pub follows : Follows (world_at g t) (new_nodes (world_at g t)) new_fleet (all_events g t hs)
@@ -196,7 +224,7 @@ pub record FollowsLaw (g : GridPlans) (hs : List Happening) (t : ℕ) : Type 0 w
 pub record IsByLaw (g : GridPlans) (hs : List Happening) (last : AllNodes) : Type 0 where
   pub told : TellsAll g [] hs
   pub nodes : (t : ℕ) → t < length g.plan.rows → AreNodes g last t (nodes_at g hs t)
-  pub follow : (t : ℕ) → t < length g.plan.rows → AllCanCome (world_at g t) (new_nodes (world_at g t)) (all_events g t hs) → FollowsLaw g hs t
+  pub follow : (t : ℕ) → t < length g.plan.rows → LinesCanCome g t (new_nodes (world_at g t)) hs → FollowsLaw g hs t
 
 -- whatever lines come to the nodes of a grid, of which none was ever started, and whenever one is lost and replaced, or starts again
 abbrev pub AllByLaw : Type 0

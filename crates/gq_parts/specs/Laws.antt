@@ -5,7 +5,7 @@ use Rattle.gq_desk.specs.CheckedPlan.{CheckedPlan}
 use Rattle.gq_text.specs.Canonical.{IsPlan}
 use Rattle.gq_keeper.specs.Runs.{Did, Runs, lines_of, facts_of}
 use Rattle.gq_keeper.specs.Starting.{RecallsAll}
-use Rattle.gq_node.specs.Inputs.{after_all}
+use Rattle.gq_parts.specs.Within.{taken, after_taken}
 use Rattle.gq_node.specs.Local.{Local}
 use Rattle.gq_node.specs.Resting.{recall_all, those_of}
 use Rattle.gq_node.specs.Sites.{Here, site_of}
@@ -34,7 +34,7 @@ TellsEach plan here parts (did ∷ dids) =
 pub record GoesByParts (plan : CheckedPlan) (here : Here) (parts : ℕ → Local) (dids : List Did) (last : Tables) : Type 0 where
   pub node : IsNodeOf plan here last
   pub told : TellsEach plan here parts dids
-  pub ends : (t : ℕ) → t < length plan.rows → Agrees last t (after_all (site_of plan here t) (parts t) (lines_inputs plan here (lines_of dids) t))
+  pub ends : (t : ℕ) → t < length plan.rows → Agrees last t (after_taken (site_of plan here t) (parts t) (lines_inputs plan here (lines_of dids) t))
 
 abbrev pub AllRunsByParts : Type 0
 AllRunsByParts = (plan : CheckedPlan) (here : Here) (first last : Tables) (parts : ℕ → Local) (dids : List Did) →
@@ -47,7 +47,7 @@ abbrev pub texts_for : CheckedPlan → Here → (t : ℕ) → Local → List (Li
 texts_for plan here t local [] = []
 texts_for plan here t local (line ∷ lines) =
     written_for plan here t local (line_inputs plan here line t)
-    ∷ texts_for plan here t (after_all (site_of plan here t) local (line_inputs plan here line t)) lines
+    ∷ texts_for plan here t (after_taken (site_of plan here t) local (line_inputs plan here line t)) lines
 
 -- all of it, one after another
 abbrev pub text_for : CheckedPlan → Here → (t : ℕ) → Local → List (List ℕ) → List ℕ
@@ -73,4 +73,4 @@ AllStartsByParts = (plan : CheckedPlan) (here : Here) (t : ℕ) (start : Local) 
 -- and the facts of a run that are of this tenant are those that its part gives by its own inputs
 abbrev pub AllFactsByParts : Type 0
 AllFactsByParts = (plan : CheckedPlan) (here : Here) (t : ℕ) (parts : ℕ → Local) (dids : List Did) → IsPlan plan → t < length plan.rows → TellsEach plan here parts dids →
-    those_of t (facts_said plan (facts_of dids)) ≡ own_facts (site_of plan here t) (parts t) (lines_inputs plan here (lines_of dids) t)
+    those_of t (facts_said plan (facts_of dids)) ≡ own_facts (site_of plan here t) (parts t) (taken (site_of plan here t) (parts t) (lines_inputs plan here (lines_of dids) t))

@@ -1,5 +1,6 @@
 pub mod Inputs
 pub mod Texts
+pub mod Within
 pub mod Steps
 pub mod Recalls
 pub mod Resting

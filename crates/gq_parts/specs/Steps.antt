@@ -1,25 +1,31 @@
 -- What a line does to a node.
 use Rattle.std.specs.List.{list_any, sum_by}
-use Rattle.std.specs.Prelude.{◌≡◌, ◌≢◌, ℕ, ◌<◌, nat_lt, Bool, List, ◌++◌, length, map, Option, Some, None, All}
+use Rattle.std.specs.Prelude.{◌≡◌, ◌≢◌, ℕ, ◌<◌, nat_lt, Bool, List, ◌++◌, length, map, filter, not, ◌==◌, ◌&&◌, Option, Some, None, All}
 use Rattle.gq_tag.specs.declared.Message.{Message}
+use Rattle.gq_tag.specs.Tag.{OwnMessage, own_message}
 use Rattle.gq_desk.specs.CheckedPlan.{CheckedPlan}
 use Rattle.gq_text.specs.Canonical.{IsPlan}
 use Rattle.gq_journal.specs.Batches.{lines_text}
 use Rattle.gq_node.specs.declared.output.Fact.{Fact}
+use Rattle.gq_node.specs.declared.output.Output.{Output}
 use Rattle.gq_node.specs.declared.output.Parcel.{Parcel}
-use Rattle.gq_node.specs.Inputs.{Input, after_all}
+use Rattle.gq_model.specs.declared.events.Line.{Line}
+use Rattle.std.specs.Option.{option_to_list}
+use Rattle.gq_node.specs.Inputs.{Input, after_all, doings}
 use Rattle.gq_node.specs.Local.{Local}
-use Rattle.gq_node.specs.Sites.{site_of}
+use Rattle.gq_node.specs.Sites.{Here, site_of, address_of}
 use Rattle.gq_desk.specs.Volumes.{account_at}
 use Rattle.gq_node.specs.Joining.{lacked_files}
-use Rattle.gq_node.specs.Tables.{Tables, Agrees, AllStand, lacks_at}
+use Rattle.gq_node.specs.Tables.{Tables, Agrees, AllStand, lacks_at, fact_of}
 use Rattle.gq_facts.specs.Facts.{fact_line}
 use Rattle.gq_wire.specs.Texts.{parcel_file}
 use Rattle.gq_wire.specs.declared.incoming.Incoming.{Incoming}
 use Rattle.gq_wire.specs.declared.incoming.Incoming.TheVariants.{Tick}
 use Rattle.gq_facts.specs.Laws.{FitsFact}
+use Rattle.gq_parts.specs.declared.laws.TheConstants.{MOST_HOPS}
+use Rattle.gq_parts.specs.Within.{is_store, own_letters, brought, hops, left_behind, after_taken}
 use Rattle.gq_parts.specs.Inputs.{inputs_of, line_inputs}
-use Rattle.gq_parts.specs.Texts.{written_for, facts_for, written_by, facts_by, places, node_text, line_text_of}
+use Rattle.gq_parts.specs.Texts.{step_text, steps_text, lines_of_letters, own_facts, written_for, facts_for, written_by, facts_by, places, node_text, line_text_of}
 
 -- the tables have these parts of the node for the tenants
 abbrev pub AllAgree : Tables → (ℕ → Local) → Type 0
@@ -34,7 +40,7 @@ fact_lines plan facts = map (fact_line plan) facts
 pub record TakesAll (old : Tables) (inputs : ℕ → List Input) (facts : List Fact) (told : List ℕ) (new : Tables) : Type 0 where
   pub plan : new.plan ≡ old.plan
   pub here : new.here ≡ old.here
-  pub parts : (t : ℕ) → t < length old.plan.rows → (local : Local) → Agrees old t local → Agrees new t (after_all (site_of old.plan old.here t) local (inputs t))
+  pub parts : (t : ℕ) → t < length old.plan.rows → (local : Local) → Agrees old t local → Agrees new t (after_taken (site_of old.plan old.here t) local (inputs t))
   pub gives : (parts : ℕ → Local) → AllAgree old parts → facts ≡ facts_by old.plan old.here parts inputs
   pub tells : (parts : ℕ → Local) → AllAgree old parts → told ≡ written_by old.plan old.here parts inputs
   pub fit : All (FitsFact old.plan) facts
@@ -79,11 +85,53 @@ pub record Appended (plan : CheckedPlan) (facts : List Fact) (told facts_before 
   pub facts_are : facts_after ≡ facts_before ++ lines_text (fact_lines plan facts)
   pub told_is : told_after ≡ told_before ++ told
 
--- the node takes these inputs of the tenant at place t; the parts of all others stay
+-- of letters those that are taken within, and those that go by lines: all to other nodes, and stores
+abbrev pub goes_home : CheckedPlan → Here → Message → Bool
+goes_home plan here m = not (is_store m.body) && address_of plan here m == here.node
+
+abbrev pub going_home : CheckedPlan → Here → List Message → List Message
+going_home plan here letters = filter (goes_home plan here) letters
+
+abbrev pub going_by_lines : CheckedPlan → Here → List Message → List Message
+going_by_lines plan here letters = filter (λ m. not (goes_home plan here m)) letters
+
+-- the node takes letters of its own that the part of the tenant at place t wrote, and those that they give, for so many hops; the parts of all others stay
+pub record TakesOwn (many : ℕ) (old : Tables) (t : ℕ) (letters : List OwnMessage) (facts : List Fact) (told : List ℕ) (new : Tables) : Type 0 where
+  pub plan : new.plan ≡ old.plan
+  pub here : new.here ≡ old.here
+  pub own : (local : Local) → Agrees old t local →
+      Agrees new t (after_all (site_of old.plan old.here t) local (hops many (site_of old.plan old.here t) local letters))
+  pub others : (u : ℕ) → u ≢ t → (local : Local) → Agrees old u local → Agrees new u local
+  pub gives : (local : Local) → Agrees old t local →
+      facts ≡ map (fact_of t) (own_facts (site_of old.plan old.here t) local (hops many (site_of old.plan old.here t) local letters))
+  pub tells : (local : Local) → Agrees old t local →
+      told ≡ steps_text old.plan old.here t local (hops many (site_of old.plan old.here t) local letters)
+      ++ lines_of_letters old.plan old.here t (left_behind many (site_of old.plan old.here t) local letters)
+  pub fit : All (FitsFact old.plan) facts
+
+-- the letter is of the tenant at place t, and so is its file
+abbrev pub IsOfTenant : ℕ → Message → Type 0
+IsOfTenant t m = (m.tenant ≡ t) × (m.file.tenant ≡ t)
+
+-- one hop alone: the node takes these letters, and those that they give to be taken within are `own`
+pub record TakesHop (old : Tables) (t : ℕ) (letters : List OwnMessage) (facts : List Fact) (told : List ℕ) (own : List Message) (new : Tables) : Type 0 where
+  pub plan : new.plan ≡ old.plan
+  pub here : new.here ≡ old.here
+  pub part : (local : Local) → Agrees old t local → Agrees new t (after_all (site_of old.plan old.here t) local (brought (site_of old.plan old.here t) letters))
+  pub others : (u : ℕ) → u ≢ t → (local : Local) → Agrees old u local → Agrees new u local
+  pub gives : (local : Local) → Agrees old t local →
+      facts ≡ map (fact_of t) (own_facts (site_of old.plan old.here t) local (brought (site_of old.plan old.here t) letters))
+  pub tells : (local : Local) → Agrees old t local → told ≡ steps_text old.plan old.here t local (brought (site_of old.plan old.here t) letters)
+  pub writes : (local : Local) → Agrees old t local →
+      map own_message own ≡ own_letters (site_of old.plan old.here t) (doings (site_of old.plan old.here t) local (brought (site_of old.plan old.here t) letters))
+  pub theirs : All (IsOfTenant t) own
+  pub fit : All (FitsFact old.plan) facts
+
+-- the node takes these inputs of the tenant at place t, which come from outside, and what is taken within; the parts of all others stay
 pub record TakesOf (old : Tables) (t : ℕ) (inputs : List Input) (facts : List Fact) (told : List ℕ) (new : Tables) : Type 0 where
   pub plan : new.plan ≡ old.plan
   pub here : new.here ≡ old.here
-  pub own : (local : Local) → Agrees old t local → Agrees new t (after_all (site_of old.plan old.here t) local inputs)
+  pub own : (local : Local) → Agrees old t local → Agrees new t (after_taken (site_of old.plan old.here t) local inputs)
   pub others : (u : ℕ) → u ≢ t → (local : Local) → Agrees old u local → Agrees new u local
   pub gives : (local : Local) → Agrees old t local → facts ≡ facts_for old.plan old.here t local inputs
   pub tells : (local : Local) → Agrees old t local → told ≡ written_for old.plan old.here t local inputs
@@ -95,6 +143,29 @@ pub record TookOf (old : Tables) (t : ℕ) (inputs : List Input) (facts_before f
   pub told : List ℕ
   pub takes : TakesOf old t inputs facts told new
   pub appended : Appended old.plan facts told facts_before facts_after told_before told_after
+
+-- it took a hop, and appended those that this gave to be taken within; it took letters and those that they give, for so many hops
+pub record TookHop (old : Tables) (t : ℕ) (letters : List OwnMessage) (own_before own_after : List Message) (facts_before facts_after told_before told_after : List ℕ) (new : Tables) : Type 0 where
+  pub facts : List Fact
+  pub told : List ℕ
+  pub own : List Message
+  pub takes : TakesHop old t letters facts told own new
+  pub appended : Appended old.plan facts told facts_before facts_after told_before told_after
+  pub own_is : own_after ≡ own_before ++ own
+
+pub record TookOwn (many : ℕ) (old : Tables) (t : ℕ) (letters : List OwnMessage) (facts_before facts_after told_before told_after : List ℕ) (new : Tables) : Type 0 where
+  pub facts : List Fact
+  pub told : List ℕ
+  pub takes : TakesOwn many old t letters facts told new
+  pub appended : Appended old.plan facts told facts_before facts_after told_before told_after
+
+-- what a step gave was put: its own text with the letters that go by lines, and then what was taken within
+pub record PutAll (w : Tables) (t : ℕ) (asked : Line) (out : Output) (facts_before facts_after told_before told_after : List ℕ) (new : Tables) : Type 0 where
+  pub facts_between : List ℕ
+  pub told_between : List ℕ
+  pub step : Appended w.plan (option_to_list out.fact) (step_text w.plan w.here t asked out.answer (going_by_lines w.plan w.here out.letters.items) out.parcel) facts_before facts_between told_before told_between
+  pub fit : All (FitsFact w.plan) (option_to_list out.fact)
+  pub own : TookOwn MOST_HOPS w t (map own_message (going_home w.plan w.here out.letters.items)) facts_between facts_after told_between told_after new
 
 pub record TookAll (old : Tables) (inputs : ℕ → List Input) (facts_before facts_after told_before told_after : List ℕ) (new : Tables) : Type 0 where
   pub facts : List Fact

@@ -3,7 +3,7 @@ use Rattle.std.specs.Prelude.{ℕ, List, [], ◌∷◌, ◌++◌, length, map, B
 use Rattle.std.specs.List.{flat_map, range_with_len, list_any}
 use Rattle.std.specs.Option.{option_to_list}
 use Rattle.gq_tag.specs.declared.Message.{Message}
-use Rattle.gq_tag.specs.Tag.{message_of}
+use Rattle.gq_tag.specs.Tag.{OwnMessage, message_of}
 use Rattle.gq_desk.specs.CheckedPlan.{CheckedPlan}
 use Rattle.gq_model.specs.declared.events.Line.{Line}
 use Rattle.gq_cluster.specs.Facts.{OwnFact}
@@ -20,6 +20,7 @@ use Rattle.gq_wire.specs.declared.incoming.Incoming.TheVariants.{Joins, Tick}
 use Rattle.gq_wire.specs.Incoming.{incoming_of}
 use Rattle.gq_wire.specs.Texts.{told_line, letter_line, parcel_line, joins_line, joined_line}
 use Rattle.gq_parts.specs.Inputs.{asked_in}
+use Rattle.gq_parts.specs.Within.{others_of, within, left, taken, after_taken}
 
 -- ---- by one step, for the tenant at place t
 
@@ -41,21 +42,38 @@ parcel_text plan here (Some parcel) = parcel_line plan here.node parcel
 abbrev pub step_text : CheckedPlan → Here → (t : ℕ) → Line → Option Answer → List Message → Option Parcel → List ℕ
 step_text plan here t asked answer letters parcel = answer_text plan here t asked answer ++ (flat_map (sent_line plan here) letters ++ parcel_text plan here parcel)
 
+-- of a step, the letters that go by lines: the others are taken within
 abbrev pub doing_text : CheckedPlan → Here → (t : ℕ) → Input → Doing → List ℕ
-doing_text plan here t input doing = step_text plan here t (asked_in input) doing.answer (map (message_of t) doing.letters) (option_map (parcel_of t) doing.parcel)
+doing_text plan here t input doing =
+    step_text plan here t (asked_in input) doing.answer (map (message_of t) (others_of (site_of plan here t) doing.letters)) (option_map (parcel_of t) doing.parcel)
 
--- ---- by all inputs of the tenant, in order
+-- of several steps, one behind the other
+abbrev pub steps_text : CheckedPlan → Here → (t : ℕ) → Local → List Input → List ℕ
+steps_text plan here t local [] = []
+steps_text plan here t local (input ∷ rest) =
+    doing_text plan here t input (does input (site_of plan here t) local) ++ steps_text plan here t (does input (site_of plan here t) local).local rest
+
+-- the lines of these letters of the tenant
+abbrev pub lines_of_letters : CheckedPlan → Here → (t : ℕ) → List OwnMessage → List ℕ
+lines_of_letters plan here t letters = flat_map (sent_line plan here) (map (message_of t) letters)
+
+-- of what comes from outside: what it and all that is taken within write, and then the letters that are left
+abbrev pub outside_text : CheckedPlan → Here → (t : ℕ) → Local → Input → List ℕ
+outside_text plan here t local input =
+    steps_text plan here t local (within (site_of plan here t) local input) ++ lines_of_letters plan here t (left (site_of plan here t) local input)
+
+-- ---- by all inputs of the tenant that come from outside, in order
 
 abbrev pub written_for : CheckedPlan → Here → (t : ℕ) → Local → List Input → List ℕ
 written_for plan here t local [] = []
 written_for plan here t local (input ∷ rest) =
-    doing_text plan here t input (does input (site_of plan here t) local) ++ written_for plan here t (does input (site_of plan here t) local).local rest
+    outside_text plan here t local input ++ written_for plan here t (after_all (site_of plan here t) local (within (site_of plan here t) local input)) rest
 
 abbrev pub own_facts : Site → Local → List Input → List OwnFact
 own_facts site local inputs = flat_map (λ doing. option_to_list doing.fact) (doings site local inputs)
 
 abbrev pub facts_for : CheckedPlan → Here → (t : ℕ) → Local → List Input → List Fact
-facts_for plan here t local inputs = map (fact_of t) (own_facts (site_of plan here t) local inputs)
+facts_for plan here t local inputs = map (fact_of t) (own_facts (site_of plan here t) local (taken (site_of plan here t) local inputs))
 
 -- ---- by the inputs of all tenants: one tenant after another, in plan order
 
@@ -71,7 +89,7 @@ facts_by plan here parts inputs = flat_map (λ t. facts_for plan here t (parts t
 
 -- the parts after that
 abbrev pub parts_after : CheckedPlan → Here → (ℕ → Local) → (ℕ → List Input) → ℕ → Local
-parts_after plan here parts inputs t = after_all (site_of plan here t) (parts t) (inputs t)
+parts_after plan here parts inputs t = after_taken (site_of plan here t) (parts t) (inputs t)
 
 -- ---- by the node itself, to other nodes
 

@@ -1,4 +1,4 @@
-//! A grid of one server, line by line.
+//! A node of a grid of one server, and one of two in a row, line by line.
 
 use gq_desk::{Name, Plan, TenantRow};
 use gq_grid::Grid;
@@ -9,19 +9,20 @@ use std::alloc::Global;
 use std::process::Abort;
 use std::test::Fail;
 
-fn row(rt: &impl Abort, name: &[u8]) -> TenantRow {
+fn row(rt: &impl Abort, name: &[u8], sessions: u32) -> TenantRow {
     TenantRow {
         name: Name::new(name).expect(rt, "a name"),
         share: 8,
-        sessions: 2,
+        sessions,
         steps: 10,
         most_blocks: 16,
     }
 }
 
-fn machine(rt: &impl Abort, alloc: Global) -> NodeMachine {
-    let grid = Grid::new(1, 1).expect(rt, "a grid");
-    let rows = [row(rt, b"ann"), row(rt, b"bob")];
+// Node 0 of so many servers in one row; each tenant has so many sessions.
+fn machine(rt: &impl Abort, alloc: Global, servers: usize, sessions: u32) -> NodeMachine {
+    let grid = Grid::new(1, servers).expect(rt, "a grid");
+    let rows = [row(rt, b"ann", sessions), row(rt, b"bob", sessions)];
     let plan = Plan::check(alloc, grid, 16, &rows).expect(rt, "a plan");
     let lost = Lost::none(alloc).expect(rt, "memory");
     let node = Node::new(alloc, plan, lost, 0).expect(rt, "memory");
@@ -46,50 +47,16 @@ fn step(
 }
 
 #[test]
-fn a_write_line_by_line(rt: HostRuntime) -> Result<(), Fail> {
+fn a_write_and_its_store(rt: HostRuntime) -> Result<(), Fail> {
     let alloc = rt.alloc();
-    let mut m = machine(&rt, alloc);
+    let mut m = machine(&rt, alloc, 1, 2);
     let m = &mut m;
     step(
         &rt,
         alloc,
         m,
         b"0 ann write 1 1 0 0 aB",
-        b"began ann 1 1024\n",
-        b"0 0 ann 1 1 1 0 0 ask\n",
-    );
-    step(&rt, alloc, m, b"0 ann write 1 1 0 0 aB", b"", b"");
-    step(
-        &rt,
-        alloc,
-        m,
-        b"0 ann write 1 2 0 0 ab",
-        b"",
-        b"ann 0 refused busy 1 2 1\n",
-    );
-    step(
-        &rt,
-        alloc,
-        m,
-        b"0 0 ann 1 1 1 0 0 ask",
-        b"",
-        b"0 0 ann 1 1 1 0 0 copy 0 0 -\n",
-    );
-    step(
-        &rt,
-        alloc,
-        m,
-        b"0 0 ann 1 1 1 0 0 copy 0 0 -",
-        b"numbered ann 1 1024\n",
-        b"0 0 ann 1 1 2 0 0 store 1 1 =\xab\n",
-    );
-    step(&rt, alloc, m, b"0 0 tick", b"", b"");
-    step(
-        &rt,
-        alloc,
-        m,
-        b"0 0 tick",
-        b"",
+        b"began ann 1 1024\nnumbered ann 1 1024\n",
         b"0 0 ann 1 1 2 0 0 store 1 1 =\xab\n",
     );
     step(
@@ -98,14 +65,6 @@ fn a_write_line_by_line(rt: HostRuntime) -> Result<(), Fail> {
         m,
         b"0 0 ann 1 1 2 0 0 store 1 1 ab",
         b"kept ann 0 0 1 1 =\xab\n",
-        b"0 0 ann 1 1 2 0 0 stored\n",
-    );
-    step(
-        &rt,
-        alloc,
-        m,
-        b"0 0 ann 1 1 2 0 0 stored",
-        b"",
         b"ann 0 done write 1 1 tag 1 1\n",
     );
     step(
@@ -116,6 +75,15 @@ fn a_write_line_by_line(rt: HostRuntime) -> Result<(), Fail> {
         b"",
         b"ann 0 done write 1 1 tag 1 1\n",
     );
+    step(
+        &rt,
+        alloc,
+        m,
+        b"0 ann read 2 1 0 0",
+        b"began ann 2 1024\n",
+        b"ann 0 done read 2 1 tag 1 1 ab\n",
+    );
+    step(&rt, alloc, m, b"0 0 ann 2 1 1 0 0 ask", b"", b"");
     step(
         &rt,
         alloc,
@@ -136,20 +104,90 @@ fn a_write_line_by_line(rt: HostRuntime) -> Result<(), Fail> {
         &rt,
         alloc,
         m,
-        b"0 ann read 2 1 0 7",
+        b"0 ann read 2 2 0 7",
         b"",
-        b"ann 0 refused nofile 2 1 0 7\n",
+        b"ann 0 refused nofile 2 2 0 7\n",
     );
-    step(&rt, alloc, m, b"1 ann read 2 1 0 0", b"", b"");
+    step(&rt, alloc, m, b"1 ann read 2 2 0 0", b"", b"");
     step(&rt, alloc, m, b"0 eve read 2 1 0 0", b"", b"");
     step(&rt, alloc, m, b"", b"", b"");
     Ok(())
 }
 
 #[test]
+fn a_write_line_by_line(rt: HostRuntime) -> Result<(), Fail> {
+    let alloc = rt.alloc();
+    let mut m = machine(&rt, alloc, 2, 2);
+    let m = &mut m;
+    step(
+        &rt,
+        alloc,
+        m,
+        b"0 ann write 1 1 0 0 aB",
+        b"began ann 1 1024\n",
+        b"1 0 ann 1 1 1 0 0 ask\n",
+    );
+    step(&rt, alloc, m, b"0 ann write 1 1 0 0 aB", b"", b"");
+    step(
+        &rt,
+        alloc,
+        m,
+        b"0 ann write 1 2 0 0 ab",
+        b"",
+        b"ann 0 refused busy 1 2 1\n",
+    );
+    step(&rt, alloc, m, b"0 0 tick", b"", b"");
+    step(&rt, alloc, m, b"0 0 tick", b"", b"1 0 ann 1 1 1 0 0 ask\n");
+    step(&rt, alloc, m, b"0 0 ann 1 1 1 0 0 ask", b"", b"");
+    step(
+        &rt,
+        alloc,
+        m,
+        b"0 1 ann 1 1 1 0 0 copy 0 0 -",
+        b"numbered ann 1 1024\n",
+        b"0 0 ann 1 1 2 0 0 store 1 1 =\xab\n",
+    );
+    step(&rt, alloc, m, b"0 0 tick", b"", b"");
+    step(
+        &rt,
+        alloc,
+        m,
+        b"0 0 tick",
+        b"",
+        b"0 0 ann 1 1 2 0 0 store 1 1 =\xab\n",
+    );
+    step(
+        &rt,
+        alloc,
+        m,
+        b"0 0 ann 1 1 2 0 0 store 1 1 ab",
+        b"kept ann 0 0 1 1 =\xab\n",
+        b"ann 0 done write 1 1 tag 1 1\n",
+    );
+    step(&rt, alloc, m, b"0 0 ann 1 1 2 0 0 stored", b"", b"");
+    step(
+        &rt,
+        alloc,
+        m,
+        b"0 1 ann 2 1 1 0 0 ask",
+        b"",
+        b"1 0 ann 2 1 1 0 0 copy 1 1 =\xab\n",
+    );
+    step(
+        &rt,
+        alloc,
+        m,
+        b"0 ann write 1 1 0 0 ab",
+        b"",
+        b"ann 0 done write 1 1 tag 1 1\n",
+    );
+    Ok(())
+}
+
+#[test]
 fn a_start(rt: HostRuntime) -> Result<(), Fail> {
     let alloc = rt.alloc();
-    let mut m = machine(&rt, alloc);
+    let mut m = machine(&rt, alloc, 1, 2);
     let m = &mut m;
     assert!(rt; m.recall(b"began ann 1 1").is_ok());
     assert!(rt; m.recall(b"numbered ann 1 1").is_ok());
@@ -176,9 +214,9 @@ fn a_start(rt: HostRuntime) -> Result<(), Fail> {
         &rt,
         alloc,
         m,
-        b"0 0 ann 2 1 1 0 0 ask",
-        b"",
-        b"0 0 ann 2 1 1 0 0 copy 1 1 =\xab\n",
+        b"0 ann read 2 1 0 0",
+        b"began ann 2 1024\n",
+        b"ann 0 done read 2 1 tag 1 1 ab\n",
     );
     assert!(rt; matches!(m.recall(b"began eve 1 1"), Err(Unread::Strange)));
     assert!(rt; matches!(m.recall(b"began ann 9 1"), Err(Unread::Strange)));
@@ -189,7 +227,7 @@ fn a_start(rt: HostRuntime) -> Result<(), Fail> {
 #[test]
 fn the_last_number_of_operations(rt: HostRuntime) -> Result<(), Fail> {
     let alloc = rt.alloc();
-    let mut m = machine(&rt, alloc);
+    let mut m = machine(&rt, alloc, 2, 2);
     let m = &mut m;
     assert!(rt; m.recall(b"began ann 1 4294967294").is_ok());
     step(
@@ -198,7 +236,7 @@ fn the_last_number_of_operations(rt: HostRuntime) -> Result<(), Fail> {
         m,
         b"0 ann read 1 4294967295 0 0",
         b"began ann 1 4294967295\n",
-        b"0 0 ann 1 4294967295 1 0 0 ask\n",
+        b"1 0 ann 1 4294967295 1 0 0 ask\n",
     );
     assert!(rt; m.recall(b"began ann 1 4294967295").is_ok());
     step(
@@ -231,7 +269,7 @@ fn the_last_number_of_operations(rt: HostRuntime) -> Result<(), Fail> {
 #[test]
 fn two_tenants_tick(rt: HostRuntime) -> Result<(), Fail> {
     let alloc = rt.alloc();
-    let mut m = machine(&rt, alloc);
+    let mut m = machine(&rt, alloc, 2, 3);
     let m = &mut m;
     step(
         &rt,
@@ -239,15 +277,15 @@ fn two_tenants_tick(rt: HostRuntime) -> Result<(), Fail> {
         m,
         b"0 ann read 1 1 0 1",
         b"began ann 1 1024\n",
-        b"0 0 ann 1 1 1 0 1 ask\n",
+        b"1 0 ann 1 1 1 0 1 ask\n",
     );
     step(
         &rt,
         alloc,
         m,
-        b"0 ann list 2 1 0",
-        b"began ann 2 1024\n",
-        b"0 0 ann 2 1 1 0 0 ask\n",
+        b"0 ann list 3 1 0",
+        b"began ann 3 1024\n",
+        b"1 0 ann 3 1 1 0 0 ask\n",
     );
     step(
         &rt,
@@ -264,7 +302,7 @@ fn two_tenants_tick(rt: HostRuntime) -> Result<(), Fail> {
         m,
         b"0 0 tick",
         b"",
-        b"0 0 ann 1 1 1 0 1 ask\n0 0 ann 2 1 1 0 0 ask\n",
+        b"1 0 ann 1 1 1 0 1 ask\n1 0 ann 3 1 1 0 0 ask\n",
     );
     Ok(())
 }
@@ -272,7 +310,7 @@ fn two_tenants_tick(rt: HostRuntime) -> Result<(), Fail> {
 #[test]
 fn what_a_start_needs(rt: HostRuntime) -> Result<(), Fail> {
     let alloc = rt.alloc();
-    let mut m = machine(&rt, alloc);
+    let mut m = machine(&rt, alloc, 1, 2);
     let m = &mut m;
     let mut facts = Vec::new(alloc);
     assert!(rt; m.put_needed(&mut facts).is_ok());
@@ -282,15 +320,7 @@ fn what_a_start_needs(rt: HostRuntime) -> Result<(), Fail> {
         alloc,
         m,
         b"0 ann write 1 1 0 1 ab",
-        b"began ann 1 1024\n",
-        b"0 0 ann 1 1 1 0 1 ask\n",
-    );
-    step(
-        &rt,
-        alloc,
-        m,
-        b"0 0 ann 1 1 1 0 1 copy 0 0 -",
-        b"numbered ann 1 1024\n",
+        b"began ann 1 1024\nnumbered ann 1 1024\n",
         b"0 0 ann 1 1 2 0 1 store 1 1 =\xab\n",
     );
     step(
@@ -299,14 +329,6 @@ fn what_a_start_needs(rt: HostRuntime) -> Result<(), Fail> {
         m,
         b"0 0 ann 1 1 2 0 1 store 1 1 ab",
         b"kept ann 0 1 1 1 =\xab\n",
-        b"0 0 ann 1 1 2 0 1 stored\n",
-    );
-    step(
-        &rt,
-        alloc,
-        m,
-        b"0 0 ann 1 1 2 0 1 stored",
-        b"",
         b"ann 0 done write 1 1 tag 1 1\n",
     );
     step(
@@ -315,7 +337,7 @@ fn what_a_start_needs(rt: HostRuntime) -> Result<(), Fail> {
         m,
         b"0 ann list 2 1 0",
         b"began ann 2 1024\n",
-        b"0 0 ann 2 1 1 0 0 ask\n",
+        b"ann 0 done list 2 1 0:0.0 1:1.1\n",
     );
     assert!(rt; m.put_needed(&mut facts).is_ok());
     assert_eq!(rt;

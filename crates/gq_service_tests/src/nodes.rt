@@ -25,11 +25,10 @@ const STRANGE: &str =
 const LONGER: &str =
     "grid 1 1\nblocks 16\ntenant ann 8 2 100\ntenant bob 4 1 100\ngo\nann open 2 1\n";
 
-const WRITE: &[u8] =
-    b"0 ann write 1 1 0 0 6b\n0 0 ann 1 1 1 0 0 copy 0 0 -\n0 0 ann 1 1 2 0 0 store 1 1 =k\n0 0 ann 1 1 2 0 0 stored\n";
+// The node is the only server, and takes all letters of the write itself but the store.
+const WRITE: &[u8] = b"0 ann write 1 1 0 0 6b\n0 0 ann 1 1 2 0 0 store 1 1 =k\n";
 
-const WRITTEN: &str =
-    " ?\n0 0 ann 1 1 1 0 0 ask\n0 0 ann 1 1 2 0 0 store 1 1 =k\n0 0 ann 1 1 2 0 0 stored\nann 0 done write 1 1 tag 1 1\n";
+const WRITTEN: &str = " ?\n0 0 ann 1 1 2 0 0 store 1 1 =k\nann 0 done write 1 1 tag 1 1\n";
 
 // Who watches a node: what was told of it, and whether its streams are open.
 #[derive(Drop)]
@@ -147,12 +146,14 @@ fn starts_again_from_its_journal(rt: HostRuntime) -> Result<(), Fail> {
     let torn = format!(in rt.alloc(); "{JOURNAL}began ann 2 1\n")?;
     fs::write(&rt, "again", torn.as_str())?;
     let watch = Watch::new();
-    let lines: &[u8] = b"0 0 ann 2 1 1 0 0 ask\n0 ann write 1 1 0 0 6b\n";
-    let text = " ?\n0 0 ann 2 1 1 0 0 copy 1 1 =k\nann 0 refused old 1 1 1024\n";
-    writes(&rt, rt.alloc(), &node("again", false), &watch, lines, text)?;
+    let text = " ?\nann 0 refused old 1 1 1024\n";
+    writes(&rt, rt.alloc(), &node("again", false), &watch, WRITE, text)?;
     assert_eq!(&rt; watch.facts.get(), Some(3));
     assert_eq!(&rt; watch.cut.get(), Some(JOURNAL.len()));
     assert_eq!(&rt; fs::read_to_string(&rt, "again")?.as_str(), JOURNAL);
+    let lines: &[u8] = b"0 ann read 2 1 0 0\n";
+    let text = " ?\nann 0 done read 2 1 tag 1 1 6b\n";
+    writes(&rt, rt.alloc(), &node("again", false), &watch, lines, text)?;
     Ok(())
 }
 

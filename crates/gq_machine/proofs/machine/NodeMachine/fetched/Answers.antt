@@ -1,12 +1,12 @@
 -- What the call gives is of the tenant, and is appended.
 use Rattle.std.proofs.Common.{◌<◌, ◌∷◌, [], length, sym, subst}
-use Rattle.std.specs.Prelude.{All, IfSome}
+use Rattle.std.specs.Prelude.{IfSome}
 use Rattle.gq_tag.specs.Tag.{file_place}
 use Rattle.gq_desk.specs.CheckedPlan.{CheckedPlan}
 use Rattle.gq_node.specs.Inputs.{Fetched}
 use Rattle.gq_node.specs.Recalling.{tenant_of}
 use Rattle.gq_tag.specs.declared.StoredCopy.{StoredCopy}
-use Rattle.gq_parts.specs.Steps.{HasAddress, IsOfPlan, TookOf}
+use Rattle.gq_parts.specs.Steps.{IsOfPlan, TookOf}
 use Rattle.gq_parts.proofs.Taking.{fact_own, letters_have, parcel_has, one_took}
 use Rattle.gq_machine.proofs.machine.NodeMachine.fetched.Goals as goal
 
@@ -18,9 +18,7 @@ put-requires-clause-fact c =
 
 pub put-requires-clause-letters : goal.put-requires-clause-letters
 put-requires-clause-letters c =
-    let acts = c.in-Ok.ensures.acts in
-    let P : CheckedPlan → Type 0 = λ p. All (HasAddress p) c.in-Ok.out.letters.items in
-    subst P (sym acts.leads.plan) (letters_have c.args.self.now.node.tables c.args.file.tenant (Fetched c.args.from (file_place c.args.file) c.in_ok-shared.shared) c.in-Ok.out c.fetched.new.self.tables c.in_ok-goes.ensures c.requires acts)
+    letters_have c.args.self.now.node.tables c.args.file.tenant (Fetched c.args.from (file_place c.args.file) c.in_ok-shared.shared) c.in-Ok.out c.fetched.new.self.tables c.in_ok-goes.ensures c.requires c.in-Ok.ensures.acts
 
 pub put-requires-clause-parcel : goal.put-requires-clause-parcel
 put-requires-clause-parcel c =
@@ -32,6 +30,6 @@ pub returns-in_ok-put-in-Ok : goal.returns-in_ok-put-in-Ok
 returns-in_ok-put-in-Ok c =
     let w = c.args.self.now.node.tables in
     let file = c.args.file in
-    let P : StoredCopy → Type 0 = λ copy. TookOf w file.tenant (Fetched c.args.from (file_place file) copy ∷ []) c.args.facts.now.items c.put.new.facts.items c.args.told.now.items c.put.new.told.items c.fetched.new.self.tables in
+    let P : StoredCopy → Type 0 = λ copy. TookOf w file.tenant (Fetched c.args.from (file_place file) copy ∷ []) c.args.facts.now.items c.put.new.facts.items c.args.told.now.items c.put.new.told.items c.put.new.self.node.tables in
     subst P c.in_ok-shared.ensures
-    (one_took w file.tenant (Fetched c.args.from (file_place file) c.in_ok-shared.shared) c.in-Ok.out c.fetched.new.self.tables _ _ _ _ c.in-Ok.ensures.acts c.in_ok-put-in-Ok.ensures.fit c.in_ok-put-in-Ok.ensures.appended)
+    (one_took w file.tenant (Fetched c.args.from (file_place file) c.in_ok-shared.shared) c.in-Ok.out _ _ _ _ _ _ c.in-Ok.ensures.acts c.in_ok-put-in-Ok.ensures)

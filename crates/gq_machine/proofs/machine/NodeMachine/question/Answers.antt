@@ -1,10 +1,10 @@
 -- What the call gives is of the tenant, and is appended.
 use Rattle.std.proofs.Common.{◌<◌, length, sym, subst}
-use Rattle.std.specs.Prelude.{All, IfSome}
+use Rattle.std.specs.Prelude.{IfSome}
 use Rattle.gq_desk.specs.CheckedPlan.{CheckedPlan}
 use Rattle.gq_node.specs.Inputs.{AskedPlan}
 use Rattle.gq_node.specs.Recalling.{tenant_of}
-use Rattle.gq_parts.specs.Steps.{HasAddress, IsOfPlan}
+use Rattle.gq_parts.specs.Steps.{IsOfPlan}
 use Rattle.gq_parts.proofs.Taking.{fact_own, letters_have, parcel_has, one_took}
 use Rattle.gq_machine.proofs.machine.NodeMachine.question.Goals as goal
 
@@ -16,9 +16,7 @@ put-requires-clause-fact c =
 
 pub put-requires-clause-letters : goal.put-requires-clause-letters
 put-requires-clause-letters c =
-    let acts = c.in-Ok.ensures.acts in
-    let P : CheckedPlan → Type 0 = λ p. All (HasAddress p) c.in-Ok.out.letters.items in
-    subst P (sym acts.leads.plan) (letters_have c.args.self.now.node.tables c.args.tenant AskedPlan c.in-Ok.out c.holding.new.self.tables c.in_ok-goes.ensures c.requires acts)
+    letters_have c.args.self.now.node.tables c.args.tenant AskedPlan c.in-Ok.out c.holding.new.self.tables c.in_ok-goes.ensures c.requires c.in-Ok.ensures.acts
 
 pub put-requires-clause-parcel : goal.put-requires-clause-parcel
 put-requires-clause-parcel c =
@@ -28,4 +26,4 @@ put-requires-clause-parcel c =
 
 pub returns-in_ok-put-in-Ok : goal.returns-in_ok-put-in-Ok
 returns-in_ok-put-in-Ok c =
-    one_took c.args.self.now.node.tables c.args.tenant AskedPlan c.in-Ok.out c.holding.new.self.tables _ _ _ _ c.in-Ok.ensures.acts c.in_ok-put-in-Ok.ensures.fit c.in_ok-put-in-Ok.ensures.appended
+    one_took c.args.self.now.node.tables c.args.tenant AskedPlan c.in-Ok.out _ _ _ _ _ _ c.in-Ok.ensures.acts c.in_ok-put-in-Ok.ensures

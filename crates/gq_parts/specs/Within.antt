@@ -1,0 +1,76 @@
+-- What a node takes of its own within one line: the letters that a tenant's part writes to its own node, all but stores.
+--
+-- A node is a session's home and a server at once. A letter from the one to the other goes by no line: the part takes it in the same step, behind
+-- the letters that it wrote to its own node before. Those that a hop of letters gives are the next hop. After the most hops what is left goes by
+-- lines, as letters to other nodes do; so one line is never more work than so many hops. A store goes by a line, also to the node itself: so it
+-- leaves with the stores to other nodes, and all of them sync it at the same time.
+use Rattle.std.specs.Prelude.{ℕ, zero, suc, List, [], ◌∷◌, ◌++◌, Bool, true, false, ◌==◌, ◌&&◌, not, map, filter, if◌then◌else◌}
+use Rattle.std.specs.List.{flat_map}
+use Rattle.gq_tag.specs.declared.Body.{Body}
+use Rattle.gq_tag.specs.declared.Body.TheVariants.{Store}
+use Rattle.gq_tag.specs.Tag.{OwnMessage, to_server}
+use Rattle.gq_node.specs.Inputs.{Input, Brought, after_one, after_all, doings}
+use Rattle.gq_node.specs.Local.{Local, Doing}
+use Rattle.gq_node.specs.Sites.{Site}
+use Rattle.gq_parts.specs.declared.laws.TheConstants.{MOST_HOPS}
+
+-- ---- the letters that are taken within
+
+-- the node that the letter goes to
+abbrev pub address_in : Site → OwnMessage → ℕ
+address_in site m = if to_server m.body then site.node_at m.server else site.home m.session
+
+abbrev pub is_store : Body → Bool
+is_store (Store copy) = true
+is_store _ = false
+
+-- whether it is taken within: it goes to the node that writes it, and is no store
+abbrev pub is_own : Site → OwnMessage → Bool
+is_own site m = not (is_store m.body) && address_in site m == site.here
+
+-- of letters those that are taken within, and the others, which go by lines
+abbrev pub own_of : Site → List OwnMessage → List OwnMessage
+own_of site letters = filter (is_own site) letters
+
+abbrev pub others_of : Site → List OwnMessage → List OwnMessage
+others_of site letters = filter (λ m. not (is_own site m)) letters
+
+-- those taken within of all these doings, in the order in which they were written
+abbrev pub own_letters : Site → List Doing → List OwnMessage
+own_letters site ds = flat_map (λ doing. own_of site doing.letters) ds
+
+-- as they come to it
+abbrev pub brought : Site → List OwnMessage → List Input
+brought site letters = map (λ m. Brought site.here m) letters
+
+-- ---- hop by hop
+
+-- the part takes these letters, then those that they give, and so on, for so many hops
+unfoldable pub hops : (many : ℕ) → Site → Local → (letters : List OwnMessage) → List Input
+hops zero site local letters = []
+hops (suc n) site local letters =
+    brought site letters ++ hops n site (after_all site local (brought site letters)) (own_letters site (doings site local (brought site letters)))
+
+-- what is left behind so many hops
+unfoldable pub left_behind : (many : ℕ) → Site → Local → (letters : List OwnMessage) → List OwnMessage
+left_behind zero site local letters = letters
+left_behind (suc n) site local letters = left_behind n site (after_all site local (brought site letters)) (own_letters site (doings site local (brought site letters)))
+
+-- ---- by what comes from outside
+
+-- it, and what is taken within behind it
+unfoldable pub within : Site → Local → Input → List Input
+within site local input = input ∷ hops MOST_HOPS site (after_one site local input) (own_letters site (doings site local (input ∷ [])))
+
+-- what of that goes by lines, since it is left
+unfoldable pub left : Site → Local → Input → List OwnMessage
+left site local input = left_behind MOST_HOPS site (after_one site local input) (own_letters site (doings site local (input ∷ [])))
+
+-- all that the part takes where these inputs come from outside, one behind the other
+abbrev pub taken : Site → Local → List Input → List Input
+taken site local [] = []
+taken site local (input ∷ rest) = within site local input ++ taken site (after_all site local (within site local input)) rest
+
+-- the part behind it
+abbrev pub after_taken : Site → Local → List Input → Local
+after_taken site local inputs = after_all site local (taken site local inputs)
