@@ -117,12 +117,15 @@ impl NodeMachine {
         Ok(())
     }
 
-    // Whether the node takes the letter itself, within the line that it now takes: it goes to this node, and is no store.
+    // Whether the node takes the letter itself, within the line that it now takes: it goes to this node, and is no store that other servers
+    // of the column have to sync too.
     fn is_own(&self, letter: &Message) -> bool
         requires { HasAddress self.now.node.tables.plan letter.now }
         ensures { result ≡ goes_home self.now.node.tables.plan self.now.node.tables.here letter.now }
     {
-        !matches!(&letter.body, Body::Store(_)) && self.node.address(letter) == self.node.number()
+        let is_shared_store =
+            matches!(&letter.body, Body::Store(_)) && self.node.plan().grid().rows() > 1;
+        !is_shared_store && self.node.address(letter) == self.node.number()
     }
 
     // Appends the line of the letter, or puts it behind the node's own ones where the node takes it itself.

@@ -23,7 +23,7 @@ use Rattle.gq_wire.specs.declared.incoming.Incoming.{Incoming}
 use Rattle.gq_wire.specs.declared.incoming.Incoming.TheVariants.{Tick}
 use Rattle.gq_facts.specs.Laws.{FitsFact}
 use Rattle.gq_parts.specs.declared.laws.TheConstants.{MOST_HOPS}
-use Rattle.gq_parts.specs.Within.{is_store, own_letters, brought, hops, left_behind, after_taken}
+use Rattle.gq_parts.specs.Within.{is_shared_store, own_letters, brought, hops, left_behind, after_taken}
 use Rattle.gq_parts.specs.Inputs.{inputs_of, line_inputs}
 use Rattle.gq_parts.specs.Texts.{step_text, steps_text, lines_of_letters, own_facts, written_for, facts_for, written_by, facts_by, places, node_text, line_text_of}
 
@@ -85,9 +85,9 @@ pub record Appended (plan : CheckedPlan) (facts : List Fact) (told facts_before 
   pub facts_are : facts_after ≡ facts_before ++ lines_text (fact_lines plan facts)
   pub told_is : told_after ≡ told_before ++ told
 
--- of letters those that are taken within, and those that go by lines: all to other nodes, and stores
+-- of letters those that are taken within, and those that go by lines: all to other nodes, and stores to a column of more servers
 abbrev pub goes_home : CheckedPlan → Here → Message → Bool
-goes_home plan here m = not (is_store m.body) && address_of plan here m == here.node
+goes_home plan here m = not (is_shared_store plan.grid m.body) && address_of plan here m == here.node
 
 abbrev pub going_home : CheckedPlan → Here → List Message → List Message
 going_home plan here letters = filter (goes_home plan here) letters

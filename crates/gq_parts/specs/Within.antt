@@ -1,11 +1,12 @@
--- What a node takes of its own within one line: the letters that a tenant's part writes to its own node, all but stores.
+-- What a node takes of its own within one line: the letters that a tenant's part writes to its own node, all but stores to a column of more servers.
 --
 -- A node is a session's home and a server at once. A letter from the one to the other goes by no line: the part takes it in the same step, behind
 -- the letters that it wrote to its own node before. Those that a hop of letters gives are the next hop. After the most hops what is left goes by
--- lines, as letters to other nodes do; so one line is never more work than so many hops. A store goes by a line, also to the node itself: so it
--- leaves with the stores to other nodes, and all of them sync it at the same time.
-use Rattle.std.specs.Prelude.{ℕ, zero, suc, List, [], ◌∷◌, ◌++◌, Bool, true, false, ◌==◌, ◌&&◌, not, map, filter, if◌then◌else◌}
+-- lines, as letters to other nodes do; so one line is never more work than so many hops. Where a column has more servers than one, a store goes by a
+-- line, also to the node itself: so it leaves with the stores to other nodes, and all of them sync it at the same time.
+use Rattle.std.specs.Prelude.{ℕ, zero, suc, List, [], ◌∷◌, ◌++◌, Bool, true, false, ◌==◌, ◌&&◌, nat_lt, not, map, filter, if◌then◌else◌}
 use Rattle.std.specs.List.{flat_map}
+use Rattle.gq_grid.specs.Grid.{Grid}
 use Rattle.gq_tag.specs.declared.Body.{Body}
 use Rattle.gq_tag.specs.declared.Body.TheVariants.{Store}
 use Rattle.gq_tag.specs.Tag.{OwnMessage, to_server}
@@ -24,9 +25,13 @@ abbrev pub is_store : Body → Bool
 is_store (Store copy) = true
 is_store _ = false
 
--- whether it is taken within: it goes to the node that writes it, and is no store
+-- it is a store, which other servers of the column have to sync too
+abbrev pub is_shared_store : Grid → Body → Bool
+is_shared_store grid body = is_store body && nat_lt 1 grid.rows
+
+-- whether it is taken within: it goes to the node that writes it, and is no such store
 abbrev pub is_own : Site → OwnMessage → Bool
-is_own site m = not (is_store m.body) && address_in site m == site.here
+is_own site m = not (is_shared_store site.grid m.body) && address_in site m == site.here
 
 -- of letters those that are taken within, and the others, which go by lines
 abbrev pub own_of : Site → List OwnMessage → List OwnMessage
