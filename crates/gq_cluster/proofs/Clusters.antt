@@ -1,6 +1,6 @@
 -- All steps of nodes, one after another, are a run of the service.
-use Rattle.std.proofs.Common.{◌≡◌, ℕ, ◌+◌, ◌*◌, ◌≤◌, Bool, true, false, List, [], ◌∷◌, ◌++◌, length, map, refl, sym, ap, ◌∙◌, subst, Option, Some, None, arith, min, append_assoc, append-nil}
-use Rattle.std.specs.Prelude.{nat_le, fold, is_some, ◌==◌, ◌&&◌, ⊤, filter_map}
+use Rattle.std.proofs.Common.{◌≡◌, ℕ, ◌+◌, ◌*◌, ◌≤◌, Bool, true, false, List, [], ◌∷◌, ◌++◌, length, map, refl, sym, ap, ◌∙◌, subst, Option, Some, None, arith, min, append_assoc, append-nil, eqb}
+use Rattle.std.specs.Prelude.{nat_le, fold, is_some, ◌==◌, ◌&&◌, ⊤, filter_map, if◌then◌else◌}
 use Rattle.std.specs.List.{range_with_len}
 use Rattle.std.proofs.Math.Nat.{suc-mul}
 use Rattle.std.specs.List.{cons_option}
@@ -16,7 +16,7 @@ use Rattle.gq_desk.specs.declared.volumes.VolumeRow.{VolumeRow}
 use Rattle.gq_model.specs.declared.events.Line.TheVariants.{NewVolume}
 use Rattle.gq_model.specs.Trace.{Turn, Own, Losing, Returning, Trace, Past, new_session, start, questions, up, gone, sent, is_lost, lacks, brought, session}
 use Rattle.gq_model.specs.Lone.{Step, after, step_at, is_refusal, past_of}
-use Rattle.gq_cluster.specs.Cluster.{Setting, Cluster, Act, NodeStep, Acts, Restarts, Loses, Returns, Exchange, CanAct, CanHappen, CanFollow, new_cluster, going_at, gives_up, acts_of, after_act, after_acts, after_step, cluster_after, exchanges_of, exchanges}
+use Rattle.gq_cluster.specs.Cluster.{Setting, Cluster, Act, NodeStep, Acts, Restarts, Reserves, Loses, Returns, Exchange, CanAct, CanHappen, CanFollow, new_cluster, going_at, gives_up, acts_of, after_act, after_acts, after_step, cluster_after, reserving_part, with_numbers, exchanges_of, exchanges}
 use Rattle.gq_cluster.specs.Laws.{turn_exchanges, exchanges_from, openings, opened, setting_of, disk_turn, disk_step, StepsEnough, AllClustersServe}
 use Rattle.gq_cluster.proofs.Standing.{Stands}
 use Rattle.gq_cluster.proofs.OneAct.{IsActed, one_act}
@@ -85,11 +85,13 @@ abandons_can s (k ∷ ks) c = (tt, abandons_can s ks (after_act s c (gives_up k)
 acts_can : (s : Setting) (c : Cluster) (step : NodeStep) → CanHappen s c step → AllCan s c (acts_of s c step)
 acts_can s c (Acts act) can = (can, tt)
 acts_can s c (Restarts node) can = abandons_can s (going_at s c node) c
+acts_can s c (Reserves node number) can = tt
 acts_can s c (Loses server volumes) can = tt
 acts_can s c (Returns server file mate copy) can = tt
 
 acts_few : (s : Setting) (c : Cluster) (step : NodeStep) → length (acts_of s c step) ≤ s.row.sessions + 1
 acts_few s c (Acts act) = omega arith
+acts_few s c (Reserves node number) = omega arith
 acts_few s c (Loses server volumes) = omega arith
 acts_few s c (Returns server file mate copy) = omega arith
 acts_few s c (Restarts node) =
@@ -104,6 +106,32 @@ acts_few s c (Restarts node) =
 abbrev pub gone_by : NodeStep → List Turn
 gone_by step = option_to_list (disk_step step)
 
+-- the model has nothing of what is reserved
+numbers_stand : (s : Setting) (p : Past) (c : Cluster) (node number : ℕ) → Stands s p c → Stands s p (with_numbers s node number c)
+numbers_stand s p c node number stands = record {
+  opened = stands.opened;
+  written = stands.written;
+  kept = stands.kept;
+  beyond = stands.beyond;
+  none_gone = stands.none_gone;
+  lacking = λ n file. stands.lacking n file ∙ same_lacks n file (eqb n node);
+  copies = λ n file. stands.copies n file ∙ same_copies n file (eqb n node);
+  sessions = λ k. stands.sessions k ∙ same_session (s.home k) k (eqb (s.home k) node);
+  offers = stands.offers;
+}
+  where
+    same_lacks : (n : ℕ) (file : File) (b : Bool) → (c.part n).lacks file ≡ (if b then reserving_part s node number (c.part n) else c.part n).lacks file
+    same_lacks n file true = refl
+    same_lacks n file false = refl
+
+    same_copies : (n : ℕ) (file : File) (b : Bool) → (c.part n).brought file ≡ (if b then reserving_part s node number (c.part n) else c.part n).brought file
+    same_copies n file true = refl
+    same_copies n file false = refl
+
+    same_session : (n k : ℕ) (b : Bool) → (c.part n).session k ≡ (if b then reserving_part s node number (c.part n) else c.part n).session k
+    same_session n k true = refl
+    same_session n k false = refl
+
 -- behind the acts of a node step: nothing, or the sessions of a node go on behind their reserved numbers, or a turn for a disk
 behind_run : (s : Setting) (step : NodeStep) (p : Past) (c : Cluster) → Stands s p (after_acts s c (acts_of s c step)) → CanHappen s c step → Runs s p (after_step s c step) [] (gone_by step) 0
 behind_run s (Acts act) p c stands can = record { turns = []; disks = refl; did = refl; stands = stands; lines = omega arith }
@@ -114,6 +142,7 @@ behind_run s (Restarts node) p c stands can = record { turns = leaps s mid node;
 
     leapt : IsLeapt s p mid node
     leapt = node_leaps s p mid node stands (λ k home inside. ap (λ z. z.current) ((all_given s c node).own k home inside))
+behind_run s (Reserves node number) p c stands can = record { turns = []; disks = refl; did = refl; stands = numbers_stand s p c node number stands; lines = omega arith }
 behind_run s (Loses server volumes) p c stands can =
     let lost = loses s p c server volumes stands can in
     record { turns = Losing server volumes ∷ []; disks = refl; did = refl; stands = lost.stands; lines = (let lines = lost.lines in omega arith) }

@@ -16,7 +16,7 @@ use Rattle.gq_model.specs.Lone.{is_refusal, reply_to, quiet}
 use Rattle.gq_laws.proofs.Holding.{greatest-push}
 use Rattle.gq_laws.proofs.OperationMoments.{same_file}
 use Rattle.gq_cluster.specs.Facts.{OwnFact, Begun, Numbered, Kept, Had, Reserved, reserving, with_reserved, replaced_in}
-use Rattle.gq_cluster.specs.Cluster.{Setting, Part, Act, Asks, Comes, aim_of, node_of, session_named, copy_in, step_of, state_after, fact_in, fact_of, part_after, Cluster, NodeStep, Acts, Restarts, Loses, Returns, leapt_part, new_cluster, after_act, after_acts, after_step, acts_of, behind_acts}
+use Rattle.gq_cluster.specs.Cluster.{Setting, Part, Act, Asks, Comes, aim_of, node_of, session_named, copy_in, step_of, state_after, fact_in, fact_of, part_after, Cluster, NodeStep, Acts, Restarts, Reserves, Loses, Returns, leapt_part, new_cluster, after_act, after_acts, after_step, acts_of, behind_acts}
 use Rattle.gq_cluster.specs.Keeping.{kept_of, with_fact, AllActsKeep, IsKept, fact_at, facts_of, facts_at, AllFactsSuffice}
 use Rattle.gq_cluster.proofs.OneAct.{brings_nothing}
 use Rattle.gq_cluster.proofs.Reserving.{IsOfNumbers, reserves_numbers, accepted}
@@ -265,6 +265,7 @@ acts_keep s n (act ∷ acts) c = acts_keep s n acts (after_act s c act) ∙ ap (
 -- sessions that go on behind their reserved numbers leave what is kept
 step_keeps : (s : Setting) (n : ℕ) (step : NodeStep) (c : Cluster) → IsKept step → kept_of ((behind_acts s step c).part n) ≡ kept_of (c.part n)
 step_keeps s n (Acts act) c kept = refl
+step_keeps s n (Reserves node number) c kept = absurd kept
 step_keeps s n (Loses server volumes) c kept = absurd kept
 step_keeps s n (Returns server file mate copy) c kept = absurd kept
 step_keeps s n (Restarts node) c kept = by (eqb n node)

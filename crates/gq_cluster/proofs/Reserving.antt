@@ -1,6 +1,6 @@
 -- Each number that a session used was reserved before.
 use Rattle.std.proofs.Common.{◌≡◌, ◌≢◌, ◌⊎◌, ℕ, ◌+◌, ◌≤◌, Bool, true, false, ◌&&◌, List, [], ◌∷◌, refl, sym, ap, ◌∙◌, subst, inl, inr, Option, Some, None, arith, eqb}
-use Rattle.std.specs.Prelude.{fold, nat_le, ⊤, if◌then◌else◌}
+use Rattle.std.specs.Prelude.{fold, nat_le, max, ⊤, if◌then◌else◌}
 use Rattle.std.proofs.lemmas.Bool.{cases_eq, eq-eqb, ne_eqb, leb-true, leb-false, true≢false}
 use Rattle.gq_grid.specs.Grid.{Servers}
 use Rattle.gq_tag.specs.declared.StoredCopy.{StoredCopy}
@@ -17,7 +17,7 @@ use Rattle.gq_model.specs.Trace.{State, Session, Deed, Elsewhere, Begins, Hears,
 use Rattle.gq_model.specs.Lone.{Step, first_cause, session_causes, session_step, is_refusal, unless}
 use Rattle.gq_laws.proofs.Acts.{no_cause}
 use Rattle.gq_cluster.specs.Facts.{OwnFact, Begun, Numbered, Kept, Had, Reserved, greatest_op, greatest_number, last_of_run, reserving, reserved_by, with_reserved, replaced_in}
-use Rattle.gq_cluster.specs.Cluster.{Setting, Part, Act, Asks, Comes, Cluster, NodeStep, Acts, Restarts, Loses, Returns, lost_part, given_part, state_of, part_of, copy_in, step_of, act_entry, fact_in, fact_of, state_after, part_after, node_of, new_cluster, leapt_part, after_act, after_acts, after_step, acts_of, behind_acts}
+use Rattle.gq_cluster.specs.Cluster.{Setting, Part, Act, Asks, Comes, Cluster, NodeStep, Acts, Restarts, Reserves, Loses, Returns, lost_part, given_part, state_of, part_of, copy_in, step_of, act_entry, fact_in, fact_of, state_after, part_after, node_of, new_cluster, leapt_part, reserving_part, after_act, after_acts, after_step, acts_of, behind_acts}
 use Rattle.gq_cluster.specs.Keeping.{IsReserved, AllUsedReserved}
 
 -- ---- what a fact reserves
@@ -321,6 +321,17 @@ leap_within s node part k low = let both = by (eqb (s.home k) node && is_in 1 s.
     by true = let op = low.op in let floor = low.floor in (omega arith, omega arith)
     by false = (low.op, low.floor)
 
+-- nor is any above them where more are reserved
+more_within : (s : Setting) (node number : ℕ) (part : Part) (k : ℕ) → IsReserved part k → IsReserved (reserving_part s node number part) k
+more_within s node number part k low = let both = by (eqb (s.home k) node && is_in 1 s.row.sessions k) in record { op = both.0; floor = both.1 }
+  where
+    to : Bool → Reserved
+    to b = if b then record (part.reserved k) { floor = max (part.reserved k).floor number } else part.reserved k
+
+    by : (b : Bool) → ((part.session k).op ≤ (to b).op) × ((part.session k).floor ≤ (to b).floor)
+    by true = let op = low.op in let floor = low.floor in (omega arith, omega arith)
+    by false = (low.op, low.floor)
+
 step_within : (s : Setting) (step : NodeStep) (c : Cluster) → AllReserved c → AllReserved (behind_acts s step c)
 step_within s (Acts act) c low = low
 step_within s (Loses server volumes) c low = λ n k. by n k (eqb server n)
@@ -332,6 +343,11 @@ step_within s (Returns server file mate copy) c low = λ n k. by n k (eqb server
   where
     by : (n k : ℕ) (b : Bool) → IsReserved (if b then given_part file copy (c.part n) else c.part n) k
     by n k true = record { op = (low n k).op; floor = (low n k).floor }
+    by n k false = low n k
+step_within s (Reserves node number) c low = λ n k. by n k (eqb n node)
+  where
+    by : (n k : ℕ) (b : Bool) → IsReserved (if b then reserving_part s node number (c.part n) else c.part n) k
+    by n k true = more_within s node number (c.part n) k (low n k)
     by n k false = low n k
 step_within s (Restarts node) c low = λ n k. by n k (eqb n node)
   where

@@ -3,10 +3,11 @@
 --
 -- The words: a *letter* is a message that a node wrote, on its way to another node or to itself. An *act* is one thing that a
 -- node does, by a line of a session or by a letter that comes; its *aim* is whom the node then takes to be up, whoever is. A
--- *cluster* is the parts of all nodes with the letters that they wrote. A *node step* is an act, or a restart of a node, or what becomes of
--- a server's disk: it is lost, with the copies of some files, which the server then *lacks*; and for a file it is given a copy again by
--- another server of its column, a *mate*. An *exchange* is what came to a session or to a server, with what was told and sent.
-use Rattle.std.specs.Prelude.{◌≡◌, ℕ, List, [], ◌∷◌, ◌++◌, Bool, true, false, ◌==◌, ◌&&◌, ◌||◌, not, nat_lt, Option, Some, None, is_some, Contains, ⊤, map, filter, fold, if◌then◌else◌}
+-- *cluster* is the parts of all nodes with the letters that they wrote. A *node step* is an act, or a restart of a node, or a node reserves
+-- numbers of tags for its sessions, or what becomes of a server's disk: it is lost, with the copies of some files, which the server then
+-- *lacks*; and for a file it is given a copy again by another server of its column, a *mate*. An *exchange* is what came to a session or to a
+-- server, with what was told and sent.
+use Rattle.std.specs.Prelude.{◌≡◌, ℕ, List, [], ◌∷◌, ◌++◌, Bool, true, false, ◌==◌, ◌&&◌, ◌||◌, not, nat_lt, max, Option, Some, None, is_some, Contains, ⊤, map, filter, fold, if◌then◌else◌}
 use Rattle.std.specs.List.{range_with_len}
 use Rattle.gq_grid.specs.Grid.{Grid, Servers}
 use Rattle.gq_tag.specs.declared.StoredCopy.{StoredCopy}
@@ -160,6 +161,8 @@ pub data NodeStep : Type 0 where
   Acts : (act : Act) → NodeStep
   -- the node starts again: what its sessions did not do is given up, and they go on behind the numbers that are reserved for them
   Restarts : (node : ℕ) → NodeStep
+  -- for each session of the node the numbers of tags up to this one are reserved, as a new node does before it restarts for the first time
+  Reserves : (node number : ℕ) → NodeStep
   -- the server's disk is lost: it lacks the files of the first volumes, so many, from then on
   Loses : (server volumes : ℕ) → NodeStep
   -- the server is given this copy of the file by the mate, and has the file again
@@ -176,6 +179,7 @@ gives_up k = Asks (Abandon k) everyone
 abbrev pub acts_of : Setting → Cluster → NodeStep → List Act
 acts_of s c (Acts act) = act ∷ []
 acts_of s c (Restarts node) = map gives_up (going_at s c node)
+acts_of s c (Reserves node number) = []
 acts_of s c (Loses server volumes) = []
 acts_of s c (Returns server file mate copy) = []
 
@@ -191,6 +195,17 @@ leapt_part s node part = record part { session = leapt_session s node part }
 -- so do all sessions of the node
 abbrev pub leapt : Setting → (node : ℕ) → Cluster → Cluster
 leapt s node c = record c { part = λ n. if n == node then leapt_part s node (c.part n) else c.part n }
+
+-- for session k at the node so many numbers of tags are reserved, or more; what is reserved for others stays
+abbrev pub reserved_to : Setting → (node number : ℕ) → Part → ℕ → Reserved
+reserved_to s node number part k =
+    if (s.home k == node) && is_in 1 s.row.sessions k then record (part.reserved k) { floor = max (part.reserved k).floor number } else part.reserved k
+
+abbrev pub reserving_part : Setting → (node number : ℕ) → Part → Part
+reserving_part s node number part = record part { reserved = reserved_to s node number part }
+
+abbrev pub with_numbers : Setting → (node number : ℕ) → Cluster → Cluster
+with_numbers s node number c = record c { part = λ n. if n == node then reserving_part s node number (c.part n) else c.part n }
 
 -- the file is one of the first volumes
 abbrev pub is_within : (volumes : ℕ) → File → Bool
@@ -227,6 +242,7 @@ with_return server file copy c =
 abbrev pub behind_acts : Setting → NodeStep → Cluster → Cluster
 behind_acts s (Acts act) c = c
 behind_acts s (Restarts node) c = leapt s node c
+behind_acts s (Reserves node number) c = with_numbers s node number c
 behind_acts s (Loses server volumes) c = with_loss server volumes c
 behind_acts s (Returns server file mate copy) c = with_return server file copy c
 
@@ -262,6 +278,7 @@ NoneCounts s c server volumes =
 abbrev pub CanHappen : Setting → Cluster → NodeStep → Type 0
 CanHappen s c (Acts act) = CanAct c act
 CanHappen s c (Restarts node) = ⊤
+CanHappen s c (Reserves node number) = ⊤
 CanHappen s c (Loses server volumes) = NoneCounts s c server volumes
 CanHappen s c (Returns server file mate copy) = ((c.part server).lacks file ≡ true) × (are_mates s.grid server mate ≡ true) × Contains (c.offered server file mate) copy
 

@@ -2,7 +2,7 @@
 use Rattle.std.specs.Prelude.{◌≡◌, ℕ, ◌≤◌, List, [], ◌∷◌, ◌++◌, ◌==◌, Option, Some, None, All, ⊤, fold, if◌then◌else◌}
 use Rattle.gq_tag.specs.declared.StoredCopy.{StoredCopy}
 use Rattle.gq_tag.specs.Tag.{File, is_file, first_copy, newer_of}
-use Rattle.gq_cluster.specs.Cluster.{Setting, Part, Act, Cluster, NodeStep, Loses, Returns, new_part, copy_in, node_of, fact_of, part_after, new_cluster, after_act, after_step, acts_of, cluster_after}
+use Rattle.gq_cluster.specs.Cluster.{Setting, Part, Act, Cluster, NodeStep, Reserves, Loses, Returns, new_part, copy_in, node_of, fact_of, part_after, new_cluster, after_act, after_step, acts_of, cluster_after}
 use Rattle.gq_cluster.specs.Facts.{OwnFact, Begun, Numbered, Kept, Had}
 
 -- what is kept of a part: of each file the copy; of each session the last numbers that are reserved, of its operations and of its tags
@@ -41,13 +41,14 @@ abbrev pub facts_at : Setting → Cluster → ℕ → List NodeStep → List (Op
 facts_at s c n [] = []
 facts_at s c n (step ∷ steps) = facts_of s c n (acts_of s c step) ++ facts_at s (after_step s c step) n steps
 
--- no disk is lost by the step
+-- no disk is lost by the step, and nothing is reserved but by the fact of an act
 abbrev pub IsKept : NodeStep → Type 0
+IsKept (Reserves node number) = ⊥
 IsKept (Loses server volumes) = ⊥
 IsKept (Returns server file mate copy) = ⊥
 IsKept _ = ⊤
 
--- from its facts alone, in order, each node knows again what must not be forgotten, whatever happened, while no disk is lost
+-- from its facts alone, in order, each node knows again what must not be forgotten, whatever happened, while no disk is lost, and numbers are reserved by facts alone
 abbrev pub AllFactsSuffice : Type 0
 AllFactsSuffice = (s : Setting) (n : ℕ) (steps : List NodeStep) → All IsKept steps → kept_of ((cluster_after s steps).part n) ≡ fold with_fact (kept_of new_part) (facts_at s new_cluster n steps)
 

@@ -7,7 +7,7 @@ use Rattle.gq_tag.specs.declared.StoredCopy.{StoredCopy}
 use Rattle.gq_tag.specs.Tag.{File, first_copy, greatest}
 use Rattle.gq_desk.specs.Plans.{is_in}
 use Rattle.gq_model.specs.Trace.{Session}
-use Rattle.gq_cluster.specs.Cluster.{Setting, Cluster, Act, Restarts, going_at, gives_up, leapt_part, leapt, after_act, after_acts, after_step, CanFollow}
+use Rattle.gq_cluster.specs.Cluster.{Setting, Cluster, Act, Restarts, Reserves, going_at, gives_up, leapt_part, leapt, reserving_part, with_numbers, after_act, after_acts, after_step, CanFollow}
 use Rattle.gq_cluster.specs.Restarts.{GivesUp}
 use Rattle.gq_cluster.proofs.Restarting.{node_gives}
 use Rattle.gq_replace.proofs.Acting.{Same, Offers, act_offers, act_offering}
@@ -51,6 +51,28 @@ restart_offering s c node offers server file mate lacks has = subst P (sym (leap
 
     P : List StoredCopy → Type 0
     P z = Contains (mid.offered server file mate) (greatest (first_copy ∷ z))
+
+-- ---- numbers are reserved
+
+pub numbers_lack : (s : Setting) (c : Cluster) (node number n : ℕ) (file : File) → ((after_step s c (Reserves node number)).part n).lacks file ≡ (c.part n).lacks file
+numbers_lack s c node number n file = by (eqb n node)
+  where
+    by : (b : Bool) → (if b then reserving_part s node number (c.part n) else c.part n).lacks file ≡ (c.part n).lacks file
+    by true = refl
+    by false = refl
+
+pub numbers_bring : (s : Setting) (c : Cluster) (node number n : ℕ) (file : File) → ((after_step s c (Reserves node number)).part n).brought file ≡ (c.part n).brought file
+numbers_bring s c node number n file = by (eqb n node)
+  where
+    by : (b : Bool) → (if b then reserving_part s node number (c.part n) else c.part n).brought file ≡ (c.part n).brought file
+    by true = refl
+    by false = refl
+
+pub numbers_offering : (s : Setting) (c : Cluster) (node number : ℕ) → Offers c → Offers (after_step s c (Reserves node number))
+numbers_offering s c node number offers server file mate lacks has =
+    let P : List StoredCopy → Type 0 = λ z. Contains (c.offered server file mate) (greatest (first_copy ∷ z)) in
+    subst P (sym (numbers_bring s c node number mate file))
+    (offers server file mate (sym (numbers_lack s c node number server file) ∙ lacks) (sym (numbers_lack s c node number mate file) ∙ has))
 
 -- ---- one restart
 

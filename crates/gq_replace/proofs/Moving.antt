@@ -1,6 +1,6 @@
 -- A node is started, and does what a line or a letter brings.
 use Rattle.std.proofs.Common.{◌≡◌, ◌≢◌, ◌⊎◌, ℕ, zero, suc, ◌+◌, ◌<◌, ◌≤◌, Bool, true, false, not, List, [], ◌∷◌, ◌++◌, map, refl, sym, ap, ◌∙◌, subst, inl, inr, Option, Some, None, is_some, arith, eqb}
-use Rattle.std.specs.Prelude.{Contains, nat_lt, if◌then◌else◌}
+use Rattle.std.specs.Prelude.{Contains, nat_lt, max, ◌==◌, ◌&&◌, if◌then◌else◌}
 use Rattle.std.proofs.lemmas.Bool.{cases_eq, cases_Bool, cases_lt, eq-eqb, ne_eqb, eqb-true, and_parts, ltb-true, lt-ltb, true≢false}
 use Rattle.std.proofs.lemmas.List.{map-append}
 use Rattle.std.proofs.lemmas.List.Elements.{Contains-append_cases}
@@ -13,13 +13,16 @@ use Rattle.gq_desk.specs.Plans.{is_in}
 use Rattle.gq_phase.specs.Phase.{Task}
 use Rattle.gq_model.specs.declared.events.Line.{Line}
 use Rattle.gq_model.specs.Lone.{Step, reply_to}
-use Rattle.gq_cluster.specs.Cluster.{Cluster, Part, Act, Asks, Comes, Acts, Restarts, new_part, copy_in, is_within, node_of, session_named, IsOfSession, CanAct, step_of, step_in, part_after, after_act, after_step}
+use Rattle.gq_cluster.specs.Cluster.{Cluster, Part, Act, Asks, Comes, Acts, Restarts, Reserves, new_part, copy_in, is_within, node_of, session_named, IsOfSession, reserving_part, CanAct, step_of, step_in, part_after, after_act, after_step}
 use Rattle.gq_cluster.specs.Restarts.{GivesUp, begun_anew}
 use Rattle.gq_replace.specs.Plans.{place_of, generation, node_at, has_node}
-use Rattle.gq_replace.specs.Fleet.{World, Fleet, Posted, plan_of, IsActing, MayDo, first_part, part_again, session_again, begins, starts_again, address, posts, does, MayServe}
+use Rattle.gq_replace.specs.Fleet.{World, Fleet, Posted, plan_of, IsActing, MayDo, first_number, first_reserved, first_part, part_again, session_again, begins, starts_again, address, posts, does, MayServe}
 use Rattle.gq_replace.proofs.Chains.{newer_later, same_node}
 use Rattle.gq_replace.proofs.Acting.{Same, SameAct, act_away, act_here, act_offers, act_offering, asked_act, heard_act, after_same, session_then, session_after, went_on_then, lacks_after, asked_brings, heard_brings, served, served_is, served_same, served_other, served_session}
-use Rattle.gq_replace.proofs.Again.{restart_offers, restart_offering, gives}
+use Rattle.gq_replace.proofs.Again.{restart_offers, restart_offering, numbers_lack, numbers_bring, numbers_offering, gives}
+use Rattle.gq_replace.proofs.Reached.{reached_more}
+use Rattle.gq_cluster.specs.Facts.{Reserved, none_reserved}
+use Rattle.gq_model.specs.Trace.{new_session}
 use Rattle.gq_replace.proofs.Sending.{AllAsk, each_asks, line_asks, letter_asks}
 use Rattle.gq_replace.proofs.Sound.{Sound, IsBegun, IsGoing, going_same, IsAsk, IsReply, HasIt, has_it, none_newer, newer_lacks, GoesOnAt, GoesSame, PostsSound, sound_on}
 use Rattle.gq_replace.proofs.Agreeing.{Holds, Agrees, Known, Moved, FollowsAt, agrees_on, from_map, to_map}
@@ -106,33 +109,102 @@ module _ (w : World) (u : Fleet) (c : Cluster) (n j : ℕ) (known : Known w u c)
       let part : begun_fleet.part (w.setting.home x.letter.session) ≡ first_part w n j = ap begun_fleet.part home ∙ part_here in
       absurd (true≢false (sym going.busy ∙ ap (λ z. is_some (z.session x.letter.session).current) part))
 
-  begins_follows : FollowsAt w n u begun_fleet c c
+  -- in the cluster its numbers are reserved, and then its sessions begin behind them
+  abbrev number : ℕ
+  number = first_number w n j
+
+  abbrev numbers_cluster : Cluster
+  numbers_cluster = after_step w.setting c (Reserves n number)
+
+  abbrev begun_cluster : Cluster
+  begun_cluster = after_step w.setting numbers_cluster (Restarts n)
+
+  begun_given : GivesUp w.setting n numbers_cluster begun_cluster
+  begun_given = gives w.setting numbers_cluster n (reached_more w.setting c (Reserves n number) known.reached)
+
+  begun_lacks : (place : ℕ) (file : File) → (begun_cluster.part place).lacks file ≡ (c.part place).lacks file
+  begun_lacks place file = begun_given.lacks place file ∙ numbers_lack w.setting c n number place file
+
+  begun_brings : (place : ℕ) (file : File) → (begun_cluster.part place).brought file ≡ (c.part place).brought file
+  begun_brings place file = begun_given.copies place file ∙ numbers_bring w.setting c n number place file
+
+  begins_follows : FollowsAt w n u begun_fleet c begun_cluster
   begins_follows = record {
     still = still;
     fetched = refl;
-    written = known.agrees.written;
-    others = λ k ne. record { session = refl; reserved = refl };
-    own = own_then;
-    lacks = λ place file. refl;
-    brought = λ place file. inl refl;
+    written = begun_given.written ∙ known.agrees.written;
+    others = λ k ne.
+        let away : numbers_cluster.part (w.setting.home k) ≡ c.part (w.setting.home k) = rw (ne_eqb (w.setting.home k) n ne) refl in
+        record { session = begun_given.others k ne ∙ ap (λ z. z.session k) away; reserved = begun_given.reserved (w.setting.home k) k ∙ ap (λ z. z.reserved k) away };
+    own = λ k here. own_then k here (is_in 1 w.setting.row.sessions k) refl;
+    lacks = begun_lacks;
+    brought = λ place file. inl (begun_brings place file);
     holds = holds;
     lost = λ file ready lacks. absurd (true≢false (sym (known.sound.ready n ready) ∙ not_yet));
-    offered = λ server file mate copy within. within;
-    offers = known.agrees.offers;
+    offered = λ server file mate copy within. restart_offers w.setting numbers_cluster n server file mate copy within;
+    offers = restart_offering w.setting numbers_cluster n (numbers_offering w.setting c n number known.agrees.offers);
   }
     where
-      own_then : (k : ℕ) → w.setting.home k ≡ n → Same (begun_fleet.part n) (c.part n) k
-      own_then k here =
-          let old : Same (u.part n) (c.part n) k = own_same w u c n known.agrees still k here in
-          let fresh : u.part n ≡ new_part = known.sound.fresh n not_yet in
-          record {
-            session = ap (λ z. z.session k) part_here ∙ ap (λ z. z.session k) (sym fresh) ∙ old.session;
-            reserved = ap (λ z. z.reserved k) part_here ∙ ap (λ z. z.reserved k) (sym fresh) ∙ old.reserved;
-          }
+      own_then : (k : ℕ) → w.setting.home k ≡ n → (b : Bool) → is_in 1 w.setting.row.sessions k ≡ b → Same (begun_fleet.part n) (begun_cluster.part n) k
+      own_then k here b is = record {
+        session = ap (λ z. z.session k) part_here ∙ session b is;
+        reserved = ap (λ z. z.reserved k) part_here ∙ reserved b is ∙ sym (begun_given.reserved n k);
+      }
+        where
+          old : Same (u.part n) (c.part n) k
+          old = own_same w u c n known.agrees still k here
+
+          fresh : u.part n ≡ new_part
+          fresh = known.sound.fresh n not_yet
+
+          no_session : (c.part n).session k ≡ new_session
+          no_session = sym old.session ∙ ap (λ z. z.session k) fresh
+
+          none : (c.part n).reserved k ≡ none_reserved
+          none = sym old.reserved ∙ ap (λ z. z.reserved k) fresh
+
+          more : ℕ → Reserved → Reserved
+          more at r = record r { floor = max r.floor at }
+
+          -- where this is whether the session is one of the node
+          first_then : Bool → Reserved
+          first_then its = record { op = 0; floor = if its then number else 0 }
+
+          now_then : Bool → Reserved
+          now_then its = if its then more number ((c.part n).reserved k) else (c.part n).reserved k
+
+          numbers_here : numbers_cluster.part n ≡ reserving_part w.setting n number (c.part n)
+          numbers_here = rw (eq-eqb n n refl) refl
+
+          at_least : max 0 number ≡ number
+          at_least = omega arith
+
+          reserved : (b : Bool) → is_in 1 w.setting.row.sessions k ≡ b → first_reserved w n j k ≡ (numbers_cluster.part n).reserved k
+          reserved true is =
+              (λ i. first_then (eq-eqb (w.setting.home k) n here i && is i))
+              ∙ (λ i. record { op = 0; floor = sym at_least i })
+              ∙ ap (more number) (sym none)
+              ∙ sym (λ i. now_then (eq-eqb (w.setting.home k) n here i && is i))
+              ∙ ap (λ z. z.reserved k) (sym numbers_here)
+          reserved false is =
+              (λ i. first_then (eq-eqb (w.setting.home k) n here i && is i))
+              ∙ sym none
+              ∙ sym (λ i. now_then (eq-eqb (w.setting.home k) n here i && is i))
+              ∙ ap (λ z. z.reserved k) (sym numbers_here)
+
+          same_session : (numbers_cluster.part n).session k ≡ new_session
+          same_session = ap (λ z. z.session k) numbers_here ∙ no_session
+
+          session : (b : Bool) → is_in 1 w.setting.row.sessions k ≡ b → (first_part w n j).session k ≡ (begun_cluster.part n).session k
+          session true is = (λ i. begun_anew (reserved true is i) (sym same_session i)) ∙ sym (begun_given.own k here is)
+          session false is =
+              (λ i. begun_anew (first_then (eq-eqb (w.setting.home k) n here i && is i)) new_session)
+              ∙ sym same_session
+              ∙ sym (begun_given.outside k here is)
 
       -- only the first node of a place has files then
-      holds : (file : File) → HasIt w begun_fleet n file → Holds (begun_fleet.part n) (c.part (place_of n)) file
-      holds file it = record { has = new.1; brought = new.0 ∙ ap (λ z. z.brought file) (sym part_here) }
+      holds : (file : File) → HasIt w begun_fleet n file → Holds (begun_fleet.part n) (begun_cluster.part (place_of n)) file
+      holds file it = record { has = begun_lacks (place_of n) file ∙ new.1; brought = begun_brings (place_of n) file ∙ new.0 ∙ ap (λ z. z.brought file) (sym part_here) }
         where
           within : file.volume < (w.plans j).volumes
           within = let P : ℕ → Type 0 = λ z. file.volume < (w.plans z).volumes in subst P plan_here it.within
@@ -155,11 +227,11 @@ module _ (w : World) (u : Fleet) (c : Cluster) (n j : ℕ) (known : Known w u c)
           new : ((c.part (place_of n)).brought file ≡ []) × ((c.part (place_of n)).lacks file ≡ false)
           new = newly w u c n j file known still has within (λ m place least it. itself m place least it.begun) (λ m ready place least. absurd (itself m place least (known.sound.ready m ready)))
 
-  pub begins_moves : Moved w c begun_fleet []
+  pub begins_moves : Moved w c begun_fleet (Reserves n number ∷ Restarts n ∷ [])
   begins_moves = record {
-    can = tt;
+    can = (tt, (tt, tt));
     sound = sound_on w n u begun_fleet known.sound begins_on begins_same (λ x within. inl within);
-    agrees = agrees_on w n u begun_fleet c c known.chain known.sound known.agrees begins_on begins_follows;
+    agrees = agrees_on w n u begun_fleet c begun_cluster known.chain known.sound known.agrees begins_on begins_follows;
   }
 
 -- ---- and again

@@ -13,7 +13,7 @@ use Rattle.gq_phase.specs.declared.Outcome.TheVariants.{Wrote, Gave}
 use Rattle.gq_phase.specs.Quorums.{collect_quorum, store_quorum, ends_collect, ends_store, are_mates}
 use Rattle.gq_model.specs.declared.events.Line.TheVariants.{Write, Read}
 use Rattle.gq_model.specs.declared.said.Said.TheVariants.{Began, Noted, Round, Done, Abandoned}
-use Rattle.gq_cluster.specs.Cluster.{NodeStep, Acts, Restarts, Loses, Returns, Asks, Comes, everyone, new_cluster, exchanges}
+use Rattle.gq_cluster.specs.Cluster.{NodeStep, Acts, Restarts, Reserves, Loses, Returns, Asks, Comes, everyone, new_cluster, exchanges}
 use Rattle.gq_cluster.specs.Laws.{StepsEnough}
 use Rattle.gq_replace.specs.Plans.{Plan, IsChain, place_of}
 use Rattle.gq_replace.specs.Fleet.{World, FleetStep, Begins, StartsAgain, Does, Answers, Hears, Gives, Takes, new_fleet, AllMayHappen, all_node_steps}
@@ -158,7 +158,11 @@ may_happen =
 
 abbrev done_steps : List NodeStep
 done_steps =
-    Acts (Asks (Write 2 0 0 (104 ∷ 105 ∷ [])) everyone)
+    Reserves 0 0
+    ∷ Restarts 0
+    ∷ Reserves 1 0
+    ∷ Restarts 1
+    ∷ Acts (Asks (Write 2 0 0 (104 ∷ 105 ∷ [])) everyone)
     ∷ Acts (Comes (letter 1 1 0 Ask) everyone)
     ∷ Acts (Comes (letter 1 1 0 (Copy first_copy)) everyone)
     ∷ Acts (Comes (letter 1 2 0 (Store written)) everyone)
@@ -166,6 +170,8 @@ done_steps =
     ∷ Acts (Comes (letter 1 2 0 Stored) everyone)
     ∷ Acts (Comes (letter 1 2 1 Stored) everyone)
     ∷ Restarts 1
+    ∷ Reserves 64 1099511627776
+    ∷ Restarts 64
     ∷ Acts (Asks (Read 1 0 0) everyone)
     ∷ Acts (Asks (Read 2 0 0) everyone)
     ∷ map Restarts (0 ∷ 0 ∷ 0 ∷ 0 ∷ 0 ∷ 0 ∷ 0 ∷ 0 ∷ 0 ∷ 0 ∷ 0 ∷ 0 ∷ 0 ∷ 0 ∷ 0 ∷ 0 ∷ [])

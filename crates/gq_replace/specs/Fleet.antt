@@ -7,17 +7,17 @@
 --
 -- Nothing here keeps a node that is gone from acting, and no node looks at who sends it a letter: that one which is gone takes no step is a premise
 -- (*MayHappen*). Requests that a node refuses by itself, as of a volume that its plan does not have, and letters that it passes over, are no steps.
-use Rattle.std.specs.Prelude.{◌≡◌, ℕ, ◌*◌, ◌<◌, ◌≤◌, List, [], ◌∷◌, ◌++◌, Bool, true, false, ◌==◌, ◌&&◌, ◌||◌, not, nat_lt, Contains, ⊤, map, filter, fold, if◌then◌else◌}
+use Rattle.std.specs.Prelude.{◌≡◌, ℕ, ◌*◌, ◌<◌, ◌≤◌, List, [], ◌∷◌, ◌++◌, length, Bool, true, false, ◌==◌, ◌&&◌, ◌||◌, not, nat_lt, Contains, ⊤, map, filter, fold, if◌then◌else◌}
 use Rattle.std.specs.List.{range_with_len, list_all}
 use Rattle.gq_tag.specs.declared.StoredCopy.{StoredCopy}
 use Rattle.gq_tag.specs.Tag.{File, OwnMessage, to_server}
 use Rattle.gq_desk.specs.Plans.{is_in}
 use Rattle.gq_phase.specs.Quorums.{are_mates}
 use Rattle.gq_model.specs.Trace.{Session, new_session}
-use Rattle.gq_cluster.specs.Facts.{none_reserved}
+use Rattle.gq_cluster.specs.Facts.{Reserved}
 use Rattle.gq_cluster.specs.Restarts.{begun_anew}
-use Rattle.gq_cluster.specs.Cluster.{Setting, Part, Act, Asks, Comes, NodeStep, Acts, Restarts, Loses, Returns, new_part, copy_in, is_within, given_part, session_named, IsOfSession, step_of, part_after}
-use Rattle.gq_replace.specs.Plans.{Plan, place_of, generation, node_at, has_node, is_replaced}
+use Rattle.gq_cluster.specs.Cluster.{Setting, Part, Act, Asks, Comes, NodeStep, Acts, Restarts, Reserves, Loses, Returns, new_part, copy_in, is_within, given_part, session_named, IsOfSession, step_of, part_after}
+use Rattle.gq_replace.specs.Plans.{Plan, place_of, generation, node_at, has_node, is_replaced, base}
 
 -- ---- the state
 
@@ -106,10 +106,6 @@ pub data FleetStep : Type 0 where
 
 -- ---- starts
 
--- of the files of its first plan a new node has none
-abbrev pub first_part : World → (node plan : ℕ) → Part
-first_part w node plan = record { brought = λ file. []; lacks = λ file. nat_lt 0 (generation node) && is_within (w.plans plan).volumes file; session = λ k. new_session; reserved = λ k. none_reserved }
-
 -- a session whose home is the node goes on behind the numbers that are reserved for it, without an operation
 abbrev pub session_again : World → (node : ℕ) → Part → ℕ → Session
 session_again w node part k =
@@ -117,6 +113,25 @@ session_again w node part k =
 
 abbrev pub part_again : World → (node : ℕ) → Part → Part
 part_again w node part = record part { session = session_again w node part }
+
+-- where the tags of the node's sessions begin, by its first plan; so much is reserved for each of them, and for no other
+abbrev pub first_number : World → (node plan : ℕ) → ℕ
+first_number w node plan = base node (length (w.plans plan).lost)
+
+abbrev pub first_floor : World → (node plan : ℕ) → ℕ → ℕ
+first_floor w node plan k = if (w.setting.home k == node) && is_in 1 w.setting.row.sessions k then first_number w node plan else 0
+
+abbrev pub first_reserved : World → (node plan : ℕ) → ℕ → Reserved
+first_reserved w node plan k = record { op = 0; floor = first_floor w node plan k }
+
+-- of the files of its first plan a new node has none; its sessions begin behind what is reserved for them
+abbrev pub first_part : World → (node plan : ℕ) → Part
+first_part w node plan = record {
+  brought = λ file. [];
+  lacks = λ file. nat_lt 0 (generation node) && is_within (w.plans plan).volumes file;
+  session = λ k. begun_anew (first_reserved w node plan k) new_session;
+  reserved = first_reserved w node plan;
+}
 
 abbrev pub starts_with : World → (node plan : ℕ) → Part → Fleet → Fleet
 starts_with w node plan part u = record u {
@@ -235,9 +250,9 @@ abbrev pub ends_of_gone : World → Plan → List NodeStep
 ends_of_gone w plan = map Restarts (filter (is_replaced plan) (map w.setting.home (range_with_len 1 w.setting.row.sessions)))
 
 -- In the cluster a place has the copies of one node at a time. A new node takes the place over once it is ready: that is the loss. Each copy that
--- it takes is a return.
+-- it takes is a return. What a node begins with is reserved first, and then its sessions go behind it, as at any start.
 abbrev pub node_steps : World → Fleet → FleetStep → List NodeStep
-node_steps w u (Begins node plan) = []
+node_steps w u (Begins node plan) = Reserves node (first_number w node plan) ∷ Restarts node ∷ []
 node_steps w u (StartsAgain node plan) = Restarts node ∷ []
 node_steps w u (Does node act) = Acts act ∷ []
 node_steps w u (Answers node new) = []

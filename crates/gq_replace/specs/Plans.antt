@@ -4,8 +4,9 @@
 -- A node that is lost is *replaced* by a new one at the same place, with a number that no node had before: the first node of a place has the
 -- place's number, and each further one a number that is greater by `most_places` than the one before. Its *generation* says how many stood
 -- there before it.
-use Rattle.std.specs.Prelude.{◌≡◌, ℕ, ◌+◌, ◌*◌, ◌/◌, ◌%◌, ◌≤◌, List, ◌++◌, Bool, ◌==◌, nat_lt}
+use Rattle.std.specs.Prelude.{◌≡◌, ℕ, ◌+◌, ◌*◌, ◌/◌, ◌%◌, ◌≤◌, List, ◌++◌, Bool, ◌==◌, nat_lt, if◌then◌else◌}
 use Rattle.std.specs.List.{count_by}
+use Rattle.gq_replace.specs.declared.numbers.TheConstants.{NUMBERS_OF_A_LOSS}
 
 pub record Plan : Type 0 where
   -- the places whose nodes were lost, in the order of the losses
@@ -38,6 +39,11 @@ has_node plan node = generation node == times plan (place_of node)
 -- the plan has a later one at the node's place
 abbrev pub is_replaced : Plan → (node : ℕ) → Bool
 is_replaced plan node = nat_lt (generation node) (times plan (place_of node))
+
+-- The sessions of a new node, begun with a plan that tells of so many losses, take numbers of tags above this one. So whatever a lost node wrote
+-- has a lower number than what they write. The sessions of the first node of a place begin with 1.
+abbrev pub base : (node losses : ℕ) → ℕ
+base node losses = if nat_lt 0 (generation node) then losses * NUMBERS_OF_A_LOSS else 0
 
 -- the new plan goes on from the old one: nodes may be lost, and volumes opened
 pub record GoesOn (old new : Plan) : Type 0 where

@@ -2,3 +2,6 @@
 #![tactic(auto)]
 
 pub mod laws;
+mod numbers;
+
+pub use numbers::NUMBERS_OF_A_LOSS;

@@ -1,0 +1,3 @@
+pub mod Floors
+pub mod Ahead
+pub mod Behind
