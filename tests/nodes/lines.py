@@ -98,15 +98,14 @@ ROOM_LINES = {
 }
 
 
-# The only server of a grid takes all letters itself, but stores: of a listing those of 8 hops, here of four files, at once, and the rest by a line.
+# The only server of a grid takes all letters itself: of a listing those of 8 hops, here of four files, at once, and the rest by a line.
 ALONE = b"grid 1 1\nblocks 8\ntenant ann 8 1 100\ngo\nann open 6 1\n"
 LISTING = b"0 ann list 1 1 0\n"
 LEFT = b"0 0 ann 1 1 9 0 4 ask\n"
 LISTED = b"ann 0 done list 1 1 0:0.0 0:0.0 0:0.0 0:0.0 0:0.0 0:0.0\n"
 ALONE_LINES = {
-    "alone, a write": (WRITE + b"aB\n", OWN + b"1 1 ab\n"),
-    "alone, its store": (WRITE + b"aB\n" + OWN + b"1 1 ab\n", OWN + b"1 1 ab\nann 0 done write 1 1 tag 1 1\n"),
-    "alone, its store twice": (WRITE + b"aB\n" + 2 * (OWN + b"1 1 ab\n"), OWN + b"1 1 ab\nann 0 done write 1 1 tag 1 1\n"),
+    "alone, a write": (WRITE + b"aB\n", b"ann 0 done write 1 1 tag 1 1\n"),
+    "alone, its store, as an old carrier brings it": (WRITE + b"aB\n" + OWN + b"1 1 ab\n", b"ann 0 done write 1 1 tag 1 1\n"),
     "alone, a read of the first copy": (READ, b"ann 0 done read 1 1 tag 0 0 -\n"),
     "alone, a listing of six files": (LISTING, LEFT),
     "alone, what is left of it": (LISTING + LEFT, LEFT + LISTED),

@@ -170,6 +170,7 @@ class Storm:
         self.later = self.a_plan_behind()
         self.write_plan()
         self.count, _ = homes(self.plan)
+        self.has_one_row = self.plan.startswith("grid 1 ")
         self.turn = self.given = self.done = self.gone = self.deaths = self.processes = 0
         self.events, self.tags, self.numbers = {}, {}, Numbers()
         self.lives = [[] for _ in range(self.count)]
@@ -315,9 +316,9 @@ class Storm:
         lines = wrote.split(b"\n")[:-1]  # (the last one is torn, or empty)
         for line in lines:
             self.numbers.see(number, line)
-            # (a listing of several files may, where the node is the only server)
-            if self.count > 1 and line.startswith(b"%d %d " % (number, number)) and b" store " not in line:
-                raise Wrong(f"node {number} writes a line to itself that is no store: {line!r}")
+            # (a listing of several files may, where the node is the only server; and a store, where its column has others)
+            if self.count > 1 and line.startswith(b"%d %d " % (number, number)) and (self.has_one_row or b" store " not in line):
+                raise Wrong(f"node {number} writes a line to itself: {line!r}")
             if line[:1].isdigit():
                 if b" store " in line or b" copy " in line:
                     words = line.split(b" ")

@@ -21,7 +21,10 @@ fn row(rt: &impl Abort, name: &[u8], sessions: u32) -> TenantRow {
 
 // Node 0 of so many servers in one row; each tenant has so many sessions.
 fn machine(rt: &impl Abort, alloc: Global, servers: usize, sessions: u32) -> NodeMachine {
-    let grid = Grid::new(1, servers).expect(rt, "a grid");
+    machine_of(rt, alloc, Grid::new(1, servers).expect(rt, "a grid"), sessions)
+}
+
+fn machine_of(rt: &impl Abort, alloc: Global, grid: Grid, sessions: u32) -> NodeMachine {
     let rows = [row(rt, b"ann", sessions), row(rt, b"bob", sessions)];
     let plan = Plan::check(alloc, grid, 16, &rows).expect(rt, "a plan");
     let lost = Lost::none(alloc).expect(rt, "memory");
@@ -47,7 +50,40 @@ fn step(
 }
 
 #[test]
-fn a_write_and_its_store(rt: HostRuntime) -> Result<(), Fail> {
+fn a_write_to_a_column(rt: HostRuntime) -> Result<(), Fail> {
+    let alloc = rt.alloc();
+    let grid = Grid::new(2, 1).expect(&rt, "a grid");
+    let mut m = machine_of(&rt, alloc, grid, 2);
+    let m = &mut m;
+    step(
+        &rt,
+        alloc,
+        m,
+        b"0 ann write 1 1 0 0 aB",
+        b"began ann 1 1024\nnumbered ann 1 1024\n",
+        b"0 0 ann 1 1 2 0 0 store 1 1 =\xab\n1 0 ann 1 1 2 0 0 store 1 1 =\xab\n",
+    );
+    step(
+        &rt,
+        alloc,
+        m,
+        b"0 0 ann 1 1 2 0 0 store 1 1 ab",
+        b"kept ann 0 0 1 1 =\xab\n",
+        b"",
+    );
+    step(
+        &rt,
+        alloc,
+        m,
+        b"0 1 ann 1 1 2 0 0 stored",
+        b"",
+        b"ann 0 done write 1 1 tag 1 1\n",
+    );
+    Ok(())
+}
+
+#[test]
+fn a_write_within_its_line(rt: HostRuntime) -> Result<(), Fail> {
     let alloc = rt.alloc();
     let mut m = machine(&rt, alloc, 1, 2);
     let m = &mut m;
@@ -56,15 +92,7 @@ fn a_write_and_its_store(rt: HostRuntime) -> Result<(), Fail> {
         alloc,
         m,
         b"0 ann write 1 1 0 0 aB",
-        b"began ann 1 1024\nnumbered ann 1 1024\n",
-        b"0 0 ann 1 1 2 0 0 store 1 1 =\xab\n",
-    );
-    step(
-        &rt,
-        alloc,
-        m,
-        b"0 0 ann 1 1 2 0 0 store 1 1 ab",
-        b"kept ann 0 0 1 1 =\xab\n",
+        b"began ann 1 1024\nnumbered ann 1 1024\nkept ann 0 0 1 1 =\xab\n",
         b"ann 0 done write 1 1 tag 1 1\n",
     );
     step(
@@ -144,27 +172,9 @@ fn a_write_line_by_line(rt: HostRuntime) -> Result<(), Fail> {
         alloc,
         m,
         b"0 1 ann 1 1 1 0 0 copy 0 0 -",
-        b"numbered ann 1 1024\n",
-        b"0 0 ann 1 1 2 0 0 store 1 1 =\xab\n",
-    );
-    step(&rt, alloc, m, b"0 0 tick", b"", b"");
-    step(
-        &rt,
-        alloc,
-        m,
-        b"0 0 tick",
-        b"",
-        b"0 0 ann 1 1 2 0 0 store 1 1 =\xab\n",
-    );
-    step(
-        &rt,
-        alloc,
-        m,
-        b"0 0 ann 1 1 2 0 0 store 1 1 ab",
-        b"kept ann 0 0 1 1 =\xab\n",
+        b"numbered ann 1 1024\nkept ann 0 0 1 1 =\xab\n",
         b"ann 0 done write 1 1 tag 1 1\n",
     );
-    step(&rt, alloc, m, b"0 0 ann 1 1 2 0 0 stored", b"", b"");
     step(
         &rt,
         alloc,
@@ -320,15 +330,7 @@ fn what_a_start_needs(rt: HostRuntime) -> Result<(), Fail> {
         alloc,
         m,
         b"0 ann write 1 1 0 1 ab",
-        b"began ann 1 1024\nnumbered ann 1 1024\n",
-        b"0 0 ann 1 1 2 0 1 store 1 1 =\xab\n",
-    );
-    step(
-        &rt,
-        alloc,
-        m,
-        b"0 0 ann 1 1 2 0 1 store 1 1 ab",
-        b"kept ann 0 1 1 1 =\xab\n",
+        b"began ann 1 1024\nnumbered ann 1 1024\nkept ann 0 1 1 1 =\xab\n",
         b"ann 0 done write 1 1 tag 1 1\n",
     );
     step(

@@ -25,10 +25,10 @@ const STRANGE: &str =
 const LONGER: &str =
     "grid 1 1\nblocks 16\ntenant ann 8 2 100\ntenant bob 4 1 100\ngo\nann open 2 1\n";
 
-// The node is the only server, and takes all letters of the write itself but the store.
-const WRITE: &[u8] = b"0 ann write 1 1 0 0 6b\n0 0 ann 1 1 2 0 0 store 1 1 =k\n";
+// The node is the only server, and takes all letters of the write within its line.
+const WRITE: &[u8] = b"0 ann write 1 1 0 0 6b\n";
 
-const WRITTEN: &str = " ?\n0 0 ann 1 1 2 0 0 store 1 1 =k\nann 0 done write 1 1 tag 1 1\n";
+const WRITTEN: &str = " ?\nann 0 done write 1 1 tag 1 1\n";
 
 // Who watches a node: what was told of it, and whether its streams are open.
 #[derive(Drop)]
