@@ -18,7 +18,7 @@ from botocore.credentials import Credentials
 from gridfs_client import NamedFiles, Session, ask_plan, layout_of
 from gridfs_client.settings import Settings
 
-HELPERS = 3
+HELPERS = 7  # so that the library has the room of all sessions, as the endpoint has
 LONG = 4 << 20  # bytes from which on several sessions move a content
 
 

@@ -202,6 +202,10 @@ class Malformed(unittest.TestCase):
         told = exchange(b"GET /-/two/?prefix=%3Cb%3E%26%22%27%3F%23%25%2F HTTP/1.1\r\nHost: a\r\nAuthorization: Basic " + word + b"\r\n\r\n")
         S3.delete_object(Bucket="two", Key=key)
         self.assertIn(b"javascript:x</a>", told)
+        S3.put_object(Bucket="two", Key="page.html", Body=b"<script>", ContentType="text/html")
+        headers = S3.get_object(Bucket="two", Key="page.html")["ResponseMetadata"]["HTTPHeaders"]
+        S3.delete_object(Bucket="two", Key="page.html")
+        self.assertEqual((headers["content-type"], headers["content-security-policy"]), ("text/html", "sandbox"))
         self.assertNotIn(b"<b>", told)
         self.assertNotIn(b'href="javascript', told)
         self.assertEqual(code_of(exchange(b"GET /-/NO/ HTTP/1.1\r\nHost: a\r\nAuthorization: Basic " + word + b"\r\n\r\n")), (400, "InvalidBucketName"))

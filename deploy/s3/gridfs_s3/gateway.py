@@ -89,9 +89,10 @@ class Gateway:
         """Before the first change on a page: what an earlier gateway left under way there ends, where its session's home answers."""
         page = self.pool.layout.page_of(name)
         if page not in self.pool.begun:
-            self.pool.begun.add(page)
+            self.pool.begun[page] = asyncio.get_running_loop().create_task(self.pool.settle(page))
+        if not self.pool.begun[page].done():
             try:
-                await self.pool.settle(page)
+                await asyncio.shield(self.pool.begun[page])
             except ClientError:
                 pass
 

@@ -74,7 +74,8 @@ def headers_of(found: Object, asked: Asked) -> dict[str, str]:
 def begun(asked: Asked, found: Object, part: tuple[int, int] | None) -> web.StreamResponse:
     """The answer whose body is an object, or a part of it."""
     first, end = part or (0, found.size)
-    headers = {**headers_of(found, asked), "x-amz-request-id": asked.id, "Server": SERVER}
+    # (in a browser an object is no page of this host, whatever it is: other tenants have their pages here)
+    headers = {**headers_of(found, asked), "x-amz-request-id": asked.id, "Server": SERVER, "Content-Security-Policy": "sandbox"}
     if part:
         headers["Content-Range"] = f"bytes {first}-{end - 1}/{found.size}"
     response = web.StreamResponse(status=206 if part else 200, headers=headers)

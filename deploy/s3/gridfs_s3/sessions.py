@@ -33,7 +33,7 @@ class Pool:
         self.settings, self.shared = settings, Shared()
         self.workers: dict[int, Worker] = {}
         self.waiting: list[Wanted] = []
-        self.begun: set[int] = set()  # pages on which something was changed since the start
+        self.begun: dict[int, asyncio.Task[None]] = {}  # pages on which something is changed, each with what settles it before
         self.carrier: Carrier | None = None
         self.layout: Layout  # once it is opened
         self.has_all = False  # whether all sessions of the tenant are here
@@ -281,7 +281,7 @@ class Pool:
 
     async def settle_by(self, number: int, page: int) -> None:
         worker = await self.lease(number)
-        await self.run(worker, lambda store: store.settle(page))
+        await self.run(worker, lambda store: store.settle(page), is_soon=True)
 
     def is_settled(self, page: int) -> bool:
         """Whether all sessions of the tenant are here, and nothing is under way into this page but changes of this gateway that are asked for now."""
