@@ -2,7 +2,8 @@
 
 import os
 import secrets
-from collections.abc import Mapping
+from collections.abc import Mapping, Sequence
+from dataclasses import dataclass
 from pathlib import Path
 
 NGINX = """\
@@ -32,7 +33,8 @@ http {{
         "~\\|(?<user>[a-z]{{1,16}})(\\.[A-Za-z0-9_-]{{1,40}})?$" $user;
         default "";
     }}
-    map $tenant $gateway {{
+    # and of its gateways any, or the one that has the session of an upload
+    map "$tenant:$arg_uploadId" $gateway {{
         default "";
 {map}
     }}
@@ -83,15 +85,37 @@ http {{
 """
 
 
-def tenants_of(plan: str) -> list[str]:
-    """The tenants of a plan whose volumes can have names: behind the first ones there are some of another shape."""
-    shapes: dict[str, set[str]] = {}
+@dataclass(frozen=True)
+class Instance:
+    """A gateway of a tenant: its name, which is the tenant's or that with a number, and its sessions, from the first to the last."""
+
+    name: str
+    tenant: str
+    first: int
+    last: int
+
+    @property
+    def sessions(self) -> str:
+        return f"{self.first}-{self.last}"
+
+
+def tenants_of(plan: str) -> dict[str, int]:
+    """The tenants of a plan whose volumes can have names, each with its sessions: behind the first volumes there are some of another shape."""
+    shapes, sessions = dict[str, set[str]](), dict[str, int]()
     for words in (line.split() for line in plan.splitlines()):
-        if words[:1] == ["tenant"]:
-            shapes[words[1]] = set()
+        if words[:1] == ["tenant"] and len(words) > 3 and words[3].isdecimal():
+            shapes[words[1]], sessions[words[1]] = set(), int(words[3])
         elif words[1:2] == ["open"] and words[0] in shapes:
             shapes[words[0]].add(" ".join(words[2:]))
-    return [name for name, found in shapes.items() if len(found) > 1]
+    return {name: sessions[name] for name, found in shapes.items() if len(found) > 1}
+
+
+def instances_of(tenant: str, sessions: int, count: int) -> list[Instance]:
+    """So many gateways of a tenant, but no more than it has sessions, which they share."""
+    count = max(1, min(count, sessions))
+    ends = [sessions * number // count for number in range(count + 1)]
+    names = [tenant] if count == 1 else [f"{tenant}-{number}" for number in range(1, count + 1)]
+    return [Instance(name, tenant, first + 1, last) for name, first, last in zip(names, ends, ends[1:])]
 
 
 def make_keys(path: Path, name: str) -> str:
@@ -105,11 +129,20 @@ def make_keys(path: Path, name: str) -> str:
     return words[-1] if len(words) == 1 else words[1]
 
 
-def nginx_conf(folder: Path, sockets: Mapping[str, str], listen: str, workers: int = 1) -> str:
-    return NGINX.format(
-        folder=folder, listen=listen, workers=workers, map="\n".join(f"        {name} gateway-{name};" for name in sockets),
-        upstreams="\n".join(f"    upstream gateway-{name} {{ server unix:{path} max_fails=0; keepalive 32; }}" for name, path in sockets.items()),
-    )  # fmt: skip
+def nginx_conf(folder: Path, gateways: Mapping[str, Sequence[Instance]], sockets: Mapping[str, str], listen: str, workers: int = 1) -> str:
+    """The configuration of nginx before the gateways of each tenant, whose sockets are known by their names. Of several one that is away is passed over
+    for two seconds."""
+    maps, upstreams = [], []
+    for tenant, found in gateways.items():
+        fails = "max_fails=0" if len(found) == 1 else "max_fails=1 fail_timeout=2s"
+        for each in found if len(found) > 1 else ():
+            numbers = "|".join(map(str, range(each.first, each.last + 1)))
+            maps.append(f'        "~^{tenant}:({numbers})\\." gateway-{each.name};')
+            upstreams.append(f"    upstream gateway-{each.name} {{ server unix:{sockets[each.name]} max_fails=0; keepalive 32; }}")
+        maps.append(f'        "~^{tenant}:" gateway-{tenant};')
+        servers = " ".join(f"server unix:{sockets[each.name]} {fails};" for each in found)
+        upstreams.append(f"    upstream gateway-{tenant} {{ {servers} keepalive 32; }}")
+    return NGINX.format(folder=folder, listen=listen, workers=workers, map="\n".join(maps), upstreams="\n".join(upstreams))
 
 
 def s3cmd_config(access: str, secret: str, host: str) -> str:
