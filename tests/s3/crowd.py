@@ -1,5 +1,5 @@
 #!/usr/bin/python3
-"""Many at once want more room than a session has, over small pages: each request is done or told that there is no room, none waits for ever, and behind
+"""Many at once want more room than a session has, over small pages: each request is done or told that there is no room, none waits for ever, and after
 it all slots are free and removals are swept.
 
     crowd.py SECONDS        over a stand-in for a grid; the status is 1 where something is wrong

@@ -282,7 +282,7 @@ class Steps(unittest.TestCase):
         complete(files, upload)
         self.assertEqual(content_of(files, NAME), b"".join(PARTS))
 
-    def test_touch_behind_a_change(self):
+    def test_touch_after_a_change(self):
         memory = fresh()
         files = client(memory)
         put(files, NAME, OLD)
@@ -340,7 +340,7 @@ class Contents(unittest.TestCase):
 
 class Times(unittest.TestCase):
     def test_times_never_go_back(self):
-        """Of one key, though the machine's clock does, within a gateway and behind its start."""
+        """Of one key, though the machine's clock does, within a gateway and after its start."""
         memory, seen, now = fresh(), [], 2_000_000_000_000
         for turn, clock in enumerate((now, now - 5_000, now - 9_000, now + 10)):
             with mock.patch("time.time_ns", lambda clock=clock: clock * 1_000_000):
@@ -351,7 +351,7 @@ class Times(unittest.TestCase):
         self.assertEqual(seen, sorted(set(seen)))
 
     def test_no_answer(self):
-        """What got no answer takes no effect behind a later change of the same gateway that did."""
+        """What got no answer takes no effect after a later change of the same gateway that did."""
         for step in range(1, 12):
             memory, shared = fresh(), Shared()
 

@@ -202,7 +202,7 @@ class Body:
         return right
 
     async def take_trailers(self, before: str) -> None:
-        """Reads the lines behind the last chunk."""
+        """Reads the lines after the last chunk."""
         lines = []
         while not self.stream.at_eof() and (line := (await self.line()).decode("latin1")):
             name, _, value = line.partition(":")

@@ -7,7 +7,7 @@ EPILOG = """\
 example:
   gridfs-s3 --config carol.ini --keys carol.keys --listen 127.0.0.1:9000
 
-A line of the file of keys is: ACCESS SECRET [read] [bucket=NAME]... ACCESS is the tenant's name, or that and a word behind a dot (carol.backup). A
+A line of the file of keys is: ACCESS SECRET [read] [bucket=NAME]... ACCESS is the tenant's name, or that and a word after a dot (carol.backup). A
 key with `read` changes nothing, one with buckets sees these alone. A file with one word has the secret of the tenant's name. SIGHUP has it read
 again. --config, and the environment, are as those of gridfs-client. The gateway takes each session that the settings name and no other client here
 uses, for as long as it runs. SIGTERM ends it once what is under way has ended.

@@ -65,7 +65,7 @@ http {{
         }}
         location @who {{
             add_header WWW-Authenticate 'Basic realm="gridfs-s3", charset="UTF-8"' always;
-            return 401 'An access key and its secret are wanted.\\n';
+            return 401 'An access key and its secret are required.\\n';
         }}
         location @malformed {{
             default_type application/xml;
@@ -100,7 +100,7 @@ class Instance:
 
 
 def tenants_of(plan: str) -> dict[str, int]:
-    """The tenants of a plan whose volumes can have names, each with its sessions: behind the first volumes there are some of another shape."""
+    """The tenants of a plan whose volumes can have names, each with its sessions: after the first volumes there are some of another shape."""
     shapes, sessions = dict[str, set[str]](), dict[str, int]()
     for words in (line.split() for line in plan.splitlines()):
         if words[:1] == ["tenant"] and len(words) > 3 and words[3].isdecimal():

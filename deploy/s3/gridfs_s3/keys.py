@@ -4,7 +4,7 @@ A file of keys has a line for each:
 
     ACCESS SECRET [read] [bucket=NAME]..
 
-ACCESS is the tenant's name, or that and a word behind a dot, such as `carol.backup`: so what stands before several gateways finds the tenant by it.
+ACCESS is the tenant's name, or that and a word after a dot, such as `carol.backup`: so what stands before several gateways finds the tenant by it.
 A key with the word `read` changes nothing. A key with buckets sees these alone. Lines that are empty or begin with # mean nothing. The first
 key may do all.
 """
@@ -48,7 +48,7 @@ def parse_key(line: str, tenant: str) -> Key:
     access, secret, *words = (line.split(" ") + [""])[:2] + line.split(" ")[2:]
     found = ACCESS.fullmatch(access)
     if not found or found[1] != tenant:
-        raise BadKeys(f"{access}: an access key here is {tenant}, or {tenant} with a dot and a word behind it")
+        raise BadKeys(f"{access}: an access key here is {tenant}, or {tenant} with a dot and a word after it")
     if len(secret) < LEAST:
         raise BadKeys(f"{access}: a secret has {LEAST} letters or more")
     buckets = frozenset(word.removeprefix("bucket=") for word in words if word.startswith("bucket="))

@@ -200,7 +200,7 @@ class Objects(Operations):
     async def put_object(self, asked: Asked) -> web.Response:
         """200. With If-None-Match or If-Match: 412 PreconditionFailed, 404 NoSuchKey. 404 NoSuchBucket; 411 MissingContentLength; 507
         InsufficientStorage; 400 BadDigest, EntityTooLarge, IncompleteBody, InvalidDigest, KeyTooLongError, MetadataTooLarge, RequestTimeout,
-        XAmzContentSHA256Mismatch; 403 SignatureDoesNotMatch (of a chunk). Behind these nothing was changed."""
+        XAmzContentSHA256Mismatch; 403 SignatureDoesNotMatch (of a chunk). After these nothing was changed."""
         await self.gateway.need_bucket(asked.bucket)
         name, body = name_of(asked.bucket, asked.key), body_of(asked)
         if body.told_size > LONGEST_PUT:

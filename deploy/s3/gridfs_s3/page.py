@@ -82,7 +82,7 @@ class Page:
         key = self.key_of(asked.headers.get("authorization", ""))
         if not key:
             asks = {"WWW-Authenticate": 'Basic realm="gridfs-s3", charset="UTF-8"', **HEADERS}
-            return web.Response(status=401, text="An access key and its secret are wanted.\n", headers=asks)
+            return web.Response(status=401, text="An access key and its secret are required.\n", headers=asks)
         bucket = unquote(asked.path[2:].strip("/"))
         body = await (self.bucket(asked, bucket, key) if bucket else self.all(key))
         text = (

@@ -101,7 +101,7 @@ class Object:
 
     @property
     def etag(self) -> str:
-        """MD5, with the number of parts behind a - where it is of parts; of a content that another client put, half of its SHA-256."""
+        """MD5, with the number of parts after a - where it is of parts; of a content that another client put, half of its SHA-256."""
         if md5 := self.values.get("m"):
             return md5 + (f"-{self.values['n']}" if "n" in self.values else "")
         return digest_in_hex(self.held.content.digest)[:32] + "-1"

@@ -36,7 +36,7 @@ class Signed:
     stamp: str
 
     def chunk_signature(self, before: str, digest: str, kind: str = "PAYLOAD") -> str:
-        """The signature of a chunk behind one with the signature `before`; of trailers, where the kind says so."""
+        """The signature of a chunk after one with the signature `before`; of trailers, where the kind says so."""
         scope = self.signer.credential_scope(self.signer.request_at(self.stamp))
         empty = [] if kind == "TRAILER" else ["e3b0c44298fc1c149afbf4c8996fb92427ae41e4649b934ca495991b7852b855"]
         text = "\n".join([f"{ALGORITHM}-{kind}", self.stamp, scope, before, *empty, digest])

@@ -137,7 +137,7 @@ class Store(Reader):
         return Held(name, version, content or Inline(b""), words)
 
     def put_object(self, name: str, body: Body, values: Callable[[], Values], condition: Condition | None = None) -> Held:
-        """Puts a content, which is read as it comes. `values` are asked for before it, and again behind it."""
+        """Puts a content, which is read as it comes. `values` are asked for before it, and again after it."""
         body.rewind()  # (it may have been begun before)
         bucket = self.bucket(name)
 
