@@ -2,8 +2,8 @@
 
 import asyncio
 import re
-from collections.abc import Callable
-from contextlib import closing
+from collections.abc import AsyncIterator, Callable
+from contextlib import asynccontextmanager, closing
 
 from aiohttp import web
 
@@ -19,7 +19,7 @@ from .places import KEYS, MOST_METADATA, Object, Values, name_of
 from .requests import SERVER, Asked, answer, http_date, judge, range_of
 from .store import Condition, Store
 
-SMALL = 1 << 20  # bytes that are read before a session is taken
+SMALL, MOST_SMALL = 1 << 20, 64  # bytes that are read before a session is taken, and how many such bodies are held at a time
 MANY = 4 << 20  # bytes from which on idle sessions help
 HELPERS = 3
 LONGEST_PUT = 5 << 30
@@ -154,7 +154,7 @@ class Get:
 class Objects(Operations):
     def __init__(self, gateway: Gateway, buckets: Buckets):
         super().__init__(gateway)
-        self.buckets = buckets
+        self.buckets, self.small = buckets, asyncio.Semaphore(MOST_SMALL)
 
     async def found(self, asked: Asked) -> Object:
         """The object that is asked for. 404 NoSuchKey."""
@@ -188,14 +188,18 @@ class Objects(Operations):
         await self.found(asked)
         return answer(self.buckets.acl())
 
-    async def source_of(self, asked: Asked, body: Body) -> Whole | Threaded:
-        """A body as a session reads it: whole where it is small, so that no session waits for it."""
-        await let_body_come(asked)
+    @asynccontextmanager
+    async def source_of(self, asked: Asked, body: Body) -> AsyncIterator[Whole | Threaded]:
+        """A body as a session reads it: whole where it is small, so that no session waits for it. So many of these are held at a time."""
         metrics.taken.labels(self.gateway.tenant).inc(body.told_size)
-        if body.told_size <= SMALL:
+        if body.told_size > SMALL:
+            await let_body_come(asked)
+            yield Threaded(body, asyncio.get_running_loop())
+            return
+        async with self.small:
+            await let_body_come(asked)
             data = await body.all(SMALL)
-            return Whole(data, body.checks.md5.hexdigest())
-        return Threaded(body, asyncio.get_running_loop())
+            yield Whole(data, body.checks.md5.hexdigest())
 
     async def put_object(self, asked: Asked) -> web.Response:
         """200. With If-None-Match or If-Match: 412 PreconditionFailed, 404 NoSuchKey. 404 NoSuchBucket; 411 MissingContentLength; 507
@@ -206,12 +210,12 @@ class Objects(Operations):
         if body.told_size > LONGEST_PUT:
             raise S3Error("EntityTooLarge")
         values, condition = values_of(asked), await self.gateway.condition_of(asked, name)
-        source = await self.source_of(asked, body)
+        async with self.source_of(asked, body) as source:
 
-        def put(store: Store) -> Held:
-            return store.put_object(name, source, lambda: {**values, "m": source.digest()}, condition)
+            def put(store: Store) -> Held:
+                return store.put_object(name, source, lambda: {**values, "m": source.digest()}, condition)
 
-        held = await self.gateway.change(name, put, HELPERS if body.told_size >= MANY else 0)
+            held = await self.gateway.change(name, put, HELPERS if body.told_size >= MANY else 0)
         return answer(headers={"ETag": f'"{Object(asked.key, held).etag}"'})
 
     async def delete_object(self, asked: Asked) -> web.Response:

@@ -102,6 +102,7 @@ async def drained(endpoint: "Endpoint", seconds: float) -> None:
     until = asyncio.get_running_loop().time() + seconds
     while endpoint.under_way and asyncio.get_running_loop().time() < until:
         await asyncio.sleep(0.02)
+    endpoint.is_over = True
 
 
 def main(words: Sequence[str] | None = None) -> None:

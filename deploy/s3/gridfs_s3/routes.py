@@ -88,7 +88,7 @@ class Endpoint:
         self.copies = Copies(self.objects)
         self.uploads = Uploads(self.objects, self.copies)
         self.page = Page(gateway, self.listings)
-        self.under_way, self.is_ending = 0, False
+        self.under_way, self.is_ending, self.is_over = 0, False, False
 
     async def handle(self, request: web.BaseRequest) -> web.StreamResponse:
         """The answer to a request, with what is counted of it."""
@@ -97,6 +97,8 @@ class Endpoint:
         try:
             try:
                 asked = Asked(request, self.gateway.domain)
+                if self.is_over:
+                    raise S3Error("ServiceUnavailable", "The gateway ends. Nothing was changed.")
                 response = await self.dispatch(asked)
             except (ConnectionError, asyncio.CancelledError, RequestPayloadError):
                 status = 499

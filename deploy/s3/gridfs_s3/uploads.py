@@ -63,8 +63,9 @@ class Uploads(Operations):
         number, session, body = part_number(asked), self.session_of(asked), body_of(asked)
         if body.told_size > LONGEST_PUT:
             raise S3Error("EntityTooLarge")
-        source, put = await self.objects.source_of(asked, body), PutPart(asked, number)
-        md5 = await self.gateway.change(put.name, lambda store: put(store, source), HELPERS if body.told_size >= MANY else 0, session)
+        put = PutPart(asked, number)
+        async with self.objects.source_of(asked, body) as source:
+            md5 = await self.gateway.change(put.name, lambda store: put(store, source), HELPERS if body.told_size >= MANY else 0, session)
         return answer(headers={"ETag": f'"{md5}"'})
 
     async def upload_part_copy(self, asked: Asked) -> web.Response:
