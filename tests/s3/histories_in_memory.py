@@ -7,6 +7,7 @@ A client of these histories is a gateway with some sessions, of which it takes a
 """
 
 import contextlib
+import hashlib
 import io
 import os
 import random
@@ -15,8 +16,7 @@ import sys
 sys.path.insert(0, os.path.dirname(os.path.abspath(__file__)))
 import code_of_s3  # noqa: F401  (which says where the code is)
 import registers
-from gridfs_client import ClientError, NoSuchName, Unanswered
-from gridfs_client.contents import digest_in_hex
+from gridfs_client import ClientError, NoSuchName, Replaced, Unanswered
 from gridfs_s3.errors import S3Error
 from gridfs_s3.places import of_words
 from gridfs_s3.shared import Shared
@@ -89,17 +89,48 @@ class Objects:
 
     def put(self, name, content):
         content = content if isinstance(content, bytes) else content.read()
-        self.changed(lambda store: store.put_object(name, Body(content), lambda: {"m": "0" * 32}))
+        values = {"s": hashlib.sha256(content).hexdigest()}
+        kind = self.draw.choice(("whole", "whole", "whole", "in parts", "other words"))
+        if kind == "in parts":
+            self.changed(lambda store: self.put_in_parts(store, name, content, values))
+        else:
+            self.changed(lambda store: store.put_object(name, Body(content), lambda: values))
+        if kind == "other words":
+            self.change_words(name, values)
+
+    def put_in_parts(self, store, name, content, values):
+        """By an upload of one session, with a part that is put twice and one that is left out."""
+        upload, half = store.begin_upload("bucket", name, {}), len(content) // 2
+        for number, part in ((1, b"x" * 50), (3, content[half:]), (2, b"left out"), (1, content[:half])):
+            store.put_part("bucket", upload, number, Body(part), 5)
+        found = {part.number: slots for part, slots in store.uploaded(store.upload("bucket", upload))}
+        store.complete("bucket", upload, name, values, [found[1], found[3]], None)
+
+    def change_words(self, name, values):
+        """Gives a content other words where it stands, if it is there still: that changes nothing of it. (Beside another gateway it would be one
+        more put of that content, of which the history knows nothing.)"""
+        held = self.store().look(name)
+        for store in self.stores if len(self.stores) == self.stores[0].layout.sessions else ():
+            if held and held.version.session == store.me and of_words(held.words)["s"] == values["s"]:
+                store.touch(name, held, lambda: {**values, "again": "1"})
 
     def remove(self, name):
         if not self.changed(lambda store: store.delete(name)):
             absent(name)
 
     def get(self, name):
+        """As who asks again where an answer is cut, since the content was replaced amid it."""
+        while True:
+            with contextlib.suppress(Replaced):
+                return self.get_once(name)
+
+    def get_once(self, name):
         store = self.store()
         try:
             held, parts, data = store.read(name, lambda held: (0, held.content.size) if held else absent(name))
             content = data + b"".join(parts)
+            if hashlib.sha256(content).hexdigest() != of_words(held.words)["s"]:
+                raise S3Error("InternalError", f"{name}: a content with the words of another one")
             self.look_at_time(held)
             return content, held
         finally:
@@ -127,7 +158,7 @@ class Objects:
 class Entry:
     def __init__(self, held):
         self.name = held.name
-        self.sha256 = digest_in_hex(held.content.digest)
+        self.sha256 = of_words(held.words).get("s")
 
 
 def absent(name):
