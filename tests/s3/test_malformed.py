@@ -1,6 +1,7 @@
 """Requests that are malformed: each is told the right error of S3, nothing is stored by it, the gateway goes on, and tells of no fault of its own."""
 
 import base64
+import html
 import os
 import re
 import signal
@@ -200,6 +201,8 @@ class Malformed(unittest.TestCase):
         key = "<b>&\"'?#%/javascript:x"
         S3.put_object(Bucket="two", Key=key, Body=b"x")
         told = exchange(b"GET /-/two/?prefix=%3Cb%3E%26%22%27%3F%23%25%2F HTTP/1.1\r\nHost: a\r\nAuthorization: Basic " + word + b"\r\n\r\n")
+        link = html.unescape(re.search(rb'href="(/two/[^"]*)"', told)[1].decode())
+        self.assertTrue(exchange(f"GET {link} HTTP/1.1\r\nHost: a\r\n\r\n".encode()).endswith(b"\r\n\r\nx"))
         S3.delete_object(Bucket="two", Key=key)
         self.assertIn(b"javascript:x</a>", told)
         S3.put_object(Bucket="two", Key="page.html", Body=b"<script>", ContentType="text/html")

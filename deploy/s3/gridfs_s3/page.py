@@ -12,7 +12,7 @@ from aiohttp import web
 from botocore.auth import S3SigV4QueryAuth
 from botocore.awsrequest import AWSRequest
 from botocore.credentials import Credentials
-from gridfs_client.grid import Nodes, square
+from gridfs_client.asking import ask_all
 
 from . import metrics
 from .errors import S3Error
@@ -24,7 +24,7 @@ from .requests import Asked
 
 GOOD_FOR = 900  # seconds of a link to an object
 MOST = 500  # rows of a page
-ANSWERS = 1.0  # seconds in which a node answers that is up
+ANSWERS = 2.0  # seconds in which a node answers that is up
 STYLE = """
 body { font: 16px/1.5 system-ui, sans-serif; max-width: 60rem; margin: 2rem auto; padding: 0 1rem; color: #222; background: #fff }
 table { border-collapse: collapse; width: 100% } th, td { text-align: left; padding: .3rem .6rem; border-bottom: 1px solid #ddd }
@@ -62,7 +62,7 @@ class Page:
     """The page of all buckets, and that of one."""
 
     def __init__(self, gateway: Gateway, listings: Listings):
-        self.gateway, self.listings = gateway, listings
+        self.gateway, self.listings, self.asking = gateway, listings, asyncio.Lock()
 
     def key_of(self, header: str) -> Key | None:
         """The key that the browser gave with its secret; None for a wrong one."""
@@ -113,16 +113,15 @@ class Page:
 
     async def nodes(self) -> str:
         """The nodes in their rows and columns, with those that don't answer."""
-        carrier, settings = self.gateway.pool.carrier, self.gateway.pool.settings
-        if carrier is None or carrier.told is None:
+        pool = self.gateway.pool
+        nodes = None
+        if pool.carrier:
+            # (one at a time: what nodes tell of no session is kept for one who asks)
+            async with self.asking:
+                nodes = await pool.loop.run_in_executor(pool.threads, ask_all, pool.carrier, ANSWERS, pool.settings.shape())
+        if nodes is None:
             return "<p>The grid does not answer.</p>"
-        since = carrier.now()
-        carrier.ask_nodes(1)
-        while carrier.silent_since(since) and carrier.now() < since + ANSWERS:
-            await asyncio.sleep(0.02)
-        nodes = Nodes(carrier.told, frozenset(carrier.silent_since(since)), settings.shape())
-        shape = nodes.said or square(nodes.told.nodes)
-        if shape is None:
+        if (shape := nodes.shape) is None:
             return f"<p>{escape(nodes.summary())}.</p>"
         cells = [
             [(nodes.told.node_at(place), place not in nodes.silent_places) for place in shape.row(row)]
