@@ -1,0 +1,91 @@
+"""Operations on buckets."""
+
+from aiohttp import web
+
+from gridfs_client.contents import Inline
+
+from . import markup
+from .bodies import body_of
+from .errors import S3Error
+from .gateway import LONGEST_XML, Operations, let_body_come
+from .markup import document, element, many
+from .places import BUCKETS, KEYS, UPLOADS, check_bucket, of_words
+from .requests import Asked, answer, iso
+from .store import Store
+
+
+class Buckets(Operations):
+    async def list_buckets(self, asked: Asked) -> web.Response:
+        """200: those that the access key sees."""
+        found = await self.gateway.look("", lambda store: [held for held in store.all() if held.name.startswith(BUCKETS)])
+        rows = [
+            many("Bucket", element("Name", held.name[len(BUCKETS) :]), element("CreationDate", iso(int(of_words(held.words).get("t", 0)))))
+            for held in sorted(found, key=lambda held: held.name)
+            if asked.signed.key.sees(held.name[len(BUCKETS) :])
+        ]
+        return answer(document("ListAllMyBucketsResult", self.gateway.owner(), many("Buckets", *rows)))
+
+    async def create_bucket(self, asked: Asked) -> web.Response:
+        """200. 409 BucketAlreadyOwnedByYou; 400 InvalidBucketName, InvalidArgument (another region), MalformedXML."""
+        check_bucket(asked.bucket)
+        await let_body_come(asked)
+        if body := await body_of(asked).all(LONGEST_XML):
+            wanted = markup.parse(body, "CreateBucketConfiguration").told("LocationConstraint")
+            if wanted not in (None, "", "EU", self.gateway.region):
+                raise S3Error("InvalidArgument", f"The only region here is {self.gateway.region}.")
+        name = BUCKETS + asked.bucket
+
+        def make(store: Store) -> None:
+            if store.look(name):
+                raise S3Error("BucketAlreadyOwnedByYou", BucketName=asked.bucket)
+            store.change(name, lambda *_: Inline(b""), dict)
+
+        await self.gateway.change(name, make)
+        return answer(headers={"Location": f"/{asked.bucket}"})
+
+    async def head_bucket(self, asked: Asked) -> web.Response:
+        """200. 404 (a HEAD has no body, so no code)."""
+        await self.gateway.need_bucket(asked.bucket)
+        return answer(headers={"x-amz-bucket-region": self.gateway.region})
+
+    async def delete_bucket(self, asked: Asked) -> web.Response:
+        """204; uploads that are under way go with it. 404 NoSuchBucket, 409 BucketNotEmpty."""
+        await self.gateway.need_bucket(asked.bucket)
+        prefixes = (f"{asked.bucket}/", f"{KEYS}{asked.bucket}/")
+
+        def look(store: Store) -> list[str]:
+            names = [held.name for held in store.all()]
+            if any(name.startswith(prefixes) for name in names):
+                raise S3Error("BucketNotEmpty", BucketName=asked.bucket)
+            return [name for name in names if name.startswith(f"{UPLOADS}{asked.bucket}/")]
+
+        for name in [*await self.gateway.look("", look), BUCKETS + asked.bucket]:
+            await self.gateway.change(name, lambda store, name=name: store.delete(name), number=self.session_of(name))  # type: ignore[misc]
+        self.gateway.known_buckets.pop(asked.bucket, None)
+        return answer(status=204)
+
+    def session_of(self, name: str) -> int | None:
+        """The session that an upload belongs to, where it is here."""
+        word = name.rpartition("/")[2].partition(".")[0] if name.startswith(UPLOADS) else ""
+        return int(word) if word.isdecimal() and int(word) in self.pool.workers else None
+
+    async def get_bucket_location(self, asked: Asked) -> web.Response:
+        """200. 404 NoSuchBucket."""
+        await self.gateway.need_bucket(asked.bucket)
+        return answer(document("LocationConstraint", markup.escape("" if self.gateway.region == "us-east-1" else self.gateway.region)))
+
+    async def get_bucket_versioning(self, asked: Asked) -> web.Response:
+        """200: never enabled. 404 NoSuchBucket."""
+        await self.gateway.need_bucket(asked.bucket)
+        return answer(document("VersioningConfiguration"))
+
+    async def get_bucket_acl(self, asked: Asked) -> web.Response:
+        """200: all is the tenant's. 404 NoSuchBucket."""
+        await self.gateway.need_bucket(asked.bucket)
+        return answer(self.acl())
+
+    def acl(self) -> bytes:
+        kind = 'xmlns:xsi="http://www.w3.org/2001/XMLSchema-instance" xsi:type="CanonicalUser"'
+        grantee = self.gateway.owner("Grantee").replace("<Grantee>", f"<Grantee {kind}>", 1)
+        grant = many("Grant", grantee, element("Permission", "FULL_CONTROL"))
+        return document("AccessControlPolicy", self.gateway.owner(), many("AccessControlList", grant))

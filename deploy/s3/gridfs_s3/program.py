@@ -1,0 +1,112 @@
+"""The command `gridfs-s3`: its start, its signals and its end."""
+
+import argparse
+import asyncio
+import os
+import signal
+import socket
+import stat
+from collections.abc import Sequence
+from pathlib import Path
+from typing import TYPE_CHECKING
+
+from . import config
+
+if TYPE_CHECKING:
+    from .routes import Endpoint
+
+
+class Listener:
+    """Where connections are taken: an address, or a socket of this machine, whose group may come too."""
+
+    def __init__(self, where: str):
+        self.where, self.path = where, Path(where[5:]) if where.startswith("unix:") else None
+
+    def open(self) -> socket.socket:
+        if self.path is None:
+            host, _, port = self.where.rpartition(":")
+            if not host or not port.isdecimal() or int(port) > 65_535:
+                raise SystemExit("gridfs-s3: --listen is ADDRESS:PORT or unix:PATH")
+            family = socket.AF_INET6 if ":" in host else socket.AF_INET
+            return socket.create_server((host.strip("[]"), int(port)), family=family, backlog=1024)
+        if self.path.exists() and stat.S_ISSOCK(self.path.stat().st_mode):
+            self.path.unlink()
+        before = os.umask(0o117)
+        try:
+            found = socket.socket(socket.AF_UNIX)
+            found.bind(str(self.path))
+            found.listen(1024)
+            return found
+        finally:
+            os.umask(before)
+
+
+async def serve(asked: argparse.Namespace) -> None:
+    """Runs until a signal ends it. A SystemExit where it can't start."""
+    from gridfs_client.errors import ClientError
+    from gridfs_client.settings import Settings
+
+    from .errors import tell
+    from .gateway import Gateway
+    from .keys import BadKeys, read_keys
+    from .routes import Endpoint, Server
+    from .sessions import Pool
+
+    loop = asyncio.get_running_loop()
+    try:
+        settings = Settings.gather({"config": asked.config, "timeout": asked.timeout or os.environ.get("GRIDFS_TIMEOUT") or "20"}, os.environ)
+        keys = read_keys(asked.keys, settings.tenant)
+        pool = Pool(settings)
+        await loop.run_in_executor(None, pool.open)
+    except (ClientError, BadKeys) as fault:
+        raise SystemExit(f"gridfs-s3: {fault}") from None
+    gateway = Gateway(pool, settings.tenant, keys, asked.region, asked.domain)
+    endpoint = Endpoint(gateway)
+    try:
+        listening = Listener(asked.listen).open()
+    except OSError as fault:
+        raise SystemExit(f"gridfs-s3: {asked.listen}: {fault.strerror or fault}") from None
+    server = await loop.create_server(Server(endpoint), sock=listening, backlog=1024) if listening.family != socket.AF_UNIX else await loop.create_unix_server(
+        Server(endpoint), sock=listening, backlog=1024
+    )  # fmt: skip
+    rest = "" if pool.has_all else " (not all of the tenant: no conditional puts)"
+    tell(f"{settings.tenant} at {asked.listen}, sessions {', '.join(map(str, pool.workers))}{rest}")
+    pool.spawn(pool.tidy())
+
+    def read_again() -> None:
+        try:
+            gateway.keys = read_keys(asked.keys, settings.tenant)
+            tell(f"{asked.keys} is read again: {len(gateway.keys)} keys")
+        except BadKeys as fault:
+            tell(f"{fault}; the keys stay as they were")
+
+    ended = asyncio.Event()
+    for number in (signal.SIGINT, signal.SIGTERM):
+        loop.add_signal_handler(number, ended.set)
+    loop.add_signal_handler(signal.SIGHUP, read_again)
+    await ended.wait()
+    server.close()
+    await drained(endpoint, asked.drain)
+    try:
+        await asyncio.wait_for(pool.flush(), 3)
+    except asyncio.TimeoutError:
+        pass
+    # What is under way at sessions is left as where the process is killed: a session's next change settles it.
+    pool.close()
+    os._exit(0)
+
+
+async def drained(endpoint: "Endpoint", seconds: float) -> None:
+    """Waits until what is under way has been answered, but no longer than that."""
+    endpoint.is_ending = True
+    until = asyncio.get_running_loop().time() + seconds
+    while endpoint.under_way and asyncio.get_running_loop().time() < until:
+        await asyncio.sleep(0.02)
+    endpoint.is_over = True
+
+
+def main(words: Sequence[str] | None = None) -> None:
+    asked = config.parser().parse_args(words)
+    if missing := config.missing():
+        raise SystemExit(f"gridfs-s3: not there: {' '.join(missing)} (as root on Debian: apt-get install {' '.join(missing)})")
+    asyncio.run(serve(asked))

@@ -1,0 +1,124 @@
+"""What the sessions of a gateway share: pages that one of them has read, turns at a name, and the clock."""
+
+import threading
+import time
+from collections.abc import Iterator
+from contextlib import contextmanager
+from typing import cast
+
+from gridfs_client import core
+from gridfs_client.answers import Row, Tag
+from gridfs_client.buckets import Bucket, Held
+from gridfs_client.core import Known
+from gridfs_client.layout import Layout
+from gridfs_client.sessions import Files
+from gridfs_client.writers import Writer
+
+
+class Shared:
+    """Pages, turns and the clock of all sessions of a gateway. Each call may come from any thread."""
+
+    def __init__(self) -> None:
+        self.guard = threading.Lock()
+        self.locks: dict[str, tuple[threading.Lock, int]] = {}
+        self.pages: dict[tuple[int, int], Known] = {}  # by session and number, as it was seen last by any session
+        self.held: dict[int, tuple[tuple[Tag, ...], list[Held]]] = {}  # of each bucket of pages what its names hold, with the tags of these pages
+        self.unsure: dict[str, int] = {}  # names, and the number of a version that may still take effect, since nobody answered
+        self.swept: dict[int, float] = {}  # pages that were swept, and when
+        self.last = 0  # the last time that was given
+
+    @contextmanager
+    def turn(self, name: str) -> Iterator[None]:
+        """Changes of one name go one after another within a gateway."""
+        with self.guard:
+            lock, count = self.locks.get(name, (threading.Lock(), 0))
+            self.locks[name] = lock, count + 1
+        try:
+            with lock:
+                yield
+        finally:
+            with self.guard:
+                lock, count = self.locks.pop(name)
+                if count > 1:
+                    self.locks[name] = lock, count - 1
+
+    def time_after(self, before: int) -> int:
+        """The time of a change, in milliseconds since the epoch. It is after that of what the name held, and after all that were given before, even
+        where the machine's clock goes back."""
+        with self.guard:
+            self.last = max(time.time_ns() // 1_000_000, self.last + 1, before + 1)
+            return self.last
+
+    def is_later_than(self, before: int) -> None:
+        """Times that are given from now on are after this one."""
+        with self.guard:
+            self.last = max(self.last, before)
+
+    def number_for(self, name: str, least: int) -> int:
+        """The number of a version: at least so great, and above that of a change of this gateway that may still take effect."""
+        return max(least, self.unsure.get(name, 0) + 1)
+
+    def is_unsure(self, name: str, number: int) -> None:
+        """A change got no answer: later ones have to be greater, so that it is over once one of them has ended."""
+        with self.guard:
+            if len(self.unsure) > 10_000:
+                self.unsure.pop(next(iter(self.unsure)))
+            self.unsure[name] = max(number, self.unsure.pop(name, 0))
+
+    def keep(self, session: int, number: int, known: Known) -> None:
+        before = self.pages.get((session, number))
+        if before is None or before.tag < known.tag:
+            self.pages[session, number] = known
+
+    def held_in(self, bucket: Bucket) -> list[Held]:
+        """What the names of a bucket hold, as it was looked at last."""
+        tags = tuple(known.tag for known in bucket.client.seen)
+        found = self.held.get(bucket.number)
+        if found is None or found[0] != tags:
+            found = self.held[bucket.number] = tags, bucket.names()
+        return found[1]
+
+
+class SharedBucket(Bucket):
+    """A bucket that reads no page that another session of the gateway has read since it was written. A tag tells one content of a file: so a page with
+    the tag that is listed is the page that would be read."""
+
+    def __init__(self, shared: Shared, session: Files, layout: Layout, number: int):
+        super().__init__(session, layout, number)
+        self.shared = shared
+        self.listed: tuple[Tag, ...] = ()
+
+    def tags(self, rows: tuple[Row, ...]) -> tuple[Tag, ...]:
+        self.listed = super().tags(rows)
+        return self.listed
+
+    def known(self, state: core.State) -> core.Answer | None:
+        match state:
+            case core.Looks(client, _, ((session, least), *_)):
+                found = self.shared.pages.get((session, self.number))
+                listed = self.listed[session - 1]
+                if found and found.tag == listed != client.seen[session - 1].tag and found.page.number >= least:
+                    return found
+        return None
+
+    def answer(self, request: core.Request, rows: tuple[Row, ...] | None) -> core.Answer:
+        told = super().answer(request, rows)
+        match request:
+            case core.ReadPage(session):
+                self.shared.keep(session, self.number, cast(Known, told))
+            case core.WritePage(page):
+                self.shared.keep(self.me, self.number, Known(cast(Tag, told), page))
+        return told
+
+
+class SharedWriter(Writer):
+    """A writer whose buckets share what they read."""
+
+    def __init__(self, shared: Shared, session: Files, layout: Layout):
+        super().__init__(session, layout)
+        self.shared = shared
+
+    def bucket(self, page: int) -> Bucket:
+        if page not in self.buckets:
+            self.buckets[page] = SharedBucket(self.shared, self.session, self.layout, page)
+        return self.buckets[page]

@@ -1,0 +1,195 @@
+#!/usr/bin/python3
+"""Random histories of objects over perfect registers, by gateways that are killed and writes that take effect late: each key has to be one register.
+
+    histories_in_memory.py FIRST COUNT      so many from a seed on; the status is 1 where one has no order
+
+A client of these histories is a gateway with some sessions, of which it takes any for each operation. What they share, and what they keep, is shared.
+"""
+
+import contextlib
+import hashlib
+import io
+import os
+import random
+import sys
+
+sys.path.insert(0, os.path.dirname(os.path.abspath(__file__)))
+import code_of_s3  # noqa: F401  (which says where the code is)
+import registers
+from gridfs_client import ClientError, NoSuchName, Replaced, Unanswered
+from gridfs_s3.errors import S3Error
+from gridfs_s3.places import of_words
+from gridfs_s3.shared import Shared
+from gridfs_s3.store import PageFull, Store
+
+SHAPES = [
+    registers.Shape(names=(1, 2), sessions=(2, 3, 4), pages=(1,), slots=(6, 12), kills=(0, 0.002, 0.01), gone=(0,), late=(0.1, 0.02, 0.005), many_sessions=(0.5, 0.9)),
+    registers.Shape(names=(1, 2), sessions=(3, 4), pages=(1,), slots=(8,), kills=(0, 0.005), gone=(0,), many_sessions=(0.7,), unanswered=(0.01, 0.03)),
+    registers.Shape(names=(1,), sessions=(2, 3), pages=(1,), slots=(8,), kills=(0.01,), gone=(0,), late=(0.02, 0.005), many_sessions=(1,), unanswered=(0, 0.02)),
+]
+ALONE = 2  # in the last shape there is one gateway at a time, which has all sessions: it settles a page before its first change
+
+
+class WentBack(Exception):
+    """A time of a key went back."""
+
+
+class Body(io.BytesIO):
+    @property
+    def told_size(self):
+        return len(self.getvalue())
+
+    def rewind(self):
+        self.seek(0)
+
+    def digest(self):
+        return "0" * 32
+
+
+class Objects:
+    """Puts, gets, removals and listings by any session of a gateway, as histories ask for them."""
+
+    many_pieces, times = 2, {}
+
+    def __init__(self, session, layout, helpers, team):
+        shared = Shared()
+        self.draw, self.is_settled = random.Random(session.number), False
+        self.stores = [Store(each, layout, shared) for each in (session, *helpers())]
+        self.times = {}
+        for store in self.stores:
+            store.many_pieces, store.team = 2, team
+
+    def store(self):
+        found = self.draw.choice(self.stores)
+        found.more = lambda is_all: [each for each in self.stores if each is not found]
+        return found
+
+    def settle(self):
+        """Before the first change, where the gateway has all sessions, as a gateway does."""
+        if not self.is_settled and len(self.stores) == self.stores[0].layout.sessions:
+            self.is_settled = True
+            for store in self.stores:
+                with contextlib.suppress(Unanswered):
+                    store.settle(0)
+
+    def changed(self, work):
+        self.settle()
+        for _ in range(2):
+            store = self.store()
+            try:
+                return work(store)
+            except PageFull as full:
+                for _ in range(2):
+                    for each in self.stores:
+                        each.sweep_own(full.page)
+                store.shared.swept[full.page] = float("inf")
+            finally:
+                store.end_turn()
+        raise AssertionError
+
+    def put(self, name, content):
+        content = content if isinstance(content, bytes) else content.read()
+        values = {"s": hashlib.sha256(content).hexdigest()}
+        kind = self.draw.choice(("whole", "whole", "whole", "in parts", "other words"))
+        if kind == "in parts":
+            self.changed(lambda store: self.put_in_parts(store, name, content, values))
+        else:
+            self.changed(lambda store: store.put_object(name, Body(content), lambda: values))
+        if kind == "other words":
+            self.change_words(name, values)
+
+    def put_in_parts(self, store, name, content, values):
+        """By an upload of one session, with a part that is put twice and one that is left out."""
+        upload, half = store.begin_upload("bucket", name, {}), len(content) // 2
+        for number, part in ((1, b"x" * 50), (3, content[half:]), (2, b"left out"), (1, content[:half])):
+            store.put_part("bucket", upload, number, Body(part), 5)
+        found = {part.number: slots for part, slots in store.uploaded(store.upload("bucket", upload))}
+        store.complete("bucket", upload, name, values, [found[1], found[3]], None)
+
+    def change_words(self, name, values):
+        """Gives a content other words where it stands, if it is there still: that changes nothing of it. (Beside another gateway it would be one
+        more put of that content, of which the history knows nothing.)"""
+        held = self.store().look(name)
+        for store in self.stores if len(self.stores) == self.stores[0].layout.sessions else ():
+            if held and held.version.session == store.me and of_words(held.words)["s"] == values["s"]:
+                store.touch(name, held, lambda: {**values, "again": "1"})
+
+    def remove(self, name):
+        if not self.changed(lambda store: store.delete(name)):
+            absent(name)
+
+    def get(self, name):
+        """As who asks again where an answer is cut, since the content was replaced amid it."""
+        while True:
+            with contextlib.suppress(Replaced):
+                return self.get_once(name)
+
+    def get_once(self, name):
+        store = self.store()
+        try:
+            held, parts, data = store.read(name, lambda held: (0, held.content.size) if held else absent(name))
+            content = data + b"".join(parts)
+            if hashlib.sha256(content).hexdigest() != of_words(held.words)["s"]:
+                raise S3Error("InternalError", f"{name}: a content with the words of another one")
+            self.look_at_time(held)
+            return content, held
+        finally:
+            store.end_turn()
+
+    def look_at_time(self, held):
+        """Of one key no later version has an earlier time, where there is one gateway at a time."""
+        time, before = int(of_words(held.words)["t"]), Objects.times.get(held.name)
+        if before and before[0] < held.version and before[1] >= time:
+            raise WentBack(f"{held.name}: its time goes back")
+        if not before or before[0] < held.version:
+            Objects.times[held.name] = held.version, time
+
+    def names(self):
+        return [Entry(held) for held in self.store().all()]
+
+    def sweep(self):
+        pass
+
+    def close(self):
+        for store in self.stores:
+            store.close()
+
+
+class Entry:
+    def __init__(self, held):
+        self.name = held.name
+        self.sha256 = of_words(held.words).get("s")
+
+
+def absent(name):
+    raise NoSuchName(name)
+
+
+def wrong_in(seed):
+    """Why a history is wrong; None where it is right."""
+    shape = SHAPES[seed % len(SHAPES)]
+    Objects.times = {}
+    try:
+        history, _ = registers.try_registers(seed, Objects, 50, shape)
+    except WentBack as fault:
+        if seed % len(SHAPES) == ALONE:
+            return str(fault)
+        return None  # (of several gateways the times of changes side by side need not be in the order of these)
+    except (ClientError, S3Error, AssertionError) as fault:
+        return f"{type(fault).__name__}: {fault}"
+    wrong, _ = history.wrong()
+    return f"no order of {wrong}" if wrong else None
+
+
+def main(first, count):
+    wrong = 0
+    for seed in range(first, first + count):
+        if told := wrong_in(seed):
+            wrong += 1
+            print(f"history {seed}: {told}", flush=True)
+    print(f"{count} histories, {wrong} wrong")
+    return min(1, wrong)
+
+
+if __name__ == "__main__":
+    sys.exit(main(*map(int, sys.argv[1:])))

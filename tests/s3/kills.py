@@ -1,0 +1,236 @@
+#!/usr/bin/python3
+"""Histories over gateways that are killed amid what they do; each key has to be one register of content and metadata.
+
+    kills.py SETTINGS SECONDS KILLS GATEWAYS        puts, gets, heads, removals and uploads in parts, by so many gateways, each with some of eight sessions
+    kills.py --conditional SETTINGS SECONDS KILLS   puts with If-None-Match and If-Match, by one gateway that has all sessions: links of a chain
+
+SETTINGS is a file as for gridfs-client, of the tenant carol. The status is 1 where something is wrong.
+"""
+
+import collections
+import hashlib
+import math
+import os
+import random
+import sys
+import tempfile
+import threading
+import time
+
+sys.path.insert(0, os.path.dirname(os.path.abspath(__file__)))
+import endpoint
+from linearizability import Operation, is_linearizable
+
+from botocore.exceptions import BotoCoreError, ClientError
+
+NEVER = math.inf  # the end of what was not answered
+SIZES = (20, 20, 700, 5_000, 40_000)
+CLIENTS, KEYS, SESSIONS = 6, 4, 8
+FAULTS = (ClientError, BotoCoreError, OSError)
+
+
+def code_of(fault):
+    return fault.response["Error"]["Code"] if isinstance(fault, ClientError) else type(fault).__name__
+
+
+def body_of(word, draw):
+    size = draw.choice(SIZES)
+    return (word + " ").encode() + draw.randbytes(max(0, size - len(word) - 1))
+
+
+def word_of(body):
+    return body.split(b" ", 1)[0].decode()
+
+
+class Trial:
+    """Clients that ask, and gateways that are killed and started again."""
+
+    def __init__(self, gateways, seconds, kills, seed):
+        self.gateways, self.seconds, self.kills, self.draw = gateways, seconds, kills, random.Random(seed)
+        self.bucket = f"{type(self).__name__.lower()}-{os.getpid()}"
+        self.history, self.guard, self.faults, self.wrong = collections.defaultdict(list), threading.Lock(), collections.Counter(), []
+        self.begun = time.monotonic()
+        gateways[0].client().create_bucket(Bucket=self.bucket)
+
+    def now(self):
+        return time.monotonic() - self.begun
+
+    def note(self, key, what):
+        with self.guard:
+            self.history[key].append(what)
+
+    def fault(self, fault):
+        with self.guard:
+            self.faults[code_of(fault)] += 1
+        time.sleep(0.1)
+
+    def run(self):
+        """The clients ask until the time is over; what is wrong."""
+        until = time.monotonic() + self.seconds
+        threads = [threading.Thread(target=self.guarded, args=(number, until)) for number in range(CLIENTS)]
+        for thread in threads:
+            thread.start()
+        for _ in range(self.kills):
+            time.sleep(self.seconds / (self.kills + 1) * self.draw.uniform(0.6, 1.2))
+            gateway = self.draw.choice(self.gateways)
+            gateway.kill()
+            gateway.start()
+        for thread in threads:
+            thread.join()
+        self.look_at_last()
+        self.judge()
+        fallen = [gateway.log for gateway in self.gateways if "Traceback" in gateway.told()]
+        return self.wrong + [f"{log} has a traceback" for log in fallen]
+
+    def guarded(self, number, until):
+        draw = random.Random(f"{number} {self.draw.random()}")
+        try:
+            self.client(number, until, draw)
+        except Exception as fault:
+            self.wrong.append(f"a client fell: {type(fault).__name__}: {fault}")
+
+    def client(self, number, until, draw):
+        clients, count = [gateway.client() for gateway in self.gateways], 0
+        while time.monotonic() < until:
+            count += 1
+            self.ask(draw.choice(clients), draw, f"{number}.{count}")
+
+    def ask(self, s3, draw, word):
+        words, begin = {"Bucket": self.bucket, "Key": f"key/{draw.randrange(KEYS)}"}, self.now()
+        kind = draw.choices(("put", "get", "head", "remove", "upload"), (30, 40, 10, 10, 10))[0]
+        if kind in ("get", "head"):
+            try:
+                self.note(words["Key"], Operation(False, self.read(s3, kind, words), begin, self.now()))
+            except FAULTS as fault:
+                self.fault(fault)
+            return
+        value = None if kind == "remove" else word
+        try:
+            if kind == "put":
+                s3.put_object(**words, Body=body_of(word, draw), Metadata={"word": word})
+            elif kind == "remove":
+                s3.delete_object(**words)
+            else:
+                upload = s3.create_multipart_upload(**words, Metadata={"word": word})["UploadId"]
+                etag = s3.upload_part(**words, UploadId=upload, PartNumber=1, Body=body_of(word, draw))["ETag"]
+                begin, kind = self.now(), "complete"
+                s3.complete_multipart_upload(**words, UploadId=upload, MultipartUpload={"Parts": [{"PartNumber": 1, "ETag": etag}]})
+            self.note(words["Key"], Operation(True, value, begin, self.now()))
+        except FAULTS as fault:
+            self.fault(fault)
+            if kind != "upload" and code_of(fault) != "EndpointConnectionError":  # (that one was never sent)
+                self.note(words["Key"], Operation(True, value, begin, NEVER))
+
+    def read(self, s3, kind, words):
+        """The word of an object, None where there is none."""
+        try:
+            told = s3.get_object(**words) if kind == "get" else s3.head_object(**words)
+        except ClientError as fault:
+            if code_of(fault) in ("NoSuchKey", "404"):
+                return None
+            raise
+        value = told["Metadata"]["word"]
+        if kind == "get":
+            body = told["Body"].read()
+            etag = told["ETag"].strip('"')
+            if word_of(body) != value or (etag.endswith("-1") and etag[:32] != hashlib.md5(hashlib.md5(body).digest()).hexdigest()) or ("-" not in etag and etag != hashlib.md5(body).hexdigest()):
+                self.wrong.append(f"{words['Key']}: a content with the words of another one: {word_of(body)}, {value}")
+        return value
+
+    def look_at_last(self):
+        """What is there at the end, by each gateway."""
+        for key in list(self.history):
+            for gateway in self.gateways:
+                begin = self.now()
+                self.note(key, Operation(False, self.read(gateway.client(), "get", {"Bucket": self.bucket, "Key": key}), begin, self.now()))
+
+    def judge(self):
+        for key, operations in sorted(self.history.items()):
+            if not (answer := is_linearizable(operations)):
+                self.wrong.append(f"{key}: {'no order' if answer is False else 'no order was found in time'} of {len(operations)} operations")
+
+    def told(self):
+        count = sum(map(len, self.history.values()))
+        unanswered = sum(each.is_write and each.end is NEVER for found in self.history.values() for each in found)
+        return f"{count} operations, {unanswered} changes unanswered, {self.kills} kills, {dict(self.faults)}"
+
+
+class Conditional(Trial):
+    """Each client puts the successor of what it read, if that is there still. So those that were told to have succeeded are links of one chain."""
+
+    def client(self, number, until, draw):
+        s3, count, header = self.gateways[0].client(), 0, {}
+        s3.meta.events.register("before-sign.s3.PutObject", lambda request, **_: [request.headers.__setitem__(*each) for each in header.items()])
+        while time.monotonic() < until:
+            words, word, count = {"Bucket": self.bucket, "Key": f"chain/{draw.randrange(3)}"}, f"{number}.{count}", count + 1
+            try:
+                before, etag = self.last(s3, words)
+            except FAULTS as fault:
+                self.fault(fault)
+                continue
+            header.clear()
+            header.update({"If-Match": etag} if before else {"If-None-Match": "*"})
+            link = f"{word}<{before}"
+            try:
+                s3.put_object(**words, Body=body_of(link, draw))
+                self.note(words["Key"], (link, before, True))
+            except FAULTS as fault:
+                if code_of(fault) != "PreconditionFailed":
+                    self.note(words["Key"], (link, before, False))
+                self.fault(fault)
+
+    def last(self, s3, words):
+        """What an object has, and its ETag."""
+        try:
+            told = s3.get_object(**words)
+            return word_of(told["Body"].read()), told["ETag"]
+        except ClientError as fault:
+            if code_of(fault) == "NoSuchKey":
+                return None, None
+            raise
+
+    def look_at_last(self):
+        self.ends = {key: self.last(self.gateways[0].client(), {"Bucket": self.bucket, "Key": key})[0] for key in self.history}
+
+    def judge(self):
+        for key, puts in sorted(self.history.items()):
+            known = {link: before for link, before, _ in puts}
+            chain, last = set(), self.ends[key]
+            while last is not None and last not in chain:
+                chain.add(last)
+                last = known.get(last)
+            befores = collections.Counter(before for _, before, is_done in puts if is_done)
+            twice = [before for before, count in befores.items() if count > 1]
+            lost = [link for link, _, is_done in puts if is_done and link not in chain]
+            if twice or lost:
+                self.wrong.append(f"{key}: two have the same link before them: {twice}; not in the chain: {lost}")
+
+    def told(self):
+        done = sum(is_done for puts in self.history.values() for _, _, is_done in puts)
+        return f"{done} links done, {sum(map(len, self.history.values())) - done} unanswered, {self.kills} kills, {dict(self.faults)}"
+
+
+def tried(kind, settings, seconds, kills, count, seed, room):
+    """A trial; what is wrong, and what was done."""
+    each = SESSIONS // count
+    ranges = [f"{1 + each * number}-{SESSIONS if number == count - 1 else each * (number + 1)}" for number in range(count)]
+    gateways = [endpoint.Gateway(settings, room, sessions) for sessions in ranges]
+    try:
+        trial = kind(gateways, seconds, kills, seed)
+        return trial.run(), trial.told()
+    finally:
+        for gateway in gateways:
+            gateway.kill()
+
+
+def main(words):
+    kind = Conditional if words[0] == "--conditional" else Trial
+    settings, seconds, kills, *count = words[kind is Conditional :]
+    with tempfile.TemporaryDirectory(prefix="gridfs-s3-") as room:
+        wrong, told = tried(kind, settings, float(seconds), int(kills), int(count[0]) if count else 1, os.getpid(), room)
+    print("".join(f"{line}\n" for line in wrong) + told)
+    return bool(wrong)
+
+
+if __name__ == "__main__":
+    sys.exit(main(sys.argv[1:]))

@@ -1,0 +1,55 @@
+"""Bugs that are planted in the gateway, each in a copy of it, with the test that has to find it."""
+
+import os
+import shutil
+import subprocess
+import sys
+
+from code_of_s3 import CODE, HERE
+
+# What is planted: the test that finds it, with its words; then a file, its text, and the text in its place.
+BUGS = {
+    "a get ends with bytes whose digest is wrong": ("test_steps.py Contents.test_spoilt", "reading.py", "if seen == span.part.size and digest", "if False and digest"),
+    "a get takes what a slot holds, whatever it is": ("test_steps.py Contents.test_replaced_while_it_is_read", "reading.py", "without_head(held.version.session, span.part.put, span.place, piece)", 'piece.partition(b"\\n")[2]'),
+    "the ETag of parts has no number": ("test_forms.py Places.test_etag", "places.py", "(f\"-{self.values['n']}\" if \"n\" in self.values else \"\")", '""'),
+    "times are those of the machine's clock": ("test_steps.py Times", "shared.py", "max(time.time_ns() // 1_000_000, self.last + 1, before + 1)", "time.time_ns() // 1_000_000"),
+    "a condition is not judged again right before the change": ("test_steps.py Steps.test_condition", "store.py", "            if condition:\n                bucket.look(own=True)", "            if False:\n                bucket.look(own=True)"),
+    "a content that is refused keeps its slots": ("test_steps.py Steps.test_condition", "store.py", "            self.unplace(bucket, content)\n", ""),
+    "nothing is settled": ("test_steps.py Steps.test_settled", "store.py", "            self.writer.tidy(bucket, anew=True)\n", "            bucket.look(own=True)\n"),
+    "what got no answer is forgotten": ("test_steps.py Times.test_no_answer", "shared.py", "max(least, self.unsure.get(name, 0) + 1)", "least"),
+    "an upload stays once it is complete": ("test_steps.py Steps.test_complete", "store.py", "condition, frozenset([upload_name(bucket_name, upload)]))", "condition)"),
+    "what was replaced gets other words": ("test_steps.py Steps.test_touch_after_a_change", "store.py", "            if not held or held.version != seen.version:\n", "            if not held:\n"),
+    "changes of one name go side by side": ("test_operations.py Objects.test_conditions_of_puts", "shared.py", "            with lock:\n                yield", "            yield"),
+    "any page that was read once will do": ("histories_in_memory.py 0 30", "shared.py", "if found and found.tag == listed != client.seen[session - 1].tag and", "if found and found.tag != client.seen[session - 1].tag and"),
+    "signatures are not compared": ("test_forms.py Signing.test_who", "signing.py", "if not hmac.compare_digest(right, signature):", "if False:"),
+    "old requests are taken": ("test_forms.py Signing.test_times", "signing.py", "if abs(now - seconds) > SKEW:", "if now - seconds > 90 * SKEW:"),
+    "the SHA-256 that was signed is not compared": ("test_forms.py Bodies.test_plain", "bodies.py", "if self.sha256 and self.sha256.hexdigest() != self.wanted_sha256:", "if False:"),
+    "signatures of chunks are not compared": ("test_forms.py Bodies.test_chunks_that_lie", "bodies.py", "if not hmac.compare_digest(right, told):", "if False:"),
+    "a chunk may be longer than it says": ("test_forms.py Bodies.test_chunks_that_lie", "bodies.py", "            if await self.line():\n", "            if len(await self.line()) > 9:\n"),
+    "document types are taken": ("test_forms.py Markup.test_what_is_refused", "markup.py", "    parser.StartDoctypeDeclHandler = parser.EntityDeclHandler = refuse\n", ""),
+    "a key that may only read changes something": ("test_malformed.py Malformed.test_keys_that_may_less", "routes.py", 'asked.method not in ("GET", "HEAD")', "False"),
+    "a copy reads from any bucket": ("test_malformed.py Malformed.test_keys_that_may_less", "copying.py", "        asked.signed.key.expect(bucket, is_change=False)\n", ""),
+    "a client that leaves is a fault": ("test_malformed.py Malformed.test_a_client_that_leaves", "routes.py", " or isinstance(exc, (ConnectionError, RequestPayloadError)):", ":"),
+}
+
+
+def is_found(what, folder):
+    """Whether the test finds the bug; why not."""
+    test, name, old, new = BUGS[what]
+    code = os.path.join(folder, "".join(letter if letter.isalnum() else "-" for letter in what))
+    shutil.copytree(CODE, code, ignore=shutil.ignore_patterns("__pycache__"))
+    path = os.path.join(code, "gridfs_s3", name)
+    with open(path, encoding="utf-8") as file:
+        text = file.read()
+    if text.count(old) != 1:
+        return f"{name} has {text.count(old)} places for it"
+    with open(path, "w", encoding="utf-8") as out:
+        out.write(text.replace(old, new))
+    script, *words = test.split(" ")
+    done = subprocess.run(
+        [sys.executable, "-B", "-W", "ignore", os.path.join(HERE, script), *words], cwd=folder, env={**os.environ, "GRIDFS_S3_CODE": code}, capture_output=True, text=True, timeout=300
+    )  # fmt: skip
+    if done.returncode == 0:
+        return f"{test} does not find it"
+    is_told = "FAILED" in done.stderr or " wrong" in done.stdout
+    return None if is_told else f"{test} fell: {done.stderr[-500:]}"

@@ -1,0 +1,98 @@
+#!/usr/bin/python3
+"""A stand-in for a grid, for tests of what stands before it: one process, whose files are perfect registers in memory.
+
+    stand_in.py PLAN FOLDER
+
+It opens FOLDER/socket and writes NAME.ini for each tenant, as `examples/grid --serve` does. Nothing is kept, and nothing is lost.
+"""
+
+import asyncio
+import os
+import re
+import sys
+
+
+class Tenant:
+    def __init__(self, sessions, share, most):
+        self.sessions, self.share, self.most = sessions, share, most
+        self.volumes, self.files, self.last, self.told = [], {}, {}, {}
+
+    def plan(self):
+        return f"plan 1 0 {self.sessions} {self.share} {self.most} " + " ".join(f"{files}.{blocks}" for files, blocks in self.volumes)
+
+
+def tenants_of(text):
+    found = {}
+    for words in (line.split() for line in text.splitlines()):
+        if words[0] == "tenant":
+            found[words[1]] = Tenant(int(words[3]), int(words[2]), int(words[5]))
+        elif words[1:2] == ["open"]:
+            found[words[0]].volumes.append((int(words[2]), int(words[3])))
+    return found
+
+
+def answer(tenant, body):
+    """What the node tells, or None."""
+    words = body.split(" ")
+    if words == ["plan"]:
+        return tenant.plan()
+    kind, session, operation, *rest = words
+    session, operation = int(session), int(operation)
+    last = tenant.last.get(session, 0)
+    if not 1 <= session <= tenant.sessions:
+        return f"refused nosession {session} {operation}"
+    if operation == last and last:
+        return tenant.told[session]
+    if operation <= last:
+        return f"refused old {session} {operation} {last}"
+    if operation > last + 1 or kind == "abandon":
+        return f"refused early {session} {operation} {last}"
+    volume = int(rest[0])
+    if volume >= len(tenant.volumes):
+        return f"refused novolume {session} {operation} {volume}"
+    files, blocks = tenant.volumes[volume]
+    if kind == "list":
+        rows = (tenant.files.get((volume, file), (0, 0, "-")) for file in range(files))
+        told = " ".join(f"{0 if content == '-' else len(content) // 2}:{number}.{writer}" for number, writer, content in rows)
+        told = f"done list {session} {operation} {told}"
+    else:
+        file = int(rest[1])
+        if file >= files:
+            return f"refused nofile {session} {operation} {volume} {file}"
+        number, writer, content = tenant.files.get((volume, file), (0, 0, "-"))
+        if kind == "write":
+            if len(rest[2]) > 128 * blocks:
+                return f"refused toolong {session} {operation} {volume} {file} {len(rest[2]) // 2}"
+            number, writer = number + 1, session
+            tenant.files[volume, file] = number, writer, rest[2]
+            told = f"done write {session} {operation} tag {number} {writer}"
+        else:
+            told = f"done read {session} {operation} tag {number} {writer} {content}"
+    tenant.last[session], tenant.told[session] = operation, told
+    return told
+
+
+async def main(plan, folder):
+    with open(plan) as text:
+        tenants = tenants_of(text.read())
+    os.makedirs(folder, exist_ok=True)
+    path = os.path.abspath(os.path.join(folder, "socket"))
+    if os.path.exists(path):
+        os.unlink(path)
+
+    async def serve(reader, writer):
+        while line := await reader.readline():
+            to, name, body = line.decode().rstrip("\n").split(" ", 2)
+            if to == "0" and name in tenants and re.match("[a-z]", body) and (told := answer(tenants[name], body)):
+                writer.write(f"{name} 0 {told}\n".encode())
+
+    await asyncio.start_unix_server(serve, path, limit=1 << 23)
+    for name in tenants:
+        with open(os.path.join(folder, f"{name}.ini"), "w") as out:
+            out.write(f"[gridfs]\ntenant = {name}\nsocket = {path}\n")
+    print("up", flush=True)
+    await asyncio.Event().wait()
+
+
+if __name__ == "__main__":
+    asyncio.run(main(*sys.argv[1:]))

@@ -1,0 +1,300 @@
+"""The forms: words beside a content, names of keys, access keys, XML, ranges, conditions, listings that are cut, bodies."""
+
+import asyncio
+import base64
+import hashlib
+import os
+import random
+import sys
+import tempfile
+import time
+import types
+import unittest
+from unittest import mock
+
+sys.path.insert(0, os.path.dirname(os.path.abspath(__file__)))
+import code_of_s3  # noqa: F401  (which says where the code is)
+
+from botocore.auth import S3SigV4Auth
+from botocore.awsrequest import AWSRequest
+from botocore.credentials import Credentials
+from gridfs_client.contents import Inline
+from gridfs_client.core import Version
+from gridfs_client.buckets import Held
+from gridfs_client.pages import check_words
+from gridfs_s3 import markup, signing
+from gridfs_s3.bodies import Body
+from gridfs_s3.copying import range_to_copy
+from gridfs_s3.errors import S3Error
+from gridfs_s3.keys import BadKeys, Key, parse_keys, read_keys
+from gridfs_s3.listing import Cut
+from gridfs_s3.places import Object, check_bucket, name_of, object_of, of_words, to_words
+from gridfs_s3.requests import judge, range_of, seconds_of_date
+from gridfs_s3.shared import Shared
+
+
+def held(name, words=None, content=b"hi"):
+    return Held(name, Version(1, 1), Inline(content), to_words(words or {}))
+
+
+class Case(unittest.TestCase):
+    def fails(self, code, call, *words):
+        with self.assertRaises(S3Error, msg=words) as fault:
+            call(*words)
+        self.assertEqual(fault.exception.code, code, words)
+
+
+class Places(Case):
+    def test_words(self):
+        values = {"k": "a b&c={}~|\n\r\x00ü日🙂+%", "x-one": "", "t": "1"}
+        words = to_words(values)
+        check_words(words)
+        self.assertEqual(of_words(words), values)
+
+    def test_keys(self):
+        draw, seen = random.Random(1), {}
+        keys = ["a", "a/", "/a", "//", "a\nb", "x" * 300, "x" * 301, "ü" * 512, ".", "..", " ", "key/abc"]
+        keys += ["".join(draw.choice("ab/. \n") for _ in range(draw.randrange(1, 9))) for _ in range(2_000)]
+        buckets = {"one", "one.two", "key"}
+        for bucket in buckets:
+            for key in keys:
+                name = name_of(bucket, key)
+                self.assertEqual(seen.setdefault(name, (bucket, key)), (bucket, key))
+                it = held(name, {"k": key} if name.startswith(".s3/key/") else {})
+                self.assertEqual(object_of(bucket, it).key, key)
+                for other in buckets - {bucket}:
+                    self.assertIsNone(object_of(other, it))
+        self.fails("KeyTooLongError", name_of, "one", "x" * 1_025)
+        self.fails("InvalidURI", name_of, "one", "\udc80")
+
+    def test_buckets(self):
+        for name in ("abc", "a-b.c", "1" * 63):
+            check_bucket(name)
+        for name in ("ab", "A" * 3, "-ab", "ab-", "a..b", "1.2.3.4", "x" * 64, "a_b", "xn--a", "a/b", "ab\n", ".s3"):
+            self.fails("InvalidBucketName", check_bucket, name)
+
+    def test_etag(self):
+        self.assertEqual(Object("a", held("b/a", {"m": "f" * 32})).etag, "f" * 32)
+        self.assertEqual(Object("a", held("b/a", {"m": "f" * 32, "n": "7"})).etag, "f" * 32 + "-7")
+        self.assertRegex(Object("a", held("b/a")).etag, r"^[0-9a-f]{32}-1$")
+
+
+class Keys(Case):
+    def test_files(self):
+        self.assertEqual(parse_keys("0123456789\n", "ann"), {"ann": Key("ann", "0123456789")})
+        found = parse_keys("# ours\nann 12345678\n\nann.backup  abcdefgh read bucket=one bucket=two\n", "ann")
+        self.assertEqual(found["ann.backup"], Key("ann.backup", "abcdefgh", True, frozenset(("one", "two"))))
+        for text in ("", "ann short", "bob 12345678", "ann.a b c d", "ann 12345678 write", "ann 12345678\nann 87654321", "ann. 12345678", "annx.y 12345678"):
+            with self.assertRaises(BadKeys, msg=text):
+                parse_keys(text, "ann")
+        with tempfile.NamedTemporaryFile() as file:
+            file.write(b"0123456789\n")
+            file.flush()
+            self.assertEqual(list(read_keys(file.name, "ann")), ["ann"])
+            os.chmod(file.name, 0o604)
+            with self.assertRaisesRegex(BadKeys, "others may read"):
+                read_keys(file.name, "ann")
+
+    def test_what_they_may(self):
+        key = Key("ann.a", "x", True, frozenset(("one",)))
+        key.expect("one", False)
+        key.expect("", False)
+        self.fails("AccessDenied", key.expect, "one", True)
+        self.fails("AccessDenied", key.expect, "two", False)
+        Key("ann", "x").expect("two", True)
+
+
+class Signing(Case):
+    keys = {"ann": Key("ann", "secret")}
+
+    def signed(self, stamp=None, region="us-east-1", secret="secret"):
+        """The headers of a signed request, at a time."""
+        request = AWSRequest("GET", "http://host/bucket/a%20b?x=1&y=%2F", {"host": "host"})
+        request.headers["X-Amz-Content-SHA256"] = hashlib.sha256(b"").hexdigest()
+        stamp = stamp or time.strftime("%Y%m%dT%H%M%SZ", time.gmtime())
+        with mock.patch("botocore.auth.datetime") as clock:
+            clock.datetime.utcnow.return_value.strftime.side_effect = lambda _: stamp
+            S3SigV4Auth(Credentials("ann", secret), "s3", region).add_auth(request)
+        return [(name.lower(), value) for name, value in request.headers.items()]
+
+    def check(self, headers, query="x=1&y=%2F", now=None):
+        return signing.check("GET", "/bucket/a%20b", query, headers, self.keys, now)
+
+    def test_who(self):
+        self.assertEqual(self.check(self.signed()).key.access, "ann")
+        self.fails("SignatureDoesNotMatch", self.check, self.signed(secret="other"))
+        self.fails("SignatureDoesNotMatch", self.check, self.signed(), "x=1&y=%2F&z=")
+        self.fails("AccessDenied", self.check, [("host", "host")])
+        self.fails("AccessDenied", self.check, [*self.signed(), ("x-amz-meta-a", "b")])
+
+    def test_times(self):
+        now = 1_900_000_000
+        stamp = time.strftime("%Y%m%dT%H%M%SZ", time.gmtime(now))
+        headers = self.signed(stamp)
+        for skew, code in ((0, None), (899, None), (-899, None), (901, "RequestTimeTooSkewed"), (-901, "RequestTimeTooSkewed")):
+            if code:
+                self.fails(code, self.check, headers, "x=1&y=%2F", now + skew)
+            else:
+                self.check(headers, "x=1&y=%2F", now + skew)
+        for wrong in ("", "20300101", "99999999T999999Z", "20300317T174640", "x" * 5_000, "00000000T000000Z"):
+            self.fails("AuthorizationHeaderMalformed", self.check, [(name, wrong if name == "x-amz-date" else value) for name, value in headers])
+
+    def test_urls(self):
+        words = {"X-Amz-Algorithm": signing.ALGORITHM, "X-Amz-Credential": "ann/20300317/us-east-1/s3/aws4_request", "X-Amz-Date": "20300317T174640Z", "X-Amz-SignedHeaders": "host", "X-Amz-Signature": "0" * 64}
+        for expires in ("", "0", "604801", "x", "9" * 5_000, "٣"):
+            query = "&".join(f"{name}={value}" for name, value in {**words, "X-Amz-Expires": expires}.items())
+            self.fails("AuthorizationQueryParametersError", self.check, [("host", "host")], query, 1_900_000_000)
+
+
+class Markup(Case):
+    def test_what_is_refused(self):
+        bombs = [
+            b'<!DOCTYPE x [<!ENTITY a "aaaa"><!ENTITY b "&a;&a;">]><Delete>&b;</Delete>', b'<!DOCTYPE Delete SYSTEM "file:///etc/passwd"><Delete/>',
+            b"<Delete>", b"", b"<Other/>", b"\xff", b"<a>" * 100_000, b"<Delete>" + b"<a/>" * 200_000 + b"</Delete>", b'<?xml version="1.0" encoding="none"?><Delete/>',
+            b'<?xml version="1.0" encoding="utf-7"?><Delete/>', b"<Delete>&unknown;</Delete>", b"<Delete>\x00</Delete>",
+        ]  # fmt: skip
+        for text in bombs:
+            self.fails("MalformedXML", markup.parse, text, "Delete")
+
+    def test_what_is_taken(self):
+        found = markup.parse(b'<Delete xmlns="http://s3.amazonaws.com/doc/2006-03-01/"><Object><Key> a&amp;b </Key></Object><Quiet> true </Quiet></Delete>', "Delete")
+        self.assertEqual((found.all("Object")[0].told("Key"), found.told("Quiet"), found.told("None")), (" a&b ", "true", None))
+        self.assertEqual(markup.element("Key", "<&\r\x01"), "<Key>&lt;&amp;&#xD;&#x1;</Key>")
+
+
+class Requests(Case):
+    def test_ranges(self):
+        for text, told in [
+            (None, None), ("bytes=0-0", (0, 1)), ("bytes=5-", (5, 10)), ("bytes=-3", (7, 10)), ("bytes=-99", (0, 10)), ("bytes=2-99", (2, 10)),
+            ("bytes=3-2", None), ("bytes=-", None), ("bytes=0-1,3-4", None), ("bytes=" + "9" * 50 + "-", None), ("nonsense", None),
+        ]:  # fmt: skip
+            self.assertEqual(range_of(text, 10), told, text)
+        for text in ("bytes=10-", "bytes=-0"):
+            self.fails("InvalidRange", range_of, text, 10)
+        self.fails("InvalidRange", range_of, "bytes=0-", 0)
+        self.assertEqual((range_to_copy(None, 5), range_to_copy("bytes=1-3", 5)), ((0, 5), (1, 4)))
+        for text, code in (("bytes=1-5", "InvalidRange"), ("bytes=3-1", "InvalidRange"), ("bytes=1-", "InvalidArgument"), ("x", "InvalidArgument")):
+            self.fails(code, range_to_copy, text, 5)
+
+    def test_conditions(self):
+        found = Object("a", held("b/a", {"m": "e", "t": "1700000000500"}))
+        before, then = "Tue, 14 Nov 2023 22:13:19 GMT", "Tue, 14 Nov 2023 22:13:20 GMT"
+        for headers, code in [
+            ({}, None), ({"if-match": '"e"'}, None), ({"if-match": "*"}, None), ({"if-match": '"x", "e"'}, None), ({"if-match": '"x"'}, "PreconditionFailed"),
+            ({"if-none-match": '"e"'}, "NotModified"), ({"if-none-match": '"x"'}, None), ({"if-modified-since": then}, "NotModified"),
+            ({"if-modified-since": before}, None), ({"if-unmodified-since": then}, None), ({"if-unmodified-since": before}, "PreconditionFailed"),
+            ({"if-match": '"e"', "if-unmodified-since": before}, None), ({"if-none-match": '"x"', "if-modified-since": then}, None),
+            ({"if-modified-since": "nonsense"}, None), ({"if-unmodified-since": "Mon, 99 Foo 99999999 99:99:99 GMT"}, None),
+        ]:  # fmt: skip
+            if code:
+                self.fails(code, judge, headers, found)
+            else:
+                judge(headers, found)
+        self.assertIsNone(seconds_of_date("x" * 9_000))
+
+    def test_cuts(self):
+        keys = sorted(["a/1", "a/2", "b", "c/1", "ü", "a", "a/"], key=str.encode)
+        every = [Object(key, held(f"b/{key}")) for key in keys]
+
+        def told(**words):
+            cut = Cut(every, *({"prefix": "", "delimiter": "", "after": "", "most": 1_000} | words).values())
+            return [each.key for each in cut.rows], cut.groups, cut.is_cut
+
+        self.assertEqual(told(), (keys, [], False))
+        self.assertEqual(told(delimiter="/"), (["a", "b", "ü"], ["a/", "c/"], False))
+        self.assertEqual(told(delimiter="/", after="a/", most=1), (["b"], [], True))
+        self.assertEqual(told(delimiter="/", after="a/1"), (["b", "ü"], ["c/"], False))
+        self.assertEqual(told(most=0), ([], [], False))
+        for size in (1, 2, 3):
+            found, after = [], ""
+            while True:
+                cut = Cut(every, "", "/", after, size)
+                found, after = found + [each.key for each in cut.rows] + cut.groups, cut.last
+                if not cut.is_cut:
+                    break
+            self.assertEqual(sorted(found), ["a", "a/", "b", "c/", "ü"])
+
+
+class Stream:
+    """What aiohttp gives of a body."""
+
+    def __init__(self, data, size=7):
+        self.data, self.size = data, size
+
+    async def iter_any(self):
+        while self.data:
+            yield await self.read(self.size)
+
+    async def read(self, length):
+        found, self.data = self.data[:length], self.data[length:]
+        return found
+
+    async def readuntil(self, end):
+        at = self.data.find(end)
+        return await self.read(at + len(end) if at >= 0 else len(self.data))
+
+    def at_eof(self):
+        return not self.data
+
+
+class Bodies(Case):
+    def told(self, data, payload, **headers):
+        """The content of a body, or the code of what is wrong with it."""
+        signed = types.SimpleNamespace(payload=payload, signature="0" * 64, chunk_signature=lambda *_: "1" * 64)
+        try:
+            words = {name.replace("_", "-"): value for name, value in headers.items()}
+
+            async def whole():
+                return await Body(Stream(data), words, signed).all(1_000)
+
+            return asyncio.run(whole())
+        except S3Error as fault:
+            return fault.code
+
+    def test_plain(self):
+        md5 = base64.b64encode(hashlib.md5(b"hello").digest()).decode()
+        sha = hashlib.sha256(b"hello").hexdigest()
+        for told, payload, headers in [
+            (b"hello", "UNSIGNED-PAYLOAD", {"content_length": "5"}), (b"hello", sha, {"content_length": "5", "content_md5": md5}),
+            ("XAmzContentSHA256Mismatch", "0" * 64, {"content_length": "5"}), ("BadDigest", sha, {"content_length": "5", "content_md5": md5[::-1][2:] + "=="}),
+            ("InvalidDigest", sha, {"content_length": "5", "content_md5": "x"}), ("IncompleteBody", sha, {"content_length": "6"}),
+            ("IncompleteBody", sha, {"content_length": "4"}), ("MissingContentLength", sha, {}), ("InvalidArgument", sha, {"content_length": "-1"}),
+            ("InvalidArgument", sha, {"content_length": "9" * 5_000}), ("InvalidArgument", "nonsense", {"content_length": "5"}),
+            ("EntityTooLarge", sha, {"content_length": "5000"}), ("NotImplemented", sha, {"content_length": "5", "x_amz_checksum_crc64nvme": "x"}),
+            ("BadDigest", sha, {"content_length": "5", "x_amz_checksum_sha1": "x"}),
+        ]:  # fmt: skip
+            code = self.told(b"hello", payload, **headers)
+            self.assertEqual(code, told, (payload, headers))
+
+    def test_chunks_that_lie(self):
+        good = b"5\r\nhello\r\n0\r\n\r\n"
+        kind, length = "STREAMING-UNSIGNED-PAYLOAD-TRAILER", {"x_amz_decoded_content_length": "5"}
+        self.assertEqual(self.told(good, kind, **length), b"hello")
+        for data in (b"", b"5", b"6\r\nhello\r\n0\r\n\r\n", b"4\r\nhello\r\n0\r\n\r\n", b"5\r\nhello0\r\n\r\n", b"5\r\nhello\r\n", b"-5\r\nhello\r\n0\r\n\r\n",
+                     b"ffffffffffffffff\r\nhello", b"ffffffff\r\nhello\r\n0\r\n\r\n", b"5;chunk-signature=" + b"1" * 64 + b"\r\nhello\r\n0\r\n\r\n", b"0\r\n\r\n", b"x" * 10_000, b"5\nhello\n0\n\n"):  # fmt: skip
+            self.assertEqual(self.told(data, kind, **length), "IncompleteBody", data[:40])
+        self.assertEqual(self.told(good, kind, x_amz_decoded_content_length="6"), "IncompleteBody")
+        self.assertEqual(self.told(good, kind, **length, x_amz_trailer="x-amz-checksum-crc32"), "InvalidRequest")
+        self.assertEqual(self.told(b"4\r\nhelljunk\r\n0\r\n\r\n", kind, x_amz_decoded_content_length="4"), "IncompleteBody")
+        signed = "STREAMING-AWS4-HMAC-SHA256-PAYLOAD"
+        self.assertEqual(self.told(good, signed, **length), "IncompleteBody")
+        wrong = b"5;chunk-signature=" + b"2" * 64 + b"\r\nhello\r\n0;chunk-signature=" + b"1" * 64 + b"\r\n\r\n"
+        self.assertEqual(self.told(wrong, signed, **length), "SignatureDoesNotMatch")
+
+
+class Clock(Case):
+    def test_it_never_goes_back(self):
+        shared = Shared()
+        with mock.patch("time.time_ns", lambda: 5_000_000_000):
+            self.assertEqual([shared.time_after(0), shared.time_after(0), shared.time_after(9_000), shared.time_after(0)], [5_000, 5_001, 9_001, 9_002])
+            shared.is_later_than(20_000)
+            self.assertEqual(shared.time_after(0), 20_001)
+
+    def test_numbers(self):
+        shared = Shared()
+        shared.is_unsure("a", 7)
+        self.assertEqual((shared.number_for("a", 3), shared.number_for("a", 9), shared.number_for("b", 3)), (8, 9, 3))
+
+
+if __name__ == "__main__":
+    unittest.main()

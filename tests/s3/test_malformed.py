@@ -1,0 +1,218 @@
+"""Requests that are malformed: each is told the right error of S3, nothing is stored by it, the gateway goes on, and tells of no fault of its own."""
+
+import base64
+import html
+import os
+import re
+import signal
+import socket
+import sys
+import time
+import unittest
+from urllib.parse import quote
+
+sys.path.insert(0, os.path.dirname(os.path.abspath(__file__)))
+import endpoint
+
+from botocore.auth import S3SigV4Auth
+from botocore.awsrequest import AWSRequest
+from botocore.credentials import Credentials
+
+EMPTY = "e3b0c44298fc1c149afbf4c8996fb92427ae41e4649b934ca495991b7852b855"
+KEYS = f"carol {endpoint.SECRET}\ncarol.reader {endpoint.SECRET} read\ncarol.one {endpoint.SECRET} bucket=one\n"
+
+
+def setUpModule():
+    global GATEWAY, S3
+    room = unittest.enterModuleContext(endpoint.stand_in())
+    (GATEWAY,) = unittest.enterModuleContext(endpoint.gateways(room, keys=KEYS))
+    S3 = GATEWAY.client()
+    for name in ("one", "two"):
+        S3.create_bucket(Bucket=name)
+
+
+def exchange(data, more=()):
+    """What is told to these bytes, and to more of them a moment later, until the connection ends or an answer is whole."""
+    with socket.create_connection(("127.0.0.1", GATEWAY.port), timeout=60) as connection:
+        told = b""
+        try:
+            connection.sendall(data)
+            for part in more:
+                connection.sendall(part)
+        except OSError:
+            pass
+        try:
+            while part := connection.recv(65_536):
+                told += part
+                head, _, body = told.partition(b"\r\n\r\n")
+                length = re.search(rb"content-length: (\d+)", head.lower())
+                if length and len(body) >= int(length[1]):
+                    break
+        except OSError:
+            pass
+        return told
+
+
+def code_of(told):
+    """Status and code of an answer."""
+    status = re.match(rb"HTTP/\d\.\d (\d+)", told)
+    code = re.search(rb"<Code>(\w+)</Code>", told)
+    return int(status[1]) if status else None, code[1].decode() if code else ""
+
+
+def signed(method, path, headers=(), payload="UNSIGNED-PAYLOAD", access="carol", secret=endpoint.SECRET):
+    """The head of a signed request, with these headers."""
+    request = AWSRequest(method, GATEWAY.url + path, dict(headers))
+    request.headers["X-Amz-Content-SHA256"] = payload
+    signer = S3SigV4Auth(Credentials(access, secret), "s3", "us-east-1")
+    signer.payload = lambda _: payload
+    signer.add_auth(request)
+    lines = [f"{method} {path} HTTP/1.1", f"Host: 127.0.0.1:{GATEWAY.port}", *(f"{name}: {value}" for name, value in request.headers.items())]
+    return "\r\n".join(lines).encode() + b"\r\n"
+
+
+class Malformed(unittest.TestCase):
+    def tells(self, status, code, data, more=()):
+        self.assertEqual(code_of(exchange(data, more)), (status, code), data[:120])
+
+    def tearDown(self):
+        """Nothing was stored, nothing fell, and the next request is served."""
+        self.assertEqual(S3.list_objects_v2(Bucket="one").get("KeyCount"), 0)
+        fallen = re.search("(?s)(Traceback|Error handling).*", GATEWAY.told())
+        self.assertIsNone(fallen and fallen[0][-1_500:])
+
+    def test_no_http(self):
+        for data in (b"\x16\x03\x01\x02\x00\x01\x00\x01\xfc\x03\x03" + b"\x00" * 600, b"GET\r\n\r\n", b"GET / HTTP/9.9\r\n\r\n", b"\x00" * 100 + b"\r\n\r\n",
+                     b"GET / HTTP/1.1\r\nno colon\r\n\r\n", b"GET / HTTP/1.1\r\nContent-Length: x\r\n\r\n", b"GET / HTTP/1.1\r\nContent-Length: -1\r\n\r\n"):  # fmt: skip
+            status, code = code_of(exchange(data))
+            self.assertIn((status, code), ((400, "BadRequest"), (403, "AccessDenied")), data[:60])
+
+    def test_headers_of_a_megabyte(self):
+        for head in (b"GET / HTTP/1.1\r\nHost: a\r\nX-Long: " + b"x" * 1_000_000, b"GET /" + b"x" * 1_000_000, b"GET / HTTP/1.1\r\n" + b"x" * 1_000_000 + b": y"):
+            status, code = code_of(exchange(head + b" HTTP/1.1\r\n\r\n"))
+            self.assertEqual(status, 400, head[:40])
+            self.assertIn(code, ("RequestHeaderSectionTooLarge", "BadRequest"), head[:40])
+
+    def test_who_asks(self):
+        self.tells(403, "AccessDenied", b"GET / HTTP/1.1\r\nHost: a\r\n\r\n")
+        self.tells(403, "InvalidAccessKeyId", signed("GET", "/", access="nobody") + b"\r\n")
+        self.tells(403, "SignatureDoesNotMatch", signed("GET", "/", secret="wrong") + b"\r\n")
+        self.tells(403, "SignatureDoesNotMatch", signed("PUT", "/one/a").replace(b"/one/a", b"/one/b") + b"Content-Length: 1\r\n\r\nx")
+        for header in (b"AWS carol:abc", b"AWS4-HMAC-SHA256", b"AWS4-HMAC-SHA256 Credential=/////, SignedHeaders=host, Signature=" + b"0" * 64, b"Basic xx", b"\xff\xfe"):
+            self.tells(400, "AuthorizationHeaderMalformed", b"GET / HTTP/1.1\r\nHost: a\r\nx-amz-content-sha256: x\r\nAuthorization: " + header + b"\r\n\r\n")
+
+    def test_dates_out_of_range(self):
+        head = signed("GET", "/")
+        for stamp, told in ((b"19000101T000000Z", 400), (b"99991231T235959Z", 400), (b"x", 400), (b"", 400)):
+            status, _ = code_of(exchange(re.sub(rb"(?i)(x-amz-date: )\S+", lambda found: found[1] + stamp, head) + b"\r\n"))
+            self.assertEqual(status, told, stamp)
+        day = time.strftime("%Y%m%d", time.gmtime()).encode()
+        late = b"T000000Z" if time.gmtime().tm_hour > 1 else b"T235900Z"
+        self.tells(403, "RequestTimeTooSkewed", re.sub(rb"(?i)(x-amz-date: )\S+", lambda found: found[1] + day + late, head) + b"\r\n")
+
+    def test_bodies(self):
+        self.tells(400, "XAmzContentSHA256Mismatch", signed("PUT", "/one/a", payload=EMPTY) + b"Content-Length: 1\r\n\r\nx")
+        self.tells(400, "BadDigest", signed("PUT", "/one/a", {"Content-MD5": "AAAAAAAAAAAAAAAAAAAAAA=="}) + b"Content-Length: 1\r\n\r\nx")
+        self.tells(400, "InvalidDigest", signed("PUT", "/one/a", {"Content-MD5": "x"}) + b"Content-Length: 1\r\n\r\nx")
+        self.tells(411, "MissingContentLength", signed("PUT", "/one/a") + b"Transfer-Encoding: chunked\r\n\r\n1\r\nx\r\n0\r\n\r\n")
+        self.tells(400, "EntityTooLarge", signed("PUT", "/one/a") + b"Content-Length: 9999999999999\r\n\r\nx")
+        self.tells(507, "InsufficientStorage", signed("PUT", "/one/a") + b"Content-Length: 900000000\r\n\r\n", [b"x" * 65_536] * 40)
+        self.tells(400, "InvalidArgument", signed("PUT", "/one/a", payload="nonsense") + b"Content-Length: 1\r\n\r\nx")
+
+    def test_chunks_that_lie(self):
+        payload = "STREAMING-UNSIGNED-PAYLOAD-TRAILER"
+        for body in (b"6\r\nhello\r\n0\r\n\r\n", b"4\r\nhello\r\n0\r\n\r\n", b"hello", b"ffffffff\r\nhello\r\n0\r\n\r\n", b"0\r\n\r\n" + b" " * 9):
+            head = signed("PUT", "/one/a", {"x-amz-decoded-content-length": "5"}, payload) + f"Content-Length: {len(body)}\r\n\r\n".encode()
+            self.tells(400, "IncompleteBody", head + body)
+        body = b"5;chunk-signature=" + b"0" * 64 + b"\r\nhello\r\n0;chunk-signature=" + b"0" * 64 + b"\r\n\r\n"
+        head = signed("PUT", "/one/a", {"x-amz-decoded-content-length": "5"}, "STREAMING-AWS4-HMAC-SHA256-PAYLOAD")
+        self.tells(403, "SignatureDoesNotMatch", head + f"Content-Length: {len(body)}\r\n\r\n".encode() + body)
+
+    def test_a_client_that_leaves(self):
+        """Amid a body, of any length."""
+        for length in (100, 3_000_000):
+            with socket.create_connection(("127.0.0.1", GATEWAY.port), timeout=60) as connection:
+                connection.sendall(signed("PUT", "/one/a") + f"Content-Length: {length}\r\n\r\n".encode() + b"x" * (length // 2))
+        time.sleep(0.3)
+
+    def test_xml(self):
+        bomb = b'<!DOCTYPE x [<!ENTITY a "aaaa"><!ENTITY b "&a;&a;&a;&a;">]><Delete><Object><Key>&b;</Key></Object></Delete>'
+        for body in (bomb, b"<Delete>", b"<Other/>", b"<a>" * 100_000, b"\xff\xfe<", b"<Delete>" + b"<Object><Key>a</Key></Object>" * 1_001 + b"</Delete>"):
+            self.tells(400, "MalformedXML", signed("POST", "/one?delete") + f"Content-Length: {len(body)}\r\n\r\n".encode() + body)
+        self.tells(400, "EntityTooLarge", signed("POST", "/one?delete") + b"Content-Length: 99999999\r\n\r\nx")
+        for number in ("x", "9" * 5_000, "-1", "٣"):
+            body = f"<CompleteMultipartUpload><Part><PartNumber>{number}</PartNumber><ETag>x</ETag></Part></CompleteMultipartUpload>".encode()
+            head = signed("POST", "/one/a?uploadId=1." + "0" * 24) + f"Content-Length: {len(body)}\r\n\r\n".encode()
+            self.tells(400, "MalformedXML", head + body)
+
+    def test_odd_words(self):
+        for method, path, status, code in [
+            ("GET", "/one/a%FF", 400, "InvalidURI"), ("GET", "/one?prefix=%FF", 400, "InvalidArgument"), ("GET", "/one?max-keys=-1", 400, "InvalidArgument"),
+            ("GET", "/one?max-keys=" + "9" * 4_000, 400, "InvalidArgument"), ("GET", "/one?list-type=2&continuation-token=%C3%BC", 400, "InvalidArgument"),
+            ("GET", "/one/" + quote("x" * 1_025), 400, "KeyTooLongError"), ("GET", "/UPPER/a", 400, "InvalidBucketName"), ("GET", "/.s3/bucket/one", 400, "InvalidBucketName"),
+            ("PUT", "/one/a?partNumber=10001&uploadId=1." + "0" * 24, 400, "InvalidArgument"), ("PUT", "/one/a?partNumber=1&uploadId=..x", 404, "NoSuchUpload"),
+            ("PUT", "/one/a?partNumber=1&uploadId=99." + "0" * 24, 404, "NoSuchUpload"), ("PATCH", "/one/a", 405, "MethodNotAllowed"), ("GET", "/one/a?tagging", 501, "NotImplemented"),
+        ]:  # fmt: skip
+            self.tells(status, code, signed(method, path) + b"Content-Length: 0\r\n\r\n")
+        for source in ("", "x", "/one/%FF", "/one/a?versionId=7"):
+            told = code_of(exchange(signed("PUT", "/one/a", {"x-amz-copy-source": source}) + b"Content-Length: 0\r\n\r\n"))
+            self.assertIn(told, ((400, "InvalidArgument"), (501, "NotImplemented")), source)
+
+    def test_keys_that_may_less(self):
+        reader, one = GATEWAY.client("carol.reader"), GATEWAY.client("carol.one")
+        for client, call, words in (
+            (reader, "put_object", {"Bucket": "two", "Key": "a", "Body": b""}), (reader, "delete_object", {"Bucket": "two", "Key": "a"}), (reader, "create_bucket", {"Bucket": "three"}),
+            (one, "list_objects_v2", {"Bucket": "two"}), (one, "put_object", {"Bucket": "two", "Key": "a", "Body": b""}),
+            (one, "copy_object", {"Bucket": "one", "Key": "a", "CopySource": "two/a"}),
+        ):  # fmt: skip
+            with self.assertRaises(client.exceptions.ClientError) as fault:
+                getattr(client, call)(**words)
+            self.assertEqual(fault.exception.response["Error"]["Code"], "AccessDenied", (call, words))
+        self.assertEqual([each["Name"] for each in one.list_buckets()["Buckets"]], ["one"])
+        one.put_object(Bucket="one", Key="mine", Body=b"x")
+        self.assertEqual(reader.get_object(Bucket="one", Key="mine")["Body"].read(), b"x")
+        one.delete_object(Bucket="one", Key="mine")
+
+    def test_keys_that_are_read_again(self):
+        def write(text):
+            with open(GATEWAY.keys, "w") as out:
+                out.write(text)
+            begun = len(GATEWAY.told())
+            GATEWAY.process.send_signal(signal.SIGHUP)
+            endpoint.wait(lambda: "keys" in GATEWAY.told(begun), GATEWAY.process, GATEWAY.log)
+            return GATEWAY.told(begun)
+
+        write(f"carol {endpoint.SECRET}\ncarol.new 12345678\n")
+        GATEWAY.client("carol.new", "12345678").list_buckets()
+        self.assertIn("stay as they were", write("nonsense here and there\n"))
+        GATEWAY.client("carol.new", "12345678").list_buckets()
+        write(KEYS)
+        with self.assertRaises(S3.exceptions.ClientError):
+            GATEWAY.client("carol.new", "12345678").list_buckets()
+
+    def test_the_page(self):
+        self.assertEqual(code_of(exchange(b"GET /-/ HTTP/1.1\r\nHost: a\r\n\r\n"))[0], 401)
+        word = base64.b64encode(f"carol:{endpoint.SECRET}".encode())
+        told = exchange(b"GET /-/ HTTP/1.1\r\nHost: a\r\nAuthorization: Basic " + word + b"\r\n\r\n")
+        self.assertIn(b"200 OK", told)
+        for part in (b"default-src 'none'", b"/-/one/", b"Room:", b"<h2>Nodes</h2>", b'class="up">0</td>'):
+            self.assertIn(part, told)
+        self.assertNotIn(b"<script", told)
+        key = "<b>&\"'?#%/javascript:x"
+        S3.put_object(Bucket="two", Key=key, Body=b"x")
+        told = exchange(b"GET /-/two/?prefix=%3Cb%3E%26%22%27%3F%23%25%2F HTTP/1.1\r\nHost: a\r\nAuthorization: Basic " + word + b"\r\n\r\n")
+        link = html.unescape(re.search(rb'href="(/two/[^"]*)"', told)[1].decode())
+        self.assertTrue(exchange(f"GET {link} HTTP/1.1\r\nHost: a\r\n\r\n".encode()).endswith(b"\r\n\r\nx"))
+        S3.delete_object(Bucket="two", Key=key)
+        self.assertIn(b"javascript:x</a>", told)
+        S3.put_object(Bucket="two", Key="page.html", Body=b"<script>", ContentType="text/html")
+        headers = S3.get_object(Bucket="two", Key="page.html")["ResponseMetadata"]["HTTPHeaders"]
+        S3.delete_object(Bucket="two", Key="page.html")
+        self.assertEqual((headers["content-type"], headers["content-security-policy"]), ("text/html", "sandbox"))
+        self.assertNotIn(b"<b>", told)
+        self.assertNotIn(b'href="javascript', told)
+        self.assertEqual(code_of(exchange(b"GET /-/NO/ HTTP/1.1\r\nHost: a\r\nAuthorization: Basic " + word + b"\r\n\r\n")), (400, "InvalidBucketName"))
+
+
+if __name__ == "__main__":
+    unittest.main()

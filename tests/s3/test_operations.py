@@ -1,0 +1,502 @@
+"""An endpoint by boto3, operation for operation, and by requests that boto3 does not make. GRIDFS_S3 is its URL, GRIDFS_S3_SECRET the secret of the
+access key `carol`; without them a stand-in for a grid is started with a gateway."""
+
+import base64
+import hashlib
+import http.client
+import io
+import os
+import sys
+import time
+import unittest
+import urllib.request
+import zlib
+from concurrent.futures import ThreadPoolExecutor
+from urllib.parse import urlsplit
+
+import boto3
+from botocore.auth import S3SigV4Auth
+from botocore.awsrequest import AWSRequest
+from botocore.client import Config
+from botocore.credentials import Credentials
+from botocore.exceptions import ClientError
+
+sys.path.insert(0, os.path.dirname(os.path.abspath(__file__)))
+import endpoint
+
+URL, SECRET = os.environ.get("GRIDFS_S3", ""), os.environ.get("GRIDFS_S3_SECRET", endpoint.SECRET)
+ACCESS = os.environ.get("GRIDFS_S3_ACCESS", "carol")
+MOST = int(os.environ.get("GRIDFS_S3_MOST", 1 << 30))  # bytes of the longest contents, for a grid that is slow
+IS_BEHIND = "GRIDFS_S3_FRONT" in os.environ  # nginx, which answers for itself where no tenant is meant
+IS_ONE_OF_SEVERAL = "GRIDFS_S3_SEVERAL" in os.environ  # gateways of the tenant
+is_long = unittest.skipIf(MOST < 10_000_000, "contents of several MB are left out")
+
+
+def setUpModule():
+    global URL
+    if not URL:
+        room = unittest.enterModuleContext(endpoint.stand_in())
+        (gateway,) = unittest.enterModuleContext(endpoint.gateways(room))
+        URL = gateway.url
+
+
+def client(access=ACCESS, secret=SECRET, retries=0):
+    return boto3.client(
+        "s3", endpoint_url=URL, aws_access_key_id=access, aws_secret_access_key=secret, region_name="us-east-1",
+        config=Config(signature_version="s3v4", s3={"addressing_style": "path"}, retries={"max_attempts": retries}, read_timeout=120),
+    )  # fmt: skip
+
+
+class Case(unittest.TestCase):
+    @classmethod
+    def setUpClass(cls):
+        cls.s3, cls.bucket = client(), f"try-{os.getpid()}-{cls.__name__.lower()}"
+        cls.s3.create_bucket(Bucket=cls.bucket)
+
+    @classmethod
+    def tearDownClass(cls):
+        empty(cls.s3, cls.bucket)
+        cls.s3.delete_bucket(Bucket=cls.bucket)
+
+    def put(self, key, body=b"", **more):
+        return self.s3.put_object(Bucket=self.bucket, Key=key, Body=body, **more)
+
+    def get(self, key, **more):
+        return self.s3.get_object(Bucket=self.bucket, Key=key, **more)
+
+    def fails(self, code, call, **words):
+        with self.assertRaises(ClientError) as fault:
+            call(**words)
+        self.assertEqual(fault.exception.response["Error"]["Code"], code)
+        return fault.exception.response
+
+
+def empty(s3, bucket):
+    for upload in s3.list_multipart_uploads(Bucket=bucket).get("Uploads", []):
+        s3.abort_multipart_upload(Bucket=bucket, Key=upload["Key"], UploadId=upload["UploadId"])
+    while found := s3.list_objects_v2(Bucket=bucket).get("Contents"):
+        s3.delete_objects(Bucket=bucket, Delete={"Objects": [{"Key": each["Key"]} for each in found]})
+
+
+class Buckets(Case):
+    def test_buckets(self):
+        names = [each["Name"] for each in self.s3.list_buckets()["Buckets"]]
+        self.assertIn(self.bucket, names)
+        self.assertEqual(self.s3.head_bucket(Bucket=self.bucket)["ResponseMetadata"]["HTTPStatusCode"], 200)
+        self.assertIsNone(self.s3.get_bucket_location(Bucket=self.bucket)["LocationConstraint"])
+        self.assertNotIn("Status", self.s3.get_bucket_versioning(Bucket=self.bucket))
+        self.assertEqual(self.s3.get_bucket_acl(Bucket=self.bucket)["Grants"][0]["Permission"], "FULL_CONTROL")
+        self.fails("BucketAlreadyOwnedByYou", self.s3.create_bucket, Bucket=self.bucket)
+        self.fails("404", self.s3.head_bucket, Bucket="no-such-bucket")
+        self.fails("NoSuchBucket", self.s3.list_objects_v2, Bucket="no-such-bucket")
+        self.fails("NoSuchBucket", self.s3.put_object, Bucket="no-such-bucket", Key="a", Body=b"")
+        self.fails("NoSuchBucket", self.s3.delete_bucket, Bucket="no-such-bucket")
+        self.put("a")
+        self.fails("BucketNotEmpty", self.s3.delete_bucket, Bucket=self.bucket)
+
+    def test_what_is_not_done(self):
+        for call, words in [
+            (self.s3.get_bucket_policy, {}), (self.s3.get_bucket_cors, {}), (self.s3.get_bucket_lifecycle_configuration, {}),
+            (self.s3.list_object_versions, {}), (self.s3.get_bucket_tagging, {}),
+            (self.s3.put_object, {"Key": "a", "Body": b"", "ServerSideEncryption": "AES256"}),
+            (self.s3.put_object, {"Key": "a", "Body": b"", "ACL": "public-read"}),
+            (self.s3.put_object, {"Key": "a", "Body": b"", "StorageClass": "GLACIER"}),
+            (self.s3.put_object, {"Key": "a", "Body": b"", "Tagging": "a=b"}),
+            (self.s3.get_object_tagging, {"Key": "a"}),
+        ]:  # fmt: skip
+            self.fails("NotImplemented", call, Bucket=self.bucket, **words)
+
+
+class Objects(Case):
+    def test_contents_of_all_sizes(self):
+        for size in (each for each in (0, 1, 40, 41, 1_000, 4_096, 70_000, 262_144, 1_048_576, 1_048_577, 5_000_000) if each <= MOST):
+            content = os.urandom(size)
+            told = self.put(f"size/{size}", content)
+            md5 = hashlib.md5(content).hexdigest()
+            self.assertEqual(told["ETag"], f'"{md5}"')
+            found = self.get(f"size/{size}")
+            self.assertEqual(found["Body"].read(), content)
+            self.assertEqual((found["ETag"], found["ContentLength"], found["ContentType"]), (f'"{md5}"', size, "binary/octet-stream"))
+            self.assertLess(abs(found["LastModified"].timestamp() - time.time()), 100)
+
+    def test_words_beside_a_content(self):
+        self.put("a", b"hi", ContentType="text/plain; charset=utf-8", Metadata={"one": "1 & 2 = {3} ~", "two": ""}, CacheControl="no-store",
+                 ContentDisposition='attachment; filename="a b"', ContentEncoding="gzip", ContentLanguage="de")  # fmt: skip
+        for found in (self.get("a"), self.s3.head_object(Bucket=self.bucket, Key="a")):
+            self.assertEqual(found["Metadata"], {"one": "1 & 2 = {3} ~", "two": ""})
+            told = [found[each] for each in ("ContentType", "CacheControl", "ContentDisposition", "ContentEncoding", "ContentLanguage")]
+            self.assertEqual(told, ["text/plain; charset=utf-8", "no-store", 'attachment; filename="a b"', "gzip", "de"])
+        self.fails("MetadataTooLarge", self.put, key="b", body=b"", Metadata={"a": "x" * 2_100})
+
+    def test_keys(self):
+        keys = ["a", "a/", "a//b", "/a", "a/../b", "./a", "x" * 1_024, "ü" * 512, "a\nb", "a b+c%2F&=?#", "%", "日本/語", "\x7f", "a" * 230 + "/", "🙂"]
+        for key in keys:
+            self.put(key, key.encode())
+        for key in keys:
+            self.assertEqual(self.get(key)["Body"].read(), key.encode(), key)
+        listed = [each["Key"] for each in self.s3.list_objects_v2(Bucket=self.bucket)["Contents"]]
+        self.assertEqual([each for each in listed if each in keys], sorted(keys, key=str.encode))
+        self.fails("KeyTooLongError", self.put, key="x" * 1_025)
+        for key in keys:
+            self.s3.delete_object(Bucket=self.bucket, Key=key)
+            self.fails("NoSuchKey", self.get, key=key)
+
+    @is_long
+    def test_ranges(self):
+        content = os.urandom(3_000_000)
+        self.put("long", content)
+        for text, part in [
+            ("bytes=0-0", slice(0, 1)), ("bytes=5-9", slice(5, 10)), ("bytes=1048550-1048600", slice(1_048_550, 1_048_601)),
+            ("bytes=-7", slice(-7, None)), ("bytes=2999999-", slice(2_999_999, None)), ("bytes=100-9999999", slice(100, None)),
+            ("bytes=-99999999", slice(None)),
+        ]:  # fmt: skip
+            found = self.get("long", Range=text)
+            self.assertEqual(found["Body"].read(), content[part], text)
+            self.assertEqual(found["ResponseMetadata"]["HTTPStatusCode"], 206)
+            start = range(len(content))[part].start
+            self.assertEqual(found["ContentRange"], f"bytes {start}-{start + found['ContentLength'] - 1}/3000000")
+        self.fails("InvalidRange", self.get, key="long", Range="bytes=3000000-")
+
+    def test_conditions_of_reads(self):
+        etag = self.put("c", b"hi")["ETag"]
+        self.assertEqual(self.get("c", IfMatch=etag)["Body"].read(), b"hi")
+        self.fails("PreconditionFailed", self.get, key="c", IfMatch='"0"')
+        self.fails("304", self.get, key="c", IfNoneMatch=etag)
+        self.get("c", IfNoneMatch='"0"')
+        self.fails("304", self.get, key="c", IfModifiedSince=time.time() + 100)
+        self.get("c", IfModifiedSince=time.time() - 1_000)
+        self.fails("PreconditionFailed", self.get, key="c", IfUnmodifiedSince=time.time() - 1_000)
+
+    @unittest.skipIf(IS_ONE_OF_SEVERAL, "conditional puts need a gateway that has all sessions")
+    def test_conditions_of_puts(self):
+        def conditional(header, value):
+            def add(request, **_):
+                request.headers[header] = value
+
+            s3 = client()
+            s3.meta.events.register("before-sign.s3.PutObject", add)
+            return s3
+
+        once, key = conditional("If-None-Match", "*"), {"Bucket": self.bucket, "Key": "once"}
+        etag = once.put_object(**key, Body=b"one")["ETag"]
+        self.fails("PreconditionFailed", once.put_object, **key, Body=b"two")
+        self.assertEqual(self.get("once")["Body"].read(), b"one")
+        conditional("If-Match", etag).put_object(**key, Body=b"three")
+        self.fails("PreconditionFailed", conditional("If-Match", etag).put_object, **key, Body=b"four")
+        self.fails("NoSuchKey", conditional("If-Match", etag).put_object, Bucket=self.bucket, Key="nobody", Body=b"")
+        with ThreadPoolExecutor(8) as pool:
+            def attempt(number):
+                try:
+                    once.put_object(Bucket=self.bucket, Key="race", Body=b"%d" % number)
+                    return number
+                except ClientError as fault:
+                    self.assertEqual(fault.response["Error"]["Code"], "PreconditionFailed")
+
+            won = [each for each in pool.map(attempt, range(16)) if each is not None]
+        self.assertEqual(len(won), 1)
+        self.assertEqual(self.get("race")["Body"].read(), b"%d" % won[0])
+
+    def test_removals(self):
+        self.put("r", b"hi")
+        self.s3.delete_object(Bucket=self.bucket, Key="r")
+        self.fails("NoSuchKey", self.get, key="r")
+        self.fails("404", self.s3.head_object, Bucket=self.bucket, Key="r")
+        self.s3.delete_object(Bucket=self.bucket, Key="r")  # (which is no fault)
+        for key in ("r1", "r2", "r3&<"):
+            self.put(key)
+        told = self.s3.delete_objects(Bucket=self.bucket, Delete={"Objects": [{"Key": key} for key in ("r1", "r3&<", "never")]})
+        self.assertEqual(sorted(each["Key"] for each in told["Deleted"]), ["never", "r1", "r3&<"])
+        self.assertEqual([each["Key"] for each in self.s3.list_objects(Bucket=self.bucket, Prefix="r2")["Contents"]], ["r2"])
+
+    def test_copies(self):
+        for size in (each for each in (10, 100_000, 2_500_000) if each <= MOST):
+            content = os.urandom(size)
+            etag = self.put(f"from {size}", content, ContentType="text/a", Metadata={"a": "b"})["ETag"]
+            told = self.s3.copy_object(Bucket=self.bucket, Key=f"to {size}", CopySource={"Bucket": self.bucket, "Key": f"from {size}"})
+            self.assertEqual(told["CopyObjectResult"]["ETag"], etag)
+            found = self.get(f"to {size}")
+            self.assertEqual((found["Body"].read(), found["Metadata"], found["ContentType"]), (content, {"a": "b"}, "text/a"))
+            # other words, in place
+            self.s3.copy_object(Bucket=self.bucket, Key=f"to {size}", CopySource={"Bucket": self.bucket, "Key": f"to {size}"},
+                                MetadataDirective="REPLACE", Metadata={"c": "d"}, ContentType="text/b")  # fmt: skip
+            found = self.get(f"to {size}")
+            self.assertEqual((found["Body"].read(), found["Metadata"], found["ContentType"], found["ETag"]), (content, {"c": "d"}, "text/b", etag))
+        source = {"Bucket": self.bucket, "Key": "from 10"}
+        self.fails("InvalidRequest", self.s3.copy_object, Bucket=self.bucket, Key="from 10", CopySource=source)
+        self.fails("PreconditionFailed", self.s3.copy_object, Bucket=self.bucket, Key="x", CopySource=source, CopySourceIfMatch='"0"')
+        self.fails("NoSuchKey", self.s3.copy_object, Bucket=self.bucket, Key="x", CopySource={"Bucket": self.bucket, "Key": "never"})
+
+    def test_signed_urls(self):
+        self.put("signed key+", b"hello")
+        url = self.s3.generate_presigned_url("get_object", {"Bucket": self.bucket, "Key": "signed key+", "ResponseContentType": "text/plain"})
+        with urllib.request.urlopen(url) as told:
+            self.assertEqual((told.read(), told.headers["Content-Type"]), (b"hello", "text/plain"))
+        url = self.s3.generate_presigned_url("put_object", {"Bucket": self.bucket, "Key": "by url"})
+        with urllib.request.urlopen(urllib.request.Request(url, b"there", {"Content-Type": ""}, method="PUT")):
+            self.assertEqual(self.get("by url")["Body"].read(), b"there")
+        for wrong in (url.replace("by%20url", "by%20url2"), url + "&x=y", url.replace("Expires=3600", "Expires=3601")):
+            with self.assertRaises(urllib.error.HTTPError) as fault:
+                urllib.request.urlopen(urllib.request.Request(wrong, b"there", {"Content-Type": ""}, method="PUT"))
+            self.assertEqual(fault.exception.code, 403)
+        late = self.s3.generate_presigned_url("get_object", {"Bucket": self.bucket, "Key": "signed key+"}, ExpiresIn=1)
+        time.sleep(2.1)
+        with self.assertRaises(urllib.error.HTTPError) as fault:
+            urllib.request.urlopen(late)
+        self.assertEqual(fault.exception.code, 403)
+        post = self.s3.generate_presigned_post(self.bucket, "posted")
+        with self.assertRaises(urllib.error.HTTPError) as fault:
+            urllib.request.urlopen(urllib.request.Request(post["url"], b"x", method="POST"))
+        self.assertIn(fault.exception.code, (403, 501))
+
+    @is_long
+    def test_wrong_digests_change_nothing(self):
+        self.put("d", b"old")
+        wrong = base64.b64encode(hashlib.md5(b"other").digest()).decode()
+        self.fails("BadDigest", self.put, key="d", body=b"new", ContentMD5=wrong)
+        self.fails("InvalidDigest", self.put, key="d", body=b"new", ContentMD5="xyz")
+        self.fails("BadDigest", self.put, key="d", body=os.urandom(2_000_000), ContentMD5=wrong)
+        self.put("d2", b"new", ContentMD5=base64.b64encode(hashlib.md5(b"new").digest()).decode())
+        self.assertEqual(self.get("d")["Body"].read(), b"old")
+
+
+class Listings(Case):
+    def test_listings(self):
+        keys = sorted([f"a/{n:02}" for n in range(12)] + [f"b/{n}/x" for n in range(3)] + ["b", "c", "z/", "z/1", "ü"], key=str.encode)
+        with ThreadPoolExecutor(8) as pool:
+            list(pool.map(self.put, keys))
+        for name in ("list_objects", "list_objects_v2"):
+            for size in (1, 2, 5, 1_000):
+                pages = self.s3.get_paginator(name).paginate(Bucket=self.bucket, PaginationConfig={"PageSize": size})
+                self.assertEqual([each["Key"] for page in pages for each in page.get("Contents", [])], keys, (name, size))
+                found = []
+                for page in self.s3.get_paginator(name).paginate(Bucket=self.bucket, Delimiter="/", PaginationConfig={"PageSize": size}):
+                    found += [each["Key"] for each in page.get("Contents", [])] + [each["Prefix"] for each in page.get("CommonPrefixes", [])]
+                self.assertEqual(sorted(found), ["a/", "b", "b/", "c", "z/", "ü"], (name, size))
+        told = self.s3.list_objects_v2(Bucket=self.bucket, Prefix="b/", Delimiter="/")
+        self.assertEqual([each["Prefix"] for each in told["CommonPrefixes"]], ["b/0/", "b/1/", "b/2/"])
+        told = self.s3.list_objects_v2(Bucket=self.bucket, StartAfter="b/1/x", MaxKeys=2)
+        self.assertEqual(([each["Key"] for each in told["Contents"]], told["IsTruncated"], told["KeyCount"]), (["b/2/x", "c"], True, 2))
+        told = self.s3.list_objects_v2(Bucket=self.bucket, MaxKeys=0)
+        self.assertEqual((told["KeyCount"], told["IsTruncated"]), (0, False))
+        self.assertEqual(self.s3.list_objects_v2(Bucket=self.bucket, Prefix="nothing")["KeyCount"], 0)
+
+
+class Uploads(Case):
+    def upload(self, key, parts, **more):
+        upload = self.s3.create_multipart_upload(Bucket=self.bucket, Key=key, **more)["UploadId"]
+        words = {"Bucket": self.bucket, "Key": key, "UploadId": upload}
+        told = {number: self.s3.upload_part(**words, PartNumber=number, Body=body)["ETag"] for number, body in parts.items()}
+        return words, told
+
+    def complete(self, words, told):
+        parts = [{"PartNumber": number, "ETag": etag} for number, etag in told.items()]
+        return self.s3.complete_multipart_upload(**words, MultipartUpload={"Parts": parts})
+
+    def test_upload(self):
+        parts = {number: os.urandom(size) for number, size in ((9, min(MOST, 700_000)), (2, min(MOST, 1_300_000)), (5, 10), (10_000, 300))}
+        words, told = self.upload("multi", parts, Metadata={"a": "b"}, ContentType="x/y")
+        listed = self.s3.list_parts(**words)["Parts"]
+        self.assertEqual([(each["PartNumber"], each["ETag"], each["Size"]) for each in listed], [(n, told[n], len(parts[n])) for n in sorted(parts)])
+        self.assertEqual([each["PartNumber"] for each in self.s3.list_parts(**words, MaxParts=2, PartNumberMarker=2)["Parts"]], [5, 9])
+        self.assertEqual([each["UploadId"] for each in self.s3.list_multipart_uploads(Bucket=self.bucket)["Uploads"]], [words["UploadId"]])
+        self.fails("NoSuchKey", self.get, key="multi")
+        told[2] = self.s3.upload_part(**words, PartNumber=2, Body=parts[5])["ETag"]  # again, with another content
+        self.fails("InvalidPartOrder", self.complete, words=words, told=told)
+        self.fails("InvalidPart", self.complete, words=words, told={3: told[2]})
+        self.fails("InvalidPart", self.complete, words=words, told={2: told[9]})
+        chosen = {number: told[number] for number in (2, 5, 9)}
+        done = self.complete(words, chosen)
+        content = parts[5] + parts[5] + parts[9]
+        md5 = hashlib.md5(b"".join(hashlib.md5(each).digest() for each in (parts[5], parts[5], parts[9]))).hexdigest()
+        self.assertEqual(done["ETag"], f'"{md5}-3"')
+        found = self.get("multi")
+        self.assertEqual((found["Body"].read(), found["ETag"], found["Metadata"], found["ContentType"]), (content, f'"{md5}-3"', {"a": "b"}, "x/y"))
+        self.assertEqual(self.get("multi", Range="bytes=8-30")["Body"].read(), content[8:31])
+        self.assertEqual(self.complete(words, chosen)["ETag"], done["ETag"])  # asked again
+        self.fails("NoSuchUpload", self.s3.list_parts, **words)
+        self.s3.copy_object(Bucket=self.bucket, Key="multi", CopySource={"Bucket": self.bucket, "Key": "multi"}, MetadataDirective="REPLACE", Metadata={"e": "f"})
+        found = self.get("multi")
+        # (a gateway that has not the session of the content puts it anew, as one)
+        etag = found["ETag"] if IS_ONE_OF_SEVERAL else f'"{md5}-3"'
+        self.assertEqual((found["Body"].read(), found["ETag"], found["Metadata"]), (content, etag, {"e": "f"}))
+
+    def test_given_up(self):
+        words, told = self.upload("never", {1: b"x" * 2_000})
+        self.s3.abort_multipart_upload(**words)
+        self.fails("NoSuchUpload", self.s3.upload_part, **words, PartNumber=2, Body=b"")
+        self.fails("NoSuchUpload", self.complete, words=words, told=told)
+        self.fails("NoSuchUpload", self.s3.abort_multipart_upload, **words)
+        self.fails("NoSuchUpload", self.s3.list_parts, **{**words, "UploadId": "../../x"})
+        self.assertNotIn("Uploads", self.s3.list_multipart_uploads(Bucket=self.bucket, Prefix="never"))
+
+    @is_long
+    def test_transfer_and_part_copies(self):
+        content = os.urandom(11_000_000)
+        self.s3.upload_fileobj(io.BytesIO(content), self.bucket, "big", Config=boto3.s3.transfer.TransferConfig(multipart_threshold=5 << 20, multipart_chunksize=5 << 20))
+        found = io.BytesIO()
+        self.s3.download_fileobj(self.bucket, "big", found, Config=boto3.s3.transfer.TransferConfig(multipart_threshold=2 << 20, multipart_chunksize=2 << 20))
+        self.assertEqual(found.getvalue(), content)
+        upload = self.s3.create_multipart_upload(Bucket=self.bucket, Key="joined")["UploadId"]
+        words = {"Bucket": self.bucket, "Key": "joined", "UploadId": upload}
+        source = {"Bucket": self.bucket, "Key": "big"}
+        one = self.s3.upload_part_copy(**words, PartNumber=1, CopySource=source, CopySourceRange="bytes=6000000-9999999")["CopyPartResult"]["ETag"]
+        two = self.s3.upload_part_copy(**words, PartNumber=2, CopySource=source, CopySourceRange="bytes=0-99")["CopyPartResult"]["ETag"]
+        self.complete(words, {1: one, 2: two})
+        self.assertEqual(self.get("joined")["Body"].read(), content[6_000_000:10_000_000] + content[:100])
+
+
+class Requests(Case):
+    """Requests that boto3 does not make."""
+
+    def ask(self, method, path, body=b"", headers=(), payload=None, sign=True, secret=SECRET, access=ACCESS, data=None):
+        address = urlsplit(URL)
+        request = AWSRequest(method, f"{URL}{path}", dict(headers), body)
+        if payload:
+            request.headers["X-Amz-Content-SHA256"] = payload
+
+        class Signer(S3SigV4Auth):
+            def payload(self, request):
+                return payload or super().payload(request)
+
+        if sign:
+            Signer(Credentials(access, secret), "s3", "us-east-1").add_auth(request)
+        connection = http.client.HTTPConnection(address.hostname, address.port, timeout=120)
+        connection.request(method, path, data if data is not None else body, dict(request.headers))
+        told = connection.getresponse()
+        return told.status, told.read(), request
+
+    def code(self, told):
+        text = told[1].decode()
+        return text.partition("<Code>")[2].partition("</Code>")[0]
+
+    def test_who_asks(self):
+        self.assertEqual(self.code(self.ask("GET", "/", sign=False)), "AccessDenied")
+        self.assertEqual(self.code(self.ask("GET", "/", secret="wrong")), "SignatureDoesNotMatch")
+        self.assertEqual(self.code(self.ask("GET", "/", access="nobody")), "AccessDenied" if IS_BEHIND else "InvalidAccessKeyId")
+        told = "AccessDenied" if IS_BEHIND else "AuthorizationHeaderMalformed"
+        self.assertEqual(self.code(self.ask("GET", "/", sign=False, headers={"Authorization": "AWS carol:abc"})), told)
+        status, text, request = self.ask("GET", "/")
+        self.assertEqual(status, 200)
+        # A header of Amazon's that is not signed
+        self.assertEqual(self.code(self.ask("GET", "/", headers={**request.headers, "x-amz-meta-a": "b"}, sign=False)), "AccessDenied")
+        old = {**request.headers, "X-Amz-Date": "20200101T000000Z"}
+        self.assertIn(self.code(self.ask("GET", "/", headers=old, sign=False)), ("AuthorizationHeaderMalformed", "RequestTimeTooSkewed"))
+        self.assertEqual(self.code(self.ask("GET", "/?x=y", headers=dict(request.headers), sign=False)), "SignatureDoesNotMatch")
+        self.assertEqual(self.code(self.ask("DELETE", "/", headers=dict(request.headers), sign=False)), "SignatureDoesNotMatch")
+
+    @is_long
+    def test_body_that_was_not_signed_so(self):
+        path = f"/{self.bucket}/body"
+        self.assertEqual(self.code(self.ask("PUT", path, b"one", data=b"two")), "XAmzContentSHA256Mismatch")
+        big = os.urandom(2_000_000)
+        self.assertEqual(self.code(self.ask("PUT", path, big, data=big[:-1] + b"x" if big[-1:] != b"x" else big[:-1] + b"y")), "XAmzContentSHA256Mismatch")
+        self.fails("NoSuchKey", self.get, key="body")
+        self.assertEqual(self.ask("PUT", path, b"any", payload="UNSIGNED-PAYLOAD")[0], 200)
+        self.assertEqual(self.get("body")["Body"].read(), b"any")
+        self.assertEqual(self.code(self.ask("PUT", path, b"any", payload="nonsense")), "InvalidArgument")
+
+    def chunked(self, content, size, spoil=None, trailer=None):
+        """A put in signed chunks."""
+        kind = "STREAMING-AWS4-HMAC-SHA256-PAYLOAD" + ("-TRAILER" if trailer else "")
+        headers = {"x-amz-decoded-content-length": str(len(content)), "Content-Encoding": "aws-chunked"}
+        if trailer:
+            headers["x-amz-trailer"] = trailer[0]
+        path = f"/{self.bucket}/chunked"
+        request = AWSRequest("PUT", URL + path, headers)
+        request.headers["X-Amz-Content-SHA256"] = kind
+        signer = S3SigV4Auth(Credentials(ACCESS, SECRET), "s3", "us-east-1")
+        signer.payload = lambda _: kind
+        signer.add_auth(request)
+        before = request.headers["Authorization"].rpartition("=")[2]
+        stamp, empty_digest, body = request.context["timestamp"], hashlib.sha256(b"").hexdigest(), b""
+        scope = signer.credential_scope(request)
+        for begin in [*range(0, len(content), size), len(content)]:
+            data = content[begin : begin + size]
+            text = "\n".join(["AWS4-HMAC-SHA256-PAYLOAD", stamp, scope, before, empty_digest, hashlib.sha256(data).hexdigest()])
+            before = signer.signature(text, request)
+            body += f"{len(data):x};chunk-signature={before}\r\n".encode() + data + (b"\r\n" if data else b"")
+        if trailer:
+            line = f"{trailer[0]}:{trailer[1]}\n"
+            text = "\n".join(["AWS4-HMAC-SHA256-TRAILER", stamp, scope, before, hashlib.sha256(line.encode()).hexdigest()])
+            body += line.replace("\n", "\r\n").encode() + f"x-amz-trailer-signature:{signer.signature(text, request)}\r\n".encode()
+        body += b"\r\n"
+        if spoil is not None:
+            at = body.index(b"\r\n") + 2 + spoil
+            body = body[:at] + bytes([body[at] ^ 1]) + body[at + 1 :]
+        address = urlsplit(URL)
+        connection = http.client.HTTPConnection(address.hostname, address.port, timeout=120)
+        connection.request("PUT", path, body, dict(request.headers))
+        told = connection.getresponse()
+        return told.status, told.read(), None
+
+    @is_long
+    def test_chunks(self):
+        for length, size in ((0, 10), (5, 10), (200_000, 65_536), (2_500_000, 131_072)):
+            content = os.urandom(length)
+            self.assertEqual(self.chunked(content, size)[0], 200)
+            found = self.get("chunked")
+            self.assertEqual((found["Body"].read(), found["ETag"]), (content, f'"{hashlib.md5(content).hexdigest()}"'))
+            self.assertNotIn("ContentEncoding", found)
+        self.assertEqual(self.code(self.chunked(os.urandom(100_000), 65_536, spoil=17)), "SignatureDoesNotMatch")
+        self.assertEqual(self.code(self.chunked(os.urandom(2_000_000), 65_536, spoil=60_000)), "SignatureDoesNotMatch")
+        self.assertEqual(self.get("chunked")["Body"].read(), content)
+        crc = base64.b64encode(zlib.crc32(content).to_bytes(4, "big")).decode()
+        self.assertEqual(self.chunked(content, 65_536, trailer=("x-amz-checksum-crc32", crc))[0], 200)
+        self.assertEqual(self.code(self.chunked(content, 65_536, trailer=("x-amz-checksum-crc32", "AAAAAA=="))), "BadDigest")
+
+    def test_unsigned_chunks_with_a_trailer(self):
+        content = b"Hello world"
+        for name, digest, told in [
+            ("x-amz-checksum-crc32", zlib.crc32(content).to_bytes(4, "big"), ""),
+            ("x-amz-checksum-sha256", hashlib.sha256(content).digest(), ""),
+            ("x-amz-checksum-sha1", b"x" * 20, "BadDigest"),
+            ("x-amz-checksum-crc64nvme", b"x" * 8, "NotImplemented"),
+        ]:
+            headers = {"x-amz-decoded-content-length": str(len(content)), "Content-Encoding": "aws-chunked", "x-amz-trailer": name}
+            body = b"5\r\nHello\r\n6\r\n world\r\n0\r\n" + f"{name}:{base64.b64encode(digest).decode()}\r\n\r\n".encode()
+            found = self.ask("PUT", f"/{self.bucket}/trailed", b"", headers, "STREAMING-UNSIGNED-PAYLOAD-TRAILER", data=body)
+            self.assertEqual(self.code(found), told)
+        self.assertEqual(self.get("trailed")["Body"].read(), content)
+
+    def test_xml_that_is_none(self):
+        bomb = b'<!DOCTYPE x [<!ENTITY a "aaaa">]><Delete><Object><Key>&a;</Key></Object></Delete>'
+        for body in (bomb, b"<Delete>", b"", b"<Other/>", b"<Delete/>", b"\xff", b"<a>" * 100_000, b'<!DOCTYPE x SYSTEM "file:///etc/passwd"><Delete/>'):
+            self.assertEqual(self.code(self.ask("POST", f"/{self.bucket}?delete", body)), "MalformedXML", body[:30])
+
+    def test_metadata_that_is_no_ascii(self):
+        word = "\u00fc\u65e5"
+        request = AWSRequest("PUT", f"{URL}/{self.bucket}/metadata", {"x-amz-meta-a": word.encode().decode("latin1")}, b"x")
+        signer = S3SigV4Auth(Credentials(ACCESS, SECRET), "s3", "us-east-1")
+        before = signer.canonical_request
+        signer.canonical_request = lambda request: before(request).encode("latin1").decode()  # (what is signed are the bytes)
+        signer.add_auth(request)
+        address = urlsplit(URL)
+        connection = http.client.HTTPConnection(address.hostname, address.port, timeout=120)
+        connection.request("PUT", f"/{self.bucket}/metadata", b"x", dict(request.headers))
+        told = connection.getresponse()
+        self.assertEqual((told.status, told.read()), (200, b""))
+        with urllib.request.urlopen(self.s3.generate_presigned_url("get_object", {"Bucket": self.bucket, "Key": "metadata"})) as told:
+            self.assertEqual(told.headers["x-amz-meta-a"].encode("latin1").decode(), word)
+
+    def test_odd_requests(self):
+        self.assertEqual(self.code(self.ask("PATCH", f"/{self.bucket}/a")), "MethodNotAllowed")
+        self.assertEqual(self.code(self.ask("PUT", "/UPPER")), "InvalidBucketName")
+        self.assertEqual(self.code(self.ask("PUT", "/.s3/bucket/x")), "InvalidBucketName")
+        self.assertEqual(self.code(self.ask("DELETE", "/...")), "InvalidBucketName")
+        self.assertEqual(self.code(self.ask("GET", "/.s3/bucket/x")), "InvalidBucketName")
+        self.assertEqual(self.code(self.ask("GET", f"/{self.bucket}/a%FF")), "InvalidURI")
+        self.assertEqual(self.code(self.ask("GET", f"/{self.bucket}?max-keys=x")), "InvalidArgument")
+        self.assertEqual(self.code(self.ask("GET", f"/{self.bucket}?list-type=2&continuation-token=%FF")), "InvalidArgument")
+        self.assertEqual(self.code(self.ask("PUT", f"/{self.bucket}/a?partNumber=0&uploadId=1.0123456789abcdef01234567")), "InvalidArgument")
+
+    @unittest.skipIf(IS_BEHIND, "metrics are told on the machine of the gateway alone")
+    def test_metrics(self):
+        with urllib.request.urlopen(f"{URL}/metrics") as told:
+            text = told.read().decode()
+        self.assertRegex(text, r'gridfs_s3_requests_total\{operation="PutObject",status="200",tenant="\w+"\} \d+')
+        self.assertRegex(text, r'gridfs_s3_slot_bytes\{state="left",tenant="\w+"\} [1-9]')
+        self.assertEqual(self.ask("GET", "/metrics", sign=False, headers={"X-Forwarded-For": "1.2.3.4"})[0], 403)
+
+
+if __name__ == "__main__":
+    unittest.main()

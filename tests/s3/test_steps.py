@@ -1,0 +1,382 @@
+"""What stands at each step of a change of an object: the gateway's objects over registers in memory, with clients that die at each step, and writes
+of theirs that take effect late. And the forms of what is beside a content."""
+
+import hashlib
+import io
+import os
+import random
+import sys
+import unittest
+from unittest import mock
+
+HERE = os.path.dirname(os.path.abspath(__file__))
+sys.path[:0] = [HERE, os.path.join(HERE, "..", "names")]
+import code_of_s3  # noqa: F401  (which says where the code is)
+from histories import Killed
+from memory import Memory
+
+from gridfs_client import OneByOne, Unanswered
+from gridfs_client.contents import Joined
+from gridfs_s3.errors import S3Error
+from gridfs_s3.places import of_words, parts_of
+from gridfs_s3.shared import Shared
+from gridfs_s3.store import Store
+
+NAME, BUCKET = "bucket/key", "bucket"
+OLD, PARTS = b"old" * 100, [b"a" * 500, b"b" * 10, b"c" * 700]
+
+
+class Source(io.BytesIO):
+    @property
+    def told_size(self):
+        return len(self.getvalue())
+
+    def rewind(self):
+        self.seek(0)
+
+    def digest(self):
+        return hashlib.md5(self.getvalue()).hexdigest()
+
+
+def client(memory, number=1, at_step=None):
+    def kind(session, layout, helpers=tuple, team=None):
+        found = Store(session, layout, Shared())
+        found.team = OneByOne()
+        return found
+
+    return memory.client(number, at_step, kind)
+
+
+def fresh():
+    return Memory(sessions=2, pages=1, page_blocks=64, slots=24, slot_blocks=4)
+
+
+def put(objects, name, content, word="x"):
+    return objects.put_object(name, Source(content), lambda: {"m": word})
+
+
+def content_of(objects, name):
+    held = objects.look(name)
+    return held and b"".join(objects.content(held, 0, held.content.size))
+
+
+def part(objects, upload, number, content):
+    source = Source(content)
+    return objects.put_part(BUCKET, upload, number, source, 5)
+
+
+def complete(objects, upload):
+    held = objects.upload(BUCKET, upload)
+    chosen = [slots for _, slots in objects.uploaded(held)]
+    return objects.complete(BUCKET, upload, NAME, {"m": "joined", "n": "3"}, chosen, None)
+
+
+def kill_at(step):
+    def at_step(now):
+        if now == step:
+            raise Killed
+
+    return at_step
+
+
+def uploads(objects):
+    return [held for held in objects.all() if held.name.startswith(".s3/up/")]
+
+
+class Steps(unittest.TestCase):
+    def judge(self, memory, old, new, name=NAME):
+        """Looks by new clients of both sessions at what a dead client left. What the session's own one has seen, or changed, stays."""
+        for number in (2, 1):
+            self.assertIn(content_of(client(memory, number), name), (old, new))
+        mine = client(memory, 1)
+        for page in range(mine.layout.pages):
+            mine.settle(page)
+        mine.free_slots()
+        seen = content_of(mine, name)
+        self.assertIn(seen, (old, new))
+        memory.surface()
+        other = client(memory, 2)
+        self.assertEqual(content_of(other, name), seen)
+        # The table says of exactly those slots that they are taken which lines name.
+        again = client(memory, 1)
+        again.settle(0)
+        named = again.writer.bucket(0).journal.slots(1)
+        taken = again.writer.keeper.needed().taken()
+        self.assertEqual(taken, named)
+        self.assertEqual(content_of(again, name), seen)
+        return seen, len(uploads(again))
+
+    def each_step(self, prepare, change, judge):
+        """Has a client die at each step of a change, with its last write lost for good, or late."""
+        step, seen = 0, set()
+        while True:
+            step += 1
+            done = False
+            for is_late in (False, True):
+                memory = fresh()
+                words = prepare(client(memory))
+                try:
+                    change(client(memory, 1, kill_at(step)), words)
+                    done = True
+                except Killed:
+                    pass
+                if not is_late:
+                    memory.surface()
+                seen.add(judge(memory))
+            if done:
+                self.assertGreater(step, 3)
+                return step, seen
+
+    def test_store(self):
+        new = b"new" * 200
+        steps, seen = self.each_step(lambda files: put(files, NAME, OLD), lambda files, _: put(files, NAME, new), lambda memory: self.judge(memory, OLD, new))
+        self.assertEqual({each[0] for each in seen}, {OLD, new})
+
+    def test_parts(self):
+        def prepare(files):
+            put(files, NAME, OLD)
+            upload = files.begin_upload(BUCKET, NAME, {"k": "key"})
+            part(files, upload, 1, PARTS[0])
+            return upload
+
+        def change(files, upload):
+            part(files, upload, 3, PARTS[2])
+            part(files, upload, 1, PARTS[1])
+
+        def judge(memory):
+            seen = self.judge(memory, OLD, OLD)
+            files = client(memory, 1)
+            (held,) = uploads(files)
+            found = [(each.number, each.md5) for each in parts_of(of_words(held.words))]
+            numbers = tuple(number for number, _ in found)
+            whole = b"".join(files.content(held, 0, held.content.size))
+            one, two, three = (hashlib.md5(each).hexdigest() for each in PARTS)
+            known = {one: PARTS[0], two: PARTS[1], three: PARTS[2]}
+            self.assertEqual(whole, b"".join(known[md5] for _, md5 in found))
+            return seen[0], numbers, found[0][1] == one
+
+        _, seen = self.each_step(prepare, change, judge)
+        self.assertEqual({each[1:] for each in seen}, {((1,), True), ((1, 3), True), ((1, 3), False)})
+
+    def uploaded(self, files):
+        put(files, NAME, OLD)
+        upload = files.begin_upload(BUCKET, NAME, {"k": "key"})
+        for number in (2, 1, 3):
+            part(files, upload, number, PARTS[number - 1])
+        return upload
+
+    def test_complete(self):
+        _, seen = self.each_step(self.uploaded, complete, lambda memory: self.judge(memory, OLD, b"".join(PARTS)))
+        # The upload is there as long as the object is the old one, and goes with the change.
+        self.assertEqual(seen, {(OLD, 1), (b"".join(PARTS), 0)})
+
+    def test_given_up(self):
+        _, seen = self.each_step(self.uploaded, lambda files, upload: files.delete(f".s3/up/{BUCKET}/{upload}"), lambda memory: self.judge(memory, OLD, OLD))
+        self.assertEqual(seen, {(OLD, 1), (OLD, 0)})
+
+    def test_touch(self):
+        def change(files, _):
+            self.assertTrue(files.touch(NAME, files.look(NAME), lambda: {"m": "y"}))
+
+        _, seen = self.each_step(lambda files: put(files, NAME, OLD), change, lambda memory: (*self.judge(memory, OLD, OLD), of_words(client(memory).look(NAME).words)["m"]))
+        self.assertEqual({each[2] for each in seen}, {"x", "y"})
+
+    def test_complete_beside_another_writer(self):
+        """The other session puts the object between any two steps of a completion: one of both is the last, and no slot is lost."""
+        step, seen = 0, set()
+        while True:
+            step += 1
+            memory, other = fresh(), b"other" * 60
+            upload = self.uploaded(client(memory))
+
+            def at_step(now, step=step, memory=memory):
+                if now == step:
+                    put(client(memory, 2), NAME, other)
+
+            files = client(memory, 1, at_step)
+            complete(files, upload)
+            if files.session.steps < step:
+                break
+            seen.add(self.judge(memory, b"".join(PARTS), other))
+        self.assertEqual({each[0] for each in seen}, {b"".join(PARTS), other})
+        self.assertEqual({each[1] for each in seen}, {0})
+
+    def test_condition(self):
+        memory, files = fresh(), None
+        put(client(memory), NAME, OLD)
+        files = client(memory)
+
+        def refuse(held):
+            raise S3Error("PreconditionFailed")
+
+        with self.assertRaises(S3Error):
+            files.put_object(NAME, Source(b"new" * 200), dict, refuse)
+        calls = []
+
+        def refuse_late(held):
+            calls.append(held)
+            if len(calls) == 2:
+                raise S3Error("PreconditionFailed")
+
+        with self.assertRaises(S3Error):
+            files.put_object(NAME, Source(b"new" * 200), dict, refuse_late)
+        self.assertEqual(content_of(files, NAME), OLD)
+        self.assertEqual(files.writer.keeper.needed().taken(), files.writer.bucket(0).journal.slots(1))
+
+    def after_a_dead_writer(self, step, is_late, is_settled):
+        """A client of session 2 dies at a step of a put. New clients of both sessions come; that of session 1 puts where it sees nothing. What the name
+        holds once all is settled, and whether the put was done; None where the client did not die."""
+        memory = fresh()
+        try:
+            put(client(memory, 2, kill_at(step)), NAME, b"dead" * 200)
+            return None
+        except Killed:
+            pass
+        if not is_late:
+            memory.surface()
+        one, two = client(memory, 1), client(memory, 2)
+        if is_settled:
+            one.settle(0)
+            two.settle(0)
+        is_done = True
+
+        def condition(held):
+            if held:
+                raise S3Error("PreconditionFailed")
+
+        try:
+            one.put_object(NAME, Source(b"new" * 200), dict, condition)
+        except S3Error:
+            is_done = False
+        memory.surface()
+        put(two, "bucket/other", b"x")
+        return content_of(client(memory, 1), NAME), is_done
+
+    def test_settled(self):
+        """A put where nothing was stays, whatever a dead writer of another session left, once the page is settled; else it may not."""
+        told = {True: set(), False: set()}
+        for is_settled in told:
+            for is_late in (False, True):
+                step = 1
+                while found := self.after_a_dead_writer(step, is_late, is_settled):
+                    told[is_settled].add((found[0][:3], found[1]))
+                    step += 1
+                self.assertGreater(step, 4)
+        self.assertEqual(told[True], {(b"new", True), (b"dea", False)})
+        self.assertIn((b"dea", True), told[False])
+
+    def test_completion_that_is_refused(self):
+        """The parts stay where they are, and nothing else takes their slots."""
+        memory = fresh()
+        files = client(memory)
+        upload = self.uploaded(files)
+
+        def refuse(held):
+            raise S3Error("PreconditionFailed")
+
+        chosen = [slots for _, slots in files.uploaded(files.upload(BUCKET, upload))]
+        with self.assertRaises(S3Error):
+            files.complete(BUCKET, upload, NAME, {"m": "joined"}, chosen, refuse)
+        for number in range(6):
+            put(files, "bucket/other", b"%d" % number * 900)
+        complete(files, upload)
+        self.assertEqual(content_of(files, NAME), b"".join(PARTS))
+
+    def test_touch_after_a_change(self):
+        memory = fresh()
+        files = client(memory)
+        put(files, NAME, OLD)
+        seen = files.look(NAME)
+        put(files, NAME, b"new" * 200, "new")
+        self.assertIsNone(files.touch(NAME, seen, lambda: {"m": "y"}))
+        self.assertEqual((content_of(files, NAME), of_words(files.look(NAME).words)["m"]), (b"new" * 200, "new"))
+
+
+class Contents(unittest.TestCase):
+    def test_ranges(self):
+        """All ranges of a content of parts, over pieces."""
+        memory, files = fresh(), None
+        files = client(memory)
+        upload = files.begin_upload(BUCKET, NAME, {})
+        for number, content in enumerate(PARTS, 1):
+            part(files, upload, number, content)
+        complete(files, upload)
+        held, whole = files.look(NAME), b"".join(PARTS)
+        self.assertIsInstance(held.content, Joined)
+        draw = random.Random(1)
+        for first in {*range(0, len(whole), 83), 0, 499, 500, 509, 510, len(whole) - 1}:
+            for end in {first + 1, first + 300, draw.randrange(first, len(whole)) + 1, len(whole)}:
+                self.assertEqual(b"".join(files.content(held, first, min(end, len(whole)))), whole[first:end])
+        # The client for files by name tells the same.
+        self.assertEqual(files.get(NAME)[0], whole)
+
+    def test_replaced_while_it_is_read(self):
+        memory = fresh()
+        put(client(memory), NAME, OLD * 5)
+        reader = client(memory, 2)
+        held = reader.look(NAME)
+        found = reader.content(held, 0, held.content.size)
+        next(found)
+        writer = client(memory, 1)
+        for number in range(20):  # until the slots are used anew
+            put(writer, NAME, b"%d" % number * 900)
+        with self.assertRaises(Exception) as fault:
+            b"".join(found)
+        self.assertEqual(type(fault.exception).__name__, "Replaced")
+        self.assertEqual(reader.read(NAME, lambda held: (0, held.content.size))[2][:2], b"19")
+
+    def test_spoilt(self):
+        memory = fresh()
+        put(client(memory), NAME, b"x" * 600)
+        place = next(place for place, copy in memory.registers.items() if copy.content.endswith(b"xxx"))
+        copy = memory.registers[place]
+        memory.registers[place] = type(copy)(copy.tag, copy.content[:-1] + b"y")
+        files = client(memory)
+        held = files.look(NAME)
+        with self.assertRaises(Exception) as fault:
+            b"".join(files.content(held, 0, held.content.size))
+        self.assertEqual(type(fault.exception).__name__, "Damaged")
+
+
+class Times(unittest.TestCase):
+    def test_times_never_go_back(self):
+        """Of one key, though the machine's clock does, within a gateway and after its start."""
+        memory, seen, now = fresh(), [], 2_000_000_000_000
+        for turn, clock in enumerate((now, now - 5_000, now - 9_000, now + 10)):
+            with mock.patch("time.time_ns", lambda clock=clock: clock * 1_000_000):
+                files = client(memory, 1 + turn % 2)
+                for _ in range(2):
+                    put(files, NAME, b"%d" % turn)
+                    seen.append(int(of_words(files.look(NAME).words)["t"]))
+        self.assertEqual(seen, sorted(set(seen)))
+
+    def test_no_answer(self):
+        """What got no answer takes no effect after a later change of the same gateway that did."""
+        for step in range(1, 12):
+            memory, shared = fresh(), Shared()
+
+            is_over = []
+
+            def at_step(now, step=step, is_over=is_over):
+                if now == step and not is_over:
+                    raise Unanswered("no answer")
+
+            stores = [memory.client(number, at, lambda session, layout, **_: with_team(Store(session, layout, shared))) for number, at in ((2, at_step), (1, None))]
+            try:
+                put(stores[0], NAME, b"first" * 30)
+            except Unanswered:
+                pass
+            is_over.append(True)
+            put(stores[1], NAME, b"second")
+            memory.surface()
+            put(stores[0], "bucket/other", b"x")  # (by which the first session carries what it announced)
+            self.assertEqual(content_of(client(memory), NAME), b"second", step)
+
+
+def with_team(found):
+    found.team = OneByOne()
+    return found
+
+
+if __name__ == "__main__":
+    unittest.main()

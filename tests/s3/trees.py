@@ -1,0 +1,128 @@
+"""Clients that others wrote, from Debian's packages, over an endpoint: each thing that is tried, and what is wrong of it."""
+
+import filecmp
+import os
+import random
+import shutil
+import subprocess
+import time
+
+SIZES = {"empty": 0, "small.txt": 12, "one kib": 1_024, "dir/äöü.bin": 70_000, "dir/deep/er/two.bin": 2_000_000, "dir/plus+and&.bin": 4_097}
+BIG = 12_000_000  # bytes of what goes in parts of 5 MiB
+LONGEST = 900  # seconds of one command
+
+
+class Wrong(Exception):
+    pass
+
+
+def run(*words, **more):
+    done = subprocess.run(list(map(str, words)), capture_output=True, timeout=LONGEST, **more)
+    if done.returncode:
+        told = (done.stderr or done.stdout).decode(errors="replace").strip()[-400:]
+        raise Wrong(f"{' '.join(map(str, words))[:90]}: status {done.returncode}: {told}")
+    return done.stdout
+
+
+def expect(found, wanted, what):
+    if found != wanted:
+        raise Wrong(f"{what}: {str(found)[:200]!r}, not {str(wanted)[:200]!r}")
+
+
+def files_in(folder):
+    return sorted(os.path.relpath(os.path.join(at, name), folder) for at, _, names in os.walk(folder) for name in names)
+
+
+def same(one, two):
+    """Whether two folders have the same files."""
+    expect(files_in(two), files_in(one), "the files")
+    expect(filecmp.cmpfiles(one, two, files_in(one), shallow=False)[1:], ([], []), "the contents")
+
+
+def content_of(path):
+    with open(path, "rb") as file:
+        return file.read()
+
+
+class Clients:
+    """The clients at an endpoint, in a folder of their own."""
+
+    def __init__(self, url, access, secret, room, tree=None):
+        self.url, self.access, self.secret, self.room, self.wrong = url, access, secret, room, []
+        self.host = url.partition("://")[2]
+        self.files, self.big, draw = os.path.join(room, "files"), os.path.join(room, "big"), random.Random(1)
+        for name, size in SIZES.items():
+            os.makedirs(os.path.dirname(os.path.join(self.files, name)), exist_ok=True)
+            with open(os.path.join(self.files, name), "wb") as out:
+                out.write(draw.randbytes(size))
+        with open(self.big, "wb") as out:
+            out.write(draw.randbytes(BIG))
+        if tree:
+            shutil.copytree(tree, os.path.join(self.files, "tree"), symlinks=False)
+
+    def step(self, what, call):
+        begin, told = time.monotonic(), "ok"
+        try:
+            call()
+        except (Wrong, OSError, subprocess.TimeoutExpired) as fault:
+            self.wrong.append(f"{what}: {fault}")
+            told = f"WRONG: {fault}"
+        print(f"{what:<60} {time.monotonic() - begin:6.1f} s  {told}", flush=True)
+
+    def place(self, name):
+        return os.path.join(self.room, name)
+
+    def s3cmd(self):
+        config = self.place("s3cfg")
+        with open(config, "w") as out:
+            out.write(
+                f"[default]\naccess_key = {self.access}\nsecret_key = {self.secret}\nhost_base = {self.host}\nhost_bucket = {self.host}\n"
+                "use_https = False\nsignature_v2 = False\nmultipart_chunk_size_mb = 5\n"
+            )
+        s3cmd, there, back = ["s3cmd", "-c", config, "--no-progress"], f"s3://s3cmd-{os.getpid()}", self.place("s3cmd back")
+        small = f"{there}/tree/small.txt"
+        os.makedirs(back)
+        self.step("s3cmd mb", lambda: run(*s3cmd, "mb", there))
+        self.step("s3cmd sync, of all files", lambda: run(*s3cmd, "sync", f"{self.files}/", f"{there}/tree/"))
+        self.step("s3cmd put in parts of 5 MB", lambda: run(*s3cmd, "put", self.big, f"{there}/big"))
+        self.step("s3cmd sync back, the same files", lambda: (run(*s3cmd, "sync", f"{there}/tree/", f"{back}/"), same(self.files, back)))
+        self.step("s3cmd get, the same bytes", lambda: (run(*s3cmd, "get", f"{there}/big", f"{back}.big"), expect(filecmp.cmp(self.big, f"{back}.big", False), True, "big")))
+        self.step("s3cmd sync again moves nothing", lambda: expect(b"upload:" in run(*s3cmd, "sync", f"{self.files}/", f"{there}/tree/"), False, "uploads"))
+        self.step("s3cmd ls -r, info, du", lambda: (expect(run(*s3cmd, "ls", "-r", f"{there}/").count(b"\n"), len(files_in(self.files)) + 1, "lines"), run(*s3cmd, "info", small), run(*s3cmd, "du", there)))
+        self.step("s3cmd cp, mv, modify", lambda: (run(*s3cmd, "cp", small, f"{there}/c"), run(*s3cmd, "mv", f"{there}/c", f"{there}/d"), run(*s3cmd, "modify", "--add-header=x-amz-meta-a:b", f"{there}/d")))
+        self.step("s3cmd multipart, which lists uploads", lambda: run(*s3cmd, "multipart", there))
+        self.step("s3cmd del -r, rb", lambda: (run(*s3cmd, "del", "-r", "-f", f"{there}/"), expect(run(*s3cmd, "ls", "-r", f"{there}/"), b"", "left"), run(*s3cmd, "rb", there)))
+
+    def rclone(self):
+        config = self.place("rclone.conf")
+        with open(config, "w") as out:
+            out.write(
+                f"[grid]\ntype = s3\nprovider = Other\naccess_key_id = {self.access}\nsecret_access_key = {self.secret}\nendpoint = {self.url}\n"
+                "acl = private\nregion = us-east-1\nforce_path_style = true\n"
+            )
+        rclone, there, back = ["rclone", "--config", config, "--retries", "1"], f"grid:rclone-{os.getpid()}", self.place("rclone back")
+        middle = content_of(self.big)[BIG // 3 : BIG // 3 + BIG // 5]
+        self.step("rclone mkdir, copy", lambda: (run(*rclone, "mkdir", there), run(*rclone, "copy", self.files, f"{there}/tree")))
+        self.step("rclone check (by MD5)", lambda: run(*rclone, "check", self.files, f"{there}/tree"))
+        self.step("rclone check --download", lambda: run(*rclone, "check", "--download", self.files, f"{there}/tree"))
+        self.step("rclone sync again moves nothing", lambda: expect(b"Copied" in run(*rclone, "-v", "sync", self.files, f"{there}/tree"), False, "copies"))
+        self.step("rclone copy in parts of 5 MiB", lambda: run(*rclone, "copyto", "--s3-upload-cutoff", "5M", "--s3-chunk-size", "5M", self.big, f"{there}/big"))
+        self.step("rclone cat of a range", lambda: expect(run(*rclone, "cat", "--offset", BIG // 3, "--count", BIG // 5, f"{there}/big") == middle, True, "content"))
+        self.step("rclone rcat, cat, of unknown length", lambda: (run(*rclone, "rcat", f"{there}/piped", input=middle), expect(run(*rclone, "cat", f"{there}/piped") == middle, True, "content")))
+        self.step("rclone copy back, the same files", lambda: (run(*rclone, "copy", f"{there}/tree", back), same(self.files, back)))
+        self.step("rclone moveto, touch", lambda: (run(*rclone, "moveto", f"{there}/piped", f"{there}/moved"), run(*rclone, "touch", "-t", "2020-01-02T03:04:05", f"{there}/moved"), expect(b"2020-01-02 03:04:05" in run(*rclone, "lsl", f"{there}/moved"), True, "time")))
+        self.step("rclone sync with removals", lambda: (run(*rclone, "sync", f"{self.files}/dir", f"{there}/tree"), run(*rclone, "check", f"{self.files}/dir", f"{there}/tree")))
+        self.step("rclone purge", lambda: run(*rclone, "purge", there))
+
+    def restic(self):
+        bucket, back = f"restic-{os.getpid()}", self.place("restic back")
+        words = {**os.environ, "AWS_ACCESS_KEY_ID": self.access, "AWS_SECRET_ACCESS_KEY": self.secret, "RESTIC_PASSWORD": "open sesame",
+                 "RESTIC_REPOSITORY": f"s3:{self.url}/{bucket}/backup", "RESTIC_CACHE_DIR": self.place("cache")}  # fmt: skip
+        self.step("restic init (which makes the bucket)", lambda: run("restic", "init", env=words))
+        self.step("restic backup", lambda: run("restic", "backup", self.files, self.big, env=words))
+        with open(os.path.join(self.files, "small.txt"), "ab") as out:
+            out.write(b"more")
+        self.step("restic backup again", lambda: run("restic", "backup", self.files, self.big, env=words))
+        self.step("restic check --read-data", lambda: run("restic", "check", "--read-data", env=words))
+        self.step("restic restore, the same files", lambda: (run("restic", "restore", "latest", "--target", back, env=words), same(self.files, back + self.files), expect(filecmp.cmp(self.big, back + self.big, False), True, "big")))
+        self.step("restic forget --prune, check", lambda: (run("restic", "forget", "--keep-last", "1", "--prune", env=words), run("restic", "check", env=words)))
