@@ -201,10 +201,10 @@ step_fits old line facts told new step = ap (list_all (fits_in old)) (step.takes
     inputs = line_inputs old.plan old.here line
 
     parts : ℕ → Local
-    parts t = of_case t n (λ within. (step.stand t within).local) (begun_local (site_of old.plan old.here t) [] 0) (cases_Bool (nat_lt t n))
+    parts t = of_case t n (λ within. (step.stand t within).local) (begun_local (site_of old.plan old.here t) [] (record { volumes = 0; losses = 0 })) (cases_Bool (nat_lt t n))
 
     agree : AllAgree old parts
-    agree t within = of_case_has (Agrees old t) t n (λ h. (step.stand t h).local) (begun_local (site_of old.plan old.here t) [] 0) (λ h. (step.stand t h).agrees) within (cases_Bool (nat_lt t n))
+    agree t within = of_case_has (Agrees old t) t n (λ h. (step.stand t h).local) (begun_local (site_of old.plan old.here t) [] (record { volumes = 0; losses = 0 })) (λ h. (step.stand t h).agrees) within (cases_Bool (nat_lt t n))
 
     each : (t : ℕ) → 0 ≤ t → t < 0 + n → list_all (fits_in old) (facts_for old.plan old.here t (parts t) (inputs t)) ≡ true
     each t low high =
