@@ -123,8 +123,8 @@ impl NodeMachine {
         requires { HasAddress self.now.node.tables.plan letter.now }
         ensures { result ≡ goes_home self.now.node.tables.plan self.now.node.tables.here letter.now }
     {
-        let is_shared_store =
-            matches!(&letter.body, Body::Store(_)) && self.node.plan().grid().rows() > 1;
+        let is_shared_store = matches!(&letter.body, Body::Store(_))
+            && self.node.plan().grid().rows() > 1;
         !is_shared_store && self.node.address(letter) == self.node.number()
     }
 

@@ -21,7 +21,12 @@ fn row(rt: &impl Abort, name: &[u8], sessions: u32) -> TenantRow {
 
 // Node 0 of so many servers in one row; each tenant has so many sessions.
 fn machine(rt: &impl Abort, alloc: Global, servers: usize, sessions: u32) -> NodeMachine {
-    machine_of(rt, alloc, Grid::new(1, servers).expect(rt, "a grid"), sessions)
+    machine_of(
+        rt,
+        alloc,
+        Grid::new(1, servers).expect(rt, "a grid"),
+        sessions,
+    )
 }
 
 fn machine_of(rt: &impl Abort, alloc: Global, grid: Grid, sessions: u32) -> NodeMachine {
