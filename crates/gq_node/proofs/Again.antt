@@ -19,7 +19,7 @@ use Rattle.gq_node.specs.Bridge.{AtHome}
 use Rattle.gq_node.specs.Inputs.{Input, Asked, AskedPlan, Brought, Ticked, Looked, Joined, Fetching, Fetched, does}
 use Rattle.gq_node.specs.Joining.{tells_joined, hears_joined, all_joined, next_mate, asks_mate, looks, is_mate, has_file, gives, takes}
 use Rattle.gq_node.specs.Local.{Local, Resident, Doing, new_local, part_in, state_of, given, file_fits, recalled, fits_local}
-use Rattle.gq_node.specs.Nodes.{NodeWorld, site_in, site_at, plan_volumes, Nodes, new_nodes, Event, Started, Came, AskedToJoin, node_in, started, first_of, fact_list, doing_of, takes_word, with_ready, after_doing, after_word, after_input, after_event, nodes_after}
+use Rattle.gq_node.specs.Nodes.{first_plan_in, NodeWorld, site_in, site_at, plan_volumes, Nodes, new_nodes, Event, Started, Came, AskedToJoin, node_in, started, first_of, fact_list, doing_of, takes_word, with_ready, after_doing, after_word, after_input, after_event, nodes_after}
 use Rattle.gq_node.specs.Once.{begun_by}
 use Rattle.gq_node.specs.Resting.{IsBare, begun_local, recall_one, recall_all}
 use Rattle.gq_node.specs.Sites.{Site, has_session}
@@ -170,7 +170,7 @@ new_all_sound w n =
 started_sound : (w : NodeWorld) (first plan n : ℕ) (facts : List OwnFact) → IsSound (site_in w plan n) (started w first plan n facts) facts
 started_sound w first plan n facts =
     let site : Site = site_in w plan n in
-    let new : Local = begun_local site (plan_volumes w plan) (w.world.plans first).volumes in
+    let new : Local = begun_local site (plan_volumes w plan) (first_plan_in (w.world.plans first)) in
     let local : Local = started w first plan n facts in
     record {
       home = idle_home site local (idle_is w first plan n facts);
@@ -408,7 +408,7 @@ start_ended w nodes m plan n k op last answer at = elim (cases_Bool (n == m)) [
     r = (started w first plan m (nodes.facts m)).residents k
 
     new : Local
-    new = begun_local (site_in w plan m) (plan_volumes w plan) (w.world.plans first).volumes
+    new = begun_local (site_in w plan m) (plan_volumes w plan) (first_plan_in (w.world.plans first))
 
     none : r.outcome ≡ None
     none = all_of NoOutcome recalled_none (site_in w plan m) (nodes.facts m) new (λ k. refl) k

@@ -11,11 +11,12 @@ use Rattle.gq_cluster.specs.Facts.{OwnFact, Reserved, none_reserved}
 use Rattle.gq_cluster.specs.Restarts.{begun_anew}
 use Rattle.gq_replace.specs.Fleet.{Fleet, Begins, StartsAgain, after_fleet_step, first_part, part_again, session_again}
 use Rattle.gq_replace.specs.Keeping.{KeptFiles, files_of_part}
-use Rattle.gq_replace.specs.Plans.{place_of, has_node as plan_has}
+use Rattle.gq_replace.specs.Plans.{place_of, base, has_node as plan_has}
 use Rattle.gq_node.specs.Joining.{all_joined}
 use Rattle.gq_node.specs.Local.{Local, part_in, silently}
-use Rattle.gq_node.specs.Nodes.{NodeWorld, site_in, site_at, plan_volumes, Nodes, Started, started, first_of, after_start, SessionAlike, PartAlike, IsAlike, IsOwn, steps_of, CanCome}
-use Rattle.gq_node.specs.Resting.{IsBare, GoesBehind, begun_local}
+use Rattle.gq_node.specs.Nodes.{first_plan_in, NodeWorld, site_in, site_at, plan_volumes, Nodes, Started, started, first_of, after_start, SessionAlike, PartAlike, IsAlike, IsOwn, steps_of, CanCome}
+use Rattle.gq_node.specs.Sites.{Site}
+use Rattle.gq_node.specs.Resting.{IsBare, GoesBehind, begun_floor, begun_local}
 use Rattle.gq_node.proofs.AlikeParts.{session_refl, idle_alike}
 use Rattle.gq_node.proofs.Following.{SoundAt, Sound, OneStep}
 use Rattle.gq_node.proofs.Later.{Grows}
@@ -39,10 +40,10 @@ never_alone p (suc (suc size)) many all =
 -- ---- what a start makes of the facts
 
 behind_is : (w : NodeWorld) (first plan n : ℕ) (facts : List OwnFact) → (k : ℕ) → GoesBehind ((started w first plan n facts).residents k)
-behind_is w first plan n facts = all_behind (site_in w plan n) (begun_local (site_in w plan n) (plan_volumes w plan) (w.world.plans first).volumes) facts (λ k. record { op = refl; floor = refl })
+behind_is w first plan n facts = all_behind (site_in w plan n) (begun_local (site_in w plan n) (plan_volumes w plan) (first_plan_in (w.world.plans first))) facts (λ k. record { op = refl; floor = refl })
 
 pub idle_is : (w : NodeWorld) (first plan n : ℕ) (facts : List OwnFact) → AllIdle (started w first plan n facts)
-idle_is w first plan n facts = recall_idle (site_in w plan n) facts (begun_local (site_in w plan n) (plan_volumes w plan) (w.world.plans first).volumes) (λ k. refl)
+idle_is w first plan n facts = recall_idle (site_in w plan n) facts (begun_local (site_in w plan n) (plan_volumes w plan) (first_plan_in (w.world.plans first))) (λ k. refl)
 
 pub ops_are : (w : NodeWorld) (first plan n : ℕ) (facts : List OwnFact) (k : ℕ) → ((started w first plan n facts).residents k).session.op ≡ ((started w first plan n facts).residents k).reserved.op
 ops_are w first plan n facts k = (behind_is w first plan n facts k).op
@@ -71,7 +72,7 @@ start_at w g first plan n facts ready has order bare journal = record {
 }
   where
     new : Local
-    new = begun_local (site_in w plan n) (plan_volumes w plan) (w.world.plans first).volumes
+    new = begun_local (site_in w plan n) (plan_volumes w plan) (first_plan_in (w.world.plans first))
 
     l : Local
     l = started w first plan n facts
@@ -133,7 +134,7 @@ started_alike w nodes u v n plan part alike begun first last parts heard ready g
 }
   where
     new : Local
-    new = begun_local (site_in w plan n) (plan_volumes w plan) (w.world.plans (first_of nodes n plan)).volumes
+    new = begun_local (site_in w plan n) (plan_volumes w plan) (first_plan_in (w.world.plans (first_of nodes n plan)))
 
     l : Local
     l = started w (first_of nodes n plan) plan n (nodes.facts n)
@@ -177,6 +178,14 @@ begins_follow w g nodes u n plan sound alike can none =
 
 -- ---- again
 
+-- of a session that the tenant can't have nothing is reserved
+outside_floor : (site : Site) (losses k : ℕ) → is_in 1 site.row.sessions k ≡ false → begun_floor site losses k ≡ 0
+outside_floor site losses k out = by (site.home k == site.here) (is_in 1 site.row.sessions k) out
+  where
+    by : (here within : Bool) → within ≡ false → (if here && within then base site.here losses else 0) ≡ 0
+    by true within e = rw e refl
+    by false within e = refl
+
 -- a session that the tenant may have goes on behind its reserved numbers; another one never used any
 session_alike : (w : NodeWorld) (nodes : Nodes) (u : Fleet) (n plan k : ℕ) → Sound w nodes → IsAlike w nodes u → nodes.begun n ≡ true → w.world.setting.home k ≡ n →
     files_of_part (part_in (started w (nodes.first_plan n) plan n (nodes.facts n))) ≡ files_of_part (part_in (nodes.local n)) → (b : Bool) → is_in 1 w.world.setting.row.sessions k ≡ b →
@@ -193,7 +202,7 @@ session_alike w nodes u n plan k sound alike begun at same false out =
     let its : SoundAt w (nodes.first_plan n) (nodes.last_plan n) n local (nodes.facts n) (nodes.ready n) = sound.each n begun in
     let sessions = (alike.parts n begun).sessions k at in
     let e : session_again w.world n (u.part n) k ≡ (u.part n).session k = rw (out, eq-eqb (w.world.setting.home k) n at) refl in
-    let none : (l.residents k).reserved ≡ none_reserved = recall_outside (site_in w plan n) (nodes.facts n) (begun_local (site_in w plan n) (plan_volumes w plan) (w.world.plans (nodes.first_plan n)).volumes) (λ j o. refl) k out in
+    let none : (l.residents k).reserved ≡ none_reserved = recall_outside (site_in w plan n) (nodes.facts n) (begun_local (site_in w plan n) (plan_volumes w plan) (first_plan_in (w.world.plans (nodes.first_plan n)))) (λ j away i. record { op = 0; floor = outside_floor (site_in w plan n) (first_plan_in (w.world.plans (nodes.first_plan n))).losses j away i }) k out in
     let also : (local.residents k).reserved ≡ none_reserved = sym (same_reserved l local same k) ∙ none in
     let low_op = (its.used k).op in
     let low_floor = (its.used k).floor in

@@ -15,7 +15,7 @@ use Rattle.gq_cluster.specs.Facts.{OwnFact, Begun, Numbered, Kept, Had}
 use Rattle.gq_replace.specs.Keeping.{KeptFiles, files_of_part, with_fleet_fact}
 use Rattle.gq_replace.specs.Plans.{IsChain, has_node as plan_has, most_places}
 use Rattle.gq_node.specs.Local.{Local, part_in, file_fits}
-use Rattle.gq_node.specs.Nodes.{NodeWorld, site_in, plan_volumes, started, fact_list, SessionsStay}
+use Rattle.gq_node.specs.Nodes.{first_plan_in, NodeWorld, site_in, plan_volumes, started, fact_list, SessionsStay}
 use Rattle.gq_node.specs.Resting.{begun_local, recall_one}
 use Rattle.gq_node.specs.Sites.{Site}
 use Rattle.gq_node.proofs.Journal.{IsHome, FactIn, KeepsBy, recall_keeps}
@@ -67,7 +67,7 @@ pub journal_by : (w : NodeWorld) → Grows w → (first last p n : ℕ) (local :
 journal_by w g first last p n local facts None part later has same volumes keeps = ap (λ fs. files_of_part (part_in (started w first p n fs))) (append-nil facts) ∙ same ∙ sym keeps
 journal_by w g first last p n local facts (Some fact) part later has same volumes keeps =
     let site : Site = site_in w p n in
-    let new : Local = begun_local site (plan_volumes w p) (w.world.plans first).volumes in
+    let new : Local = begun_local site (plan_volumes w p) (first_plan_in (w.world.plans first)) in
     let l : Local = started w first p n facts in
     let fits : FactIn site l fact = fact_later w g last p n l local fact later has volumes (recall_volumes site facts new) same keeps.1 in
     ap (λ (x : Local). files_of_part (part_in x)) (fold-append (recall_one site) new facts (fact ∷ []))

@@ -3,7 +3,7 @@ use Rattle.std.proofs.Common.{◌≡◌, ◌≢◌, ◌∙◌, ℕ, zero, suc, �
 use Rattle.std.specs.Prelude.{nat_lt, nat_le, ◌==◌, ◌&&◌, not, is_some, slice_get, slice_index_or, if◌then◌else◌}
 use Rattle.std.specs.List.{list_all, flat_map, range_with_len}
 use Rattle.std.specs.Option.{option_and_then, option_map}
-use Rattle.std.proofs.lemmas.Bool.{cases_eq, cases_lt, cases_Bool, eq-eqb, ne_eqb, eqb-true, lt-ltb, ltb-true, le-leb}
+use Rattle.std.proofs.lemmas.Bool.{cases_eq, cases_lt, cases_Bool, eq-eqb, ne_eqb, eqb-true, lt-ltb, ltb-true, le-leb, and_parts, true≢false}
 use Rattle.std.proofs.lemmas.List.{map-append}
 use Rattle.std.proofs.lemmas.List.Folds.{list_all-append}
 use Rattle.std.proofs.lemmas.Option.{slice_get-get_or, slice_get_past, slice_get-map}
@@ -13,6 +13,8 @@ use Rattle.gq_tag.specs.declared.Body.TheVariants.{Store}
 use Rattle.gq_tag.specs.Tag.{File, file_of, is_file, is_less, first_tag, first_copy, greatest}
 use Rattle.gq_pool.specs.declared.TheConstants.{BLOCK_BYTES}
 use Rattle.gq_desk.specs.CheckedPlan.{row_at}
+use Rattle.gq_desk.specs.Plans.{is_in}
+use Rattle.gq_replace.specs.declared.numbers.TheConstants.{NUMBERS_OF_A_LOSS}
 use Rattle.gq_desk.specs.Volumes.{Account, account_at, limit_of, limit_in}
 use Rattle.gq_desk.specs.declared.volumes.VolumeRow.{VolumeRow}
 use Rattle.gq_store.specs.Copies.{TenantCopies, VolumeCopies, copy_at, copies_account, volume_size, volume_copy, tenant_in, empty_volume}
@@ -25,11 +27,11 @@ use Rattle.gq_node.specs.declared.output.NeedRefused.TheVariants.{Memory, Unread
 use Rattle.gq_cluster.specs.Facts.{OwnFact, Begun, Numbered, Kept, Had}
 use Rattle.gq_node.specs.Local.{Local, state_of, recalled, fact_fits, fits_local, file_fits, file_in}
 use Rattle.gq_node.specs.Recalling.{tenant_of, own_fact, fits_in}
-use Rattle.gq_node.specs.Resting.{begun_local, recall_one, recall_all, those_of, IsAtRest, AllOfPlan, Needed}
-use Rattle.gq_node.specs.Needing.{begun_facts, number_facts, numbers_facts, seat_facts, place_numbers, seats_facts, copy_facts, file_facts, file_at, place_facts, files_in, volume_facts, volumes_facts, tenant_facts, all_facts, IsReadable, PlaceReadable, AllReadable, IsRefusedOf, IsRefusedIn}
+use Rattle.gq_node.specs.Resting.{begun_floor, first_in, begun_local, recall_one, recall_all, those_of, IsAtRest, AllOfPlan, Needed}
+use Rattle.gq_node.specs.Needing.{is_own, begun_facts, number_facts, numbers_facts, seat_facts, place_numbers, seats_facts, copy_facts, file_facts, file_at, place_facts, files_in, volume_facts, volumes_facts, tenant_facts, all_facts, IsReadable, PlaceReadable, AllReadable, IsRefusedOf, IsRefusedIn}
 use Rattle.gq_node.specs.Shape.{IsShaped}
 use Rattle.gq_desk.specs.declared.limits.TheConstants.{MOST_SESSIONS}
-use Rattle.gq_node.specs.Sites.{Site, seat_place, session_at, home_place, site_of, has_session}
+use Rattle.gq_node.specs.Sites.{Site, seat_place, session_at, home_place, home_of, site_of, has_session}
 use Rattle.gq_node.specs.Tables.{Tables, Agrees, IsOfPlan, seat_at, fact_of, lacks_at, is_new_node}
 use Rattle.gq_node.proofs.Listing.{files_at}
 use Rattle.gq_node.proofs.Recalling.{recalls_fits, all_behind}
@@ -335,8 +337,8 @@ begun_ops j k op other = elim (cases_Bool (op == 0)) [
   | inr is ↦ (rw (is, ne_eqb k j other) refl)
 ]
 
-number_ops : (j k number : ℕ) → ops_of j (number_facts k number) ≡ []
-number_ops j k number = elim (cases_Bool (number == 0)) [
+number_ops : (own : Bool) (j k number : ℕ) → ops_of j (number_facts own k number) ≡ []
+number_ops own j k number = elim (cases_Bool ((number == 0) && not own)) [
   | inl is ↦ (rw is refl)
   | inr is ↦ (rw is refl)
 ]
@@ -347,37 +349,42 @@ begun_numbers j k op = elim (cases_Bool (op == 0)) [
   | inr is ↦ (rw is refl)
 ]
 
-number_numbers : (j k number : ℕ) → k ≢ j → numbers_of j (number_facts k number) ≡ []
-number_numbers j k number other = elim (cases_Bool (number == 0)) [
+number_numbers : (own : Bool) (j k number : ℕ) → k ≢ j → numbers_of j (number_facts own k number) ≡ []
+number_numbers own j k number other = elim (cases_Bool ((number == 0) && not own)) [
   | inl is ↦ (rw is refl)
   | inr is ↦ (rw (is, ne_eqb k j other) refl)
 ]
 
-other_ops : (j k op number : ℕ) → k ≢ j → ops_of j (numbers_facts k op number) ≡ []
-other_ops j k op number other = (ops_split j).join (begun_facts k op) (number_facts k number) ∙ ap (λ z. z ++ ops_of j (number_facts k number)) (begun_ops j k op other) ∙ number_ops j k number
+other_ops : (own : Bool) (j k op number : ℕ) → k ≢ j → ops_of j (numbers_facts own k op number) ≡ []
+other_ops own j k op number other = (ops_split j).join (begun_facts k op) (number_facts own k number) ∙ ap (λ z. z ++ ops_of j (number_facts own k number)) (begun_ops j k op other) ∙ number_ops own j k number
 
-other_numbers : (j k op number : ℕ) → k ≢ j → numbers_of j (numbers_facts k op number) ≡ []
-other_numbers j k op number other =
-    (numbers_split j).join (begun_facts k op) (number_facts k number) ∙ ap (λ z. z ++ numbers_of j (number_facts k number)) (begun_numbers j k op) ∙ number_numbers j k number other
+other_numbers : (own : Bool) (j k op number : ℕ) → k ≢ j → numbers_of j (numbers_facts own k op number) ≡ []
+other_numbers own j k op number other =
+    (numbers_split j).join (begun_facts k op) (number_facts own k number) ∙ ap (λ z. z ++ numbers_of j (number_facts own k number)) (begun_numbers j k op) ∙ number_numbers own j k number other
 
-own_op : (k op number : ℕ) → last_of 0 (ops_of k (numbers_facts k op number)) ≡ op
-own_op k op number =
-    ap (last_of 0) ((ops_split k).join (begun_facts k op) (number_facts k number) ∙ ap (λ z. ops_of k (begun_facts k op) ++ z) (number_ops k k number) ∙ append-nil (ops_of k (begun_facts k op)))
+own_op : (own : Bool) (k op number : ℕ) → last_of 0 (ops_of k (numbers_facts own k op number)) ≡ op
+own_op own k op number =
+    ap (last_of 0) ((ops_split k).join (begun_facts k op) (number_facts own k number) ∙ ap (λ z. ops_of k (begun_facts k op) ++ z) (number_ops own k k number) ∙ append-nil (ops_of k (begun_facts k op)))
     ∙ (elim (cases_Bool (op == 0)) [
       | inl is ↦ (rw is (sym (eqb-true op 0 is)))
       | inr is ↦ (rw (is, eq-eqb k k refl) refl)
     ])
 
-own_number : (k op number : ℕ) → last_of 0 (numbers_of k (numbers_facts k op number)) ≡ number
-own_number k op number =
-    ap (last_of 0) ((numbers_split k).join (begun_facts k op) (number_facts k number) ∙ ap (λ z. z ++ numbers_of k (number_facts k number)) (begun_numbers k k op))
-    ∙ (elim (cases_Bool (number == 0)) [
-      | inl is ↦ (rw is (sym (eqb-true number 0 is)))
+-- a session of which nothing is told began with 0
+own_number : (own : Bool) (k op number start : ℕ) → (own ≡ false → start ≡ 0) → last_of start (numbers_of k (numbers_facts own k op number)) ≡ number
+own_number own k op number start first =
+    ap (last_of start) ((numbers_split k).join (begun_facts k op) (number_facts own k number) ∙ ap (λ z. z ++ numbers_of k (number_facts own k number)) (begun_numbers k k op))
+    ∙ (elim (cases_Bool ((number == 0) && not own)) [
+      | inl is ↦ (let parts = and_parts (number == 0) (not own) is in rw is (first (not-true own parts.1) ∙ sym (eqb-true number 0 parts.0)))
       | inr is ↦ (rw (is, eq-eqb k k refl) refl)
     ])
+  where
+    not-true : (b : Bool) → not b ≡ true → b ≡ false
+    not-true true e = sym e
+    not-true false e = refl
 
-seat_copies : (f : File) (k op number : ℕ) → copies_of f (numbers_facts k op number) ≡ []
-seat_copies f k op number = (copies_split f).join (begun_facts k op) (number_facts k number) ∙ ap (λ z. z ++ copies_of f (number_facts k number)) left ∙ right
+seat_copies : (own : Bool) (f : File) (k op number : ℕ) → copies_of f (numbers_facts own k op number) ≡ []
+seat_copies own f k op number = (copies_split f).join (begun_facts k op) (number_facts own k number) ∙ ap (λ z. z ++ copies_of f (number_facts own k number)) left ∙ right
   where
     left : copies_of f (begun_facts k op) ≡ []
     left = elim (cases_Bool (op == 0)) [
@@ -385,14 +392,14 @@ seat_copies f k op number = (copies_split f).join (begun_facts k op) (number_fac
       | inr is ↦ (rw is refl)
     ]
 
-    right : copies_of f (number_facts k number) ≡ []
-    right = elim (cases_Bool (number == 0)) [
+    right : copies_of f (number_facts own k number) ≡ []
+    right = elim (cases_Bool ((number == 0) && not own)) [
       | inl is ↦ (rw is refl)
       | inr is ↦ (rw is refl)
     ]
 
-seat_fit : (site : Site) (lacks : File → Bool) (limit : File → Option ℕ) (k op number : ℕ) → has_session site k ≡ true → FactsFit site lacks limit (numbers_facts k op number)
-seat_fit site lacks limit k op number inside = fit_append site lacks limit (begun_facts k op) (number_facts k number) left right
+seat_fit : (own : Bool) (site : Site) (lacks : File → Bool) (limit : File → Option ℕ) (k op number : ℕ) → has_session site k ≡ true → FactsFit site lacks limit (numbers_facts own k op number)
+seat_fit own site lacks limit k op number inside = fit_append site lacks limit (begun_facts k op) (number_facts own k number) left right
   where
     left : FactsFit site lacks limit (begun_facts k op)
     left = elim (cases_Bool (op == 0)) [
@@ -400,14 +407,14 @@ seat_fit site lacks limit k op number inside = fit_append site lacks limit (begu
       | inr is ↦ (rw is (inside, tt))
     ]
 
-    right : FactsFit site lacks limit (number_facts k number)
-    right = elim (cases_Bool (number == 0)) [
+    right : FactsFit site lacks limit (number_facts own k number)
+    right = elim (cases_Bool ((number == 0) && not own)) [
       | inl is ↦ (rw is tt)
       | inr is ↦ (rw is (inside, tt))
     ]
 
-seat_given : (f : File) (k op number : ℕ) → given_of f (numbers_facts k op number) ≡ []
-seat_given f k op number = (given_split f).join (begun_facts k op) (number_facts k number) ∙ ap (λ z. z ++ given_of f (number_facts k number)) left ∙ right
+seat_given : (own : Bool) (f : File) (k op number : ℕ) → given_of f (numbers_facts own k op number) ≡ []
+seat_given own f k op number = (given_split f).join (begun_facts k op) (number_facts own k number) ∙ ap (λ z. z ++ given_of f (number_facts own k number)) left ∙ right
   where
     left : given_of f (begun_facts k op) ≡ []
     left = elim (cases_Bool (op == 0)) [
@@ -415,8 +422,8 @@ seat_given f k op number = (given_split f).join (begun_facts k op) (number_facts
       | inr is ↦ (rw is refl)
     ]
 
-    right : given_of f (number_facts k number) ≡ []
-    right = elim (cases_Bool (number == 0)) [
+    right : given_of f (number_facts own k number) ≡ []
+    right = elim (cases_Bool ((number == 0) && not own)) [
       | inl is ↦ (rw is refl)
       | inr is ↦ (rw is refl)
     ]
@@ -652,7 +659,7 @@ tenant_limit w t f = limit_of w.desk (file_of t f)
 
 tenant_fit : (w : Tables) (t : ℕ) (lacks : File → Bool) → IsShaped w → t < length w.plan.rows → AllReadable w t → (is_new_node w ≡ false → (f : File) → lacks f ≡ false) → FactsFit (site_of w.plan w.here t) lacks (tenant_limit w t) (tenant_facts w t)
 tenant_fit w t lacks shaped inside readable old = fit_append site lacks limit (seats_facts w t n) (volumes_facts w t)
-    (fit_flat site lacks limit (place_numbers w t) 0 n (λ p low high. seat_fit site lacks limit (session_at w.plan w.here t p) (seat_at w t (session_at w.plan w.here t p)).reserved_op (seat_at w t (session_at w.plan w.here t p)).reserved_floor
+    (fit_flat site lacks limit (place_numbers w t) 0 n (λ p low high. seat_fit (is_own w t (session_at w.plan w.here t p)) site lacks limit (session_at w.plan w.here t p) (seat_at w t (session_at w.plan w.here t p)).reserved_op (seat_at w t (session_at w.plan w.here t p)).reserved_floor
     (has_placed w t p (omega (arith, high)) (shaped.sessions t inside) (shaped.few (home_place w.plan t p)))))
     (fit_flat site lacks limit (volume_facts w t) 0 (length (account_at w.desk t).volumes) (λ u a b. fit_flat site lacks limit (place_facts w t u) 0 (files_in w t u) (λ p c d. there u p (omega arith) (omega arith))))
   where
@@ -674,7 +681,7 @@ tenant_fit w t lacks shaped inside readable old = fit_append site lacks limit (s
 -- ---- the node at rest
 
 pub at_rest : (w : Tables) (t : ℕ) (local : Local) → IsShaped w → t < length w.plan.rows → AllReadable w t → Agrees w t local →
-    IsAtRest (site_of w.plan w.here t) (recall_all (site_of w.plan w.here t) (begun_local (site_of w.plan w.here t) local.volumes (length local.volumes)) (tenant_facts w t)) local
+    IsAtRest (site_of w.plan w.here t) (recall_all (site_of w.plan w.here t) (begun_local (site_of w.plan w.here t) local.volumes (first_in w local)) (tenant_facts w t)) local
 at_rest w t local shaped within readable agrees = record {
   volumes = made.volumes;
   copies = λ f.
@@ -704,13 +711,13 @@ at_rest w t local shaped within readable agrees = record {
     site = site_of w.plan w.here t
 
     fresh : Local
-    fresh = begun_local site local.volumes (length local.volumes)
+    fresh = begun_local site local.volumes (first_in w local)
 
     seats_copies : (f : File) → copies_of f s ≡ []
-    seats_copies f = flat_none (copies_of f) (copies_split f) (place_numbers w t) 0 n (λ p a b. seat_copies f (session_at w.plan w.here t p) (seat_at w t (session_at w.plan w.here t p)).reserved_op (seat_at w t (session_at w.plan w.here t p)).reserved_floor)
+    seats_copies f = flat_none (copies_of f) (copies_split f) (place_numbers w t) 0 n (λ p a b. seat_copies (is_own w t (session_at w.plan w.here t p)) f (session_at w.plan w.here t p) (seat_at w t (session_at w.plan w.here t p)).reserved_op (seat_at w t (session_at w.plan w.here t p)).reserved_floor)
 
     seats_given : (f : File) → given_of f s ≡ []
-    seats_given f = flat_none (given_of f) (given_split f) (place_numbers w t) 0 n (λ p a b. seat_given f (session_at w.plan w.here t p) (seat_at w t (session_at w.plan w.here t p)).reserved_op (seat_at w t (session_at w.plan w.here t p)).reserved_floor)
+    seats_given f = flat_none (given_of f) (given_split f) (place_numbers w t) 0 n (λ p a b. seat_given (is_own w t (session_at w.plan w.here t p)) f (session_at w.plan w.here t p) (seat_at w t (session_at w.plan w.here t p)).reserved_op (seat_at w t (session_at w.plan w.here t p)).reserved_floor)
 
     old_has : is_new_node w ≡ false → (f : File) → fresh.lacks f ≡ false
     old_has old f = rw old refl
@@ -725,26 +732,36 @@ at_rest w t local shaped within readable agrees = record {
     at_place p = session_at w.plan w.here t p
 
     -- the facts of a session of the plan are those of its place
-    own_place : (take_of : List OwnFact → List ℕ) (k : ℕ) → Splits take_of → ((j op number : ℕ) → j ≢ k → take_of (numbers_facts j op number) ≡ []) → IsOfPlan w t k → take_of s ≡ take_of (seat_facts w t k)
+    own_place : (take_of : List OwnFact → List ℕ) (k : ℕ) → Splits take_of → ((own : Bool) (j op number : ℕ) → j ≢ k → take_of (numbers_facts own j op number) ≡ []) → IsOfPlan w t k → take_of s ≡ take_of (seat_facts w t k)
     own_place take_of k splits other at =
         flat_one take_of splits (place_numbers w t) (seat_place k) 0 n (omega arith) (let h = at.within in omega arith)
-        (λ u above below apart. other (at_place u) (seat_at w t (at_place u)).reserved_op (seat_at w t (at_place u)).reserved_floor
+        (λ u above below apart. other (is_own w t (at_place u)) (at_place u) (seat_at w t (at_place u)).reserved_op (seat_at w t (at_place u)).reserved_floor
         (λ e. apart (sym (place_again w.plan w.here t u (let h = few in omega arith)) ∙ ap seat_place e)))
         ∙ ap (λ j. take_of (seat_facts w t j)) at.number
+
+    -- a session of another node began with 0, and so does one of a node that is no new one
+    no_floor : (k : ℕ) → is_own w t k ≡ false → begun_floor site (length w.here.lost) k ≡ 0
+    no_floor k not_own = by (is_new_node w) (home_of w.plan t k == w.here.node) (is_in 1 site.row.sessions k) not_own
+      where
+        by : (new home within : Bool) → (new && home) ≡ false → (if home && within then (if new then length w.here.lost * NUMBERS_OF_A_LOSS else 0) else 0) ≡ 0
+        by true true within e = absurd (true≢false e)
+        by false true true e = refl
+        by false true false e = refl
+        by new false within e = refl
 
     op_is : (k : ℕ) → has_session site k ≡ true → ((recall_all site fresh (s ++ v)).residents k).reserved.op ≡ (local.residents k).reserved.op
     op_is k has =
         let at : IsOfPlan w t k = placed w t k has in
         made.ops k ∙ ap (last_of 0) ((ops_split k).join s v ∙ ap (λ z. ops_of k s ++ z) (volume_ops w t k) ∙ append-nil (ops_of k s)
-        ∙ own_place (ops_of k) k (ops_split k) (λ j op number other. other_ops k j op number other) at)
-        ∙ own_op k (seat_at w t k).reserved_op (seat_at w t k).reserved_floor ∙ (seat_of w t k local agrees at).reserved_op
+        ∙ own_place (ops_of k) k (ops_split k) (λ own j op number other. other_ops own k j op number other) at)
+        ∙ own_op (is_own w t k) k (seat_at w t k).reserved_op (seat_at w t k).reserved_floor ∙ (seat_of w t k local agrees at).reserved_op
 
     floor_is : (k : ℕ) → has_session site k ≡ true → ((recall_all site fresh (s ++ v)).residents k).reserved.floor ≡ (local.residents k).reserved.floor
     floor_is k has =
         let at : IsOfPlan w t k = placed w t k has in
-        made.floors k ∙ ap (last_of 0) ((numbers_split k).join s v ∙ ap (λ z. numbers_of k s ++ z) (volume_numbers w t k) ∙ append-nil (numbers_of k s)
-        ∙ own_place (numbers_of k) k (numbers_split k) (λ j op number other. other_numbers k j op number other) at)
-        ∙ own_number k (seat_at w t k).reserved_op (seat_at w t k).reserved_floor ∙ (seat_of w t k local agrees at).reserved_floor
+        made.floors k ∙ ap (last_of (begun_floor site (length w.here.lost) k)) ((numbers_split k).join s v ∙ ap (λ z. numbers_of k s ++ z) (volume_numbers w t k) ∙ append-nil (numbers_of k s)
+        ∙ own_place (numbers_of k) k (numbers_split k) (λ own j op number other. other_numbers own k j op number other) at)
+        ∙ own_number (is_own w t k) k (seat_at w t k).reserved_op (seat_at w t k).reserved_floor (begun_floor site (length w.here.lost) k) (λ not_own. no_floor k not_own) ∙ (seat_of w t k local agrees at).reserved_floor
 
 -- ---- all tenants
 
@@ -806,7 +823,7 @@ all_needed w shaped readable = record {
       let are : those_of t (all_facts w) ≡ tenant_facts w t =
       flat_one (those_of t) (those_split t) (λ u. map (fact_of u) (tenant_facts w u)) t 0 (length w.plan.rows) (omega arith) (omega arith) (λ u above below other. other_facts_are t u (tenant_facts w u) other)
       ∙ own_facts_are t (tenant_facts w t) in
-      subst (λ facts. IsAtRest (site_of w.plan w.here t) (recall_all (site_of w.plan w.here t) (begun_local (site_of w.plan w.here t) local.volumes (length local.volumes)) facts) local) (sym are) (at_rest w t local shaped within (readable t within) agrees));
+      subst (λ facts. IsAtRest (site_of w.plan w.here t) (recall_all (site_of w.plan w.here t) (begun_local (site_of w.plan w.here t) local.volumes (first_in w local)) facts) local) (sym are) (at_rest w t local shaped within (readable t within) agrees));
 }
 
 -- the copies are readable, volume by volume

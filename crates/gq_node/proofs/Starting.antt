@@ -21,7 +21,7 @@ use Rattle.gq_node.specs.Sites.{Site, Here, plan_in, session_at, site_of}
 use Rattle.gq_node.specs.Lacks.{Given, is_given, lacks_in}
 use Rattle.gq_node.specs.Local.{Local, Doing, new_local, new_resident}
 use Rattle.gq_node.specs.Opening.{Bereaves, Opens, opened}
-use Rattle.gq_node.specs.Resting.{begun_local}
+use Rattle.gq_node.specs.Resting.{FirstPlan, begun_local}
 use Rattle.gq_node.specs.Shape.{IsShaped, IsFirst, FewSessions}
 use Rattle.gq_node.specs.Tables.{Tables, given_at, lacks_at, mate_at, Agrees, Leads, LeadsAll, Stands, AllStand, SeatAgrees, seats_at, seat_in, no_seat, first_seat}
 
@@ -177,10 +177,10 @@ stand_all old new step leads stands t within =
     record { local = (step (site_of old.plan old.here t) (stands t inside).local).local; agrees = leads.parts t inside (stands t inside).local (stands t inside).agrees }
 
 -- where a tenant's part was new, and lacks files from now on
-pub stand_bereaved : (old new : Tables) (t lost : ℕ) → Bereaves old t lost new → AllStand old → AllStand new
-stand_bereaved old new t lost bereaves stands u within =
+pub stand_bereaved : (old new : Tables) (t : ℕ) (first : FirstPlan) → Bereaves old t first new → AllStand old → AllStand new
+stand_bereaved old new t first bereaves stands u within =
     let inside : u < length old.plan.rows = subst (λ (p : CheckedPlan). u < length p.rows) bereaves.plan within in
     elim (cases_eq u t) [
-      | inl same ↦ (subst (Stands new) (sym same) (record { local = begun_local (site_of old.plan old.here t) (account_at old.desk t).volumes lost; agrees = bereaves.own }))
+      | inl same ↦ (subst (Stands new) (sym same) (record { local = begun_local (site_of old.plan old.here t) (account_at old.desk t).volumes first; agrees = bereaves.own }))
       | inr other ↦ (record { local = (stands u inside).local; agrees = bereaves.others u other (stands u inside).local (stands u inside).agrees })
     ]

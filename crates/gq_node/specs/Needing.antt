@@ -1,5 +1,5 @@
 -- The facts that a start needs, one by one.
-use Rattle.std.specs.Prelude.{◌≡◌, ℕ, ◌<◌, List, [], ◌∷◌, ◌++◌, true, false, ◌==◌, Bool, Some, length, map, if◌then◌else◌}
+use Rattle.std.specs.Prelude.{◌≡◌, ℕ, ◌<◌, List, [], ◌∷◌, ◌++◌, true, false, ◌==◌, ◌&&◌, not, Bool, Some, length, map, if◌then◌else◌}
 use Rattle.std.specs.List.{flat_map, range_with_len}
 use Rattle.gq_tag.specs.declared.StoredCopy.{StoredCopy}
 use Rattle.gq_tag.specs.Tag.{File, file_of, is_less, first_tag, first_copy}
@@ -12,21 +12,26 @@ use Rattle.gq_node.specs.declared.output.NeedRefused.{NeedRefused}
 use Rattle.gq_node.specs.declared.output.NeedRefused.TheVariants.{Memory, Unreadable}
 use Rattle.gq_cluster.specs.Facts.{OwnFact, Begun, Numbered, Kept, Had}
 use Rattle.gq_node.specs.Local.{copy_fits}
-use Rattle.gq_node.specs.Sites.{session_at}
+use Rattle.gq_node.specs.Sites.{session_at, home_of}
 use Rattle.gq_node.specs.Tables.{Tables, seat_at, fact_of, lacks_at, is_new_node}
+
+-- Whether the session's home is this node, and this is a new one. What is reserved for its tags is then told even where it is 0, since without
+-- it a start would begin where the journal's first plan says.
+abbrev pub is_own : Tables → (t k : ℕ) → Bool
+is_own w t k = is_new_node w && (home_of w.plan t k == w.here.node)
 
 -- the last numbers that are reserved for the session, of its operations and of its tags, where they are not 0
 abbrev pub begun_facts : (k op : ℕ) → List OwnFact
 begun_facts k op = if op == 0 then [] else Begun k op ∷ []
 
-abbrev pub number_facts : (k number : ℕ) → List OwnFact
-number_facts k number = if number == 0 then [] else Numbered k number ∷ []
+abbrev pub number_facts : (own : Bool) → (k number : ℕ) → List OwnFact
+number_facts own k number = if (number == 0) && not own then [] else Numbered k number ∷ []
 
-abbrev pub numbers_facts : (k op number : ℕ) → List OwnFact
-numbers_facts k op number = begun_facts k op ++ number_facts k number
+abbrev pub numbers_facts : (own : Bool) → (k op number : ℕ) → List OwnFact
+numbers_facts own k op number = begun_facts k op ++ number_facts own k number
 
 abbrev pub seat_facts : Tables → (t k : ℕ) → List OwnFact
-seat_facts w t k = numbers_facts k (seat_at w t k).reserved_op (seat_at w t k).reserved_floor
+seat_facts w t k = numbers_facts (is_own w t k) k (seat_at w t k).reserved_op (seat_at w t k).reserved_floor
 
 -- of so many sessions
 abbrev pub place_numbers : Tables → (t place : ℕ) → List OwnFact

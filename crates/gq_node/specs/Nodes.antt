@@ -21,7 +21,7 @@ use Rattle.gq_node.specs.Bridge.{setting_in, request_act, request_answer, letter
 use Rattle.gq_node.specs.Inputs.{Input, Asked, AskedPlan, Brought, Ticked, Joined, Fetching, Fetched, does}
 use Rattle.gq_node.specs.Joining.{tells_joined, all_joined, is_mate, has_file}
 use Rattle.gq_node.specs.Local.{Local, Doing, Parcel, Wants, Brings, new_local, part_in, state_of, file_fits, silently, answer_of, holding}
-use Rattle.gq_node.specs.Resting.{begun_local, recall_all}
+use Rattle.gq_node.specs.Resting.{FirstPlan, begun_local, recall_all}
 use Rattle.gq_node.specs.Sites.{Site, is_new, has_node}
 use Rattle.gq_tag.specs.declared.Body.TheVariants.{Store}
 
@@ -114,9 +114,13 @@ node_in (Started n plan) = n
 node_in (Came n input) = n
 node_in (AskedToJoin n from losses) = n
 
+-- what a new node takes from a plan
+abbrev pub first_plan_in : Plan → FirstPlan
+first_plan_in plan = record { volumes = plan.volumes; losses = length plan.lost }
+
 -- a start: the part of a node with the plan that it was started with first reads these facts, in order
 abbrev pub started : NodeWorld → (first plan n : ℕ) → List OwnFact → Local
-started w first plan n facts = recall_all (site_in w plan n) (begun_local (site_in w plan n) (plan_volumes w plan) (w.world.plans first).volumes) facts
+started w first plan n facts = recall_all (site_in w plan n) (begun_local (site_in w plan n) (plan_volumes w plan) (first_plan_in (w.world.plans first))) facts
 
 -- what the node has done so far is the first plan's, if it was started before
 abbrev pub first_of : Nodes → (n plan : ℕ) → ℕ

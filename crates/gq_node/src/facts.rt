@@ -1,20 +1,20 @@
 //! What a start makes of a fact, and the facts that a start needs.
 
-ghost use Rattle.std.specs.Prelude.{◌≡◌, ◌↔◌, ◌<◌, ◌≤◌, ◌++◌, ℕ, length, map, true, false, IfOk, IfErr, IsSome, OnOk, IsTrue, unwrap_or};
+ghost use Rattle.std.specs.Prelude.{◌≡◌, ◌↔◌, ◌<◌, ◌≤◌, ◌++◌, ◌==◌, ℕ, length, map, true, false, IfOk, IfErr, IsSome, OnOk, IsTrue, unwrap_or};
 ghost use Rattle.gq_tag.specs.Tag.{file_of, file_place, first_copy, first_tag, is_less};
 ghost use Rattle.gq_desk.specs.CheckedPlan.{row_at};
-ghost use Rattle.gq_node.specs.Sites.{site_of, has_session};
+ghost use Rattle.gq_node.specs.Sites.{site_of, has_session, home_of};
 ghost use Rattle.gq_desk.specs.Volumes.{account_at, limit_of};
 ghost use Rattle.gq_desk.specs.declared.limits.TheConstants.{MOST_VOLUMES};
 ghost use Rattle.gq_store.specs.Copies.{copy_at};
 ghost use Rattle.gq_node.specs.Local.{recalls};
-ghost use Rattle.gq_node.specs.Needing.{file_facts, IsReadable, IsRefusedOf, place_numbers, seats_facts, file_at, place_facts, files_facts, files_in, volumes_facts, tenant_facts, PlaceReadable, AllReadable, IsRefusedIn};
+ghost use Rattle.gq_node.specs.Needing.{is_own, file_facts, IsReadable, IsRefusedOf, place_numbers, seats_facts, file_at, place_facts, files_facts, files_in, volumes_facts, tenant_facts, PlaceReadable, AllReadable, IsRefusedIn};
 ghost use Rattle.gq_node.specs.Recalling.{tenant_of, own_fact, fits_in};
 ghost use Rattle.gq_node.specs.Tables.{fact_of, Leads, seat_at, with_seat};
 ghost use Rattle.gq_node.specs.Resting.{Needed};
 ghost use Rattle.gq_node.specs.Seats.{recalled_seat};
 
-use crate::homes::seat_place;
+use crate::homes::{home, seat_place};
 use crate::letters::copy_fits;
 use crate::output::{Fact, NeedRefused, put_begun, put_number};
 use crate::tables::Core;
@@ -166,6 +166,22 @@ impl Core {
         }
     }
 
+    // Whether this node is the session's home.
+    pub(crate) fn is_home(&self, tenant: u8, session: u8) -> bool
+        requires { tenant < length self.now.plan.rows }
+        ensures { result ≡ (home_of self.now.plan tenant session == self.now.here.node) }
+    {
+        home(&self.plan, tenant, session) == self.node
+    }
+
+    // Whether it is, and a new node.
+    fn is_own(&self, tenant: u8, session: u8) -> bool
+        requires { tenant < length self.now.plan.rows }
+        ensures { result ≡ is_own self.now tenant session }
+    {
+        self.is_new() && self.is_home(tenant, session)
+    }
+
     // Appends what a start needs of the session at that place.
     fn put_seat(&self, tenant: u8, place: usize, facts: &mut Vec<Fact>) -> Result<(), OutOfMemory>
         requires tenant { tenant < length self.now.plan.rows }
@@ -173,9 +189,10 @@ impl Core {
         ensures { OnOk result (facts.new.items ≡ facts.old.items ++ map (fact_of tenant) (place_numbers self.now tenant place)) }
     {
         let session = self.session_at(tenant, place);
+        let own = self.is_own(tenant, session);
         let seat = &self.seats[tenant as usize].items[place];
         put_begun(tenant, session, seat.reserved_op, facts)?;
-        put_number(tenant, session, seat.reserved_floor, facts)
+        put_number(own, tenant, session, seat.reserved_floor, facts)
     }
 
     // Appends what a start needs of the tenant's sessions.

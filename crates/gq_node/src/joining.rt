@@ -10,8 +10,9 @@ ghost use Rattle.gq_desk.specs.Volumes.{account_at, limit_of};
 ghost use Rattle.gq_desk.specs.declared.limits.TheConstants.{MOST_VOLUMES};
 ghost use Rattle.gq_replace.specs.Plans.{place_of};
 ghost use Rattle.gq_node.specs.Joining.{is_mate, hears_joined, all_joined, tells_joined, awaited, lacked_files, below_in_column, next_mate, files_in_volume, first_among, asks_mate, looks, gives, takes};
+ghost use Rattle.gq_desk.specs.CheckedPlan.{row_at};
 ghost use Rattle.gq_node.specs.Local.{new_local, silently, given, file_fits};
-ghost use Rattle.gq_node.specs.Opening.{Bereaves};
+ghost use Rattle.gq_node.specs.Opening.{lost_local, Loses, Reserves, Bereaves};
 ghost use Rattle.gq_node.specs.Sites.{site_of, is_new, has_node, nodes_from};
 ghost use Rattle.gq_node.specs.Tables.{Acts, Agrees, Leads, LeadsAll, is_new_node, lacks_at, has_joined};
 ghost use Rattle.gq_node.specs.Deciding.{joins_it, gives_it, takes_it, nodes_of_turn};
@@ -27,6 +28,7 @@ use crate::tables::{Core, place_of};
 use gq_grid::{Grid, MOST_SERVERS};
 use gq_memory::{GrowVec, OutOfMemory};
 use gq_phase::are_mates;
+use gq_replace::NUMBERS_OF_A_LOSS;
 use gq_tag::{FileId, StoredCopy};
 
 // The place below that one in its column, and above all others behind the last.
@@ -374,16 +376,68 @@ impl Core {
     }
 
     // The first volumes of the tenant, so many, were lost with the node that stood here before, where this is a new one.
-    pub(crate) fn lack(&mut self, tenant: u8, volumes: usize) -> Result<(), OutOfMemory>
+    fn lose(&mut self, tenant: u8, volumes: usize) -> Result<(), OutOfMemory>
         requires tenant { tenant < length self.old.plan.rows }
         requires few { volumes ≤ MOST_VOLUMES }
         requires first { Agrees self.old tenant (new_local self.old.plan.grid (place_of self.old.here.node) (account_at self.old.desk tenant).volumes) }
-        ensures begins { OnOk result (Bereaves self.old tenant volumes self.new) }
+        ensures loses { OnOk result (Loses self.old tenant volumes self.new) }
     {
         if !self.is_new() {
             return Ok(());
         }
         self.lacks[usize::from(tenant)] = Lacks::all(self.alloc, volumes)?;
+        Ok(())
+    }
+
+    // The numbers of tags up to this one are reserved for the session at that place of the tenant's, if its home is this node.
+    fn reserve_at(&mut self, tenant: u8, place: usize, number: u64)
+        requires tenant { tenant < length self.old.plan.rows }
+        requires place { place < (row_at self.old.plan tenant).sessions }
+        ensures { Reserves self.old tenant place number self.new }
+    {
+        let _node = self.node;
+        let session = self.session_at(tenant, place);
+        if !self.is_home(tenant, session) {
+            return;
+        }
+        let _fits = self.recall(&Fact::Numbered {
+            tenant,
+            session,
+            number,
+        });
+    }
+
+    // Where this is a new node, the tags of the tenant's sessions whose home it is begin where a plan of so many losses says.
+    fn reserve_all(&mut self, tenant: u8, losses: u16)
+        requires tenant { tenant < length self.old.plan.rows }
+        requires new { is_new_node self.old ≡ true }
+        ensures { (lost : ℕ) → Agrees self.old tenant (lost_local self.old tenant lost) → Bereaves self.old tenant (record { volumes = lost; losses = losses }) self.new }
+    {
+        let number = u64::from(losses) * NUMBERS_OF_A_LOSS;
+        let sessions = self.plan.row(tenant).sessions;
+        for place in 0..sessions {
+            self.reserve_at(tenant, place as usize, number);
+        }
+    }
+
+    // The first volumes of the tenant, so many, were lost with the node that stood here before, where this is a new one; and its sessions
+    // begin where a plan of so many losses says.
+    pub(crate) fn lack(
+        &mut self,
+        tenant: u8,
+        volumes: usize,
+        losses: u16,
+    ) -> Result<(), OutOfMemory>
+        requires tenant { tenant < length self.old.plan.rows }
+        requires few { volumes ≤ MOST_VOLUMES }
+        requires first { Agrees self.old tenant (new_local self.old.plan.grid (place_of self.old.here.node) (account_at self.old.desk tenant).volumes) }
+        ensures begins { OnOk result (Bereaves self.old tenant (record { volumes = volumes; losses = losses }) self.new) }
+    {
+        if !self.is_new() {
+            return Ok(());
+        }
+        self.lose(tenant, volumes)?;
+        self.reserve_all(tenant, losses);
         Ok(())
     }
 

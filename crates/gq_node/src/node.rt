@@ -70,18 +70,19 @@ impl Node {
         })
     }
 
-    /// The tenant's first volumes, so many, were lost with the node that stood at this one's place before, where this is a
-    /// new one: its server lacks their files. No fact was read yet. Where memory is wanting the node is given up.
-    pub fn lack(&mut self, tenant: u8, volumes: usize) -> Result<(), OutOfMemory>
+    /// Where this is a new node, it begins with a plan by which the tenant has so many volumes, and so many nodes were lost: its
+    /// server lacks their files, and for each session of the tenant whose home it is so many numbers of tags are reserved that
+    /// all that a lost node wrote has lower ones. No fact was read yet. Where memory is wanting the node is given up.
+    pub fn lack(&mut self, tenant: u8, volumes: usize, losses: u16) -> Result<(), OutOfMemory>
         requires tenant { tenant < length self.old.tables.plan.rows }
         requires few { volumes ≤ MOST_VOLUMES }
         requires first { Agrees self.old.tables tenant (new_local self.old.tables.plan.grid (place_of self.old.tables.here.node) (account_at self.old.tables.desk tenant).volumes) }
         requires goes { self.old.ended ≡ false }
-        ensures begins { OnOk result (Bereaves self.old.tables tenant volumes self.new.tables) }
+        ensures begins { OnOk result (Bereaves self.old.tables tenant (record { volumes = volumes; losses = losses }) self.new.tables) }
         ensures ended { OnErr result (self.new.ended ≡ true) }
         ensures goes { OnOk result (self.new.ended ≡ false) }
     {
-        match self.tables.lack(tenant, volumes) {
+        match self.tables.lack(tenant, volumes, losses) {
             Ok(()) => Ok(()),
             Err(refused) => {
                 self.ended = Some(refused.again());

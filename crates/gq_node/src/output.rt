@@ -329,16 +329,17 @@ pub(crate) fn put_begun(
     })
 }
 
-// Appends that the numbers of the session's tags are reserved up to this one, if any are.
+// Appends that the numbers of the session's tags are reserved up to this one, if any are, or if it is a new node's own session.
 pub(crate) fn put_number(
+    own: bool,
     tenant: u8,
     session: u8,
     number: u64,
     facts: &mut Vec<Fact>,
 ) -> Result<(), OutOfMemory>
-    ensures { OnOk result (facts.new.items ≡ facts.old.items ++ map (fact_of tenant) (number_facts session number)) }
+    ensures { OnOk result (facts.new.items ≡ facts.old.items ++ map (fact_of tenant) (number_facts own session number)) }
 {
-    if number == 0 {
+    if number == 0 && !own {
         return Ok(());
     }
     facts.grow(Fact::Numbered {

@@ -31,7 +31,7 @@ use Rattle.gq_parts.specs.Texts.{own_facts, facts_by}
 use Rattle.gq_parts.specs.Recalls.{facts_said}
 use Rattle.gq_parts.specs.Resting.{IsNodeOf}
 use Rattle.gq_parts.specs.Steps.{AllAgree}
-use Rattle.gq_parts.specs.AllNodes.{GridPlans, here_in, volumes_in, plans_of, world_with, world_at, steps_with, AreSound, AllNodes, Happening, Took, Starts, StartsBy, first_of, TakesStep, TakesStart, Stays, Happens, AllHappen, came_events, events_of, all_events, nodes_at, AreNodes, TellsAt, TellsAll, AllByLaw}
+use Rattle.gq_parts.specs.AllNodes.{first_in, GridPlans, here_in, volumes_in, plans_of, world_with, world_at, steps_with, AreSound, AllNodes, Happening, Took, Starts, StartsBy, first_of, TakesStep, TakesStart, Stays, Happens, AllHappen, came_events, events_of, all_events, nodes_at, AreNodes, TellsAt, TellsAll, AllByLaw}
 use Rattle.gq_parts.proofs.Apart.{StepByParts, step_by_parts}
 use Rattle.gq_parts.proofs.Reading.{those-append, said-append, said_back, those-by, same_node, all_recalled}
 
@@ -293,8 +293,8 @@ one_holds g before (Starts n p) old new sound holds happens = record {
         let after : Nodes = after_start w nodes n p in
         let same_first : law_first nodes n p ≡ first = by nodes are (old.begun n) refl in
         let read : Agrees (new.tables n) t (started w first p n (those_of t (facts_said g.plan (old.kept n)))) =
-        subst (λ site. Agrees (new.tables n) t (recall_all site (begun_local site (volumes_in g p t) (g.count first t)) (those_of t (facts_said g.plan (old.kept n))))) (sym (same_site g p n t))
-        (all_recalled g.plan (here_in g p n) t (begun_local (site_of g.plan (here_in g p n) t) (volumes_in g p t) (g.count first t)) (old.kept n) r.blank (new.tables n) r.is_new.node (r.is_new.parts t within) r.reads).agrees in
+        subst (λ site. Agrees (new.tables n) t (recall_all site (begun_local site (volumes_in g p t) (first_in g first t)) (those_of t (facts_said g.plan (old.kept n))))) (sym (same_site g p n t))
+        (all_recalled g.plan (here_in g p n) t (begun_local (site_of g.plan (here_in g p n) t) (volumes_in g p t) (first_in g first t)) (old.kept n) r.blank (new.tables n) r.is_new.node (r.is_new.parts t within) r.reads).agrees in
         let facts : those_of t (facts_said g.plan (new.kept n)) ≡ nodes.facts n = ap (λ ls. those_of t (facts_said g.plan ls)) goes.kept ∙ are.facts n in
         let now : Agrees (new.tables n) t (started w (law_first nodes n p) p n (nodes.facts n)) =
         subst (λ q. Agrees (new.tables n) t (started w q p n (nodes.facts n))) (sym same_first) (subst (λ fs. Agrees (new.tables n) t (started w first p n fs)) (are.facts n) read) in

@@ -18,7 +18,7 @@ use Rattle.gq_node.specs.declared.output.Fact.{Fact}
 use Rattle.gq_node.specs.Inputs.{Input, Asked, AskedPlan, Brought, Ticked, Looked, Joined, Fetching, Fetched, does}
 use Rattle.gq_node.specs.Joining.{hears_joined, all_joined, next_mate, looks, is_mate, has_file, gives, takes}
 use Rattle.gq_node.specs.Local.{Local, Doing, asks, receives, ticks, fact_fits, file_fits, file_in, part_in, state_of}
-use Rattle.gq_node.specs.Resting.{begun_local}
+use Rattle.gq_node.specs.Resting.{FirstPlan, begun_local}
 use Rattle.gq_node.specs.Recalling.{tenant_of, own_fact, fits_in}
 use Rattle.gq_node.specs.Sites.{Here, Site, site_of}
 use Rattle.gq_node.specs.Tables.{Tables, Agrees, fact_of}
@@ -33,7 +33,7 @@ use Rattle.gq_parts.specs.Recalls.{RecallsFact, RecallsTo, reads_fact, reads_lin
 use Rattle.gq_parts.specs.Resting.{volumes_at, IsBlank}
 use Rattle.gq_parts.proofs.Knowing.{takes_it, does_volumes}
 use Rattle.gq_parts.proofs.Taking.{joined_silent}
-use Rattle.gq_parts.proofs.Resting.{its_volumes, of_case, of_case_has}
+use Rattle.gq_parts.proofs.Resting.{no_first, its_volumes, of_case, of_case_has}
 
 -- ---- what fits depends on the plan, the number and the volumes alone
 
@@ -63,7 +63,7 @@ same_fits a b fact plan server volumes =
     ∙ sym (its_fits a fact)
 
 -- so in a blank node the same fits
-blank_fits : (lost : ℕ → ℕ) (a new : Tables) → IsBlank lost a new → (fact : Fact) → tenant_of fact < length a.plan.rows → fits_in new fact ≡ fits_in a fact
+blank_fits : (lost : ℕ → FirstPlan) (a new : Tables) → IsBlank lost a new → (fact : Fact) → tenant_of fact < length a.plan.rows → fits_in new fact ≡ fits_in a fact
 blank_fits lost a new blank fact within =
     let t : ℕ = tenant_of fact in
     same_fits a new fact blank.node.plan_is blank.node.here_is (its_volumes new t (begun_local (site_of a.plan a.here t) (volumes_at a t) (lost t)) (blank.parts t within))
@@ -102,13 +102,13 @@ all_same (line ∷ lines) a b r =
     record { plan = more.plan ∙ one.plan; here = more.here ∙ one.here; desk = more.desk ∙ one.desk }
 
 -- a fact that was read a blank node reads
-fact_again : (lost : ℕ → ℕ) (a next last new : Tables) (fact : Option Fact) → RecallsFact a fact next → IsSame a last → IsBlank lost last new → reads_fact new fact ≡ true
+fact_again : (lost : ℕ → FirstPlan) (a next last new : Tables) (fact : Option Fact) → RecallsFact a fact next → IsSame a last → IsBlank lost last new → reads_fact new fact ≡ true
 fact_again lost a next last new None never same blank = absurd never
 fact_again lost a next last new (Some fact) read same blank =
     blank_fits lost last new blank fact (subst (λ (p : CheckedPlan). tenant_of fact < length p.rows) (sym same.plan) read.within)
     ∙ reads_same a last (Some fact) same.plan same.here same.desk ∙ read.fits
 
-reads_rest : (lost : ℕ → ℕ) (lines : List (List ℕ)) (a last new : Tables) → RecallsAll RecallsTo a lines last → IsBlank lost last new → list_all (reads_line new) lines ≡ true
+reads_rest : (lost : ℕ → FirstPlan) (lines : List (List ℕ)) (a last new : Tables) → RecallsAll RecallsTo a lines last → IsBlank lost last new → list_all (reads_line new) lines ≡ true
 reads_rest lost [] a last new r blank = refl
 reads_rest lost (line ∷ lines) a last new r blank =
     let same : IsSame a last = all_same (line ∷ lines) a last r in
@@ -116,13 +116,13 @@ reads_rest lost (line ∷ lines) a last new r blank =
     ap (λ p. reads_fact new (fact_of_line p line)) (blank.node.plan_is ∙ same.plan) ∙ fact_again lost a r.0 last new (fact_of_line a.plan line) r.1 same blank in
     rw (first, reads_rest lost lines r.0 last new r.2 blank) refl
 
-pub reads_again : (lost : ℕ → ℕ) (first last new : Tables) (lines : List (List ℕ)) → RecallsAll RecallsTo first lines last → IsBlank lost last new → list_all (reads_line new) lines ≡ true
+pub reads_again : (lost : ℕ → FirstPlan) (first last new : Tables) (lines : List (List ℕ)) → RecallsAll RecallsTo first lines last → IsBlank lost last new → list_all (reads_line new) lines ≡ true
 reads_again lost first last new lines r blank = reads_rest lost lines first last new r blank
 
 -- ---- lines that are written
 
 -- a blank node reads the lines of facts that fit
-pub lines_read : (lost : ℕ → ℕ) (a new : Tables) → IsBlank lost a new → IsPlan a.plan → (facts : List Fact) → All (FitsFact a.plan) facts → list_all (fits_in a) facts ≡ true → list_all (reads_line new) (fact_lines a.plan facts) ≡ true
+pub lines_read : (lost : ℕ → FirstPlan) (a new : Tables) → IsBlank lost a new → IsPlan a.plan → (facts : List Fact) → All (FitsFact a.plan) facts → list_all (fits_in a) facts ≡ true → list_all (reads_line new) (fact_lines a.plan facts) ≡ true
 lines_read lost a new blank sound [] fit fits = refl
 lines_read lost a new blank sound (fact ∷ facts) fit fits =
     let its : FitsFact a.plan fact = fit 0 fact (omega arith) in
@@ -200,16 +200,16 @@ step_fits old line facts told new step = ap (list_all (fits_in old)) (step.takes
     inputs = line_inputs old.plan old.here line
 
     parts : ℕ → Local
-    parts t = of_case t n (λ within. (step.stand t within).local) (begun_local (site_of old.plan old.here t) [] 0) (cases_Bool (nat_lt t n))
+    parts t = of_case t n (λ within. (step.stand t within).local) (begun_local (site_of old.plan old.here t) [] no_first) (cases_Bool (nat_lt t n))
 
     agree : AllAgree old parts
-    agree t within = of_case_has (Agrees old t) t n (λ h. (step.stand t h).local) (begun_local (site_of old.plan old.here t) [] 0) (λ h. (step.stand t h).agrees) within (cases_Bool (nat_lt t n))
+    agree t within = of_case_has (Agrees old t) t n (λ h. (step.stand t h).local) (begun_local (site_of old.plan old.here t) [] no_first) (λ h. (step.stand t h).agrees) within (cases_Bool (nat_lt t n))
 
     each : (t : ℕ) → 0 ≤ t → t < 0 + n → list_all (fits_in old) (facts_for old.plan old.here t (parts t) (inputs t)) ≡ true
     each t low high = map_fits old t (own_facts (site_of old.plan old.here t) (parts t) (inputs t))
         (subst (λ v. list_all (fits_part (site_of old.plan old.here t) v) (own_facts (site_of old.plan old.here t) (parts t) (inputs t)) ≡ true)
         (sym (its_volumes old t (parts t) (agree t (omega arith)))) (inputs_fit (site_of old.plan old.here t) (parts t) (inputs t)))
 
-pub gives_readable : (lost : ℕ → ℕ) (old : Tables) (line : List ℕ) (facts : List (List ℕ)) (told : List ℕ) (new other : Tables) → StepsTo old line facts told new → IsBlank lost old other → list_all (reads_line other) facts ≡ true
+pub gives_readable : (lost : ℕ → FirstPlan) (old : Tables) (line : List ℕ) (facts : List (List ℕ)) (told : List ℕ) (new other : Tables) → StepsTo old line facts told new → IsBlank lost old other → list_all (reads_line other) facts ≡ true
 gives_readable lost old line facts told new other step blank =
     ap (list_all (reads_line other)) step.lines_are ∙ lines_read lost old other blank step.sound step.facts step.takes.fit (step_fits old line facts told new step)

@@ -11,7 +11,7 @@ use Rattle.gq_keeper.specs.Starting.{RecallsAll}
 use Rattle.gq_node.specs.declared.output.Fact.{Fact}
 use Rattle.gq_node.specs.Inputs.{Input, after_all}
 use Rattle.gq_node.specs.Local.{Local}
-use Rattle.gq_node.specs.Resting.{recall_all, those_of, IsAtRest, IsBare, Needed, begun_local}
+use Rattle.gq_node.specs.Resting.{FirstPlan, first_in, recall_all, those_of, IsAtRest, IsBare, Needed, begun_local}
 use Rattle.gq_node.specs.Sites.{Here, Site, site_of}
 use Rattle.gq_node.specs.Tables.{Tables, Agrees, Stands, AllStand}
 use Rattle.gq_facts.specs.Laws.{FitsFact}
@@ -20,18 +20,21 @@ use Rattle.gq_parts.specs.Texts.{own_facts, facts_by}
 use Rattle.gq_parts.specs.Steps.{AllAgree, fact_lines, StepsTo}
 use Rattle.gq_facts.specs.Facts.{fact_of_line}
 use Rattle.gq_parts.specs.Recalls.{RecallsFact, RecallsTo, facts_said}
-use Rattle.gq_parts.specs.Resting.{IsNodeOf, IsNewNode, volumes_at, IsBlank, HasVolumes, RestsIn, Rests}
+use Rattle.gq_parts.specs.Resting.{IsNodeOf, IsNewNode, volumes_at, IsBlank, HasFirst, RestsIn, Rests}
 use Rattle.gq_node.proofs.Recalling.{all_behind}
 use Rattle.gq_parts.proofs.Knowing.{all_idle, all_volumes, all_bare, all_recalled_volumes, all_recalled_bare, rests_itself, all_rest}
 use Rattle.gq_parts.proofs.Reading.{those-by, said_back, Recalled, all_recalled, same_node}
 
 -- ---- blank nodes
 
+abbrev pub no_first : FirstPlan
+no_first = record { volumes = 0; losses = 0 }
+
 pub its_volumes : (w : Tables) (t : ℕ) (local : Local) → Agrees w t local → volumes_at w t ≡ local.volumes
 its_volumes w t local agrees = ap (λ (a : Account). a.volumes) agrees.account
 
 -- a node that was never started is blank itself
-pub new_is_blank : (plan : CheckedPlan) (here : Here) (volumes : ℕ → List VolumeRow) (lost : ℕ → ℕ) (w : Tables) → IsNewNode plan here volumes lost w → IsBlank lost w w
+pub new_is_blank : (plan : CheckedPlan) (here : Here) (volumes : ℕ → List VolumeRow) (lost : ℕ → FirstPlan) (w : Tables) → IsNewNode plan here volumes lost w → IsBlank lost w w
 new_is_blank plan here volumes lost w new = record {
   node = record { plan_is = refl; here_is = refl };
   parts = λ t within. (
@@ -42,7 +45,7 @@ new_is_blank plan here volumes lost w new = record {
 }
 
 -- a blank node of one of these is one of the other, where plan, node and volumes are the same
-same_blank : (lost : ℕ → ℕ) (a b other : Tables) → IsNodeOf a.plan a.here b → ((t : ℕ) → t < length a.plan.rows → volumes_at b t ≡ volumes_at a t) → IsBlank lost b other → IsBlank lost a other
+same_blank : (lost : ℕ → FirstPlan) (a b other : Tables) → IsNodeOf a.plan a.here b → ((t : ℕ) → t < length a.plan.rows → volumes_at b t ≡ volumes_at a t) → IsBlank lost b other → IsBlank lost a other
 same_blank lost a b other node volumes blank = record {
   node = record { plan_is = blank.node.plan_is ∙ node.plan_is; here_is = blank.node.here_is ∙ node.here_is };
   parts = λ t within. (
@@ -61,23 +64,23 @@ step_volumes old line facts told new step t within =
     ∙ all_volumes site s.local inputs
     ∙ sym (its_volumes old t s.local s.agrees)
 
-pub keeps_blank : (lost : ℕ → ℕ) (old : Tables) (line : List ℕ) (facts : List (List ℕ)) (told : List ℕ) (new other : Tables) → StepsTo old line facts told new → IsBlank lost new other → IsBlank lost old other
+pub keeps_blank : (lost : ℕ → FirstPlan) (old : Tables) (line : List ℕ) (facts : List (List ℕ)) (told : List ℕ) (new other : Tables) → StepsTo old line facts told new → IsBlank lost new other → IsBlank lost old other
 keeps_blank lost old line facts told new other step blank =
     same_blank lost old new other (record { plan_is = step.takes.plan; here_is = step.takes.here }) (step_volumes old line facts told new step) blank
 
-pub keeps_volumes : (count : ℕ → ℕ) (old : Tables) (line : List ℕ) (facts : List (List ℕ)) (told : List ℕ) (new : Tables) → StepsTo old line facts told new → HasVolumes count old → HasVolumes count new
+pub keeps_volumes : (count : ℕ → FirstPlan) (old : Tables) (line : List ℕ) (facts : List (List ℕ)) (told : List ℕ) (new : Tables) → StepsTo old line facts told new → HasFirst count old → HasFirst count new
 keeps_volumes count old line facts told new step has t within =
     let inside : t < length old.plan.rows = subst (λ (p : CheckedPlan). t < length p.rows) step.takes.plan within in
-    ap (λ (v : List VolumeRow). length v) (step_volumes old line facts told new step t inside) ∙ has t inside
+    (λ i. record { volumes = length (step_volumes old line facts told new step t inside i); losses = length (step.takes.here i).lost }) ∙ has t inside
 
-pub recalls_volumes : (count : ℕ → ℕ) (old : Tables) (line : List ℕ) (new : Tables) → RecallsTo old line new → HasVolumes count old → HasVolumes count new
+pub recalls_volumes : (count : ℕ → FirstPlan) (old : Tables) (line : List ℕ) (new : Tables) → RecallsTo old line new → HasFirst count old → HasFirst count new
 recalls_volumes count old line new read has = by (fact_of_line old.plan line) read
   where
-    by : (fact : Option Fact) → RecallsFact old fact new → HasVolumes count new
+    by : (fact : Option Fact) → RecallsFact old fact new → HasFirst count new
     by None never = absurd never
     by (Some fact) read = λ t within. (
         let inside : t < length old.plan.rows = subst (λ (p : CheckedPlan). t < length p.rows) read.leads.plan within in
-        ap (λ (desk : List Account). length (volumes_at (record old { desk = desk }) t)) read.desk ∙ has t inside)
+        (λ i. record { volumes = length (volumes_at (record old { desk = read.desk i }) t); losses = length (read.leads.here i).lost }) ∙ has t inside)
 
 -- ---- a choice for each place
 
@@ -114,10 +117,10 @@ keeps_rest old line facts told new before after step r reads = record {
     inputs = line_inputs old.plan old.here line
 
     parts : ℕ → Local
-    parts t = of_case t n (λ within. (r.parts t within).local) (begun_local (site_of old.plan old.here t) [] 0) (cases_Bool (nat_lt t n))
+    parts t = of_case t n (λ within. (r.parts t within).local) (begun_local (site_of old.plan old.here t) [] no_first) (cases_Bool (nat_lt t n))
 
     has : (t : ℕ) → t < n → AtRest old before t (parts t)
-    has t within = of_case_has (AtRest old before t) t n (λ h. (r.parts t h).local) (begun_local (site_of old.plan old.here t) [] 0)
+    has t within = of_case_has (AtRest old before t) t n (λ h. (r.parts t h).local) (begun_local (site_of old.plan old.here t) [] no_first)
         (λ h. record { again = (r.parts t h).again; was = (r.parts t h).was; is = (r.parts t h).is; bare = (r.parts t h).bare; rests = (r.parts t h).rests }) within (cases_Bool (nat_lt t n))
 
     agree : AllAgree old parts
@@ -146,7 +149,7 @@ keeps_rest old line facts told new before after step r reads = record {
               subst (λ plan. R plan new.here) (sym step.takes.plan) (subst (λ here. R old.plan here) (sym step.takes.here) (all_rest site p.again (parts t) (inputs t) p.bare p.rests));
         }
 
-pub starts_again : (lost : ℕ → ℕ) (first last new again : Tables) (lines : List (List ℕ)) → IsBlank lost first first → RecallsAll RecallsTo first lines last → IsBlank lost last new →
+pub starts_again : (lost : ℕ → FirstPlan) (first last new again : Tables) (lines : List (List ℕ)) → IsBlank lost first first → RecallsAll RecallsTo first lines last → IsBlank lost last new →
     RecallsAll RecallsTo new lines again → Rests last again
 starts_again lost first last new again lines blank to_last other to_again = record {
   node = record { plan_is = second.plan_is ∙ other.node.plan_is; here_is = second.here_is ∙ other.node.here_is };
@@ -189,7 +192,7 @@ starts_again lost first last new again lines blank to_last other to_again = reco
         }
 
 -- a blank node that reads the facts which a start needs is the node at rest
-pub needed_rests : (count : ℕ → ℕ) (w : Tables) (facts : List Fact) → IsPlan w.plan → AllStand w → HasVolumes count w → Needed w facts → All (FitsFact w.plan) facts → (new last : Tables) → IsBlank count w new →
+pub needed_rests : (count : ℕ → FirstPlan) (w : Tables) (facts : List Fact) → IsPlan w.plan → AllStand w → HasFirst count w → Needed w facts → All (FitsFact w.plan) facts → (new last : Tables) → IsBlank count w new →
     RecallsAll RecallsTo new (fact_lines w.plan facts) last → Rests w last
 needed_rests count w facts sound stand has needed fit new last blank reads = record {
   node = record { plan_is = node.plan_is ∙ blank.node.plan_is; here_is = node.here_is ∙ blank.node.here_is };
@@ -204,8 +207,8 @@ needed_rests count w facts sound stand has needed fit new last blank reads = rec
         let site : Site = site_of w.plan w.here t in
         let s : Stands w t = stand t within in
         let own : volumes_at w t ≡ s.local.volumes = its_volumes w t s.local s.agrees in
-        let fresh : Local = begun_local site s.local.volumes (length s.local.volumes) in
-        let many : count t ≡ length s.local.volumes = sym (has t within) ∙ ap (λ (v : List VolumeRow). length v) own in
+        let fresh : Local = begun_local site s.local.volumes (first_in w s.local) in
+        let many : count t ≡ first_in w s.local = sym (has t within) ∙ ap (λ (v : List VolumeRow). record { volumes = length v; losses = length w.here.lost }) own in
         let blank_at : Agrees new t fresh = subst (λ n. Agrees new t (begun_local site s.local.volumes n)) many (subst (λ v. Agrees new t (begun_local site v (count t))) own (blank.parts t within)) in
         let read : Recalled w.plan w.here t fresh (facts_said w.plan (fact_lines w.plan facts)) last = all_recalled w.plan w.here t fresh (fact_lines w.plan facts) new last blank.node blank_at reads in
         record {

@@ -12,7 +12,7 @@ use Rattle.gq_replace.specs.Fleet.{new_fleet, all_node_steps}
 use Rattle.gq_replace.specs.Laws.{IsRight}
 use Rattle.gq_replace.specs.Plans.{Plan, IsChain}
 use Rattle.gq_node.specs.Nodes.{NodeWorld, Nodes, Event, Came, AskedToJoin, Started, new_nodes, nodes_after, all_steps, AllCanCome, Follows, AllOpen}
-use Rattle.gq_node.specs.Resting.{those_of}
+use Rattle.gq_node.specs.Resting.{FirstPlan, those_of}
 use Rattle.gq_node.specs.Sites.{Here, numbered, home_of, home_place, is_of_plan}
 use Rattle.gq_node.specs.Tables.{Tables, Agrees}
 use Rattle.gq_wire.specs.declared.incoming.Incoming.{Incoming}
@@ -40,6 +40,10 @@ here_in g p n = record { node = n; lost = g.lost p }
 
 abbrev pub volumes_in : GridPlans → (p t : ℕ) → List VolumeRow
 volumes_in g p t = take (g.count p t) (g.opens t)
+
+-- what a new node takes from plan p, for the tenant at place t
+abbrev pub first_in : GridPlans → (p t : ℕ) → FirstPlan
+first_in g p t = record { volumes = g.count p t; losses = length (g.lost p) }
 
 -- what the plans say, as the law of nodes has it
 abbrev pub plans_of : GridPlans → (t : ℕ) → ℕ → Plan
@@ -90,10 +94,11 @@ abbrev pub node_in : Happening → ℕ
 node_in (Took n p did) = n
 node_in (Starts n p) = n
 
--- a start: a node that was never started reads these lines. It lacks the volumes of the plan that it was started with first, if it is a new one
+-- A start: a node that was never started reads these lines. If it is a new one, it lacks the volumes of the plan that it was started with first, and its
+-- sessions begin where this says.
 pub record StartsBy (g : GridPlans) (first p n : ℕ) (kept : List (List ℕ)) (new : Tables) : Type 0 where
   pub blank : Tables
-  pub is_new : IsNewNode g.plan (here_in g p n) (volumes_in g p) (g.count first) blank
+  pub is_new : IsNewNode g.plan (here_in g p n) (volumes_in g p) (first_in g first) blank
   pub reads : RecallsAll RecallsTo blank kept new
 
 -- the plan that it was started with first

@@ -4,7 +4,7 @@ use Rattle.gq_desk.specs.CheckedPlan.{CheckedPlan}
 use Rattle.gq_desk.specs.Volumes.{account_at}
 use Rattle.gq_desk.specs.declared.volumes.VolumeRow.{VolumeRow}
 use Rattle.gq_node.specs.Local.{Local}
-use Rattle.gq_node.specs.Resting.{IsAtRest, IsBare, begun_local}
+use Rattle.gq_node.specs.Resting.{FirstPlan, IsAtRest, IsBare, begun_local}
 use Rattle.gq_node.specs.Sites.{Here, site_of}
 use Rattle.gq_node.specs.Tables.{Tables, Agrees}
 
@@ -13,8 +13,9 @@ pub record IsNodeOf (plan : CheckedPlan) (here : Here) (w : Tables) : Type 0 whe
   pub plan_is : w.plan ≡ plan
   pub here_is : w.here ≡ here
 
--- this node was never started, and these volumes of its tenants are open; where it is a new one, its server lacks the files of so many first ones
-pub record IsNewNode (plan : CheckedPlan) (here : Here) (volumes : ℕ → List VolumeRow) (lost : ℕ → ℕ) (w : Tables) : Type 0 where
+-- This node was never started, and these volumes of its tenants are open. Where it is a new one, its server lacks the files of the volumes of these
+-- first plans, and its sessions begin where these say.
+pub record IsNewNode (plan : CheckedPlan) (here : Here) (volumes : ℕ → List VolumeRow) (lost : ℕ → FirstPlan) (w : Tables) : Type 0 where
   pub node : IsNodeOf plan here w
   pub parts : (t : ℕ) → t < length plan.rows → Agrees w t (begun_local (site_of plan here t) (volumes t) (lost t))
 
@@ -22,13 +23,16 @@ pub record IsNewNode (plan : CheckedPlan) (here : Here) (volumes : ℕ → List 
 abbrev pub volumes_at : Tables → ℕ → List VolumeRow
 volumes_at w t = (account_at w.desk t).volumes
 
--- the other is this node, never started, with the same volumes open, of which it lost so many
-abbrev pub IsBlank : (lost : ℕ → ℕ) → (w blank : Tables) → Type 0
+-- the other is this node, never started, with the same volumes open, begun with these first plans
+abbrev pub IsBlank : (lost : ℕ → FirstPlan) → (w blank : Tables) → Type 0
 IsBlank lost w blank = IsNewNode w.plan w.here (volumes_at w) lost blank
 
--- of each tenant the node has as many volumes
-abbrev pub HasVolumes : (count : ℕ → ℕ) → Tables → Type 0
-HasVolumes count w = (t : ℕ) → t < length w.plan.rows → length (volumes_at w t) ≡ count t
+-- what a new node would take from the node's plan for the tenant at place t; and for each tenant it would take this
+abbrev pub first_at : Tables → ℕ → FirstPlan
+first_at w t = record { volumes = length (volumes_at w t); losses = length w.here.lost }
+
+abbrev pub HasFirst : (first : ℕ → FirstPlan) → Tables → Type 0
+HasFirst first w = (t : ℕ) → t < length w.plan.rows → first_at w t ≡ first t
 
 -- the node's part for the tenant at place t is that of the other at rest; of a file that its server lacks it has the first copy
 pub record RestsIn (w rest : Tables) (t : ℕ) : Type 0 where

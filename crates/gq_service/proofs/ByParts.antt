@@ -13,7 +13,7 @@ use Rattle.gq_parts.specs.Steps.{AllAgree, StepsTo}
 use Rattle.gq_parts.proofs.Reading.{same_node}
 use Rattle.gq_machine.specs.declared.machine.NodeMachine.{NodeMachine}
 use Rattle.gq_machine.specs.Machines.{tables_of, MachineSteps, reads}
-use Rattle.gq_service.specs.Serving.{IsNewFor, first_volumes}
+use Rattle.gq_service.specs.Serving.{IsNewFor, first_of_journal}
 use Rattle.gq_service.specs.Writing.{started_part, AllServedByParts}
 
 -- a run of the machine is one of its tables
@@ -26,7 +26,7 @@ served_by_parts starts run setup number journal lines base synced shown s =
     let new : Tables = tables_of s.started.new in
     let first : Tables = tables_of s.first in
     let here : Here = here_of number setup in
-    let is : IsNewFor setup number (first_volumes setup journal) new = s.started.is_new in
+    let is : IsNewFor setup number (first_of_journal setup journal) new = s.started.is_new in
     let read : RecallsAll RecallsTo new (facts_read journal) first = reads (facts_read journal) s.started.new s.first s.started.reads in
     let stays : IsNodeOf new.plan new.here first = same_node (facts_read journal) new first read in
     let node : IsNodeOf setup.plan here first = record { plan_is = stays.plan_is ∙ is.node.plan_is; here_is = stays.here_is ∙ is.node.here_is } in

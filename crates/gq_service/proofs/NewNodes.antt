@@ -14,16 +14,16 @@ use Rattle.gq_keeper.specs.Plans.{begins_with_plan, first_plan}
 use Rattle.gq_replace.specs.Plans.{place_of}
 use Rattle.gq_node.specs.Local.{new_local}
 use Rattle.gq_node.specs.Opening.{Bereaves, Opens}
-use Rattle.gq_node.specs.Resting.{begun_local}
+use Rattle.gq_node.specs.Resting.{FirstPlan, begun_local}
 use Rattle.gq_node.specs.Sites.{Here, site_of}
 use Rattle.gq_node.specs.Tables.{Tables, Agrees}
-use Rattle.gq_parts.specs.Resting.{IsNodeOf, IsNewNode, HasVolumes}
+use Rattle.gq_parts.specs.Resting.{IsNodeOf, IsNewNode, volumes_at, HasFirst}
 use Rattle.gq_parts.proofs.Resting.{its_volumes}
 use Rattle.gq_setup.specs.declared.openings.Opening.{Opening}
 use Rattle.gq_setup.specs.Setups.{Setup, SetupReading, holdings, volume_of, accounts_of, after_opening, after_openings, opening_fault, CanOpen}
 use Rattle.gq_setup.specs.Laws.{here_of}
-use Rattle.gq_setup.specs.Texts.{volumes_read, volumes_of_lines, OpensFor}
-use Rattle.gq_service.specs.Serving.{volumes_in, volumes_of_read, first_volumes, is_its_journal, IsOpen, IsNewFor}
+use Rattle.gq_setup.specs.Texts.{first_read, first_of_lines, OpensFor}
+use Rattle.gq_service.specs.Serving.{volumes_in, first_of_read, first_of_journal, is_its_journal, IsOpen, IsNewFor}
 
 -- ---- what tenants have
 
@@ -162,16 +162,16 @@ all_open plan here openings all i w are past has = subst (λ xs. HasOpen plan he
 -- ---- what is lacked
 
 -- the tenants below this place lack so many first volumes, and the others none
-pub record Bereft (plan : CheckedPlan) (here : Here) (openings : List Opening) (lost : ℕ → ℕ) (n : ℕ) (w : Tables) : Type 0 where
+pub record Bereft (plan : CheckedPlan) (here : Here) (openings : List Opening) (lost : ℕ → FirstPlan) (n : ℕ) (w : Tables) : Type 0 where
   pub node : IsNodeOf plan here w
   pub done : (t : ℕ) → t < n → t < length plan.rows → Agrees w t (begun_local (site_of plan here t) (volumes_in t openings) (lost t))
   pub rest : (t : ℕ) → n ≤ t → t < length plan.rows → Agrees w t (new_local plan.grid (place_of here.node) (volumes_in t openings))
 
-pub none_bereft : (plan : CheckedPlan) (here : Here) (openings : List Opening) (lost : ℕ → ℕ) (w : Tables) → HasOpen plan here openings w → Bereft plan here openings lost 0 w
+pub none_bereft : (plan : CheckedPlan) (here : Here) (openings : List Opening) (lost : ℕ → FirstPlan) (w : Tables) → HasOpen plan here openings w → Bereft plan here openings lost 0 w
 none_bereft plan here openings lost w has = record { node = has.node; done = λ t below within. absurd (omega arith); rest = λ t above within. has.parts t within }
 
 -- the next tenant is new
-pub next_new : (plan : CheckedPlan) (here : Here) (openings : List Opening) (lost : ℕ → ℕ) (n : ℕ) (w : Tables) → Bereft plan here openings lost n w → n < length plan.rows →
+pub next_new : (plan : CheckedPlan) (here : Here) (openings : List Opening) (lost : ℕ → FirstPlan) (n : ℕ) (w : Tables) → Bereft plan here openings lost n w → n < length plan.rows →
     Agrees w n (new_local w.plan.grid (place_of w.here.node) (account_at w.desk n).volumes)
 next_new plan here openings lost n w b within =
     let agrees : Agrees w n (new_local plan.grid (place_of here.node) (volumes_in n openings)) = b.rest n (omega arith) within in
@@ -179,14 +179,14 @@ next_new plan here openings lost n w b within =
     subst (λ v. P w.plan w.here v) (sym (its_volumes w n (new_local plan.grid (place_of here.node) (volumes_in n openings)) agrees))
     (subst (λ p. P p w.here (volumes_in n openings)) (sym b.node.plan_is) (subst (λ h. P plan h (volumes_in n openings)) (sym b.node.here_is) agrees))
 
-pub more_bereft : (plan : CheckedPlan) (here : Here) (openings : List Opening) (lost : ℕ → ℕ) (n many : ℕ) (old new : Tables) → Bereft plan here openings lost n old → n < length plan.rows → many ≡ lost n → Bereaves old n many new →
+pub more_bereft : (plan : CheckedPlan) (here : Here) (openings : List Opening) (lost : ℕ → FirstPlan) (n : ℕ) (many : FirstPlan) (old new : Tables) → Bereft plan here openings lost n old → n < length plan.rows → many ≡ lost n → Bereaves old n many new →
     Bereft plan here openings lost (n + 1) new
 more_bereft plan here openings lost n many old new b within is bereaves = record {
   node = record { plan_is = bereaves.plan ∙ b.node.plan_is; here_is = bereaves.here ∙ b.node.here_is };
   done = λ t below inside. elim (cases_eq t n) [
     | inl same ↦ (
         let agrees : Agrees old n (new_local plan.grid (place_of here.node) (volumes_in n openings)) = b.rest n (omega arith) within in
-        let P : CheckedPlan → Here → List VolumeRow → ℕ → Type 0 = λ p h v m. Agrees new n (begun_local (site_of p h n) v m) in
+        let P : CheckedPlan → Here → List VolumeRow → FirstPlan → Type 0 = λ p h v m. Agrees new n (begun_local (site_of p h n) v m) in
         let own : P plan here (volumes_in n openings) (lost n) =
         subst (λ p. P p here (volumes_in n openings) (lost n)) b.node.plan_is (subst (λ h. P old.plan h (volumes_in n openings) (lost n)) b.node.here_is
         (subst (λ v. P old.plan old.here v (lost n)) (its_volumes old n (new_local plan.grid (place_of here.node) (volumes_in n openings)) agrees) (subst (λ m. P old.plan old.here (account_at old.desk n).volumes m) is bereaves.own))) in
@@ -200,10 +200,10 @@ more_bereft plan here openings lost n many old new b within is bereaves = record
     below_of t below other = elim (cases_eq t n) [ inl same ↦ (absurd (other same)) | inr not ↦ (omega arith) ]
 
 -- as many volumes, said in another way
-pub same_lost : (plan : CheckedPlan) (here : Here) (volumes : ℕ → List VolumeRow) (lost other : ℕ → ℕ) (w : Tables) → ((t : ℕ) → lost t ≡ other t) → IsNewNode plan here volumes lost w → IsNewNode plan here volumes other w
+pub same_lost : (plan : CheckedPlan) (here : Here) (volumes : ℕ → List VolumeRow) (lost other : ℕ → FirstPlan) (w : Tables) → ((t : ℕ) → lost t ≡ other t) → IsNewNode plan here volumes lost w → IsNewNode plan here volumes other w
 same_lost plan here volumes lost other w same new = record { node = new.node; parts = λ t within. subst (λ n. Agrees w t (begun_local (site_of plan here t) (volumes t) n)) (same t) (new.parts t within) }
 
-pub all_bereft : (plan : CheckedPlan) (here : Here) (openings : List Opening) (lost : ℕ → ℕ) (n : ℕ) (w : Tables) → Bereft plan here openings lost n w → length plan.rows ≤ n → IsNewNode plan here (λ t. volumes_in t openings) lost w
+pub all_bereft : (plan : CheckedPlan) (here : Here) (openings : List Opening) (lost : ℕ → FirstPlan) (n : ℕ) (w : Tables) → Bereft plan here openings lost n w → length plan.rows ≤ n → IsNewNode plan here (λ t. volumes_in t openings) lost w
 all_bereft plan here openings lost n w b past = record { node = b.node; parts = λ t within. b.done t (omega arith) within }
 
 -- ---- how many volumes a setup that was read has
@@ -257,26 +257,28 @@ few_volumes plan openings t can = few_after openings (accounts_of plan) t first 
     ]
 
 -- of a node of the setup: those that it opens
-pub own_volumes : (setup : Setup) (number : ℕ) (lost : ℕ → ℕ) (w : Tables) → IsNewFor setup number lost w → HasVolumes (volumes_read (Ok setup)) w
+pub own_volumes : (setup : Setup) (number : ℕ) (lost : ℕ → FirstPlan) (w : Tables) → IsNewFor setup number lost w → HasFirst (first_read (Ok setup)) w
 own_volumes setup number lost w new t within =
     let inside : t < length setup.plan.rows = subst (λ (p : CheckedPlan). t < length p.rows) new.node.plan_is within in
     let rows : length (accounts_of setup.plan) ≡ length setup.plan.rows = rows-length setup.plan.rows in
     let held : account_at (holdings setup) t ≡ account_with (row_at setup.plan t) (volumes_in t setup.openings) =
     accounts_after setup.openings (accounts_of setup.plan) t (row_at setup.plan t) [] (subst (λ n. t < n) (sym rows) inside) (first_account setup.plan t inside) in
-    ap (λ (v : List VolumeRow). length v) (its_volumes w t (begun_local (site_of setup.plan (here_of number setup) t) (volumes_in t setup.openings) (lost t)) (new.parts t inside)) ∙ sym (ap (λ (a : Account). length a.volumes) held)
+    let volumes : length (volumes_at w t) ≡ length (account_at (holdings setup) t).volumes =
+    ap (λ (v : List VolumeRow). length v) (its_volumes w t (begun_local (site_of setup.plan (here_of number setup) t) (volumes_in t setup.openings) (lost t)) (new.parts t inside)) ∙ sym (ap (λ (a : Account). length a.volumes) held) in
+    λ i. record { volumes = volumes i; losses = length (new.node.here_is i).lost }
 
 -- as many by its plan's lines
-pub is_of_plan : (lines : List Line) (setup : Setup) (w : Tables) → OpensFor lines setup → HasVolumes (volumes_read (Ok setup)) w → HasVolumes (volumes_of_lines lines) w
+pub is_of_plan : (lines : List Line) (setup : Setup) (w : Tables) → OpensFor lines setup → HasFirst (first_read (Ok setup)) w → HasFirst (first_of_lines lines) w
 is_of_plan lines setup w opens has t within = has t within ∙ sym (opens t)
 
 -- what was read, and what the text tells
-pub read_is : (reading : SetupReading Setup) (read : Option Setup) → MatchOption read (IsErr reading) (λ setup. reading ≡ Ok setup) → (t : ℕ) → volumes_of_read read t ≡ volumes_read reading t
+pub read_is : (reading : SetupReading Setup) (read : Option Setup) → MatchOption read (IsErr reading) (λ setup. reading ≡ Ok setup) → (t : ℕ) → first_of_read read t ≡ first_read reading t
 read_is (Ok setup) None is t = absurd (let e = is in cc)
 read_is (Err fault) None is t = refl
-read_is reading (Some setup) is t = ap (λ (r : SetupReading Setup). volumes_read r t) (sym is)
+read_is reading (Some setup) is t = ap (λ (r : SetupReading Setup). first_read r t) (sym is)
 
 -- a journal of the node begins with a plan, whose volumes were lost
-pub found_volumes : (setup : Setup) (number : ℕ) (journal : List ℕ) → is_its_journal setup number journal ≡ true → first_volumes setup journal ≡ volumes_of_lines (first_plan (batches_of journal))
+pub found_volumes : (setup : Setup) (number : ℕ) (journal : List ℕ) → is_its_journal setup number journal ≡ true → first_of_journal setup journal ≡ first_of_lines (first_plan (batches_of journal))
 found_volumes setup number journal its = let begins : begins_with_plan (batches_of journal) ≡ true = (and_parts _ _ its).0 in rw begins refl
 
 -- two things that hold where a call gave Ok

@@ -10,6 +10,7 @@ use Rattle.gq_keeper.specs.Starting.{RecallsAll, IsDamaged, facts_read}
 use Rattle.gq_desk.specs.CheckedPlan.{CheckedPlan}
 use Rattle.gq_replace.specs.Plans.{place_of}
 use Rattle.gq_node.specs.Local.{new_local}
+use Rattle.gq_node.specs.Resting.{FirstPlan}
 use Rattle.gq_node.specs.Sites.{Here}
 use Rattle.gq_node.specs.Tables.{Tables, Agrees}
 use Rattle.gq_wire.specs.Incoming.{longest_line}
@@ -22,7 +23,7 @@ use Rattle.gq_setup.specs.Setups.{Setup, SetupReading, has_node, volume_of}
 use Rattle.gq_setup.specs.NotKept.{IsNotKept}
 use Rattle.gq_setup.specs.Laws.{here_of}
 use Rattle.gq_setup.specs.GoingOn.{goes_on_from_read}
-use Rattle.gq_setup.specs.Texts.{node_text, setup_of_node_text, volumes_read, volumes_of_lines}
+use Rattle.gq_setup.specs.Texts.{node_text, setup_of_node_text, no_first, first_read, first_of_lines}
 use Rattle.gq_service.specs.declared.fault.NodeFault.{NodeFault}
 use Rattle.gq_service.specs.declared.fault.NodeFault.TheVariants.{NoServer, PlanText, Damaged, Another, Strange}
 use Rattle.gq_service.specs.declared.mismatch.Mismatch.{Mismatch}
@@ -40,23 +41,23 @@ pub record IsOpen (plan : CheckedPlan) (here : Here) (volumes : ℕ → List Vol
   pub node : IsNodeOf plan here w
   pub parts : (t : ℕ) → t < length plan.rows → Agrees w t (new_local plan.grid (place_of here.node) (volumes t))
 
--- The node of this number was never started, and has the volumes of the setup open. If it is a new one, it lacks the files of so many first ones.
-abbrev pub IsNewFor : Setup → (number : ℕ) → (lost : ℕ → ℕ) → Tables → Type 0
+-- The node of this number was never started, and has the volumes of the setup open. If it is a new one, it was begun with this first plan.
+abbrev pub IsNewFor : Setup → (number : ℕ) → (lost : ℕ → FirstPlan) → Tables → Type 0
 IsNewFor setup number lost w = IsNewNode setup.plan (here_of number setup) (λ t. volumes_in t setup.openings) lost w
 
--- how many volumes the tenant at place t has by a setup, if one was read
-abbrev pub volumes_of_read : Option Setup → (t : ℕ) → ℕ
-volumes_of_read None t = 0
-volumes_of_read (Some setup) t = volumes_read (Ok setup) t
+-- what a new node takes from a setup for the tenant at place t, if one was read
+abbrev pub first_of_read : Option Setup → (t : ℕ) → FirstPlan
+first_of_read None t = no_first
+first_of_read (Some setup) t = first_read (Ok setup) t
 
--- how many volumes of each tenant the plan opens with which the node's journal begins: that of the journal that is found, or its own where none is
-abbrev pub first_volumes : Setup → (journal : List ℕ) → ℕ → ℕ
-first_volumes setup journal = if begins_with_plan (batches_of journal) then volumes_of_lines (first_plan (batches_of journal)) else volumes_read (Ok setup)
+-- what it takes from the plan with which its journal begins: that of the journal that is found, or its own where none is
+abbrev pub first_of_journal : Setup → (journal : List ℕ) → ℕ → FirstPlan
+first_of_journal setup journal = if begins_with_plan (batches_of journal) then first_of_lines (first_plan (batches_of journal)) else first_read (Ok setup)
 
 -- the node started from this journal: one that was never started read its facts
 pub record IsStarted (setup : Setup) (number : ℕ) (journal : List ℕ) (m : NodeMachine) : Type 0 where
   pub new : NodeMachine
-  pub is_new : IsNewFor setup number (first_volumes setup journal) (tables_of new)
+  pub is_new : IsNewFor setup number (first_of_journal setup journal) (tables_of new)
   pub reads : RecallsAll MachineRecalls new (facts_read journal) m
 
 -- the journal that is found: none, where it is to be begun
@@ -115,7 +116,7 @@ TellsDamage journal _ = Unit {0}
 -- a line of the journal says no fact that fits in the node of this number, never started
 pub record IsStrange (setup : Setup) (number : ℕ) (journal : List ℕ) : Type 0 where
   pub new : NodeMachine
-  pub is_new : IsNewFor setup number (volumes_of_lines (first_plan (batches_of journal))) (tables_of new)
+  pub is_new : IsNewFor setup number (first_of_lines (first_plan (batches_of journal))) (tables_of new)
   pub strange : list_all (machine_reads new) (facts_read journal) ≡ false
 
 -- where it is told that the plan's text may not stand in a journal, it may not

@@ -11,13 +11,13 @@ use Rattle.gq_parts.specs.Laws.{TellsEach}
 use Rattle.gq_parts.specs.Recalls.{facts_said}
 use Rattle.gq_setup.specs.Setups.{Setup}
 use Rattle.gq_setup.specs.Laws.{here_of}
-use Rattle.gq_service.specs.Serving.{Serves, volumes_in, first_volumes}
+use Rattle.gq_service.specs.Serving.{Serves, volumes_in, first_of_journal}
 
 -- the part of the tenant at place t of the node that started from the journal: what this tenant's facts alone make of it
 abbrev pub started_part : Setup → (number : ℕ) → (journal : List ℕ) → ℕ → Local
 started_part setup number journal t =
     let site : Site = site_of setup.plan (here_of number setup) t in
-    recall_all site (begun_local site (volumes_in t setup.openings) (first_volumes setup journal t)) (those_of t (facts_said setup.plan (facts_read journal)))
+    recall_all site (begun_local site (volumes_in t setup.openings) (first_of_journal setup journal t)) (those_of t (facts_said setup.plan (facts_read journal)))
 
 -- what is shown behind `base` is what is written for the tenants, line by line, by their parts, from those of the start on
 pub record TellsByParts (setup : Setup) (number : ℕ) (journal : List ℕ) (lines : List Line) (base shown : List ℕ) : Type 0 where

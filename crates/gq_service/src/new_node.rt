@@ -5,9 +5,9 @@ ghost use Rattle.gq_desk.specs.Volumes.{account_at, open_fault};
 ghost use Rattle.gq_desk.specs.declared.limits.TheConstants.{MOST_VOLUMES};
 ghost use Rattle.gq_node.specs.Opening.{Opens};
 ghost use Rattle.gq_setup.specs.Setups.{volume_of};
-ghost use Rattle.gq_setup.specs.Texts.{setup_of_node_text, volumes_read};
+ghost use Rattle.gq_setup.specs.Texts.{setup_of_node_text, first_read};
 ghost use Rattle.gq_setup.specs.Laws.{here_of};
-ghost use Rattle.gq_service.specs.Serving.{IsNewFor, IsOpen, volumes_in, volumes_of_read};
+ghost use Rattle.gq_service.specs.Serving.{IsNewFor, IsOpen, volumes_in, first_of_read};
 
 use crate::this_node::ThisNode;
 use gq_desk::OpenRefused;
@@ -49,7 +49,7 @@ fn open_node(alloc: Global, this: &ThisNode) -> Result<Node, OutOfMemory>
 
 // How many volumes the tenant at that place has by the setup that was read, if one was.
 fn volumes_before(read: &Option<Setup>, tenant: u8) -> usize
-    ensures count { result ≡ volumes_of_read read.now tenant }
+    ensures count { result ≡ (first_of_read read.now tenant).volumes }
     ensures few { result ≤ MOST_VOLUMES }
 {
     let Some(setup) = read else {
@@ -62,24 +62,36 @@ fn volumes_before(read: &Option<Setup>, tenant: u8) -> usize
     setup.volumes(tenant)
 }
 
-// The node, if it is a new one, whose server lacks the files of all volumes of the setup that was read.
+// Of how many losses the setup tells that was read, if one was.
+fn losses_before(read: &Option<Setup>) -> u16
+    ensures { (t : ℕ) → result ≡ (first_of_read read.now t).losses }
+{
+    match read {
+        Some(setup) => setup.losses(),
+        None => 0,
+    }
+}
+
+// The node, if it is a new one, begun with the setup that was read: its server lacks the files of all volumes, and its sessions begin
+// above all that lost nodes wrote.
 fn bereft_node(node: Node, this: &ThisNode, before: &Option<Setup>) -> Result<Node, OutOfMemory>
     requires open { IsOpen this.now.plan.setup.plan (here_of this.now.number this.now.plan.setup) (λ t. volumes_in t this.now.plan.setup.openings) node.tables }
     requires goes { node.ended ≡ false }
-    ensures { IfOk result (λ new. IsNewFor this.now.plan.setup this.now.number (volumes_of_read before.now) new.tables) }
+    ensures { IfOk result (λ new. IsNewFor this.now.plan.setup this.now.number (first_of_read before.now) new.tables) }
 {
     let mut node = node;
     let tenants = this.plan.setup().plan().tenants();
+    let losses = losses_before(before);
     for place in 0..tenants {
-        node.lack(place as u8, volumes_before(before, place as u8))?;
+        node.lack(place as u8, volumes_before(before, place as u8), losses)?;
     }
     Ok(node)
 }
 
-/// The node, never started, with the volumes of its plan open. If it is a new one, its server lacks the files of all volumes of the plan
-/// of this text, with which its journal begins.
+/// The node, never started, with the volumes of its plan open. If it is a new one, it is begun with the plan of this text, with which its
+/// journal begins: its server lacks the files of all volumes of that, and its sessions begin above all that lost nodes wrote.
 pub(crate) fn new_node(alloc: Global, this: &ThisNode, first: &[u8]) -> Result<Node, OutOfMemory>
-    ensures { IfOk result (λ node. IsNewFor this.now.plan.setup this.now.number (volumes_read (setup_of_node_text first.now)) node.tables) }
+    ensures { IfOk result (λ node. IsNewFor this.now.plan.setup this.now.number (first_read (setup_of_node_text first.now)) node.tables) }
 {
     let node = open_node(alloc, this)?;
     let before = read_node_plan(alloc, first)?;

@@ -9,7 +9,7 @@ ghost use Rattle.gq_keeper.specs.Restarting.{Restarts};
 ghost use Rattle.gq_keeper.specs.Starting.{RecallsAll, behind, facts_read};
 ghost use Rattle.gq_machine.specs.Machines.{tables_of, MachineRecalls, machine_reads, MachineIsBlank, MachineIsOf, MachineRests};
 ghost use Rattle.gq_setup.specs.Setups.{Setup};
-ghost use Rattle.gq_setup.specs.Texts.{volumes_read, volumes_of_lines};
+ghost use Rattle.gq_setup.specs.Texts.{first_read, first_of_lines};
 ghost use Rattle.gq_service.specs.Faults.{as_fault};
 ghost use Rattle.gq_service.specs.Serving.{IsNewFor, IsStarted, IsDurable, ServesInput, TellsDamage, TellsAnother, LeavesJournal, journal_found, is_its_journal};
 
@@ -52,7 +52,7 @@ fn go_on<D: Disk, C: Console>(
 ) -> Result<u64, NodeFault>
     requires read { journal.now ≡ D.seen disk.old }
     requires synced { D.synced disk.old ≡ D.seen disk.old }
-    requires new { IsNewFor node.now.plan.setup node.now.number (volumes_of_lines (first_plan (batches_of (D.seen disk.old)))) (tables_of machine.old) }
+    requires new { IsNewFor node.now.plan.setup node.now.number (first_of_lines (first_plan (batches_of (D.seen disk.old)))) (tables_of machine.old) }
     requires of_plan { MachineIsOf (whole_lines node.now.plan.text.items) machine.old }
     ensures sealed { IfOk result (λ next. AllSealed (D.seen disk.new) (D.synced disk.new) next) }
     ensures restarts { OnOk result (Restarts MachineRecalls machine_reads MachineIsBlank MachineRests (whole_lines node.now.plan.text.items) machine.new (D.synced disk.new)) }
@@ -100,8 +100,8 @@ fn begin_or_go_on<D: Disk, C: Console>(
 ) -> Result<u64, NodeFault>
     requires read { is_new ≡ false → journal.now ≡ D.seen disk.old }
     requires synced { is_new ≡ false → D.synced disk.old ≡ D.seen disk.old }
-    requires begun { is_new ≡ true → IsNewFor node.now.plan.setup node.now.number (volumes_read (Ok node.now.plan.setup)) (tables_of machine.old) }
-    requires found { is_new ≡ false → IsNewFor node.now.plan.setup node.now.number (volumes_of_lines (first_plan (batches_of (D.seen disk.old)))) (tables_of machine.old) }
+    requires begun { is_new ≡ true → IsNewFor node.now.plan.setup node.now.number (first_read (Ok node.now.plan.setup)) (tables_of machine.old) }
+    requires found { is_new ≡ false → IsNewFor node.now.plan.setup node.now.number (first_of_lines (first_plan (batches_of (D.seen disk.old)))) (tables_of machine.old) }
     requires of_plan { MachineIsOf (whole_lines node.now.plan.text.items) machine.old }
     ensures sealed { IfOk result (λ next. AllSealed (D.seen disk.new) (D.synced disk.new) next) }
     ensures restarts { OnOk result (Restarts MachineRecalls machine_reads MachineIsBlank MachineRests (whole_lines node.now.plan.text.items) machine.new (D.synced disk.new)) }
@@ -164,8 +164,8 @@ fn serve_machine<D: Disk, I: Read, O: Output, C: Console>(
 ) -> Result<(), NodeFault>
     requires read { is_new ≡ false → journal.now ≡ D.seen disk.old }
     requires synced { is_new ≡ false → D.synced disk.old ≡ D.seen disk.old }
-    requires begun { is_new ≡ true → IsNewFor node.now.plan.setup node.now.number (volumes_read (Ok node.now.plan.setup)) (tables_of machine.old) }
-    requires found { is_new ≡ false → IsNewFor node.now.plan.setup node.now.number (volumes_of_lines (first_plan (batches_of (D.seen disk.old)))) (tables_of machine.old) }
+    requires begun { is_new ≡ true → IsNewFor node.now.plan.setup node.now.number (first_read (Ok node.now.plan.setup)) (tables_of machine.old) }
+    requires found { is_new ≡ false → IsNewFor node.now.plan.setup node.now.number (first_of_lines (first_plan (batches_of (D.seen disk.old)))) (tables_of machine.old) }
     requires of_plan { MachineIsOf (whole_lines node.now.plan.text.items) machine.old }
     requires durable { (synced shown : List ℕ) → IsDurable node.now.number (O.shown out.old ++ first_text) synced shown → O.allows synced shown }
     ensures served { OnOk result (ServesInput node.now.plan.setup node.now.number (journal_found is_new (D.seen disk.old)) (I.remaining input.old) (O.shown out.old ++ first_text) (D.synced disk.new) (O.shown out.new)) }

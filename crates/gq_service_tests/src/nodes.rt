@@ -163,6 +163,13 @@ const LOST: &str = "grid 2 1\nblocks 16\ntenant ann 8 2 100\ngo\nann open 2 1\nr
 const GIVEN: &[u8] =
     b"65 65 tick\n65 0 joined 1\n65 65 tick\n65 0 ann fetched 0 0 1 1 ab\n65 0 ann fetched 0 1 0 0 -\n";
 
+// A write of its own session, and what is stored: the file had the tag `1 1`.
+const WRITE_THERE: &[u8] =
+    b"65 65 tick\n65 ann write 18 1 0 0 6b\n65 65 ann 18 1 1 0 0 copy 1 1 ab\n";
+
+const STORED_THERE: &str =
+    " ?\n65 65 ann 18 1 1 0 0 ask\n0 65 ann 18 1 2 0 0 store 1099511627777 18 =k\n65 65 ann 18 1 2 0 0 store 1099511627777 18 =k\n";
+
 #[test]
 fn a_new_node_is_given_what_it_lacks(rt: HostRuntime) -> Result<(), Fail> {
     fs::write(&rt, "lost", LOST)?;
@@ -183,9 +190,10 @@ fn a_new_node_is_given_what_it_lacks(rt: HostRuntime) -> Result<(), Fail> {
     writes(&rt, rt.alloc(), &asked, &watch, GIVEN, text)?;
     assert_eq!(&rt; watch.lacked.get(), 2);
     assert_eq!(&rt; watch.filled.get(), Some(65));
+    // its session begins above all that the lost node may have written
     let watch = Watch::new();
-    writes(&rt, rt.alloc(), &asked, &watch, b"65 65 tick\n", " ?\n")?;
-    assert_eq!(&rt; watch.facts.get(), Some(2));
+    writes(&rt, rt.alloc(), &asked, &watch, WRITE_THERE, STORED_THERE)?;
+    assert_eq!(&rt; watch.facts.get(), Some(3));
     assert_eq!(&rt; watch.lacked.get(), 0);
     assert_eq!(&rt; watch.filled.get(), None);
     Ok(())

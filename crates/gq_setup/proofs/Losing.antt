@@ -1,5 +1,5 @@
 -- Nodes that may be lost, one behind another.
-use Rattle.std.proofs.Common.{◌≡◌, ℕ, ◌*◌, ◌<◌, List, [], ◌∷◌, ◌++◌, length, true, sym, subst, append_assoc, append-nil}
+use Rattle.std.proofs.Common.{◌≡◌, ℕ, ◌+◌, ◌*◌, ◌<◌, ◌≤◌, List, [], ◌∷◌, ◌++◌, length, length-append, true, sym, subst, arith, append_assoc, append-nil}
 use Rattle.std.specs.Prelude.{nat_lt, ◌&&◌}
 use Rattle.std.proofs.lemmas.Bool.{and_parts, ltb-true}
 use Rattle.gq_desk.specs.CheckedPlan.{CheckedPlan}
@@ -14,6 +14,17 @@ pub one_lost : (plan : CheckedPlan) (before lost : List ℕ) (place : ℕ) → C
 one_lost plan before [] place can may = (subst (λ b. can_lose plan b place ≡ true) (append-nil before) may, tt)
 one_lost plan before (x ∷ lost) place can may =
     (can.0, one_lost plan (before ++ x ∷ []) lost place can.1 (subst (λ b. can_lose plan b place ≡ true) (sym (append_assoc before (x ∷ []) lost)) may))
+
+-- no more were lost than may be
+pub few_losses : (plan : CheckedPlan) (before lost : List ℕ) → length before ≤ MOST_LOSSES → CanLose plan before lost → length (before ++ lost) ≤ MOST_LOSSES
+few_losses plan before [] few can = subst (λ (b : List ℕ). length b ≤ MOST_LOSSES) (sym (append-nil before)) few
+few_losses plan before (place ∷ lost) few can =
+    let first = and_parts (nat_lt place (plan.grid.rows * plan.grid.cols)) (nat_lt 1 plan.grid.rows && (nat_lt (length before) MOST_LOSSES && nat_lt (times (plan_in before) place) MOST_TIMES)) can.0 in
+    let second = and_parts (nat_lt 1 plan.grid.rows) (nat_lt (length before) MOST_LOSSES && nat_lt (times (plan_in before) place) MOST_TIMES) first.1 in
+    let third = and_parts (nat_lt (length before) MOST_LOSSES) (nat_lt (times (plan_in before) place) MOST_TIMES) second.1 in
+    let less : length before < MOST_LOSSES = ltb-true (length before) MOST_LOSSES third.0 in
+    let one : length (before ++ place ∷ []) ≡ length before + 1 = length-append before (place ∷ []) in
+    subst (λ (b : List ℕ). length b ≤ MOST_LOSSES) (append_assoc before (place ∷ []) lost) (few_losses plan (before ++ place ∷ []) lost (omega (arith, less, one)) can.1)
 
 -- not too many nodes were lost where one may be
 pub few_lost : (plan : CheckedPlan) (lost : List ℕ) (place : ℕ) → can_lose plan lost place ≡ true → times (plan_in lost) place < MOST_TIMES

@@ -8,6 +8,7 @@ use Rattle.gq_model.specs.declared.events.Line.TheVariants.{NewVolume}
 use Rattle.gq_text.specs.AnswerText.{line_text}
 use Rattle.gq_text.specs.Canonical.{script_text}
 use Rattle.gq_journal.specs.Batches.{Line, lines_text}
+use Rattle.gq_node.specs.Resting.{FirstPlan}
 use Rattle.gq_setup.specs.declared.openings.Opening.{Opening}
 use Rattle.gq_setup.specs.Setups.{Setup, SetupReading, holdings, setup_of}
 
@@ -43,15 +44,22 @@ behind_first (c ∷ text) = if c == 10 then text else behind_first text
 abbrev pub setup_of_node_text : List ℕ → SetupReading Setup
 setup_of_node_text text = setup_of (behind_first text)
 
--- how many volumes the tenant at place t has, where a setup was read, and else none
-abbrev pub volumes_read : SetupReading Setup → (t : ℕ) → ℕ
-volumes_read (Ok setup) t = length (account_at (holdings setup) t).volumes
-volumes_read (Err fault) t = 0
+-- what a new node takes from a setup for the tenant at place t: how many volumes it has, and how many nodes were lost
+abbrev pub first_of_setup : Setup → (t : ℕ) → FirstPlan
+first_of_setup setup t = record { volumes = length (account_at (holdings setup) t).volumes; losses = length setup.lost }
 
--- how many the plan opens that has these lines in a journal
-abbrev pub volumes_of_lines : List Line → (t : ℕ) → ℕ
-volumes_of_lines lines t = volumes_read (setup_of_node_text (lines_text lines)) t
+-- and from what was read: nothing, where that is no setup
+abbrev pub no_first : FirstPlan
+no_first = record { volumes = 0; losses = 0 }
 
--- the plan that has these lines in a journal opens for each tenant as many volumes as it has by the setup
+abbrev pub first_read : SetupReading Setup → (t : ℕ) → FirstPlan
+first_read (Ok setup) t = first_of_setup setup t
+first_read (Err fault) t = no_first
+
+-- and from the plan that has these lines in a journal
+abbrev pub first_of_lines : List Line → (t : ℕ) → FirstPlan
+first_of_lines lines t = first_read (setup_of_node_text (lines_text lines)) t
+
+-- for each tenant that is the same as from the setup
 abbrev pub OpensFor : List Line → Setup → Type 0
-OpensFor lines setup = (t : ℕ) → volumes_of_lines lines t ≡ length (account_at (holdings setup) t).volumes
+OpensFor lines setup = (t : ℕ) → first_of_lines lines t ≡ first_of_setup setup t

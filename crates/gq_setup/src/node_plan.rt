@@ -4,7 +4,7 @@ ghost use Rattle.std.specs.Prelude.{◌≡◌, ◌++◌, ℕ, List, true, Ok, No
 ghost use Rattle.gq_grid.specs.Grid.{is_side};
 ghost use Rattle.gq_journal.specs.Batches.{Line, lines_text, whole_lines};
 ghost use Rattle.gq_setup.specs.GoingOn.{goes_on_from_read};
-ghost use Rattle.gq_setup.specs.Texts.{head_text, node_text, behind_first, setup_of_node_text, volumes_of_lines, OpensFor};
+ghost use Rattle.gq_setup.specs.Texts.{head_text, node_text, behind_first, setup_of_node_text, no_first, first_of_lines, OpensFor};
 
 use crate::openings::SetupFault;
 use crate::setup::{Setup, read_setup};
@@ -96,11 +96,11 @@ impl NodePlan {
     }
 }
 
-/// The setup that the text of a plan in a journal tells, if it tells one. With it comes how many volumes the plan opens.
+/// The setup that the text of a plan in a journal tells, if it tells one. With it comes what a new node takes from that plan.
 pub fn read_node_plan(alloc: Global, text: &[u8]) -> Result<Option<Setup>, OutOfMemory>
     ensures setup { IfOk result (λ read. MatchOption read (IsErr (setup_of_node_text text.now)) (λ setup. setup_of_node_text text.now ≡ Ok setup)) }
     ensures volumes { IfOk result (λ read. MatchOption read
-        ((lines : List Line) (t : ℕ) → text.now ≡ lines_text lines → volumes_of_lines lines t ≡ 0)
+        ((lines : List Line) (t : ℕ) → text.now ≡ lines_text lines → first_of_lines lines t ≡ no_first)
         (λ setup. (lines : List Line) → text.now ≡ lines_text lines → OpensFor lines setup)) }
 {
     match read_setup(alloc, behind_first(text)) {

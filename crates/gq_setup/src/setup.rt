@@ -1,6 +1,6 @@
 //! A plan, the volumes that are opened at each start, and the nodes that were lost.
 
-ghost use Rattle.std.specs.Prelude.{◌≡◌, ◌++◌, ◌∷◌, ◌+◌, ◌<◌, ◌^◌, true, length, map, is_none, Ok, Some, [], IfOk, IfErr, IfSome, OnOk, OnErr};
+ghost use Rattle.std.specs.Prelude.{◌≡◌, ◌++◌, ◌∷◌, ◌+◌, ◌<◌, ◌≤◌, ◌^◌, true, length, map, is_none, Ok, Some, [], IfOk, IfErr, IfSome, OnOk, OnErr};
 ghost use Rattle.std.specs.List.{All, flat_map};
 ghost use Rattle.gq_desk.specs.Volumes.{account_at};
 ghost use Rattle.gq_model.specs.Events.{IsIn};
@@ -12,6 +12,7 @@ ghost use Rattle.gq_replace.specs.Plans.{times};
 ghost use Rattle.gq_node.specs.declared.lost.TheConstants.{MOST_TIMES};
 ghost use Rattle.gq_node.specs.Sites.{plan_in};
 ghost use Rattle.gq_setup.specs.Setups.{setup_of, accounts_of, holdings, CanOpen, CanLose, can_lose, has_node, plan_alone, after_opens, after_loses, after_line, after_lines};
+ghost use Rattle.gq_setup.specs.declared.openings.TheConstants.{MOST_LOSSES};
 ghost use Rattle.gq_setup.specs.Faults.{IsFirstFault};
 ghost use Rattle.gq_setup.specs.GoingOn.{goes_on, come_first, row_goes_on, account_goes_on};
 ghost use Rattle.gq_setup.specs.NotKept.{TellsVolume, IsNotKept};
@@ -184,8 +185,16 @@ impl Setup {
     pub fn lost(&self) -> &Lost
         ensures lost { result.now ≡ self.now.lost }
         ensures can { CanLose self.now.plan [] result.now }
+        ensures few { length result.now ≤ MOST_LOSSES }
     {
         &self.lost
+    }
+
+    /// How many nodes were lost.
+    pub fn losses(&self) -> u16
+        ensures { result ≡ length self.now.lost }
+    {
+        self.lost().places().len() as u16
     }
 
     /// Whether it is a node of the plan.

@@ -5,7 +5,7 @@ use Rattle.gq_desk.specs.declared.limits.TheConstants.{MOST_VOLUMES}
 use Rattle.gq_desk.specs.Volumes.{account_at}
 use Rattle.gq_setup.specs.declared.openings.Opening.{Opening}
 use Rattle.gq_setup.specs.Setups.{Setup, accounts_of, after_openings}
-use Rattle.gq_service.specs.Serving.{volumes_of_read}
+use Rattle.gq_service.specs.Serving.{first_of_read}
 use Rattle.gq_service.proofs.NewNodes.{no_volume_beyond, few_volumes}
 use Rattle.gq_service.proofs.new_node.volumes_before.Goals as goal
 
@@ -13,7 +13,7 @@ pub returns-then-tenant-tenants-clause-count : goal.returns-then-tenant-tenants-
 returns-then-tenant-tenants-clause-count c =
     let setup : Setup = c.in-Some.setup in
     let past : length setup.plan.rows ≤ c.args.tenant = subst (λ n. n ≤ c.args.tenant) (c.tenants.ensures.value ∙ ap (λ (p : CheckedPlan). length p.rows) c.plan.ensures) c.if-tenant-tenants.true in
-    no_volume_beyond setup c.args.tenant past ∙ sym (ap (λ read. volumes_of_read read c.args.tenant) c.in-Some.is)
+    no_volume_beyond setup c.args.tenant past ∙ sym (ap (λ read. (first_of_read read c.args.tenant).volumes) c.in-Some.is)
 
 pub returns-clause-few : goal.returns-clause-few
 returns-clause-few c =

@@ -4,8 +4,9 @@ use Rattle.gq_journal.specs.Batches.{batches_of}
 use Rattle.gq_keeper.specs.Plans.{first_plan}
 use Rattle.gq_keeper.specs.Starting.{RecallsAll, facts_read}
 use Rattle.gq_machine.specs.Machines.{tables_of, MachineRecalls}
+use Rattle.gq_node.specs.Resting.{FirstPlan}
 use Rattle.gq_setup.specs.Setups.{Setup}
-use Rattle.gq_setup.specs.Texts.{volumes_of_lines}
+use Rattle.gq_setup.specs.Texts.{first_of_lines}
 use Rattle.gq_service.specs.Serving.{IsNewFor, IsStarted, journal_found, is_its_journal}
 use Rattle.gq_service.proofs.NewNodes.{both_ok, found_volumes}
 use Rattle.gq_service.proofs.serving.begin_or_go_on.Goals as goal
@@ -16,8 +17,8 @@ returns-else-is_new-clause-started g c =
     let number : ℕ = c.args.node.now.number in
     let seen : List ℕ = g.D.Log.seen c.args.disk.now in
     let same : journal_found c.args.is_new seen ≡ seen = rw c.if-is_new.false refl in
-    let found : IsNewFor setup number (volumes_of_lines (first_plan (batches_of seen))) (tables_of c.args.machine.now) = c.requires.found c.if-is_new.false in
+    let found : IsNewFor setup number (first_of_lines (first_plan (batches_of seen))) (tables_of c.args.machine.now) = c.requires.found c.if-is_new.false in
     let started : RecallsAll MachineRecalls c.args.machine.now (facts_read seen) c.go_on.new.machine → is_its_journal setup number seen ≡ true → IsStarted setup number (journal_found c.args.is_new seen) c.go_on.new.machine =
     λ reads its. subst (λ journal. IsStarted setup number journal c.go_on.new.machine) (sym same)
-    (record { new = c.args.machine.now; is_new = subst (λ (lost : ℕ → ℕ). IsNewFor setup number lost (tables_of c.args.machine.now)) (sym (found_volumes setup number seen its)) found; reads = reads }) in
+    (record { new = c.args.machine.now; is_new = subst (λ (lost : ℕ → FirstPlan). IsNewFor setup number lost (tables_of c.args.machine.now)) (sym (found_volumes setup number seen its)) found; reads = reads }) in
     both_ok c.go_on.result started c.go_on.ensures.recalled c.go_on.ensures.its

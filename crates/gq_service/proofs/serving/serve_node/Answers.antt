@@ -3,9 +3,9 @@ use Rattle.std.proofs.Common.{◌≡◌, ◌∙◌, ℕ, List, sym, subst, ap}
 use Rattle.gq_journal.specs.Batches.{whole_lines, lines_text, batches_of}
 use Rattle.gq_keeper.specs.Plans.{first_plan}
 use Rattle.gq_node.specs.Tables.{Tables}
-use Rattle.gq_parts.specs.Resting.{HasVolumes}
+use Rattle.gq_parts.specs.Resting.{HasFirst}
 use Rattle.gq_setup.specs.Setups.{Setup}
-use Rattle.gq_setup.specs.Texts.{setup_of_node_text, volumes_read, volumes_of_lines}
+use Rattle.gq_setup.specs.Texts.{setup_of_node_text, first_read, first_of_lines}
 use Rattle.gq_service.specs.Serving.{IsNewFor}
 use Rattle.gq_service.proofs.NewNodes.{own_volumes, is_of_plan}
 use Rattle.gq_service.proofs.serving.serve_node.Goals as goal
@@ -22,12 +22,12 @@ serve_machine-requires-clause-found g c = λ is.
     let text : c.in_ok-first.first.now ≡ lines_text (first_plan (batches_of (g.D.Log.seen c.journal_text.new.disk))) =
     c.in_ok-first.ensures.found is
     ∙ ap (λ (t : List ℕ). lines_text (first_plan (batches_of t))) (c.as_slice.ensures.value ∙ c.in-Ok.ensures.found is ∙ sym c.in-Ok.ensures.seen) in
-    subst (λ (w : Tables). IsNewFor setup c.args.node.now.number (volumes_of_lines (first_plan (batches_of (g.D.Log.seen c.journal_text.new.disk)))) w) (sym c.new-machine.ensures.node)
-    (subst (λ (t : List ℕ). IsNewFor setup c.args.node.now.number (volumes_read (setup_of_node_text t)) c.in_ok-blank.blank.tables) text c.in_ok-blank.ensures)
+    subst (λ (w : Tables). IsNewFor setup c.args.node.now.number (first_of_lines (first_plan (batches_of (g.D.Log.seen c.journal_text.new.disk)))) w) (sym c.new-machine.ensures.node)
+    (subst (λ (t : List ℕ). IsNewFor setup c.args.node.now.number (first_read (setup_of_node_text t)) c.in_ok-blank.blank.tables) text c.in_ok-blank.ensures)
 
 pub serve_machine-requires-clause-of_plan : goal.serve_machine-requires-clause-of_plan
 serve_machine-requires-clause-of_plan g c =
     let setup : Setup = c.args.node.now.plan.setup in
     let w : Tables = c.in_ok-blank.blank.tables in
-    subst (λ (w : Tables). HasVolumes (volumes_of_lines (whole_lines c.args.node.now.plan.text.items)) w) (sym c.new-machine.ensures.node)
-    (is_of_plan (whole_lines c.args.node.now.plan.text.items) setup w c.args.node.now.volumes (own_volumes setup c.args.node.now.number (volumes_read (setup_of_node_text c.in_ok-first.first.now)) w c.in_ok-blank.ensures))
+    subst (λ (w : Tables). HasFirst (first_of_lines (whole_lines c.args.node.now.plan.text.items)) w) (sym c.new-machine.ensures.node)
+    (is_of_plan (whole_lines c.args.node.now.plan.text.items) setup w c.args.node.now.volumes (own_volumes setup c.args.node.now.number (first_read (setup_of_node_text c.in_ok-first.first.now)) w c.in_ok-blank.ensures))

@@ -4,7 +4,7 @@ use Rattle.std.specs.Prelude.{All}
 use Rattle.std.specs.List.{flat_map}
 use Rattle.gq_node.specs.declared.output.Fact.{Fact}
 use Rattle.gq_node.specs.Recalling.{tenant_of}
-use Rattle.gq_node.specs.Resting.{Needed}
+use Rattle.gq_node.specs.Resting.{FirstPlan, Needed}
 use Rattle.gq_node.specs.Tables.{Tables}
 use Rattle.gq_text.specs.Canonical.{IsPlan}
 use Rattle.gq_facts.specs.Facts.{fact_text}
@@ -14,7 +14,7 @@ use Rattle.gq_parts.proofs.Taking.{texts_are, all_of_plan}
 use Rattle.gq_parts.proofs.Reading.{lines_are_facts}
 use Rattle.gq_parts.proofs.Readable.{lines_read}
 use Rattle.gq_parts.proofs.Resting.{needed_rests}
-use Rattle.gq_setup.specs.Texts.{volumes_of_lines}
+use Rattle.gq_setup.specs.Texts.{first_of_lines}
 use Rattle.gq_machine.specs.Machines.{reads}
 use Rattle.gq_machine.proofs.machine.NodeMachineLasting.put_needed.Goals as goal
 
@@ -29,7 +29,7 @@ returns-in_ok-put_facts-in-Ok c = λ plan of.
     let w : Tables = c.args.self.now.node.tables in
     let facts : List Fact = c.in-Ok.needed.items in
     let old : List ℕ = c.args.facts.now.items in
-    let count : ℕ → ℕ = volumes_of_lines plan in
+    let count : ℕ → FirstPlan = first_of_lines plan in
     let needed : Needed w facts = c.in-Ok.ensures.needed in
     let is : IsPlan w.plan = subst IsPlan c.plan.ensures c.plan_is_sound.ensures in
     let fit : All (FitsFact w.plan) facts = subst (All (FitsFact w.plan)) c.as_slice.ensures.value c.in_ok-put_facts-in-Ok.ensures.fit in

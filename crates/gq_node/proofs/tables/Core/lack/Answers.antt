@@ -1,40 +1,23 @@
--- A new node lacks all files of the volumes.
-use Rattle.std.proofs.Common.{◌≡◌, ◌∙◌, ℕ, ◌<◌, true, length, sym, subst}
-use Rattle.std.specs.Prelude.{slice_set}
-use Rattle.gq_node.specs.Opening.{Bereaves}
-use Rattle.gq_node.specs.Shape.{IsShaped}
+-- A new node lacks the files, and then its sessions begin where they have to.
+use Rattle.std.proofs.Common.{◌≡◌, ◌∙◌, ℕ, ◌<◌, length, true, ap, sym, subst}
+use Rattle.std.specs.Prelude.{nat_lt}
+use Rattle.gq_desk.specs.CheckedPlan.{CheckedPlan}
+use Rattle.gq_replace.specs.Plans.{generation}
+use Rattle.gq_node.specs.Sites.{Here}
 use Rattle.gq_node.specs.Tables.{Tables, is_new_node}
-use Rattle.gq_node.proofs.Bereaving.{with_lacks, bereaves, bereaves_not, bereaved_shaped}
+use Rattle.gq_node.proofs.Bereaving.{bereaves, bereaves_not}
 use Rattle.gq_node.proofs.tables.Core.lack.Goals as goal
 
 pub returns-then-not-is_new : goal.returns-then-not-is_new
-returns-then-not-is_new c = record { begins = bereaves_not c.args.self.now c.args.tenant c.args.volumes (sym (c.is_new.ensures 0) ∙ c.if-not-is_new.true) c.requires.first }
+returns-then-not-is_new c =
+    record { begins = bereaves_not c.args.self.now c.args.tenant (record { volumes = c.args.volumes; losses = c.args.losses }) (sym (c.is_new.ensures 0) ∙ c.if-not-is_new.true) c.requires.first }
 
-abbrev with_place : goal.After-drop-index_mut → ℕ → Tables
-with_place c n = record { plan = c.self.inside.plan; here = record { node = c.self.inside.node; lost = c.self.inside.lost }; desk = c.self.inside.desk; store = c.self.inside.store; given = slice_set c.self.inside.lacks.items n c.in_ok-self-inside.field-0; joined = c.self.inside.joined; mates = c.self.inside.mates.items; seats = c.self.inside.seats.items }
+pub reserve_all-requires-clause-tenant : goal.reserve_all-requires-clause-tenant
+reserve_all-requires-clause-tenant c = subst (λ (p : CheckedPlan). c.args.tenant < length p.rows) (sym c.in_ok-lose.ensures.loses.plan) c.requires.tenant
 
-within : (c : goal.After-drop-index_mut) → c.args.tenant < length c.args.self.now.given
-within c = let shaped : IsShaped c.args.self.now = subst IsShaped c.self.view_is c.self.invariant in subst (λ n. c.args.tenant < n) (sym shaped.given) c.requires.tenant
-
-new : (c : goal.After-drop-index_mut) → is_new_node c.args.self.now ≡ true
-new c = sym (c.is_new.ensures 0) ∙ c.if-not-is_new.false
-
-pub invariant_of-self : goal.invariant_of-self
-invariant_of-self c =
-    let w : Tables = c.args.self.now in
-    let t : ℕ = c.args.tenant in
-    let shaped : IsShaped w = subst IsShaped c.self.view_is c.self.invariant in
-    subst (λ n. IsShaped (with_place c n)) (sym c.from.ensures)
-    (subst (λ (x : Tables). IsShaped (with_lacks x t c.in_ok-self-inside.field-0)) (sym c.self.view_is)
-    (bereaved_shaped w t c.args.volumes c.in_ok-self-inside.field-0 shaped (within c) c.requires.few (new c) c.in_ok-self-inside.ensures c.requires.first))
+pub reserve_all-requires-clause-new : goal.reserve_all-requires-clause-new
+reserve_all-requires-clause-new c = ap (λ (h : Here). nat_lt 0 (generation h.node)) c.in_ok-lose.ensures.loses.here ∙ sym (c.is_new.ensures 0) ∙ c.if-not-is_new.false
 
 pub returns : goal.returns
 returns c =
-    let w : Tables = c.args.self.now in
-    let t : ℕ = c.args.tenant in
-    record {
-      begins =
-          subst (λ n. Bereaves w t c.args.volumes (with_place c n)) (sym c.from.ensures)
-          (subst (λ (x : Tables). Bereaves w t c.args.volumes (with_lacks x t c.in_ok-self-inside.field-0)) (sym c.self.view_is)
-          (bereaves w t c.args.volumes c.in_ok-self-inside.field-0 (within c) (new c) c.in_ok-self-inside.ensures c.requires.first));
-    }
+    record { begins = bereaves c.args.self.now c.lose.new.self c.reserve_all.new.self c.args.tenant (record { volumes = c.args.volumes; losses = c.args.losses }) c.in_ok-lose.ensures.loses c.reserve_all.ensures }

@@ -1,12 +1,12 @@
 -- The seat at the place is that of its session.
-use Rattle.std.proofs.Common.{◌≡◌, ◌∙◌, ◌++◌, ℕ, ◌<◌, List, map, length, sym, ap, subst, arith}
+use Rattle.std.proofs.Common.{◌≡◌, ◌∙◌, ◌++◌, ℕ, ◌<◌, Bool, List, map, length, sym, ap, subst, arith}
 use Rattle.std.specs.Prelude.{OnOk, slice_index_or}
 use Rattle.std.proofs.lemmas.List.{append_assoc, map-append}
 use Rattle.gq_desk.specs.declared.limits.TheConstants.{MOST_SESSIONS}
 use Rattle.gq_cluster.specs.Facts.{OwnFact}
 use Rattle.gq_node.specs.declared.output.Fact.{Fact}
 use Rattle.gq_node.specs.declared.seats.Seat.{Seat}
-use Rattle.gq_node.specs.Needing.{begun_facts, number_facts, place_numbers}
+use Rattle.gq_node.specs.Needing.{is_own, begun_facts, number_facts, place_numbers}
 use Rattle.gq_node.specs.Shape.{IsShaped}
 use Rattle.gq_node.specs.Sites.{seat_place, session_at}
 use Rattle.gq_node.specs.Tables.{Tables, seats_at, seat_at, fact_of}
@@ -30,10 +30,12 @@ returns c =
     let op : ℕ = c.index-seat.result.now.reserved_op in
     let floor : ℕ = c.index-seat.result.now.reserved_floor in
     let number : ℕ = c.session_at-session.result in
-    let all : c.put_begun.new.facts.items ++ map F (number_facts number floor) ≡ before ++ map F (place_numbers w t place) =
-    ap (λ fs. fs ++ map F (number_facts number floor)) c.in_ok-put_begun.ensures
-    ∙ append_assoc before (map F (begun_facts number op)) (map F (number_facts number floor))
-    ∙ ap (λ fs. before ++ fs) (sym (map-append F (begun_facts number op) (number_facts number floor)))
-    ∙ ap (λ n. before ++ map F (begun_facts n op ++ number_facts n floor)) c.session_at-session.ensures
-    ∙ ap (λ (x : Seat). before ++ map F (begun_facts k x.reserved_op ++ number_facts k x.reserved_floor)) seat in
+    let own : Bool = c.is_own-own.result in
+    let all : c.put_begun.new.facts.items ++ map F (number_facts own number floor) ≡ before ++ map F (place_numbers w t place) =
+    ap (λ fs. fs ++ map F (number_facts own number floor)) c.in_ok-put_begun.ensures
+    ∙ append_assoc before (map F (begun_facts number op)) (map F (number_facts own number floor))
+    ∙ ap (λ fs. before ++ fs) (sym (map-append F (begun_facts number op) (number_facts own number floor)))
+    ∙ ap (λ b. before ++ map F (begun_facts number op ++ number_facts b number floor)) c.is_own-own.ensures
+    ∙ ap (λ n. before ++ map F (begun_facts n op ++ number_facts (is_own w t n) n floor)) c.session_at-session.ensures
+    ∙ ap (λ (x : Seat). before ++ map F (begun_facts k x.reserved_op ++ number_facts (is_own w t k) k x.reserved_floor)) seat in
     subst (λ items. OnOk c.put_number.result (c.put_number.new.facts.items ≡ items)) all c.put_number.ensures
