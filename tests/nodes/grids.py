@@ -23,6 +23,7 @@ ANSWERS = [
     "ann done read 4 2 tag 2 1 ff",
     "bob plan 4 0 2 16 16 8.2",
 ]
+OF_A_LOSS = 1_099_511_627_776  # numbers of tags that are left for what is written between two losses
 # A node's journal is lost, and a new node takes its place; so twice at one place, and then at the place of its mate.
 LOSSES = (
     "ann write 4 0 0 6869\nwait\nlose 3\nann read 4 0 0\nann read 1 0 0\nreplace 3\nwait 67\nwait\nann write 4 0 1 aa\nwait\n"
@@ -34,12 +35,12 @@ LOST = [  # (operations without their numbers, which hang on when a node starts 
     "ann done read 1 tag 1 4 6869",
     "node 67 stands in the place of node 3",
     "ann done read 20 tag 1 4 6869",
-    "ann done write 20 tag 1 20",
+    f"ann done write 20 tag {OF_A_LOSS + 1} 20",
     "node 67 is lost: it is down, and its journal is gone",
     "node 131 stands in the place of node 67",
     "node 1 is lost: it is down, and its journal is gone",
     "node 65 stands in the place of node 1",
-    "ann done read 36 tag 1 20 aa",
+    f"ann done read 36 tag {OF_A_LOSS + 1} 20 aa",
     "ann done read 3 tag 1 4 6869",
     "bob plan 4 0 2 16 16 8.2 65 131",
     "node 131 is lost: it is down, and its journal is gone",

@@ -1,6 +1,6 @@
 """A node that stands in the place of one that was lost: the plan that says so, its faults and those of a start, journals with files that were
-given, and lines by which a new node joins and gets files, each with what is written for it; and what a client does whose session's home was
-lost."""
+given, and lines by which a new node joins and gets files, each with what is written for it; where the tags of its sessions begin; and what a client
+does whose session's home was lost."""
 
 import os
 import random
@@ -10,8 +10,8 @@ sys.path.insert(0, os.path.join(os.path.dirname(os.path.abspath(__file__)), ".."
 from contents import in_bytes
 from faults import PLAN, STRANGE, Faults, not_kept, of_node
 from journals import batches, sealed
-from processes import WRONG, get, put
-from tenant import Nodes, Session, homes, nodes_of
+from processes import WRONG, Stepped, get, put, words_of
+from tenant import PLACES, SESSIONS, Nodes, Session, homes, nodes_of
 
 LOST = PLAN + b"replace 3\n"
 FILES = 6  # of the plan, all of which node 67 lacks at first
@@ -20,6 +20,7 @@ WHOLE = b"gridfs: node 67 of 2 by 2: %d facts\n"
 ALL = b"gridfs: node 67: has all files\n"
 FIRST = b" ?\n"
 GREATEST = 18_446_744_073_709_551_615
+OF_A_LOSS = 1_099_511_627_776  # numbers of tags that are left for what is written between two losses
 # Plans with a loss that is at fault, and the line that is told.
 AT_FAULT = {
     "a place that is not there": (PLAN + b"replace 4\n", 10),
@@ -124,7 +125,21 @@ NEEDED = [
     b"had cat 0 0 2599 2 " + b"cd" * 100,
     b"had cat 0 1 0 0 -",
     b"numbered ann 20 1024",
+    b"numbered cat 17 %d" % OF_A_LOSS,
 ]
+# A write at the new node, whose row has told their copies, and what comes of it.
+WRITE = b"67 ann write 20 1 0 0 aa\n"
+COPIES = b"67 2 ann 20 1 1 0 0 copy 0 0 -\n67 67 ann 20 1 1 0 0 copy 0 0 -\n"
+STORES = b"1 67 ann 20 1 2 0 0 store %d 20 aa\n67 67 ann 20 1 2 0 0 store %d 20 aa\n"
+
+
+def numbered(plan, number, losses):
+    """The facts that reserve for each session of the new node what may be used before a plan of so many losses."""
+    own = [who for who, home in homes(plan.decode())[1].items() if home == number]
+    return b"".join(b"numbered %s %d %d\n" % (name.encode(), session + number // PLACES * SESSIONS, losses * OF_A_LOSS) for name, session in own)
+
+
+BASE = numbered(LOST, 67, 1)
 
 
 class NewNodes(Faults):
@@ -153,24 +168,24 @@ class NewNodes(Faults):
         """What is kept of files that were given, and what a start behind it knows."""
         self.held("a first start", self.begin(), (0, LACKS % (0, FILES), FIRST))
         first = b"node 67 of 2 by 2\n" + LOST
-        self.held("its journal", get(self.at("journal")), sealed(1, first))
+        self.held("its journal", get(self.at("journal")), sealed(1, first) + sealed(2, BASE))
         self.node(GIVEN)
         fact = in_bytes(b"had ann 0 0 5 1 aa\n")
-        self.held("a file that was given", get(self.at("journal")), sealed(1, first) + sealed(2, fact))
+        self.held("a file that was given", get(self.at("journal")), sealed(1, first) + sealed(2, BASE) + sealed(3, fact))
         seen = self.node(ASK + JOINED + TICK)
-        self.held("a start behind it", seen, (0, LACKS % (1, FILES - 1), FIRST + in_bytes(COPY) + NEXT + b"1 67 bob fetch 0 0\n"))
-        self.held("nobody has joined behind a start", self.node(TICK), (0, LACKS % (1, FILES - 1), FIRST + JOINS))
+        self.held("a start behind it", seen, (0, LACKS % (2, FILES - 1), FIRST + in_bytes(COPY) + NEXT + b"1 67 bob fetch 0 0\n"))
+        self.held("nobody has joined behind a start", self.node(TICK), (0, LACKS % (2, FILES - 1), FIRST + JOINS))
         late = self.node(b"67 1 ann fetched 0 1 0 0 -\n")
-        self.held("a copy that comes late", late, (0, LACKS % (1, FILES - 1), FIRST + b"1 67 ann fetch 0 2\n"))
+        self.held("a copy that comes late", late, (0, LACKS % (2, FILES - 1), FIRST + b"1 67 ann fetch 0 2\n"))
         self.node(STORE)
-        facts = [fact, b"had ann 0 1 0 0 -\n", in_bytes(b"kept ann 0 0 9 1 ff\n")]
+        facts = [BASE, fact, b"had ann 0 1 0 0 -\n", in_bytes(b"kept ann 0 0 9 1 ff\n")]
         self.held("the journal behind a store", batches(get(self.at("journal")))[0][1:], facts)
         status, told, _ = self.node(ALL_GIVEN)
-        self.held("the others are given", (status, told), (0, LACKS % (3, FILES - 2) + ALL))
-        self.held("a start with all files", self.node(ASK + TICK), (0, WHOLE % 7, FIRST + in_bytes(COPY.replace(b"5 1 aa", b"9 1 ff"))))
+        self.held("the others are given", (status, told), (0, LACKS % (4, FILES - 2) + ALL))
+        self.held("a start with all files", self.node(ASK + TICK), (0, WHOLE % 8, FIRST + in_bytes(COPY.replace(b"5 1 aa", b"9 1 ff"))))
         put(self.at("plan"), LOST.replace(b"go\n", b"tenant cat 8 3 1\ngo\n") + b"cat open 2 1\nreplace 2\n")
         seen = self.node(b"67 0 cat 2 1 1 0 0 ask\n67 66 joins 2\n")
-        self.held("a file of a later plan", seen, (0, WHOLE % 7, FIRST + b"0 67 cat 2 1 1 0 0 copy 0 0 -\n66 67 joined 2\n"))
+        self.held("a file of a later plan", seen, (0, WHOLE % 8, FIRST + b"0 67 cat 2 1 1 0 0 copy 0 0 -\n66 67 joined 2\n"))
         put(self.at("journal"), sealed(1, first) + sealed(2, b"had ann 0 4 5 1 aa\n"))
         put(self.at("plan"), LOST)
         self.refused("a file that is not there was given", 1, STRANGE)
@@ -194,7 +209,60 @@ class NewNodes(Faults):
         self.held("its facts", sorted(b"".join(found[1:]).split(b"\n")[:-1]), sorted([*map(in_bytes, NEEDED), b"began ann 20 1024"]))
         status, told, wrote = self.node(ASK + b"67 0 cat 2 1 1 0 1 ask\n" + TICK)
         copies = b"0 67 ann 1 1 1 0 0 copy 2599 1 %s\n0 67 cat 2 1 1 0 1 copy 0 0 -\n" % (b"ab" * 100)
-        self.held("a start behind it", (status, told, wrote), (0, LACKS % (5, FILES - 1), FIRST + in_bytes(copies) + JOINS))
+        self.held("a start behind it", (status, told, wrote), (0, LACKS % (6, FILES - 1), FIRST + in_bytes(copies) + JOINS))
+
+    def numbers(self):
+        """The tags of a new node's sessions begin above all that a lost node wrote, by the plan with which the node began."""
+        stores = STORES % (OF_A_LOSS + 1, OF_A_LOSS + 1)
+        self.held("a write of a new node", self.begin(given=WRITE + COPIES), (0, LACKS % (0, FILES), FIRST + ASKS + in_bytes(stores)))
+        facts = BASE + b"began ann 20 1024\nnumbered ann 20 %d\n" % (OF_A_LOSS + 1_024)
+        self.held("its journal", b"".join(batches(get(self.at("journal")))[0][1:]), facts)
+        put(self.at("plan"), LOST + b"replace 0\n")
+        again = (WRITE + COPIES).replace(b" 20 1 ", b" 20 1025 ")
+        status, told, wrote = self.node(again)
+        stores = (STORES % (OF_A_LOSS + 1_025, OF_A_LOSS + 1_025)).replace(b" 20 1 ", b" 20 1025 ")
+        self.held("a later plan changes none of it", (status, told, in_bytes(stores) in wrote), (0, LACKS % (3, FILES), True))
+        put(self.at("journal"), sealed(1, b"node 67 of 2 by 2\n" + LOST) + sealed(2, b"numbered ann 20 7\n"))
+        put(self.at("plan"), LOST)
+        status, told, wrote = self.node(WRITE + COPIES)
+        self.held("a journal from before, with numbers", (status, told, wrote), (0, LACKS % (1, FILES), FIRST + ASKS + in_bytes(STORES % (8, 8))))
+        put(self.at("journal"), sealed(1, b"node 67 of 2 by 2\n" + LOST))
+        seen = self.node(WRITE + COPIES)
+        self.held("and with none", seen, (0, LACKS % (0, FILES), FIRST + ASKS + in_bytes(STORES % (OF_A_LOSS + 1, OF_A_LOSS + 1))))
+        for number, plan, losses in (131, LOST + b"replace 0\nreplace 3\n", 3), (64, LOST + b"replace 0\n", 2), (0, LOST, 0):
+            self.begin(plan, number=number)
+            facts = b"".join(batches(get(self.at("journal")))[0][1:])
+            self.held(f"what node {number} begins with", facts, numbered(plan, number, losses) if losses else b"")
+
+    def late_store(self):
+        """A store of a lost home that reached one server does not come back over what its successor has written since."""
+        put(self.at("plan"), PLAN)
+        for number in range(4):
+            self.node(b"0 3 ann 4 9 2 0 0 store 9 4 01\n" * (number == 0), number, journal=f"late{number}", is_new=True)
+        put(self.at("plan"), LOST)
+        running = [0, 1, 2, 67]
+        nodes = {number: Stepped(words_of(self.program, number, "plan", f"late{number}", number == 67), number, self.folder) for number in running}
+        try:
+            told = [self.carried(nodes, lines) for lines in ([b"67 67 tick"], [b"67 67 tick"], [b"67 ann write 20 1 0 0 02"], [b"0 ann read 1 1 0 0"])]
+        finally:
+            for node in nodes.values():
+                node.kill()
+        first, second = [line.split(b" ") for line in told[2] + told[3]]
+        self.held("a write at the new node is done", (first[2:4], int(first[7]) > OF_A_LOSS), ([b"done", b"write"], True))
+        self.held("and is read where a store of the lost node has come", (second[2:4], second[9:]), ([b"done", b"read"], [b"02"]))
+
+    def carried(self, nodes, lines):
+        """What tenants are told until no line is on its way any more."""
+        told = []
+        while lines:
+            line = lines.pop(0)
+            to = line.partition(b" ")[0]
+            if not to.isdigit():
+                told.append(line)
+            elif int(to) in nodes:
+                wrote, _ = nodes[int(to)].step(line + b"\n")
+                lines += [more for more in wrote.split(b"\n") if more and more != b" ?" and not more.startswith(b"mark ")]
+        return told
 
     def plans(self):
         for name, (text, line) in AT_FAULT.items():
@@ -211,7 +279,7 @@ class NewNodes(Faults):
         self.held("a tenant with that name", seen, (0, told, FIRST + b"replace 67 plan 4 0 2 16 16 1.1 67\n"))
         for name, text in ALIKE.items():
             self.begin(text)
-            self.held(name, get(self.at("journal")), sealed(1, b"node 67 of 2 by 2\n" + LOST))
+            self.held(name, get(self.at("journal")), sealed(1, b"node 67 of 2 by 2\n" + LOST) + sealed(2, BASE))
         wide = PLAN.replace(b"grid 2 2", b"grid 8 8").replace(b"blocks 64", b"blocks 640")
         put(self.at("wide"), wide + b"".join(b"replace %d\n" % (at % 64) for at in range(255)))
         told = b"gridfs: node 255 of 8 by 8: 0 facts, lacks 6 files\n"
@@ -295,7 +363,7 @@ class NewNodes(Faults):
 def tell_new_nodes(program, folder):
     """How many things were compared, and what is wrong."""
     new = NewNodes(program, folder)
-    for part in (new.lines, new.long_lines, new.journals, new.written_anew, new.plans, new.starts, new.plans_that_go_on, new.clients):
+    for part in (new.lines, new.long_lines, new.journals, new.written_anew, new.numbers, new.late_store, new.plans, new.starts, new.plans_that_go_on, new.clients):
         try:
             part()
         except WRONG as fault:  # (a node that does not start leaves no journal)

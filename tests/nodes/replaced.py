@@ -22,6 +22,7 @@ from tenant import nodes_of as nodes_of_text
 
 MOST_LOST = 5  # nodes of one storm
 LEAST_BETWEEN, MEAN_BETWEEN = 100, 250  # lines from one loss to the next
+OF_A_LOSS = 1_099_511_627_776  # numbers of tags that are left for what is written between two losses
 WITH_ITS_JOURNAL = 0.3  # of the nodes that are given up, those that live on
 NEWEST = 0.6  # of the starts, those with the newest plan
 TURNS_TO_FETCH = 2_000  # in which new nodes get all files once nothing is lost any more
@@ -248,6 +249,8 @@ class Losses(Storm):
         text = self.chain[self.version[number]]
         if not os.path.exists(os.path.join(self.folder, plan)):  # (another node may be reading it)
             put(os.path.join(self.folder, plan), text.encode())
+        if number >= PLACES and number not in self.begun:
+            self.numbers.least[number] = losses_of(text) * OF_A_LOSS
         self.begun.add(number)
         journal = self.journal_of(number)
         lacked = len(list(journal.lacked())) if journal.is_there else self.files_of(text) * (number >= PLACES)

@@ -19,6 +19,10 @@ def reserved_in(journal):
     return last[b"began"], last[b"numbered"]
 
 
+def line_of(words):
+    return repr(b" ".join(words)[:200])
+
+
 class Numbers:
     """What all nodes of a grid have written, life by life, as far as it has numbers."""
 
@@ -27,6 +31,7 @@ class Numbers:
         self.operations, self.tags = {}, {}  # the greatest of a session that were used
         self.last = {}  # of each node, the last numbers of its sessions in this life
         self.homes = {}
+        self.least = {}  # of a new node, the number above which the tags of its sessions are
 
     def once(self, what, value):
         if self.seen.setdefault(what, value) != value:
@@ -65,5 +70,7 @@ class Numbers:
         self.last[node][session] = max(operation, self.last[node].get(session, 0))
         if words[8] == b"store" and words[10] != b"0":
             self.once(("the tag", words[2], *words[9:11]), place)
+            if words[10] == words[3] and int(words[9]) <= self.least.get(node, 0):
+                raise Wrong(f"node {node} writes {line_of(words)}, and its sessions begin above {self.least[node]}")
             if words[10] == words[3]:
                 self.tags[session] = max(int(words[9]), self.tags.get(session, 0))
