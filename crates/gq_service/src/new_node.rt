@@ -1,6 +1,6 @@
 //! A node that was never started.
 
-ghost use Rattle.std.specs.Prelude.{◌≡◌, ◌<◌, ◌≤◌, IfOk, None, false, length};
+ghost use Rattle.std.specs.Prelude.{◌≡◌, ◌<◌, ◌≤◌, ℕ, IfOk, None, false, length};
 ghost use Rattle.gq_desk.specs.Volumes.{account_at, open_fault};
 ghost use Rattle.gq_desk.specs.declared.limits.TheConstants.{MOST_VOLUMES};
 ghost use Rattle.gq_node.specs.Opening.{Opens};
