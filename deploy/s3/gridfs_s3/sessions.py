@@ -2,8 +2,9 @@
 
 import asyncio
 import time
-from collections.abc import Callable
+from collections.abc import AsyncIterator, Callable
 from concurrent.futures import ThreadPoolExecutor
+from contextlib import asynccontextmanager
 from dataclasses import replace
 from typing import Any, TypeVar
 
@@ -37,7 +38,7 @@ class Pool:
         self.carrier: Carrier | None = None
         self.layout: Layout  # once it is opened
         self.has_all = False  # whether all sessions of the tenant are here
-        self.gathering = asyncio.Lock()  # of who has a worker and waits for others
+        self.gathering, self.gatherers = asyncio.Lock(), 0  # of who waits for several workers, and how many have it or wait for it
         self.threads = ThreadPoolExecutor(32, thread_name_prefix="session")
         self.loop = asyncio.get_running_loop()
         self.tasks: set[asyncio.Task[None]] = set()
@@ -122,10 +123,10 @@ class Pool:
 
     async def others(self, mine: list[Worker]) -> list[Worker]:
         """All other workers, each once it is free: what needs the room of all waits for it. Crowded where somebody gathers already."""
-        if self.gathering.locked():
+        if self.gatherers:
             raise Crowded
         found: list[Worker] = []
-        async with self.gathering:
+        async with self.gather():
             try:
                 for number in self.workers:
                     if self.workers[number] not in [*mine, *found] and not self.workers[number].is_silent:
@@ -136,9 +137,19 @@ class Pool:
                 raise
         return found
 
+    @asynccontextmanager
+    async def gather(self) -> AsyncIterator[None]:
+        """One at a time waits for several workers. (Whether the lock is taken tells too little: one that is free may be another's next.)"""
+        self.gatherers += 1
+        try:
+            async with self.gathering:
+                yield
+        finally:
+            self.gatherers -= 1
+
     async def pair(self, number: int | None, preferred: int) -> tuple[Worker, Worker]:
         """Two workers, the second of this number where there is one."""
-        async with self.gathering:
+        async with self.gather():
             first = preferred if preferred != number else next(each for each in self.workers if each != number)
             one = await self.lease(first)
             try:

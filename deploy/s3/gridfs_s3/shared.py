@@ -25,6 +25,7 @@ class Shared:
         self.held: dict[int, tuple[tuple[Tag, ...], list[Held]]] = {}  # of each bucket of pages what its names hold, with the tags of these pages
         self.unsure: dict[str, int] = {}  # names, and the number of a version that may still take effect, since nobody answered
         self.swept: dict[int, float] = {}  # pages that were swept, and when
+        self.searched: dict[int, float] = {}  # sessions all of whose pages were searched for room, and when
         self.last = 0  # the last time that was given
 
     @contextmanager

@@ -3,6 +3,7 @@
 import secrets
 import time
 from collections.abc import Callable, Sequence
+from functools import partial
 from typing import IO, Protocol, cast
 
 from gridfs_client.buckets import Bucket, Held
@@ -13,6 +14,7 @@ from gridfs_client.layout import Layout
 from gridfs_client.names import no_words, present
 from gridfs_client.pages import check_words
 from gridfs_client.pieces import choose
+from gridfs_client.placing import Placing
 from gridfs_client.sessions import Files
 from gridfs_client.streams import Source
 from gridfs_client.writers import Writer
@@ -23,7 +25,7 @@ from .reading import Reader
 from .shared import Shared
 
 Condition = Callable[[Held | None], None]  # judges what a name holds, right before it is changed
-AGAIN = 60.0  # seconds until a page that is full of removals is swept again
+AGAIN = 60.0  # seconds until a page that is full of removals is swept again, and all pages of a session are searched for room
 STAMP = "0" * 13  # as long as a time is
 
 
@@ -48,6 +50,19 @@ class Body(Protocol):
 
     def rewind(self) -> None:
         """Begins anew. An S3Error where some was read that can't be read again."""
+
+
+class FewSearches(Placing):
+    """A placing that does not search all pages for room again and again: what a gateway frees itself it knows, and what others left it has found."""
+
+    shared: Shared
+
+    def find_room(self) -> None:
+        for number, writer in self.writers.items():
+            if time.monotonic() - self.shared.searched.get(number, -AGAIN) >= AGAIN:
+                writer.find_room()
+                self.shared.searched[number] = time.monotonic()
+        self.recall()
 
 
 class Store(Reader):
@@ -79,6 +94,11 @@ class Store(Reader):
         """Whether the free slots of these suffice, as far as is known."""
         free = {writer.me: writer.keeper.free() for writer in writers}
         return choose(self.me, self.writer.keeper.number, size, free) is not None
+
+    def moved(self, bucket: Bucket, name: str, source: Source, writers: Sequence[Writer], words: str) -> InSlots:
+        placing = FewSearches(self.layout, bucket, writers, self.team)
+        placing.words, placing.shared = words, self.shared
+        return placing.run(name, source, partial(self.progress, "put"))
 
     # Changes
 
