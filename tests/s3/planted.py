@@ -21,6 +21,7 @@ BUGS = {
     "what was replaced gets other words": ("test_steps.py Steps.test_touch_after_a_change", "store.py", "            if not held or held.version != seen.version:\n", "            if not held:\n"),
     "changes of one name go side by side": ("test_operations.py Objects.test_conditions_of_puts", "shared.py", "            with lock:\n                yield", "            yield"),
     "any page that was read once will do": ("histories_in_memory.py 0 30", "shared.py", "if found and found.tag == listed != client.seen[session - 1].tag and", "if found and found.tag != client.seen[session - 1].tag and"),
+    "who waits for several sessions is overlooked": ("test_forms.py Sessions", "sessions.py", "        if self.gatherers:\n", "        if self.gathering.locked():\n"),
     "signatures are not compared": ("test_forms.py Signing.test_who", "signing.py", "if not hmac.compare_digest(right, signature):", "if False:"),
     "old requests are taken": ("test_forms.py Signing.test_times", "signing.py", "if abs(now - seconds) > SKEW:", "if now - seconds > 90 * SKEW:"),
     "the SHA-256 that was signed is not compared": ("test_forms.py Bodies.test_plain", "bodies.py", "if self.sha256 and self.sha256.hexdigest() != self.wanted_sha256:", "if False:"),

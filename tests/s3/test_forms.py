@@ -30,7 +30,9 @@ from gridfs_s3.keys import BadKeys, Key, parse_keys, read_keys
 from gridfs_s3.listing import Cut
 from gridfs_s3.places import Object, check_bucket, name_of, object_of, of_words, to_words
 from gridfs_s3.requests import judge, range_of, seconds_of_date
+from gridfs_s3.sessions import Pool
 from gridfs_s3.shared import Shared
+from gridfs_s3.workers import Crowded
 
 
 def held(name, words=None, content=b"hi"):
@@ -280,6 +282,35 @@ class Bodies(Case):
         self.assertEqual(self.told(good, signed, **length), "IncompleteBody")
         wrong = b"5;chunk-signature=" + b"2" * 64 + b"\r\nhello\r\n0;chunk-signature=" + b"1" * 64 + b"\r\n\r\n"
         self.assertEqual(self.told(wrong, signed, **length), "SignatureDoesNotMatch")
+
+
+class Sessions(Case):
+    def test_who_has_one_does_not_wait_for_others(self):
+        """Not even in the moment in which the lock is free, and another one is next: that one could wait for this one."""
+
+        async def scenario():
+            pool, entered, go, never = Pool(None), asyncio.Event(), asyncio.Event(), asyncio.Event()
+
+            async def first():
+                async with pool.gather():
+                    entered.set()
+                    await go.wait()
+                await pool.others([])
+
+            async def second():
+                async with pool.gather():
+                    await never.wait()
+
+            tasks = [asyncio.create_task(first())]
+            await entered.wait()
+            tasks.append(asyncio.create_task(second()))
+            await asyncio.sleep(0)
+            go.set()
+            with self.assertRaises(Crowded):
+                await asyncio.wait_for(tasks[0], 5)
+            tasks[1].cancel()
+
+        asyncio.run(scenario())
 
 
 class Clock(Case):
