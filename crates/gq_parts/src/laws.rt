@@ -3,8 +3,9 @@
 ghost use Rattle.gq_parts.specs.AllNodes.{AllByLaw};
 ghost use Rattle.gq_parts.specs.Laws.{AllFactsByParts, AllRunsByParts, AllStartsByParts, AllTenantsApart, AllTextsByParts};
 
-/// How many hops of letters from a node to itself the line takes that made the node write them. What is left behind them goes by lines, as to any
-/// other node, and as stores do. A read or a write takes two hops of its request, a listing two for each file.
+/// How many hops of letters from a node to itself the line takes that made the node write them. What is left after them goes by lines, as to any
+/// other node, and as stores do where a column has more servers than one. A read takes two hops, a write two, or four on a grid of one row, and a
+/// listing two for each file.
 pub const MOST_HOPS: u32 = 8;
 
 /// What a node writes for a tenant is what the tenant's part of it writes, line by line, of the requests, letters and ticks that its

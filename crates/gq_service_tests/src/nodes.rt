@@ -166,10 +166,10 @@ const GIVEN: &[u8] =
 
 // A write of its own session, and what is stored: the file had the tag `1 1`.
 const WRITE_THERE: &[u8] =
-    b"65 65 tick\n65 ann write 18 1 0 0 6b\n65 65 ann 18 1 1 0 0 copy 1 1 ab\n";
+    b"65 65 tick\n65 ann write 18 1 0 0 6b\n65 0 ann 18 1 1 0 0 copy 1 1 ab\n";
 
 const STORED_THERE: &str =
-    " ?\n65 65 ann 18 1 1 0 0 ask\n0 65 ann 18 1 2 0 0 store 1099511627777 18 =k\n65 65 ann 18 1 2 0 0 store 1099511627777 18 =k\n";
+    " ?\n0 65 ann 18 1 1 0 0 ask\n0 65 ann 18 1 2 0 0 store 1099511627777 18 =k\n65 65 ann 18 1 2 0 0 store 1099511627777 18 =k\n";
 
 #[test]
 fn a_new_node_is_given_what_it_lacks(rt: HostRuntime) -> Result<(), Fail> {
