@@ -16,6 +16,8 @@ import time
 
 from histories import HERE, Held
 
+from gridfs_client.buckets import moment
+
 TOP = os.path.join(HERE, "..", "..")
 CLIENT = os.path.join(TOP, "clients", "python", "gridfs-client")
 ENDING = os.path.join(HERE, "ending.py")
@@ -85,10 +87,12 @@ class Commands:
         self.told("get to a file", ["get", "ä b", "copy"], b"")
         with open("copy", "rb") as copy:
             self.held("the file", copy.read(), content)
+        began = moment()
         status, told, _ = self.run("put", "content", "x/y", "--json")
         entry = json.loads(told)
         digest = hashlib.sha256(content).hexdigest()
-        self.held("put --json", (status, entry["name"], entry["version"], entry["size"], entry["sha256"]), (0, "x/y", 1, 20_000, digest))
+        self.held("put --json", (status, entry["name"], entry["size"], entry["sha256"]), (0, "x/y", 20_000, digest))
+        self.held("a version by the clock", began <= entry["version"] <= moment() + 1 or entry["version"], True)
         self.held("stat --json", json.loads(self.run("stat", "x/y", "--json")[1]), entry)
         self.held("stat", self.run("stat", "x/y")[1].splitlines()[0], b"name: x/y")
         self.held("get --json", base64.b64decode(json.loads(self.run("get", "--json", "x/y")[1])["content"]), content)
