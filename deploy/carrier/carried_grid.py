@@ -145,6 +145,12 @@ class CarriedGrid:
     def has_journal(self, number):
         return os.path.exists(journal_of(self.folder, number))
 
+    def is_whole(self, number):
+        """Whether the node has a journal with which it would start."""
+        words = [self.program, "node", str(number), "--plan", self.plan, "--journal", journal_of(self.folder, number)]
+        quiet = {"stdin": subprocess.DEVNULL, "stdout": subprocess.DEVNULL, "stderr": subprocess.DEVNULL}
+        return self.has_journal(number) and subprocess.run(words, **quiet).returncode == 0
+
     def certificates_end(self):
         """The second of the clock at which the first certificate ends; None where there is none."""
         return min(map(end_of, self.certificates()), default=None)

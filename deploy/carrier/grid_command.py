@@ -11,6 +11,7 @@ import time
 HERE = os.path.dirname(os.path.realpath(__file__))
 TOP = os.path.join(HERE, "..", "..")
 sys.path.insert(0, os.path.join(TOP, "examples", "nodes"))
+from carrier import journal_of
 from one_machine import DEFAULT_PLAN, STAY_DOWN, NotStarted, begin, end, how_ended, how_many_are_up, is_ready, look_at, tell, way_out
 
 TRIES = 3  # starts of a node that ends with status 1 before it is ready: its journal may be in use by a process that is about to end
@@ -120,6 +121,8 @@ class GridCommand:
         grid.set_up(*self.setup_words(asked))
         if asked.replace is not None and asked.replace not in grid.nodes:
             raise NotStarted(f"there are the nodes {', '.join(map(str, grid.nodes))}")
+        if asked.replace is not None and grid.is_whole(asked.replace):
+            raise NotStarted(f"node {asked.replace} is whole; to give it up all the same, move {journal_of(grid.folder, asked.replace)} away first")
         new = None if asked.replace is None else grid.note_loss(asked.replace)
         for name in self.tenants(grid):
             grid.write_settings(name)

@@ -173,6 +173,8 @@ class Machine:
             file.seek(20)
             file.write(bytes([byte ^ 1]))
         self.refuses_plan()
+        refused = Command(self, "--replace", "1")
+        self.held("a whole node that is to be replaced", (refused.status(), "node 1 is whole; to give it up all the same, move " in refused.told()), (1, True))
         grid = Command(self)
         self.held("a start that lacks two nodes", (grid.says(UP), "grid: 2 of 4 nodes are up, in " in grid.told()), (True, True))
         told = grid.told().splitlines()
