@@ -465,7 +465,7 @@ def unconfirmed(walk):
 VARIANTS = {
     "stays": ("looked", stays, Bounds(begun=1)),
     "announced": ("looked", announced, Bounds(changes=2, clients=1, pending=1)),
-    "goes-on": ("looked", goes_on, Bounds(begun=0, changes=1, old=2)),
+    "goes-on": ("looked", goes_on, Bounds(begun=1, clients=1)),
     "new-alone": ("number_above", new_alone, Bounds(begun=1)),
     "from-page": ("signed", from_page, Bounds(changes=1, clients=1, pending=1)),
     "one-signpost": ("has_come", come_by(is_any=True), Bounds(begun=1, old=2)),

@@ -60,6 +60,9 @@ class FleetFiles:
             self.grids[grid] = self.open_grid(grid, ground_of(self.map, grid))
         return self.grids[grid]
 
+    def ground(self, grid: str) -> Ground:
+        return ground_of(self.map, grid)
+
     def bucket(self, grid: str, name: str) -> Bucket:
         return self.grid(grid).bucket(name)
 

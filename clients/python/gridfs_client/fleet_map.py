@@ -102,6 +102,11 @@ class FleetMap:
     def last_move(self) -> int:
         return max([each.move for each in self.ranges] + [move.number for move in self.moves])
 
+    @property
+    def age(self) -> tuple[int, int]:
+        """Greater of a later map: each move changes it three times, and grids are added."""
+        return 3 * self.last_move - sum(1 if move.is_there else 2 for move in self.moves), len(self.grids)
+
     # What a mover does with it
 
     def begun(self, first: int, last: int, target: str) -> "FleetMap":
