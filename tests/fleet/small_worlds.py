@@ -162,15 +162,15 @@ class Steps:
         maps = [known for known in self.maps() if session.grid == NEW or not known]
         if len(written) < bounds.changes:
             for known in maps:
-                self.starts("put", place, session, ("put", len(world.ops), len(world.ops) + 1, known), with_own=False)
+                self.starts(f"put by map {known}", place, session, ("put", len(world.ops), len(world.ops) + 1, known), with_own=False)
                 if sum(op.value is None for op in written) < bounds.removals:
-                    self.starts("remove", place, session, ("remove", len(world.ops), None, known))
+                    self.starts(f"remove by map {known}", place, session, ("remove", len(world.ops), None, known))
         if world.others < bounds.others:
             task = ("other", None, world.others + 1, 0)
             self.looks("put another name", place, session, task, others=world.others + 1)
         if world.anew < bounds.anew:
             for known in maps:
-                self.looks("change no name", place, session, ("anew", None, None, known), anew=world.anew + 1)
+                self.looks(f"change no name by map {known}", place, session, ("anew", None, None, known), anew=world.anew + 1)
         signs = any(SIGNPOST in each.page.signposts for each in world.sessions)
         if session.grid == OLD and SIGNPOST not in session.page.signposts:
             self.looks("sign", place, session, ("sign", None, None, 0))
@@ -396,6 +396,29 @@ def wander(bounds, ways_to_go, seed=1):
     return count, moves
 
 
+def go(bounds, patterns):
+    """Goes a way of steps, each behind as many as a look takes; Wrong at the first world that is wrong, LookupError where there is no such step."""
+    world, told = first_world(bounds), []
+    for pattern in patterns:
+        who = pattern.split(":")[0]
+        while True:
+            following = [(words, then) for words, then in Steps(world, bounds).all() if words.startswith(who)]
+            words, then = next((each for each in following if pattern.split(":")[1] in each[0]), (None, None))
+            is_there = words is not None
+            if not is_there:
+                words, then = next((each for each in following if "lists a page" in each[0] or "looks at page" in each[0]), (None, None))
+            if words is None:
+                raise LookupError(pattern, [words for words, _ in following])
+            told.append(words)
+            try:
+                judge(world, then, bounds)
+            except Wrong as wrong:
+                raise Wrong(str(wrong), *told) from None
+            world = then
+            if is_there:
+                break
+
+
 # Wrong variants of the client's code, each with bounds within which the search refuses it.
 
 LOOKED, HAS_COME, KEEPS, COPIED, AT_END = ways.looked, ways.has_come, ways.keeps, ways.copied, ways.at_end
@@ -404,12 +427,6 @@ LOOKED, HAS_COME, KEEPS, COPIED, AT_END = ways.looked, ways.has_come, ways.keeps
 def stays(walk, client):
     """Gets end at the old grid."""
     return LOOKED(walk, client) if walk.is_change else ways.at_end(walk)
-
-
-def announced(walk, client):
-    """A signpost that stands in the own journal alone leads on."""
-    alone = ways.signpost_of([client.journal], walk) if walk.is_change and client.journal else None
-    return ways.onward(walk, Stop(alone.grid, alone.move)) if alone else LOOKED(walk, client)
 
 
 def goes_on(walk, client):
@@ -462,19 +479,35 @@ def unconfirmed(walk):
     return replace(walk, state=None, has_ended=True)
 
 
+CHANGE = ("chooses", "announces", "carries")
+LATE_READER = ["reader 1:begins to get by map 0", "reader 1:looks at page a1"]
+THERE = ["reader 0:begins to look", "reader 0:changes the map"]
+CLEAR = ["session a1:begins to clear", *(f"session a1:{word}" for word in CHANGE)]
+IS_CLEAR = ["reader 0:begins to look", "reader 0:says that the old grid is clear"]
+REMOVED = ["session b1:begins to remove by map 2", *(f"session b1:{word}" for word in CHANGE)]
+TAKEN_AWAY = ["session b1:begins to remove by map 0", *(f"session b1:{word}" for word in CHANGE)]
+FORGOTTEN = ["session b1:begins to change no name by map 2", *(f"session b1:{word}" for word in CHANGE)]
+PUT = ["session a1:begins to put by map 0", *(f"session a1:{word}" for word in CHANGE)]
+SIGNS = ["session a1:begins to sign", *(f"session a1:{word}" for word in CHANGE)]
+COPIES = ["session b1:begins to copy", *(f"session b1:{word}" for word in CHANGE)]
+ENOUGH = Bounds(begun=3, changes=1, removals=1, anew=1)
 VARIANTS = {
     "stays": ("looked", stays, Bounds(begun=1)),
-    "announced": ("looked", announced, Bounds(changes=2, clients=1, pending=1)),
-    "goes-on": ("looked", goes_on, Bounds(begun=1, clients=1)),
+    "goes-on": ("looked", goes_on, (Bounds(begun=1, clients=1), [
+        "session a1:has a new client", *COPIES, *THERE, *PUT, "reader 1:begins to get by map 1", "reader 1:tells"])),
     "new-alone": ("number_above", new_alone, Bounds(begun=1)),
-    "from-page": ("signed", from_page, Bounds(changes=1, clients=1, pending=1)),
-    "one-signpost": ("has_come", come_by(is_any=True), Bounds(begun=1, old=2)),
+    "from-page": ("signed", from_page, (Bounds(clients=1, pending=1, gets=2), [
+        *PUT[:-1], "session a1:gets no answer for its page", "session a1:has a new client", *SIGNS[:2], "session a1:page takes effect late",
+        "reader 1:begins to get", "reader 1:tells", *SIGNS[2:], "reader 1:begins to get", "reader 1:tells"])),
+    "one-signpost": ("has_come", come_by(is_any=True), (Bounds(old=2, changes=2), [
+        *PUT, "session a2:begins to put by map 0", "session a2:chooses", *SIGNS, *COPIES, *THERE, "session a2:announces", "session a2:carries",
+        "reader 1:begins to get by map 1", "reader 1:tells"])),
     "uncarried": ("has_come", come_by(line=False, number=False), Bounds(begun=1)),
     "left-behind": ("has_come", come_by(number=False), Bounds(begun=2)),
     "anew": ("copied", anew, Bounds(begun=1, changes=1)),
-    "unconfirmed": ("at_end", unconfirmed, Bounds(begun=3, changes=1, removals=1, anew=1)),
-    "unclear": ("is_clear", lambda walk, grid: True, Bounds(begun=3, changes=1, removals=1, anew=1)),
-}
+    "unconfirmed": ("at_end", unconfirmed, (ENOUGH, [*TAKEN_AWAY, *THERE, *LATE_READER, *CLEAR, *IS_CLEAR, *FORGOTTEN, "reader 1:tells"])),
+    "unclear": ("is_clear", lambda walk, grid: True, (ENOUGH, [*THERE, *IS_CLEAR, *REMOVED, *FORGOTTEN, "reader 1:begins to get by map 0", "reader 1:tells"])),
+}  # fmt: skip
 
 
 def refuses(name, most=400_000):
@@ -482,7 +515,7 @@ def refuses(name, most=400_000):
     judge_ops.cache_clear()
     with mock.patch.object(ways, what, bug):
         try:
-            search(bounds, most)
+            search(bounds, most) if isinstance(bounds, Bounds) else go(*bounds)
         except Wrong as wrong:
             return wrong
     return None

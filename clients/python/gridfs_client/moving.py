@@ -21,6 +21,7 @@ from .fleet_map import FleetMap, Move
 from .grid import listed
 from .layout import Layout
 from .names import NamedFiles
+from .opening import turn_of
 from .pages import length_of_lines, length_of_signposts
 from .streams import Source
 from .ways import Ground, Stop, slice_of
@@ -101,13 +102,26 @@ class Mover:
                 bucket.refresh()
                 highest = max([highest, *(known.page.number for known in bucket.client.seen)])
                 names = [name for name in bucket.by_name() if self.move.has(slice_of(name))]
-                if names:
-                    with self.files(self.move.target) as target:
-                        self.copy_names(source, target, names)
+                count = self.layout_of(self.move.target).sessions
+                for turn in range(count):
+                    if mine := [name for name in names if turn_of(name, count) == turn]:
+                        self.copy_some(source, turn, mine)
         for page in self.pages(self.move.target):
             with self.files(self.move.target) as target:
                 raise_number(target, page, highest)
         self.tell(f"{self.copied} names copied")
+
+    def copy_some(self, source: NamedFiles, turn: int, names: list[str]) -> None:
+        """By the session of the new grid whose turn it is for these names, as clients have them, or by another one whose page has room."""
+        sessions = self.sessions(self.move.target)
+        for number in (*sessions[turn:], *sessions[:turn]):
+            try:
+                with self.files(self.move.target, [number]) as target:
+                    self.copy_names(source, target, names)
+                return
+            except NoRoom as fault:
+                last = fault
+        raise last
 
     def copy_names(self, source: NamedFiles, target: NamedFiles, names: list[str]) -> None:
         fleet = FleetFiles(self.map, lambda grid, _: {self.move.source: source, self.move.target: target}[grid])
