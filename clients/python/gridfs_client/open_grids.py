@@ -6,7 +6,7 @@ from contextlib import closing, contextmanager
 from typing import IO
 
 from .asking import ask_plan
-from .errors import BadSettings, ClientError, NoSuchName, SessionTaken
+from .errors import BadSettings, CarrierFault, ClientError, NoSuchName, SessionTaken, Unanswered
 from .fleet import MAP_NAME, FleetFiles
 from .fleet_map import FleetMap, parse_map
 from .layout import Layout, layout_of
@@ -23,8 +23,12 @@ class OpenGrid:
     def __init__(self, settings: Settings, name: str):
         self.settings = settings
         self.carrier = settings.carrier()
-        self.told = ask_plan(self.carrier, settings.pace())
-        self.layout = layout_of(self.told)
+        try:
+            self.told = ask_plan(self.carrier, settings.pace())
+            self.layout = layout_of(self.told)
+        except BaseException:
+            self.carrier.close()
+            raise
         self.sessions = OpenSessions(settings, self.told, self.carrier, name)
 
     def files(self, progress: Progress | None, ground: Ground) -> NamedFiles:
@@ -83,11 +87,11 @@ class OpenGrids:
         return FleetFiles(self.map, lambda grid, ground: self.grid(grid).files(self.progress, ground))
 
     def with_latest_map(self) -> FleetFiles:
-        """The files by the fleet's own copy of the map, where that is a later one."""
+        """The files by the fleet's own copy of the map, where that is a later one. Where the grid that has it is silent, this one is as right."""
         files = self.files()
         try:
             latest = parse_map(files.get(MAP_NAME)[0].decode("ascii"), self.map.path)
-        except NoSuchName:
+        except (NoSuchName, Unanswered, CarrierFault):
             return files
         except UnicodeDecodeError:
             raise BadSettings(f"{MAP_NAME}: no map") from None
