@@ -355,19 +355,19 @@ def go(sessions, patterns):
 # Wrong variants of the core, each with bounds within which the search refuses it, or a way to a world in which it is wrong.
 
 
-def vanishing(client, but=None):
+def vanishing(client, but=None, _=None):
     own = core.for_change(client)[client.session]
     return core.Going({line.name for line in own.lines} - {but}, set())
 
 
-def unasked(client, line, besides=()):
-    page = CHANGED(client, line, besides)
+def unasked(client, line, *others):
+    page = CHANGED(client, line, *others)
     return Page(page.lines, client.journal.after, page.number)
 
 
-def unminded(client, line, besides=()):
+def unminded(client, line, *others):
     """The page that forgets a removal doesn't ask for the others."""
-    page, own = CHANGED(client, line, besides), client.journal
+    page, own = CHANGED(client, line, *others), client.journal
     is_forgotten = any(not page.shown(each.name) for each in own.removals())
     return Page(page.lines, own.after, page.number) if is_forgotten else page
 
@@ -390,9 +390,9 @@ def forgetful(client):
     return Version(1 + max(numbers, default=0), client.session)
 
 
-def restarting(client, line, besides=()):
+def restarting(client, line, *others):
     """A version above the lines of the name alone; the page's number is as it was to be."""
-    page = CHANGED(client, line, besides)
+    page = CHANGED(client, line, *others)
     if line is None:
         return page
     found = core.greatest_shown(core.lines_of(core.for_change(client), line.name))

@@ -18,11 +18,14 @@ from .answers import PlanTold
 from .asking import SILENCE, ask_all, ask_plan, why_unanswered
 from .carriers import Carrier
 from .errors import BadFile, BadSettings, ClientError, Refused, Silent, Skipped, Unanswered
+from .fleet import MAP_NAME, FleetFiles
+from .fleet_map import read_map
 from .grid import Nodes, listed
 from .layout import BLOCK, layout_of
 from .local import INPUT, complain, content_of, out, to_target
 from .mirror import GRID, ToFolder, ToGrid, prefix_of, shown
 from .names import Entry, NamedFiles
+from .open_grids import OpenGrids
 from .opening import LEAST, OpenSessions, turn_of
 from .sessions import Session
 from .settings import SETTINGS, Settings, default_file
@@ -109,6 +112,16 @@ class Opened:
             names.close()
 
 
+class OpenedFleet:
+    """The same of several grids: names alone."""
+
+    def __init__(self, grids: OpenGrids):
+        self.grids = grids
+
+    def names(self) -> FleetFiles:
+        return self.grids.with_latest_map()
+
+
 def number_of(word: str) -> int:
     """The number that a word is, as volumes and files have them."""
     if not word.isascii() or not word.isdecimal() or int(word) > MOST_NUMBER:
@@ -133,7 +146,7 @@ def parser() -> argparse.ArgumentParser:
     shared.add_argument("--quiet", action="store_true", help="no progress at a terminal, and of mirror no lines of what is done")
     words = main.add_subparsers(dest="word", required=True, metavar="COMMAND")
 
-    def word(word_name: str, call: Callable[[Opened, argparse.Namespace], None], meaning: str, /, **arguments: dict[str, Any]) -> None:
+    def word(word_name: str, call: Callable[[Any, argparse.Namespace], None], meaning: str, /, **arguments: dict[str, Any]) -> None:
         sub = words.add_parser(word_name, parents=[shared], help=meaning, description=meaning, allow_abbrev=False)
         for argument, options in arguments.items():
             sub.add_argument(argument, **options)
@@ -177,7 +190,7 @@ def tell(args: argparse.Namespace, value: object, text: str | None = None) -> No
         out(text.encode() + b"\n")
 
 
-def put(opened: Opened, args: argparse.Namespace) -> None:
+def put(opened: Opened | OpenedFleet, args: argparse.Namespace) -> None:
     names = opened.names()
     with content_of(args.path) as content:
         entry = names.put(args.name, content)
@@ -185,7 +198,7 @@ def put(opened: Opened, args: argparse.Namespace) -> None:
     tell(args, told_of(entry))
 
 
-def get(opened: Opened, args: argparse.Namespace) -> None:
+def get(opened: Opened | OpenedFleet, args: argparse.Namespace) -> None:
     names = opened.names()
     if args.json and args.path == "-":
         content, entry = names.get(args.name)
@@ -204,12 +217,21 @@ def line_of(entry: Entry) -> str:
     return f"{entry.size:>12}  {entry.version}.{entry.session}  {entry.name}"
 
 
-def ls(opened: Opened, args: argparse.Namespace) -> None:
-    entries = opened.names().names(args.prefix)
+def ls(opened: Opened | OpenedFleet, args: argparse.Namespace) -> None:
+    names, silent = opened.names(), dict[str, ClientError]()
+    if isinstance(names, FleetFiles):
+        found = names.names_told(args.prefix)
+        entries, silent = [entry for entry in found.entries if entry.name != MAP_NAME], found.silent
+    else:
+        entries = names.names(args.prefix)
     tell(args, [told_of(entry) for entry in entries], "\n".join(map(line_of, entries)) or None)
+    for grid, fault in silent.items():
+        complain(f"names at {grid} are not told: {fault}")
+    if silent:
+        raise next(iter(silent.values()))
 
 
-def rm(opened: Opened, args: argparse.Namespace) -> None:
+def rm(opened: Opened | OpenedFleet, args: argparse.Namespace) -> None:
     names = opened.names()
     for name in args.names:
         names.remove(name)
@@ -217,12 +239,12 @@ def rm(opened: Opened, args: argparse.Namespace) -> None:
     tell(args, {"removed": args.names})
 
 
-def stat(opened: Opened, args: argparse.Namespace) -> None:
+def stat(opened: Opened | OpenedFleet, args: argparse.Namespace) -> None:
     entry = told_of(opened.names().stat(args.name))
     tell(args, entry, "\n".join(f"{key}: {value}" for key, value in entry.items()))
 
 
-def sweep(opened: Opened, args: argparse.Namespace) -> None:
+def sweep(opened: Opened | OpenedFleet, args: argparse.Namespace) -> None:
     swept = opened.names().sweep()
     text = f"removals: {swept.forgotten} forgotten, {swept.left} left"
     if swept.absent:
@@ -318,6 +340,9 @@ def used(opened: Opened) -> tuple[Usage | None, ClientError | None]:
 def run(words: list[str]) -> None:
     args = parser().parse_args(words)
     settings = Settings.gather({key.replace("_", "-"): value for key, value in vars(args).items() if isinstance(value, str)}, os.environ)
+    if "map" in settings.values:
+        run_over_grids(args, settings)
+        return
     said, begun = settings.shape(), time.monotonic()
     with closing(settings.carrier()) as carrier:
 
@@ -336,6 +361,26 @@ def run(words: list[str]) -> None:
         except Unanswered as fault:
             why = why_unanswered(carrier, said)
             raise Unanswered(f"{fault}; {why}" if why else str(fault)) from None
+
+
+def run_over_grids(args: argparse.Namespace, settings: Settings) -> None:
+    """A command about the names of several grids."""
+    if args.call not in (put, get, ls, rm, stat, sweep):
+        raise BadSettings(f"{args.word} is about one grid: leave `map` out, and name the settings of that grid")
+    name = vars(args).get("name") or vars(args).get("names", [""])[0]
+    is_shown = sys.stderr is not None and sys.stderr.isatty() and not args.quiet
+    grids = OpenGrids(read_map(settings.need("map")), settings, name, Progress(sys.stderr) if is_shown else None)
+    with closing(grids):
+
+        def interrupt(number: int, _: object) -> None:
+            grids.stop("interrupted")
+            if number == signal.SIGTERM:
+                sys.exit(143)
+            raise KeyboardInterrupt
+
+        signal.signal(signal.SIGINT, interrupt)
+        signal.signal(signal.SIGTERM, interrupt)
+        args.call(OpenedFleet(grids), args)
 
 
 def carry_out(args: argparse.Namespace, settings: Settings, carrier: Carrier, begun: float) -> None:

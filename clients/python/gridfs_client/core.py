@@ -13,7 +13,7 @@ which numbers other pages have to be seen from then on: who looks at pages looks
         state = told(state, ..)           # what came of the request
 """
 
-from collections.abc import Collection, Iterable, Iterator
+from collections.abc import Callable, Collection, Iterable, Iterator
 from dataclasses import dataclass, field, replace
 
 from .answers import Tag
@@ -22,10 +22,23 @@ from .contents import Content, InSlots, parts_of
 
 @dataclass(frozen=True, order=True)
 class Version:
-    """Versions of one name are ordered by number, those with one number by session."""
+    """Versions of one name are ordered by number, those with one number by session. Over several grids the session's grid counts besides; and of
+    a line and its copy the copy is greater, by its move."""
 
     number: int
     session: int
+    grid: str = ""
+    move: int = 0
+
+
+@dataclass(frozen=True)
+class Copied:
+    """Of a copy: the session and grid that chose its version, the move by which it came, and the number of the page with which it came."""
+
+    session: int
+    grid: str
+    move: int
+    since: int
 
 
 @dataclass(frozen=True)
@@ -37,6 +50,26 @@ class Line:
     version: int
     content: Content | None
     words: str = ""
+    copied: Copied | None = None
+
+    @property
+    def since(self) -> int:
+        """The number of the page with which the line came: that of its version, but for a copy."""
+        return self.copied.since if self.copied else self.version
+
+
+@dataclass(frozen=True)
+class Signpost:
+    """Names of these slices went on to this grid, by a move of this number."""
+
+    move: int
+    first: int
+    last: int
+    grid: str
+
+    def leads(self, slice_number: int, move: int) -> bool:
+        """Whether it leads on who came to a name of this slice by that move."""
+        return self.first <= slice_number <= self.last and self.move > move
 
 
 @dataclass(frozen=True)
@@ -47,12 +80,17 @@ class Page:
     lines: tuple[Line, ...] = ()
     after: tuple[int, ...] = ()
     number: int = 0
+    signposts: tuple[Signpost, ...] = ()
 
     def shown(self, name: str) -> Line | None:
         return next((line for line in self.lines if line.name == name), None)
 
     def after_of(self, session: int) -> int:
         return self.after[session - 1] if session <= len(self.after) else 0
+
+    def is_of_a_fleet(self) -> bool:
+        """Whether names of it went to another grid, or came from one."""
+        return bool(self.signposts) or any(line.copied for line in self.lines)
 
     def removals(self) -> list[Line]:
         return [line for line in self.lines if line.content is None]
@@ -92,6 +130,7 @@ class Knows:
     session: int
     seen: tuple[Known, ...]
     journal: Page | None = None
+    grid: str = ""  # of several
 
 
 @dataclass(frozen=True)
@@ -166,8 +205,8 @@ class Older(Exception):
     """The page of this session is older than another one that was written behind it: so they are not what such clients write."""
 
 
-def new_client(session: int, sessions: int) -> Knows:
-    return Knows(session, (Known(),) * sessions)
+def new_client(session: int, sessions: int, grid: str = "") -> Knows:
+    return Knows(session, (Known(),) * sessions, None, grid)
 
 
 def enter(client: Knows) -> Enters:
@@ -265,9 +304,15 @@ def for_change(client: Knows) -> dict[int, Page]:
     return view(client, ())
 
 
-def lines_of(pages: dict[int, Page], name: str) -> list[tuple[Version, Line]]:
+def version_of(line: Line, session: int, grid: str = "") -> Version:
+    """The version of a line that the page of this session has."""
+    copied = line.copied
+    return Version(line.version, copied.session, copied.grid, copied.move) if copied else Version(line.version, session, grid)
+
+
+def lines_of(pages: dict[int, Page], name: str, grid: str = "") -> list[tuple[Version, Line]]:
     found = ((session, page.shown(name)) for session, page in pages.items())
-    return [(Version(line.version, session), line) for session, line in found if line]
+    return [(version_of(line, session, grid), line) for session, line in found if line]
 
 
 def greatest_shown(lines: Iterable[tuple[Version, Line]]) -> tuple[Version, Line] | None:
@@ -289,57 +334,74 @@ class Going:
     asks: set[int] = field(default_factory=set)
 
 
-def going(client: Knows, but: str | None = None) -> Going:
-    """What goes with a change of the name `but`, or of none. Lines of which another page shows a greater one; and removals that are *forgotten*."""
+Keeps = Callable[[str], bool]
+
+
+def keeps_none(_: str) -> bool:
+    return False
+
+
+def going(client: Knows, but: str | None = None, keeps: Keeps = keeps_none) -> Going:
+    """What goes with a change of the name `but`, or of none. Lines of which another page shows a greater one; and removals that are *forgotten*,
+    but those of names that it `keeps`."""
     others = for_change(client)
     own = others.pop(client.session)
-    shown = greatest_of_each(others)
+    shown = owned_greatest(others, client.grid)
     found = Going()
     for line in own.lines:
         if line.name == but:
             continue
         beaten_by = shown.get(line.name)
-        if beaten_by and beaten_by > Version(line.version, client.session):
+        if beaten_by and beaten_by[0] > version_of(line, client.session, client.grid):
             found.names.add(line.name)
-            found.asks.add(beaten_by.session)
-        elif not beaten_by and line.content is None and is_known_to(line, client.session, others):
+            found.asks.add(beaten_by[1])
+        elif not beaten_by and line.content is None and not keeps(line.name) and is_known_to(line, client.session, others):
             found.names.add(line.name)
             found.asks.update(others)
     return found
 
 
-def greatest_of_each(pages: dict[int, Page]) -> dict[str, Version]:
-    """Of each name the greatest version that is shown."""
-    found: dict[str, Version] = {}
+def owned_greatest(pages: dict[int, Page], grid: str = "") -> dict[str, tuple[Version, int]]:
+    """Of each name the greatest version that is shown, and the session whose page shows it."""
+    found: dict[str, tuple[Version, int]] = {}
     for session, page in pages.items():
         for line in page.lines:
-            version = Version(line.version, session)
-            found[line.name] = max(version, found.get(line.name, version))
+            here = (version_of(line, session, grid), session)
+            found[line.name] = max(here, found.get(line.name, here))
     return found
 
 
 def is_known_to(line: Line, session: int, others: dict[int, Page]) -> bool:
     """Whether each other page says that it was made beside a page of the session that had the line, or a later one."""
-    return all(page.after_of(session) >= line.version for page in others.values())
+    return all(page.after_of(session) >= line.since for page in others.values())
 
 
 def unknown(client: Knows) -> set[int]:
     """Sessions whose pages show removals that the own journal doesn't say it was made beside: it has to, before they can be forgotten."""
     others = for_change(client)
     own = others.pop(client.session)
-    return {each for each, page in others.items() if any(own.after_of(each) < line.version for line in page.removals())}
+    return {each for each, page in others.items() if any(own.after_of(each) < line.since for line in page.removals())}
 
 
-def changed(client: Knows, line: Line | None, besides: Collection[str] = ()) -> Page:
+def changed(
+    client: Knows,
+    line: Line | None,
+    besides: Collection[str] = (),
+    keeps: Keeps = keeps_none,
+    least: int = 0,
+    signpost: Signpost | None = None,
+) -> Page:
     """The journal of a client that has looked, with a line on top of a new version, or none; and without lines that go. `besides` may go the lines of
-    names that no other session ever wrote or will."""
+    names that no other session ever wrote or will, or of which another grid shows greater ones. A change of no name has `least` as its number or more."""
     assert client.journal is not None
     journal, pages, name = client.journal, for_change(client), line.name if line else None
-    found = going(client, name)
+    found = going(client, name, keeps)
     gone = (found.names | set(besides)) - {name}
     asks = found.asks | unknown(client)
     after = [max(journal.after_of(each), pages[each].number if each in asks else 0) for each in sorted(pages)]
     while after and not after[-1]:
         after.pop()
     kept = tuple(each for each in journal.lines if each.name not in gone and each.name != name)
-    return Page((*kept, line) if line else kept, tuple(after), line.version if line else new_version(client).number)
+    number = line.since if line else new_version(client, least).number
+    signposts = journal.signposts if signpost is None or signpost in journal.signposts else (*journal.signposts, signpost)
+    return Page((*kept, line) if line else kept, tuple(after), number, signposts)

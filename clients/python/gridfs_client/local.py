@@ -52,11 +52,11 @@ def out(content: bytes) -> None:
         target.flush()
 
 
-def complain(text: str) -> None:
+def complain(text: str, who: str = "gridfs-client") -> None:
     """Tells a fault, if standard error takes it."""
     try:
         if sys.stderr is not None:
-            sys.stderr.write(f"gridfs-client: {text}\n")
+            sys.stderr.write(f"{who}: {text}\n")
             sys.stderr.flush()
     except OSError:
         pass

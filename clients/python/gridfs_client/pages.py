@@ -6,6 +6,8 @@
     7 {WORDS} 1830 DIGEST .. NAME     the same with words of whoever put it
     7 1830 DIGEST 12 1:0&90 .. NAME   contents in slots one behind the other, of several puts of this session: one content
     8 - NAME                          at this version the name was removed
+    7@east.2>3.40 @aGVsbG8 NAME       a copy: session 2 of this grid chose the version, and it came by move 3, with number 40 of the page
+    >3 0-32767 west                   a signpost: by move 3 the names of these slices went on to this grid
 """
 
 import re
@@ -13,12 +15,16 @@ import unicodedata
 from collections.abc import Iterable
 
 from .contents import CONTENT, parse_content
-from .core import Line, Page
+from .core import Copied, Line, Page, Signpost
 from .errors import BadName, Damaged
 
 FIRST_WORDS, OLD_WORDS = "names 2 ", "names 1"
 LONGEST_NAME = 255
-LINE = re.compile(rf"([1-9][0-9]*) (?:\{{([!-z]+)\}} )?({CONTENT.pattern}) (.+)", re.DOTALL)
+GRID = r"[a-z][a-z0-9]{0,15}"
+NUMBER = r"(?:0|[1-9][0-9]*)"
+COPIED = rf"@({GRID})\.([1-9][0-9]*)>([1-9][0-9]*)\.([1-9][0-9]*)"
+SIGNPOST = re.compile(rf">([1-9][0-9]*) ({NUMBER})-({NUMBER}) ({GRID})")
+LINE = re.compile(rf"([1-9][0-9]*)(?:{COPIED})? (?:\{{([!-z]+)\}} )?({CONTENT.pattern}) (.+)", re.DOTALL)
 WORDS = re.compile(r"[!-z]*")
 OLD_FORM = "has names of an older form: get them with the client that put them, and put them into a tenant without names"
 
@@ -44,7 +50,16 @@ def check_words(words: str) -> None:
 
 
 def text_of(page: Page) -> bytes:
-    return "".join([FIRST_WORDS, " ".join(map(str, (page.number, *page.after))), "\n", *map(line_text, page.lines)]).encode()
+    head = [FIRST_WORDS, " ".join(map(str, (page.number, *page.after))), "\n"]
+    return "".join([*head, *map(signpost_text, page.signposts), *map(line_text, page.lines)]).encode()
+
+
+def signpost_text(signpost: Signpost) -> str:
+    return f">{signpost.move} {signpost.first}-{signpost.last} {signpost.grid}\n"
+
+
+def length_of_signposts(page: Page) -> int:
+    return sum(len(signpost_text(each)) for each in page.signposts)
 
 
 def length_of_lines(lines: Iterable[Line]) -> int:
@@ -54,15 +69,24 @@ def length_of_lines(lines: Iterable[Line]) -> int:
 
 def line_text(line: Line) -> str:
     words = f"{{{line.words}}} " if line.words else ""
-    return f"{line.version} {words}{line.content.text() if line.content else '-'} {line.name}\n"
+    copied = "@{0.grid}.{0.session}>{0.move}.{0.since}".format(line.copied) if line.copied else ""
+    return f"{line.version}{copied} {words}{line.content.text() if line.content else '-'} {line.name}\n"
 
 
 def parse_line(text: str) -> Line:
     found = LINE.fullmatch(text)
     if not found:
         raise ValueError(text)
-    version, words, content, name = found[1], found[2], found[3], found[6]
-    return Line(name, int(version), parse_content(content), words or "")
+    version, grid, session, move, since, words, content, *_, name = found.groups()
+    copied = Copied(int(session), grid, int(move), int(since)) if grid else None
+    return Line(name, int(version), parse_content(content), words or "", copied)
+
+
+def parse_signpost(text: str) -> Signpost:
+    found = SIGNPOST.fullmatch(text)
+    if not found:
+        raise ValueError(text)
+    return Signpost(int(found[1]), int(found[2]), int(found[3]), found[4])
 
 
 def parse_page(content: bytes, where: str) -> Page:
@@ -76,6 +100,7 @@ def parse_page(content: bytes, where: str) -> Page:
         if rest or not head.startswith(FIRST_WORDS):
             raise ValueError(head)
         number, *after = map(int, head[len(FIRST_WORDS) :].split(" "))
-        return Page(tuple(map(parse_line, lines)), tuple(after), number)
+        signposts = sum(line.startswith(">") for line in lines)
+        return Page(tuple(map(parse_line, lines[signposts:])), tuple(after), number, tuple(map(parse_signpost, lines[:signposts])))
     except ValueError as fault:
         raise Damaged(f"{where} is no page: {fault}") from None

@@ -35,6 +35,7 @@ SETTINGS: dict[str, Setting] = {
     "key": Setting(None, "FILE", "with hosts, its key; others may not read it"),
     "socket": Setting(None, "PATH", "a socket of examples/grid, in place of a broker"),
     "via": Setting(None, "COMMAND", "a command that carries lines TO FROM BODY, in place of a broker"),
+    "map": Setting(None, "FILE", "a map of several grids, which has the settings of each (gridfs-fleet), in place of a tenant and a broker"),
     "session": Setting("all", "N|N-M|all", "the first of these sessions that no other command here uses and whose home answers"),
     "helpers": Setting("3", "N", "how many more of these move a content in many pieces, besides"),
     "timeout": Setting("30", "SECONDS", "how long an answer is waited for, from the beginning of the command or from the last one"),
@@ -108,6 +109,17 @@ class Settings:
             if given:
                 values[key] = given
         return cls(values)
+
+    def of_grid(self, map_path: str, grid: str, file: str) -> "Settings":
+        """Those of a grid of a fleet: a file beside the map, with the time for an answer and the helpers of this command. Commands tell each other the sessions that
+        they use in a folder of the grid."""
+        values = {key: setting.default for key, setting in SETTINGS.items() if setting.default is not None}
+        values["locks"] = str((Path(self.values["locks"]) if "locks" in self.values else default_locks()) / grid)
+        try:
+            values.update(read_file(Path(map_path).parent / file))
+        except FileNotFoundError:
+            raise BadSettings(f"{Path(map_path).parent / file}: no such file, and the map has it for {grid}") from None
+        return Settings(values | {key: self.values[key] for key in ("timeout", "helpers") if key in self.values})
 
     def need(self, key: str) -> str:
         if key not in self.values:

@@ -3,11 +3,12 @@
 from collections.abc import Collection, Iterable
 from contextlib import suppress
 
+from . import ways
 from .buckets import Bucket
 from .core import Line, Page
 from .errors import Unanswered
 from .layout import Layout
-from .pages import length_of_lines
+from .pages import length_of_lines, length_of_signposts
 from .sessions import Files
 from .tables import Borrower, SlotKeeper
 
@@ -23,10 +24,11 @@ class Writer:
         self.keeper = self.keeper_type(session, layout)
         self.lenders: dict[int, SlotKeeper] = {}  # of other sessions that this client has
         self.buckets: dict[int, Bucket] = {}
+        self.ground: ways.Ground | None = None
 
     def bucket(self, page: int) -> Bucket:
         if page not in self.buckets:
-            self.buckets[page] = Bucket(self.session, self.layout, page)
+            self.buckets[page] = Bucket(self.session, self.layout, page, self.ground)
         return self.buckets[page]
 
     def change(self, bucket: Bucket, journal: Page) -> None:
@@ -62,7 +64,7 @@ class Writer:
         full one."""
         room = self.layout.lines_room if line.content is None else self.layout.contents_room
         journal = bucket.changed(line, besides)
-        return journal if length_of_lines(journal.lines) <= room else None
+        return journal if length_of_lines(journal.lines) + length_of_signposts(journal) <= room else None
 
     def find_room(self) -> None:
         """Looks through all pages of the session for slots that are taken and not needed: left by a client that died, or of lines that can go. A

@@ -1,0 +1,266 @@
+"""Named files over several grids: put, get, remove, stat and names as `NamedFiles` has them, each along the way of the name (ways.py)."""
+
+import io
+import tempfile
+import time
+from collections.abc import Callable
+from dataclasses import dataclass
+from typing import IO
+
+from . import core, ways
+from .buckets import Bucket, Held
+from .contents import Content, Inline
+from .core import Line, Version
+from .errors import BadSettings, ClientError, Damaged, NoRoom, NoSuchName, Replaced
+from .fleet_map import FleetMap
+from .layout import Layout
+from .names import BEGINNINGS, Entry, Listed, NamedFiles, Swept, entry_of, no_words, place_to_cut
+from .pages import check_name, check_words, text_of
+from .streams import Source
+from .ways import Found, Ground, Opens, Walk, slice_of
+
+TRIES = 20  # of a change whose name goes to another grid in its midst
+MAP_NAME = ".fleet"
+
+
+def ground_of(fleet_map: FleetMap, grid: str) -> Ground:
+    def arrived(slice_number: int) -> int | None:
+        stop = fleet_map.stop(slice_number)
+        return stop.move if stop.grid == grid and fleet_map.is_clear(slice_number) else None
+
+    return Ground(grid, arrived)
+
+
+def held_of(found: Found | None) -> Held | None:
+    """What the line that counts holds. Its pieces are those of the session whose page shows it."""
+    if found is None or found.line.content is None:
+        return None
+    return Held(found.line.name, Version(found.line.version, found.session), found.line.content, found.line.words)
+
+
+@dataclass(frozen=True)
+class Names:
+    """A listing, and the grids that didn't answer, each with what was the matter."""
+
+    entries: list[Listed]
+    silent: dict[str, ClientError]
+
+
+class FleetFiles:
+    """`open_grid` gives a client's files at a grid, of a session that has no other client, with this ground; it is asked once for each."""
+
+    def __init__(self, fleet_map: FleetMap, open_grid: Callable[[str, Ground], NamedFiles]):
+        self.map, self.open_grid = fleet_map, open_grid
+        self.grids: dict[str, NamedFiles] = {}
+
+    def grid(self, grid: str) -> NamedFiles:
+        if grid not in self.grids:
+            if grid not in self.map.grids:
+                raise BadSettings(f"{self.map.path}: a signpost leads to {grid}, and the map has no such grid: get a later one")
+            self.grids[grid] = self.open_grid(grid, ground_of(self.map, grid))
+        return self.grids[grid]
+
+    def ground(self, grid: str) -> Ground:
+        return ground_of(self.map, grid)
+
+    def bucket(self, grid: str, name: str) -> Bucket:
+        return self.grid(grid).bucket(name)
+
+    # Walks
+
+    def walk(self, name: str, is_change: bool = False, with_own: bool = True) -> Walk:
+        return self.drive(ways.walk(name, self.map.stop(slice_of(name)), is_change, with_own))
+
+    def drive(self, state: Walk) -> Walk:
+        while request := ways.request_of(state):
+            grid, asked = request
+            bucket = self.bucket(grid, state.name)
+            try:
+                if isinstance(asked, Opens):
+                    state = ways.told(state, bucket.client)
+                else:
+                    if isinstance(asked, core.WritePage):
+                        bucket.forget()  # until the answer is there
+                    state = ways.told(state, bucket.answer(asked, None))
+                    bucket.is_carried |= isinstance(asked, core.WritePage)
+            except core.Older as fault:
+                raise Damaged(f"{grid}: {bucket.where(*fault.args)} is older than another page that was written after it") from None
+            for each, client in state.clients:
+                known = self.bucket(each, state.name)
+                if known.client is not client:
+                    known.client, known.index = client, None
+        return state
+
+    def walk_for_change(self, name: str, with_own: bool) -> Walk:
+        """The walk for a change, and signposts in the own pages on its way: so that this session, which no mover may have, has them."""
+        walk = self.walk(name, True, with_own)
+        for stop, following in zip(walk.stops, walk.stops[1:]):
+            if stop.grid != walk.last.grid:
+                self.help(walk, stop.grid, following.move)
+        bucket = self.bucket(walk.last.grid, name)
+        bucket.least = max(bucket.least, ways.number_above(walk))
+        return walk
+
+    def help(self, walk: Walk, grid: str, move: int) -> None:
+        files, bucket = self.grid(grid), self.bucket(grid, walk.name)
+        shown = {each for known in bucket.client.seen for each in known.page.signposts if each.move == move}
+        for signpost in shown - set(bucket.journal.signposts):
+            sign(files, bucket, signpost)
+
+    def is_as_walked(self, walk: Walk) -> bool:
+        """Whether nothing was looked at since: else a signpost may have been, and the walk has to be gone anew."""
+        return self.bucket(walk.last.grid, walk.name).client is walk.client(walk.last.grid)
+
+    def present(self, name: str) -> tuple[Walk, Found, Held]:
+        walk = self.walk(name)
+        found = ways.greatest(walk)
+        held = held_of(found)
+        if not found or not held:
+            raise NoSuchName(f"{name}: no such name")
+        return walk, found, held
+
+    # What is asked
+
+    def get(self, name: str) -> tuple[bytes, Entry]:
+        content = io.BytesIO()
+        entry = self.get_to(name, content)
+        return content.getvalue(), entry
+
+    def get_to(self, name: str, target: IO[bytes]) -> Entry:
+        check_name(name)
+        start = place_to_cut(target)
+        for _ in range(BEGINNINGS):
+            _, found, held = self.present(name)
+            files = self.grid(found.grid)
+            told = files.copy_to(held, target)
+            if told is None:
+                return entry_of(held)
+            if not files.bucket(name).reread(found.session):
+                raise Damaged(f"{name}: its slots don't hold it")
+            if told and start is None:
+                raise Replaced(f"{name}: replaced while it was read, and {told} bytes of the old content are out")
+            if start is not None:
+                target.seek(start)
+                target.truncate()
+        raise Replaced(f"{name}: replaced each of {BEGINNINGS} times while it was read")
+
+    def stat(self, name: str) -> Entry:
+        check_name(name)
+        return entry_of(self.present(name)[2])
+
+    def put(self, name: str, content: bytes | IO[bytes], words: Callable[[], str] = no_words) -> Entry:
+        check_name(name)
+        check_words(words())
+        source = Source(content)
+        walk = self.with_room(name, lambda bucket: Line(name, bucket.new_version().number, Inline(b""), words()), with_own=False)
+        files, bucket = self.grid(walk.last.grid), self.bucket(walk.last.grid, name)
+        placed = files.placed(bucket, name, source, words)
+        grid = walk.last.grid
+        for _ in range(TRIES):
+            if self.is_as_walked(walk):
+                return entry_of(files.commit(bucket, name, placed, words()))
+            walk = self.walk_for_change(name, with_own=False)
+            if walk.last.grid != grid:
+                # The name went on while its content was placed. It stands here already, and is read from here.
+                placed = self.replaced(Held(name, Version(1, files.me), placed, words()), grid, walk.last.grid)
+                grid = walk.last.grid
+                files, bucket = self.grid(grid), self.bucket(grid, name)
+        raise Replaced(f"{name}: went to another grid {TRIES} times while it was put")
+
+    def replaced(self, held: Held, grid: str, target: str) -> Content:
+        """A content that stands at one grid, placed at another one; no line at the first one is to name it."""
+        with spool() as room:
+            if self.grid(grid).copy_to(held, room) is not None:
+                raise Damaged(f"{held.name}: its slots don't hold it")
+            room.seek(0)
+            placed = self.grid(target).placed(self.bucket(target, held.name), held.name, Source(room), lambda: held.words)
+        self.grid(grid).unplace(self.bucket(grid, held.name), held.content)
+        return placed
+
+    def remove(self, name: str) -> None:
+        check_name(name)
+        walk = self.with_room(name, lambda bucket: Line(name, bucket.new_version().number, None), with_own=True)
+        if not held_of(ways.greatest(walk)):
+            raise NoSuchName(f"{name}: no such name")
+        self.grid(walk.last.grid).commit(self.bucket(walk.last.grid, name), name, None)
+
+    def with_room(self, name: str, line: Callable[[Bucket], Line], with_own: bool) -> Walk:
+        """A walk for a change, at whose last grid there is room for a line, if that can be made."""
+        for _ in range(TRIES):
+            walk = self.walk_for_change(name, with_own)
+            bucket = self.bucket(walk.last.grid, name)
+            self.grid(walk.last.grid).make_room(bucket, line(bucket))
+            if self.is_as_walked(walk):
+                break
+        return walk
+
+    def names(self, prefix: str = "") -> list[Listed]:
+        """The names that begin so; a fault where a grid is silent."""
+        found = self.names_told(prefix)
+        for fault in found.silent.values():
+            raise fault
+        return found.entries
+
+    def names_told(self, prefix: str = "") -> Names:
+        """The names at all grids that answer. A name that no signpost is on the way of is told as its grid was looked at, each other one by a walk."""
+        begin, names, direct = time.time(), set[str](), dict[str, Listed]()
+        silent, left, looked = dict[str, ClientError](), [each.grid for each in self.map.ranges], set[str]()
+        while left:
+            grid = left.pop(0)
+            if grid in looked:
+                continue
+            looked.add(grid)
+            try:
+                files, since = self.grid(grid), time.time()
+                for bucket, _ in files.buckets():
+                    signposts = {each for known in bucket.client.seen for each in known.page.signposts}
+                    left += [each.grid for each in signposts]
+                    shown = [name for name in bucket.by_name() if name.startswith(prefix)]
+                    names.update(shown)
+                    for name in shown:
+                        stop, held = self.map.stop(slice_of(name)), bucket.held(name)
+                        if stop.grid == grid and not any(each.leads(slice_of(name), stop.move) for each in signposts):
+                            names.discard(name)
+                            if held:
+                                direct[name] = Listed(**vars(entry_of(held)), seen_from=since, seen_to=time.time())
+            except ClientError as fault:
+                silent[grid] = fault
+        for name in sorted(names - direct.keys()):
+            since, slice_number = time.time(), slice_of(name)
+            if self.map.stop(slice_number).grid in silent:
+                continue
+            try:
+                held = held_of(ways.greatest(self.walk(name)))
+                if held:
+                    direct[name] = Listed(**vars(entry_of(held)), seen_from=min(begin, since), seen_to=time.time())
+            except ClientError as fault:
+                silent[self.map.stop(slice_number).grid] = fault
+        return Names([direct[name] for name in sorted(direct)], silent)
+
+    def sweep(self) -> Swept:
+        found = [self.grid(grid).sweep() for grid in self.map.grids]
+        return Swept(sum(each.forgotten for each in found), sum(each.left for each in found), sorted({number for each in found for number in each.absent}))
+
+    def close(self) -> None:
+        for files in self.grids.values():
+            files.close()
+
+
+def spool() -> "tempfile.SpooledTemporaryFile[bytes]":
+    return tempfile.SpooledTemporaryFile(1 << 20)
+
+
+def sign(files: NamedFiles, bucket: Bucket, signpost: core.Signpost) -> bool:
+    """Puts a signpost into a page of this session; whether it had to be."""
+    bucket.look(own=True)
+    journal = ways.signed(bucket.client, signpost, bucket.keeps)
+    if journal is None:
+        return False
+    expect_room(files.layout, bucket, journal)
+    files.writer.change(bucket, journal)
+    return True
+
+
+def expect_room(layout: Layout, bucket: Bucket, journal: core.Page) -> None:
+    if len(text_of(journal)) > layout.page_room:
+        raise NoRoom(f"page {bucket.number} of session {bucket.me} has no room for a signpost: take some names away, and sweep")

@@ -1,0 +1,155 @@
+"""The command `gridfs-fleet`: what an operator does with the map of a fleet. Names are put and got by `gridfs-client --map FILE`."""
+
+import argparse
+import fcntl
+import os
+import signal
+import sys
+from collections.abc import Iterator
+from contextlib import closing, contextmanager
+from dataclasses import replace
+
+from . import __version__
+from .errors import BadSettings, ClientError
+from .fleet_map import FleetMap, Move, new_map, read_map
+from .local import complain
+from .moving import Mover, moves_to_end
+from .open_grids import OpenGrids, publish
+from .settings import Settings
+from .usage import usage_of
+
+EPILOG = """\
+examples:
+  gridfs-fleet --map fleet begin east east.ini      a map with all names at one grid, which may have names already
+  gridfs-fleet --map fleet add west west.ini        one grid more, without names
+  gridfs-fleet --map fleet spread                   slices are moved until each grid has an equal part of them
+  gridfs-fleet --map fleet move 0-16383 west        these slices are moved, of the slices 0 to 65535
+  gridfs-fleet --map fleet status                   which slices each grid has, its room, and moves under way
+
+The settings of a grid are a file as gridfs-client reads it, beside the map. A move may be killed at any moment: `spread` or `move` without words ends
+it. An older map is as right as the last one, and a copy of that stands in the fleet under the name `.fleet`."""
+
+
+def parser() -> argparse.ArgumentParser:
+    main = argparse.ArgumentParser(
+        prog="gridfs-fleet", description="Names of one tenant over several grids.", epilog=EPILOG, formatter_class=argparse.RawDescriptionHelpFormatter
+    )
+    main.add_argument("--version", action="version", version=f"%(prog)s {__version__}")
+    main.add_argument("--map", metavar="FILE", required=True, help="the map")
+    main.add_argument("--timeout", metavar="SECONDS", default="30", help="how long an answer is waited for, or a session (30)")
+    words = main.add_subparsers(dest="word", required=True, metavar="COMMAND")
+    for word, meaning in (("begin", "make a map with all names at one grid"), ("add", "add a grid without names")):
+        sub = words.add_parser(word, help=meaning, description=meaning)
+        sub.add_argument("grid", help="a word for the grid: 1 to 16 letters a to z or digits")
+        sub.add_argument("settings", help="the client's settings for it, a file beside the map")
+    sub = words.add_parser("move", help="move slices to a grid; without words end moves that were begun")
+    sub.add_argument("slices", nargs="?", help="FIRST-LAST, of 0 to 65535, which are at one grid")
+    sub.add_argument("grid", nargs="?")
+    words.add_parser("spread", help="end moves that were begun, and move slices until each grid has an equal part")
+    words.add_parser("status", help="tell which slices each grid has, its room, and moves under way")
+    return main
+
+
+@contextmanager
+def alone(path: str) -> Iterator[None]:
+    """As long as no other command of this machine changes the map."""
+    with open(path + ".lock", "w", encoding="ascii") as lock:
+        try:
+            fcntl.flock(lock, fcntl.LOCK_EX | fcntl.LOCK_NB)
+        except BlockingIOError:
+            raise BadSettings(f"{path}: another command changes it") from None
+        yield
+
+
+def end_move(now: FleetMap, move: Move, settings: Settings) -> FleetMap:
+    def tell(text: str) -> None:
+        print(f"move {move.number}: {text}", flush=True)
+
+    def save(fleet_map: FleetMap) -> None:
+        fleet_map.save()
+        if fault := publish(fleet_map, settings):
+            complain(f"the map was not put into the fleet: {fault}")
+
+    tell(f"slices {move.first}-{move.last} from {move.source} to {move.target}")
+    with closing(OpenGrids(now, settings)) as grids:
+        ended = Mover(now, move, grids.session, grids.layout, save, tell).run()
+    tell("ended")
+    return ended
+
+
+def end_moves(now: FleetMap, settings: Settings) -> FleetMap:
+    while move := next(moves_to_end(now), None):
+        now = end_move(now, move, settings)
+    return now
+
+
+def started(now: FleetMap, first: int, last: int, target: str) -> FleetMap:
+    begun = now.begun(first, last, target)
+    begun.save()
+    return begun
+
+
+def status(now: FleetMap, settings: Settings) -> int:
+    """What each grid has, and the status of the first that doesn't answer."""
+    found, shares = 0, now.shares()
+    with closing(OpenGrids(now, settings)) as grids:
+        for grid in now.grids:
+            text = f"{grid}: {shares[grid]} slices"
+            try:
+                usage = usage_of(grids.grid(grid).files(None, grids.files().ground(grid)))
+                text += f", {usage.names} names, {usage.bytes_free} bytes free, fullest page {usage.fullest.percent} % full"
+            except ClientError as fault:
+                text, found = f"{text}, {fault}", found or fault.status
+            print(text, flush=True)
+    for move in now.moves:
+        what = "has yet to be cleared" if move.is_there else "has not ended"
+        print(f"move {move.number} {what}: slices {move.first}-{move.last} from {move.source} to {move.target}")
+    return found
+
+
+def run(words: list[str]) -> int:
+    args = parser().parse_args(words)
+    settings = Settings({"timeout": args.timeout, "helpers": "3", "session": "all"})
+    if args.word == "status":
+        return status(read_map(args.map), settings)
+    with alone(args.map):
+        if args.word == "begin":
+            if os.path.exists(args.map):
+                raise BadSettings(f"{args.map}: there is a map")
+            settings.of_grid(args.map, args.grid, args.settings)
+            new_map(args.grid, args.settings, args.map).save()
+            return 0
+        now = read_map(args.map)
+        if args.word == "add":
+            if args.grid in now.grids:
+                raise BadSettings(f"{args.grid}: there is such a grid")
+            settings.of_grid(args.map, args.grid, args.settings)
+            replace(now, grids=now.grids | {args.grid: args.settings}).save()
+        elif args.word == "move" and args.slices:
+            first, _, last = args.slices.partition("-")
+            if not (first.isdecimal() and last.isdecimal() and args.grid):
+                raise BadSettings(f"{args.slices}: FIRST-LAST and a grid are wanted")
+            begun = started(now, int(first), int(last), args.grid)
+            end_move(begun, begun.moves[-1], settings)
+        else:
+            now = end_moves(now, settings)
+            while args.word == "spread" and (part := now.next_part()):
+                now = end_moves(started(now, *part), settings)
+    return 0
+
+
+def main(words: list[str] | None = None) -> int:
+    """Runs the command; its status."""
+    signal.signal(signal.SIGTERM, lambda *_: sys.exit(143))
+    try:
+        return run(sys.argv[1:] if words is None else words)
+    except ClientError as fault:
+        complain(str(fault), "gridfs-fleet")
+        return fault.status
+    except OSError as fault:
+        complain(f"{fault.filename or 'a file'}: {fault.strerror or fault}", "gridfs-fleet")
+        return ClientError.status
+    except KeyboardInterrupt:
+        return 130
+
+

@@ -1,0 +1,210 @@
+"""The map of a fleet: at which grid the names of each slice are looked for first, and which moves are under way.
+
+    fleet 1
+    grid east east.ini                    a grid, and the client's settings for it: a file beside the map
+    slices 0-32767 0 east                 names of these slices are looked for at this grid first, since move 0
+    slices 32768-65535 1 west
+    moves 2 0-16383 east west             a move that was begun
+    clears 1 32768-65535 east west        a move whose slices are at the new grid: its lines at the old one have yet to go
+
+An older map is as right as the last one, as long as the grids that it names are there. It says where to begin, and signposts say the rest. So a copy
+of the map stands in the fleet itself, under the name `.fleet`.
+"""
+
+import os
+import re
+from dataclasses import dataclass, field, replace
+
+from .core import Signpost
+from .errors import BadSettings
+from .pages import GRID
+from .ways import SLICES, Stop
+
+NUMBER = r"(0|[1-9][0-9]{0,8})"
+FORMS = {
+    "grid": re.compile(rf"grid ({GRID}) (\S+)"),
+    "slices": re.compile(rf"slices {NUMBER}-{NUMBER} {NUMBER} ({GRID})"),
+    "moves": re.compile(rf"moves {NUMBER} {NUMBER}-{NUMBER} ({GRID}) ({GRID})"),
+    "clears": re.compile(rf"clears {NUMBER} {NUMBER}-{NUMBER} ({GRID}) ({GRID})"),
+}
+
+
+@dataclass(frozen=True)
+class Range:
+    """Slices, the move by which they came where they are, and the grid where they are."""
+
+    first: int
+    last: int
+    move: int
+    grid: str
+
+    @property
+    def count(self) -> int:
+        return self.last - self.first + 1
+
+
+@dataclass(frozen=True)
+class Move:
+    """Slices that go from one grid to another; whether they are there, and only the old grid's lines have yet to go."""
+
+    number: int
+    first: int
+    last: int
+    source: str
+    target: str
+    is_there: bool = False
+
+    @property
+    def signpost(self) -> Signpost:
+        return Signpost(self.number, self.first, self.last, self.target)
+
+    def has(self, slice_number: int) -> bool:
+        return self.first <= slice_number <= self.last
+
+    def text(self) -> str:
+        return f"{'clears' if self.is_there else 'moves'} {self.number} {self.first}-{self.last} {self.source} {self.target}"
+
+
+@dataclass(frozen=True)
+class FleetMap:
+    """BadSettings where the ranges don't have each slice once, or a grid is named that isn't there."""
+
+    grids: dict[str, str]
+    ranges: tuple[Range, ...]
+    moves: tuple[Move, ...] = ()
+    path: str = field(default="", compare=False)
+
+    def __post_init__(self) -> None:
+        at = 0
+        for each in self.ranges:
+            if each.first != at or each.last < at or each.grid not in self.grids:
+                raise BadSettings(f"{self.path}: slices {each.first}-{each.last} {each.grid}: not the slices from {at} on, or no such grid")
+            at = each.last + 1
+        if at != SLICES:
+            raise BadSettings(f"{self.path}: the slices from {at} on have no grid")
+        for move in self.moves:
+            if not {move.source, move.target} <= self.grids.keys():
+                raise BadSettings(f"{self.path}: move {move.number}: no such grid")
+
+    def range_of(self, slice_number: int) -> Range:
+        return next(each for each in self.ranges if each.first <= slice_number <= each.last)
+
+    def stop(self, slice_number: int) -> Stop:
+        """Where a way begins."""
+        found = self.range_of(slice_number)
+        return Stop(found.grid, found.move)
+
+    def is_clear(self, slice_number: int) -> bool:
+        """Whether the slice stands at its grid alone, and no move of it is under way."""
+        return not any(move.has(slice_number) for move in self.moves)
+
+    @property
+    def last_move(self) -> int:
+        return max([each.move for each in self.ranges] + [move.number for move in self.moves])
+
+    @property
+    def age(self) -> tuple[int, int]:
+        """Greater of a later map: each move changes it three times, and grids are added."""
+        return 3 * self.last_move - sum(1 if move.is_there else 2 for move in self.moves), len(self.grids)
+
+    # What a mover does with it
+
+    def begun(self, first: int, last: int, target: str) -> "FleetMap":
+        """With a move of these slices, which have to be at one grid, and in no other move."""
+        if not 0 <= first <= last < SLICES or target not in self.grids:
+            raise BadSettings(f"{first}-{last} {target}: no slices, or no such grid")
+        if under_way := [move.number for move in self.moves if move.first <= last and first <= move.last]:
+            raise BadSettings(f"move {under_way[0]} has some of these slices, and has not ended")
+        sources = sorted({each.grid for each in self.ranges if each.first <= last and first <= each.last})
+        if len(sources) != 1 or target in sources:
+            raise BadSettings(f"the slices {first}-{last} are at {', '.join(sources)}")
+        return replace(self, moves=(*self.moves, Move(1 + self.last_move, first, last, sources[0], target)))
+
+    def come(self, move: Move) -> "FleetMap":
+        """The slices of the move are at the new grid."""
+        ranges = list[Range]()
+        for each in self.ranges:
+            for part in (
+                replace(each, last=min(each.last, move.first - 1)),
+                Range(max(each.first, move.first), min(each.last, move.last), move.number, move.target),
+                replace(each, first=max(each.first, move.last + 1)),
+            ):
+                if part.first <= part.last:
+                    if ranges and (ranges[-1].grid, ranges[-1].move) == (part.grid, part.move):
+                        part = replace(part, first=ranges.pop().first)
+                    ranges.append(part)
+        moves = tuple(replace(each, is_there=True) if each.number == move.number else each for each in self.moves)
+        return replace(self, ranges=tuple(ranges), moves=moves)
+
+    def ended(self, move: Move) -> "FleetMap":
+        """The old grid's lines have gone."""
+        return replace(self, moves=tuple(each for each in self.moves if each.number != move.number))
+
+    def shares(self) -> dict[str, int]:
+        """How many slices each grid has."""
+        return {grid: sum(each.count for each in self.ranges if each.grid == grid) for grid in self.grids}
+
+    def next_part(self) -> tuple[int, int, str] | None:
+        """What is moved next so that each grid gets an equal part: the end of a range of the grid that has most, to the one that has least; None where parts
+        are equal."""
+        shares = self.shares()
+        most, least = max(shares, key=lambda grid: shares[grid]), min(shares, key=lambda grid: shares[grid])
+        if shares[most] - shares[least] < 2:
+            return None
+        part = SLICES // len(self.grids)
+        last = [each for each in self.ranges if each.grid == most][-1]
+        count = max(1, min(shares[most] - part, part - shares[least], last.count))
+        return last.last - count + 1, last.last, least
+
+    def text(self) -> str:
+        lines = ["fleet 1", *(f"grid {grid} {settings}" for grid, settings in self.grids.items())]
+        lines += [f"slices {each.first}-{each.last} {each.move} {each.grid}" for each in self.ranges]
+        lines += [move.text() for move in self.moves]
+        return "".join(line + "\n" for line in lines)
+
+    def save(self) -> None:
+        """Puts the map in the place of the one in its file: whoever reads that has one or the other, also behind a loss of power."""
+        with open(self.path + ".new", "w", encoding="ascii") as out:
+            out.write(self.text())
+            out.flush()
+            os.fsync(out.fileno())
+        os.replace(self.path + ".new", self.path)
+        folder = os.open(os.path.dirname(os.path.abspath(self.path)), os.O_RDONLY)
+        try:
+            os.fsync(folder)
+        finally:
+            os.close(folder)
+
+
+def new_map(grid: str, settings: str, path: str = "") -> FleetMap:
+    """All slices at one grid."""
+    return FleetMap({grid: settings}, (Range(0, SLICES - 1, 0, grid),), path=path)
+
+
+def parse_map(text: str, path: str = "") -> FleetMap:
+    """BadSettings where a line has no form."""
+    head, *lines = text.splitlines() or [""]
+    grids, ranges, moves = dict[str, str](), list[Range](), list[Move]()
+    if head != "fleet 1":
+        raise BadSettings(f"{path}: no map of a fleet")
+    for line in lines:
+        kind = line.split(" ")[0]
+        found = FORMS[kind].fullmatch(line) if kind in FORMS else None
+        if not found:
+            raise BadSettings(f"{path}: {line!r} has no form")
+        words = found.groups()
+        if kind == "grid":
+            grids[words[0]] = words[1]
+        elif kind == "slices":
+            ranges.append(Range(int(words[0]), int(words[1]), int(words[2]), words[3]))
+        else:
+            moves.append(Move(int(words[0]), int(words[1]), int(words[2]), words[3], words[4], kind == "clears"))
+    return FleetMap(grids, tuple(ranges), tuple(moves), path)
+
+
+def read_map(path: str) -> FleetMap:
+    try:
+        with open(path, encoding="ascii") as text:
+            return parse_map(text.read(), path)
+    except (OSError, UnicodeDecodeError) as fault:
+        raise BadSettings(f"{path}: {fault}") from None

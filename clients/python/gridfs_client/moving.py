@@ -1,0 +1,217 @@
+"""Moves the names of slices from one grid to another while they are used. It may be killed at any moment: whoever runs it again goes on.
+
+1. The map says which move is under way.
+2. The signpost is put into each page of each session of the old grid: from then on its lines of these slices stay as they are.
+3. Each name whose line that counts stands at the old grid is copied, and each bucket of the new grid gets a number above those of the old one.
+4. The map says the new grid.
+5. The lines of the slices go from the pages of the old grid, and with them the slots of their contents.
+6. The map says that the move has ended.
+
+It has a session for a page at a time. What it can't have of a session, its own client does, which sees the signpost elsewhere; or a mover at another
+machine.
+"""
+
+from collections.abc import Callable, Collection, Iterator
+from contextlib import AbstractContextManager
+
+from . import core, ways
+from .errors import Damaged, NoRoom, SessionTaken
+from .fleet import FleetFiles, ground_of, held_of, sign, spool
+from .fleet_map import FleetMap, Move
+from .grid import listed
+from .layout import Layout
+from .names import NamedFiles
+from .opening import turn_of
+from .pages import length_of_lines, length_of_signposts
+from .streams import Source
+from .ways import Ground, Stop, slice_of
+
+# Gives the files of one of these sessions of a grid, or of any, as long as they are used. SessionTaken where none can be had.
+OpenSession = Callable[[str, Collection[int], Ground], AbstractContextManager[NamedFiles]]
+LayoutOf = Callable[[str], Layout]
+
+
+class Mover:
+    """One move that a map says to be under way. `tell` is told what is done, `save` is given the map where that changes."""
+
+    def __init__(
+        self,
+        fleet_map: FleetMap,
+        move: Move,
+        open_session: OpenSession,
+        layout_of: LayoutOf,
+        save: Callable[[FleetMap], None] = lambda _: None,
+        tell: Callable[[str], None] = lambda _: None,
+    ):
+        self.map, self.move, self.open_session, self.layout_of, self.save, self.tell = fleet_map, move, open_session, layout_of, save, tell
+        self.copied = 0
+
+    def run(self) -> FleetMap:
+        """Ends the move; the map behind it."""
+        if not self.move.is_there:
+            self.sign_all()
+            self.copy_all()
+            self.map = self.map.come(self.move)
+            self.save(self.map)
+        self.clear_all()
+        self.map = self.map.ended(self.move)
+        self.save(self.map)
+        return self.map
+
+    def sessions(self, grid: str) -> range:
+        return range(1, self.layout_of(grid).sessions + 1)
+
+    def pages(self, grid: str) -> range:
+        return range(self.layout_of(grid).pages)
+
+    def files(self, grid: str, numbers: Collection[int] = ()) -> AbstractContextManager[NamedFiles]:
+        return self.open_session(grid, numbers, ground_of(self.map, grid))
+
+    # Signposts
+
+    def sign_all(self) -> None:
+        """In each page that doesn't show it, by its session; SessionTaken where some sessions can't be had, and don't have it by themselves."""
+        lacking, count = self.lacking(), 0
+        for session, page in lacking:
+            try:
+                with self.files(self.move.source, [session]) as files:
+                    count += sign(files, files.writer.bucket(page), self.move.signpost)
+            except SessionTaken:
+                continue
+        left = sorted({session for session, _ in self.lacking()}) if lacking else []
+        if left:
+            raise SessionTaken(f"sessions {listed(left)} of {self.move.source} lack signposts: run it where they are used, or once they are free")
+        self.tell(f"{count} pages have got the signpost")
+
+    def lacking(self) -> list[tuple[int, int]]:
+        with self.files(self.move.source) as files:
+            return [
+                (session, bucket.number)
+                for bucket, _ in files.buckets()
+                for session, known in enumerate(bucket.client.seen, 1)
+                if self.move.signpost not in known.page.signposts
+            ]
+
+    # Copies
+
+    def copy_all(self) -> None:
+        highest = 0
+        for page in self.pages(self.move.source):
+            with self.files(self.move.source) as source:
+                bucket = source.writer.bucket(page)
+                bucket.refresh()
+                highest = max([highest, *(known.page.number for known in bucket.client.seen)])
+                names = [name for name in bucket.by_name() if self.move.has(slice_of(name))]
+                count = self.layout_of(self.move.target).sessions
+                for turn in range(count):
+                    if mine := [name for name in names if turn_of(name, count) == turn]:
+                        self.copy_some(source, turn, mine)
+        for page in self.pages(self.move.target):
+            with self.files(self.move.target) as target:
+                raise_number(target, page, highest)
+        self.tell(f"{self.copied} names copied")
+
+    def copy_some(self, source: NamedFiles, turn: int, names: list[str]) -> None:
+        """By the session of the new grid whose turn it is for these names, as clients have them, or by another one whose page has room."""
+        sessions = self.sessions(self.move.target)
+        for number in (*sessions[turn:], *sessions[:turn]):
+            try:
+                with self.files(self.move.target, [number]) as target:
+                    self.copy_names(source, target, names)
+                return
+            except NoRoom as fault:
+                last = fault
+        raise last
+
+    def copy_names(self, source: NamedFiles, target: NamedFiles, names: list[str]) -> None:
+        fleet = FleetFiles(self.map, lambda grid, _: {self.move.source: source, self.move.target: target}[grid])
+        for name in names:
+            self.copy(fleet, name)
+        target.close()
+
+    def copy(self, fleet: FleetFiles, name: str) -> None:
+        """Has the new grid a line at least as great as that of the old one."""
+        target = fleet.grid(self.move.target)
+        while True:
+            walk = fleet.drive(ways.walk(name, self.start(name), True))
+            found = ways.greatest(walk)
+            if not found or found.grid == self.move.target:
+                return
+            if walk.last.grid != self.move.target:
+                raise Damaged(f"{name}: a later move leads to {walk.last.grid}")
+            bucket, held = target.bucket(name), held_of(found)
+            content = None
+            if held:
+                with spool() as room:
+                    if fleet.grid(found.grid).copy_to(held, room) is not None:
+                        continue  # (the slots are used anew: the line has gone)
+                    room.seek(0)
+                    content = target.placed(bucket, name, Source(room), lambda held=held: held.words)  # type: ignore[misc]
+                again = fleet.drive(ways.walk(name, self.start(name), True))
+                if ways.greatest(again) != found:
+                    target.unplace(bucket, content)
+                    continue
+                walk = again
+            journal = ways.copied(walk, content, bucket.keeps)
+            assert journal
+            if length_of_lines(journal.lines) + length_of_signposts(journal) > target.layout.lines_room:
+                target.unplace(bucket, content)
+                raise NoRoom(f"{name}: page {bucket.number} of session {target.me} of {self.move.target} has no room for a copy")
+            target.writer.change(bucket, journal)
+            self.copied += 1
+            return
+
+    def start(self, name: str) -> Stop:
+        found = self.map.range_of(slice_of(name))
+        return Stop(found.grid, found.move)
+
+    # The old lines
+
+    def clear_all(self) -> None:
+        count = 0
+        for session, page in self.left():
+            with self.files(self.move.source, [session]) as files:
+                count += self.clear(files, page)
+                files.close()
+        if self.left():
+            raise SessionTaken(f"lines are left at {self.move.source}: run it again")
+        self.tell(f"{count} lines are gone from {self.move.source}")
+
+    def left(self) -> list[tuple[int, int]]:
+        """Pages of the old grid that show names of the slices."""
+        with self.files(self.move.source) as files:
+            return [
+                (session, bucket.number)
+                for bucket, _ in files.buckets()
+                for session, known in enumerate(bucket.client.seen, 1)
+                if any(self.move.has(slice_of(line.name)) for line in known.page.lines)
+            ]
+
+    def clear(self, files: NamedFiles, page: int) -> int:
+        bucket = files.writer.bucket(page)
+        bucket.look(own=True)
+        names = {line.name for line in bucket.journal.lines if self.move.has(slice_of(line.name))}
+        journal = ways.cleared(bucket.client, self.move.signpost, names, bucket.keeps)
+        if journal is None:
+            if not bucket.client.seen[files.me - 1].page.lines == bucket.journal.lines:
+                files.writer.change(bucket, core.changed(bucket.client, None, keeps=bucket.keeps))  # (its journal has let them go)
+            return 0
+        files.writer.change(bucket, journal)
+        return len(names)
+
+
+def raise_number(files: NamedFiles, page: int, highest: int) -> None:
+    """A page of the bucket gets a number that is at least this, where none has."""
+    bucket = files.writer.bucket(page)
+    bucket.refresh()
+    if max(known.page.number for known in bucket.client.seen) < highest:
+        bucket.look()
+        files.writer.change(bucket, core.changed(bucket.client, None, keeps=bucket.keeps, least=highest))
+
+
+def moves_to_end(fleet_map: FleetMap) -> Iterator[Move]:
+    """Moves that were begun, those whose slices are at the new grid first."""
+    yield from sorted(fleet_map.moves, key=lambda move: (not move.is_there, move.number))
+
+
+__all__ = ["Mover", "OpenSession", "moves_to_end"]

@@ -1,0 +1,124 @@
+"""The grids of a fleet that a command has: of each a carrier, and sessions that no other command on this machine uses."""
+
+import time
+from collections.abc import Collection, Iterator
+from contextlib import closing, contextmanager
+from typing import IO
+
+from .asking import ask_plan
+from .errors import BadSettings, CarrierFault, ClientError, NoSuchName, SessionTaken, Unanswered
+from .fleet import MAP_NAME, FleetFiles
+from .fleet_map import FleetMap, parse_map
+from .layout import Layout, layout_of
+from .names import NamedFiles, Progress
+from .opening import AGAIN, OpenSessions
+from .sessions import Session
+from .settings import Settings
+from .ways import Ground
+
+
+class OpenGrid:
+    """One grid, by its settings."""
+
+    def __init__(self, settings: Settings, name: str):
+        self.settings = settings
+        self.carrier = settings.carrier()
+        try:
+            self.told = ask_plan(self.carrier, settings.pace())
+            self.layout = layout_of(self.told)
+        except BaseException:
+            self.carrier.close()
+            raise
+        self.sessions = OpenSessions(settings, self.told, self.carrier, name)
+
+    def files(self, progress: Progress | None, ground: Ground) -> NamedFiles:
+        sessions = self.sessions
+        return NamedFiles(sessions.first(), self.layout, progress, sessions.helpers, others=sessions.others, ground=ground)
+
+    @contextmanager
+    def session(self, numbers: Collection[int], ground: Ground) -> Iterator[NamedFiles]:
+        """The files of one of these sessions, or of any, as long as they are used. SessionTaken where none comes free in the time for an answer, or this
+        machine may use none of them."""
+        may_use = self.settings.session_numbers(self.told.sessions)
+        wanted = [number for number in numbers or may_use if number in may_use]
+        number, lock = self.lock(wanted)
+        try:
+            session = Session(self.carrier, number, self.told.home_of(number), self.settings.pace())
+            yield NamedFiles(session, self.layout, ground=ground)
+        finally:
+            lock.close()
+
+    def lock(self, numbers: list[int]) -> tuple[int, IO[str]]:
+        until = time.monotonic() + self.settings.pace().timeout
+        while True:
+            for number in numbers:
+                if lock := self.settings.lock(number):
+                    return number, lock
+            if not numbers or time.monotonic() > until:
+                raise SessionTaken(f"sessions {', '.join(map(str, numbers))} of {self.settings.tenant} are used by other commands")
+            time.sleep(AGAIN)
+
+    def close(self) -> None:
+        self.sessions.close()
+        self.carrier.close()
+
+
+class OpenGrids:
+    """The grids of a map, each opened when it is first asked for."""
+
+    def __init__(self, fleet_map: FleetMap, settings: Settings, name: str = "", progress: Progress | None = None):
+        self.map, self.settings, self.name, self.progress = fleet_map, settings, name, progress
+        self.open: dict[str, OpenGrid] = {}
+
+    def grid(self, grid: str) -> OpenGrid:
+        if grid not in self.open:
+            self.open[grid] = OpenGrid(self.settings.of_grid(self.map.path, grid, self.map.grids[grid]), self.name)
+        return self.open[grid]
+
+    def layout(self, grid: str) -> Layout:
+        return self.grid(grid).layout
+
+    @contextmanager
+    def session(self, grid: str, numbers: Collection[int], ground: Ground) -> Iterator[NamedFiles]:
+        with self.grid(grid).session(numbers, ground) as files:
+            yield files
+
+    def files(self) -> FleetFiles:
+        return FleetFiles(self.map, lambda grid, ground: self.grid(grid).files(self.progress, ground))
+
+    def with_latest_map(self) -> FleetFiles:
+        """The files by the fleet's own copy of the map, where that is a later one. Where the grid that has it is silent, this one is as right."""
+        files = self.files()
+        try:
+            latest = parse_map(files.get(MAP_NAME)[0].decode("ascii"), self.map.path)
+        except (NoSuchName, Unanswered, CarrierFault):
+            return files
+        except UnicodeDecodeError:
+            raise BadSettings(f"{MAP_NAME}: no map") from None
+        if latest.age <= self.map.age:
+            return files
+        files.close()
+        for grid in self.open.values():
+            grid.sessions.close()
+        self.map = latest
+        return self.files()
+
+    def stop(self, why: str) -> None:
+        for grid in self.open.values():
+            grid.carrier.stop(why)
+
+    def close(self) -> None:
+        for grid in self.open.values():
+            grid.close()
+
+
+def publish(fleet_map: FleetMap, settings: Settings) -> ClientError | None:
+    """Puts the map into the fleet, for clients that begin; why that couldn't be: an older one there is as right."""
+    try:
+        with closing(OpenGrids(fleet_map, settings, MAP_NAME)) as grids:
+            files = grids.files()
+            files.put(MAP_NAME, fleet_map.text().encode())
+            files.close()
+        return None
+    except ClientError as fault:
+        return fault

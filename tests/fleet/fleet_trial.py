@@ -1,0 +1,185 @@
+"""Two grids of real nodes become four while clients put and get the same names; nodes, clients and movers are killed (kill -9), and histories judged.
+
+    fleet_trial.py GRIDFS [SECONDS] [--grids N] [--kills N] [--bug NAME]
+
+Each grid is one of examples/grid. Clients begin by the map as it is, or by one from before, and have their sessions for a few operations. `gridfs-fleet spread`
+is begun anew where it was killed. What is started here is ended, each by its process. Then all slices have to be spread, each name's history has to have an
+order, and each grid that names left has none of them.
+"""
+
+import argparse
+import collections
+import json
+import os
+import random
+import shutil
+import signal
+import subprocess
+import sys
+import tempfile
+import time
+
+sys.dont_write_bytecode = True
+HERE = os.path.dirname(os.path.abspath(__file__))
+TOP = os.path.join(HERE, "..", "..")
+sys.path[:0] = [HERE, os.path.join(HERE, "..", "names")]
+import trial as names_trial
+
+from gridfs_client.fleet_map import read_map
+
+LABELS = ["north", "east", "south", "west"]
+CLIENTS, SESSIONS = 3, 8
+STARTED, PATIENCE = 60, 90  # seconds
+TENANT = "ann"
+
+
+def write_plan(path):
+    volumes = [*[(SESSIONS * 2, 16)] * 4, (64, 4)]
+    share = sum(files * blocks for files, blocks in volumes)
+    with open(path, "w", encoding="ascii") as out:
+        out.write(f"grid 2 2\nblocks {share}\ntenant {TENANT} {share} {SESSIONS} 1\ngo\n")
+        out.writelines(f"{TENANT} open {files} {blocks}\n" for files, blocks in volumes)
+
+
+class Trial:
+    def __init__(self, folder, program, bug):
+        self.folder, self.program, self.bug, self.draw = folder, program, bug, random.Random()
+        self.map, self.log = f"{folder}/map", open(f"{folder}/log", "ab")
+        self.grids, self.clients, self.mover = {}, {}, None
+        self.count = collections.Counter()
+
+    def start_grid(self, label):
+        write_plan(f"{self.folder}/{label}.plan")
+        words = [os.path.join(TOP, "examples", "grid"), "--plan", f"{self.folder}/{label}.plan", "--program", self.program, "--tick", "0.1", f"{self.folder}/{label}"]
+        self.grids[label] = subprocess.Popen(words, stdin=subprocess.PIPE, stdout=self.log, stderr=self.log, text=True, bufsize=1)
+        until = time.monotonic() + STARTED
+        while not os.path.exists(f"{self.folder}/{label}/socket"):
+            if time.monotonic() > until or self.grids[label].poll() is not None:
+                raise TimeoutError(f"{label} has not started")
+            time.sleep(0.1)
+        with open(f"{self.folder}/{label}.ini", "w", encoding="ascii") as out:
+            out.write(f"[gridfs]\ntenant = {TENANT}\nsocket = {self.folder}/{label}/socket\nlocks = {self.folder}/locks.{label}\n")
+
+    def fleet(self, *words):
+        return [sys.executable, "-B", os.path.join(TOP, "clients", "python", "gridfs-fleet"), "--map", self.map, *words]
+
+    def tell(self, *words):
+        subprocess.run(self.fleet(*words), check=True, stdout=self.log, stderr=self.log)
+
+    def start_client(self, number, until):
+        settings = dict(folder=self.folder, map=self.map, number=number, until=until, names=names_trial.NAMES, sizes=names_trial.SIZES, bug=self.bug)
+        words = [sys.executable, "-B", f"{HERE}/fleet_client.py", json.dumps(settings)]
+        self.clients[number] = subprocess.Popen(words, stdin=subprocess.DEVNULL, stdout=self.log, stderr=self.log)
+
+    def see_to_mover(self):
+        """The mover goes on, or is begun again."""
+        if self.mover and self.mover.poll() is not None:
+            self.count["movers ended"] += 1
+            if self.mover.returncode:
+                self.count[f"movers with status {self.mover.returncode}"] += 1
+            self.mover = None
+        if self.mover is None and (read_map(self.map).moves or read_map(self.map).next_part()):
+            self.mover = subprocess.Popen(self.fleet("spread"), stdin=subprocess.DEVNULL, stdout=self.log, stderr=self.log)
+
+    def kill(self, what, until):
+        if what == "mover":
+            if not self.mover:
+                return
+            self.mover.kill()
+            self.mover.wait()
+            self.mover = None
+        elif what == "client":
+            number = self.draw.choice(list(self.clients))
+            self.clients[number].kill()
+            self.clients[number].wait()
+            self.start_client(number, until)
+        else:
+            node, grid = self.draw.randrange(4), self.draw.choice(list(self.grids.values()))
+            grid.stdin.write(f"kill {node}\n")
+            time.sleep(self.draw.random())
+            grid.stdin.write(f"start {node}\n")
+        self.count[f"{what}s killed"] += 1
+
+    def end(self):
+        for process in [*self.clients.values(), *([self.mover] if self.mover else [])]:
+            process.kill()
+            process.wait()
+        for grid in self.grids.values():
+            grid.send_signal(signal.SIGINT)
+        for grid in self.grids.values():
+            try:
+                grid.wait(20)
+            except subprocess.TimeoutExpired:
+                grid.kill()
+
+
+def run(folder, program, seconds, grids, kills, bug=None):
+    """What was counted, and what is wrong."""
+    trial, wrong, labels = Trial(folder, program, bug), [], LABELS[:grids]
+    try:
+        for label in labels:
+            trial.start_grid(label)
+        trial.tell("begin", labels[0], f"{labels[0]}.ini")
+        half = max(1, grids // 2)
+        for label in labels[1:half]:
+            trial.tell("add", label, f"{label}.ini")
+        trial.tell("spread")
+        begun = time.monotonic()
+        until = begun + seconds
+        for number in range(1, CLIENTS + 1):
+            trial.start_client(number, until)
+        time.sleep(1)
+        for label in labels[half:]:
+            trial.tell("add", label, f"{label}.ini")
+        moments = sorted((trial.draw.uniform(1, seconds), what) for what in ("client", "node", "mover") for _ in range(kills))
+        while time.monotonic() < until:
+            trial.see_to_mover()
+            if moments and time.monotonic() > begun + moments[0][0]:
+                trial.kill(moments.pop(0)[1], until)
+            time.sleep(0.1)
+        for number, client in trial.clients.items():
+            try:
+                if client.wait(PATIENCE):
+                    wrong.append(f"client {number} has ended with status {client.returncode}")
+            except subprocess.TimeoutExpired:
+                wrong.append(f"client {number} does not end")
+        end = time.monotonic() + PATIENCE
+        while (now := read_map(trial.map)).moves or now.next_part():
+            trial.see_to_mover()
+            if time.monotonic() > end:
+                wrong.append(f"not all slices are spread: {now.shares()}")
+                break
+            time.sleep(0.1)
+        trial.count["moves"] = now.last_move
+        if not bug:
+            told = subprocess.run(trial.fleet("status"), capture_output=True, text=True, check=False)
+            trial.log.write(told.stdout.encode())
+            if told.returncode or len(set(now.shares().values())) > 1:
+                wrong.append(f"{told.stdout}{told.stderr}")
+    finally:
+        trial.end()
+    counted, faults = names_trial.judge(folder)
+    return {**trial.count, **counted}, wrong + faults
+
+
+def main():
+    parser = argparse.ArgumentParser(description=__doc__, formatter_class=argparse.RawDescriptionHelpFormatter)
+    parser.add_argument("program")
+    parser.add_argument("seconds", type=float, nargs="?", default=30)
+    parser.add_argument("--grids", type=int, default=4, choices=range(2, 5))
+    parser.add_argument("--kills", type=int, default=4, help="of each kind")
+    parser.add_argument("--bug")
+    args = parser.parse_args()
+    folder = tempfile.mkdtemp(prefix="fleet")
+    count, wrong = run(folder, os.path.abspath(args.program), args.seconds, args.grids, args.kills, args.bug)
+    print(dict(count))
+    print("\n".join(wrong) or "none is wrong")
+    if wrong and not args.bug:
+        print(f"kept: {folder}")
+    else:
+        shutil.rmtree(folder)
+    return 1 if wrong else 0
+
+
+if __name__ == "__main__":
+    sys.exit(main())

@@ -1,0 +1,251 @@
+"""Random histories over grids in memory, whose files are perfect registers: clients by any map that there ever was, and movers, with kills.
+
+    fleets.py FIRST COUNT [--operations N] [--bug NAME]      so many histories from a seed on
+    fleets.py --bugs                                         each planted bug, by the history that finds it
+
+Whoever is killed leaves its write pending: it takes effect at some later moment, or never, and not once a later write of its session to the file has. Which
+one goes on is drawn at each step. A session has one client at a time; a client has its sessions for a few operations.
+"""
+
+import argparse
+import collections
+import contextlib
+import dataclasses
+import os
+import random
+import sys
+import threading
+import time
+from unittest import mock
+
+sys.dont_write_bytecode = True
+HERE = os.path.dirname(os.path.abspath(__file__))
+sys.path[:0] = [HERE, os.path.join(HERE, "..", "names")]
+from histories import History, Killed
+from memory import Memory, MemorySession
+
+from gridfs_client import ClientError, NamedFiles, OneByOne, core, ways
+from gridfs_client.fleet import FleetFiles, sign
+from gridfs_client.fleet_map import new_map
+from gridfs_client.moving import Mover
+from gridfs_client.ways import SLICES, slice_of
+
+LABELS = ("east", "west", "south")
+
+
+class Actor:
+    """A client or a mover, in a thread that goes on a step at a time."""
+
+    def __init__(self, fleet, work):
+        self.fleet, self.held = fleet, set()
+        self.turn, self.back = threading.Semaphore(0), threading.Semaphore(0)
+        self.is_killed, self.has_ended, self.fault = False, False, None
+        threading.Thread(target=self.run, args=(work,), daemon=True).start()
+
+    def run(self, work):
+        self.turn.acquire()
+        try:
+            if not self.is_killed:
+                work(self)
+        except Killed:
+            pass
+        except BaseException as fault:
+            self.fault = fault
+        self.fleet.held -= self.held
+        self.has_ended = True
+        self.back.release()
+
+    def step(self, _=None):
+        self.back.release()
+        self.turn.acquire()
+        if self.is_killed:
+            raise Killed
+
+    def go(self):
+        self.turn.release()
+        self.back.acquire()
+        if self.fault:
+            raise self.fault
+
+    def take(self, grid, numbers):
+        """One of these sessions of a grid, once it is free."""
+        while not (free := [each for each in numbers if (grid, each) not in self.fleet.held]):
+            self.step()
+        taken = (grid, self.fleet.draw.choice(free))
+        self.fleet.held.add(taken)
+        self.held.add(taken)
+        return taken[1]
+
+    def leave(self, grid, number):
+        self.fleet.held.discard((grid, number))
+        self.held.discard((grid, number))
+
+    def files(self, grid, numbers, ground):
+        memory = self.fleet.memories[grid]
+        return NamedFiles(MemorySession(memory, self.take(grid, numbers), self.step), memory.layout, team=OneByOne(), ground=ground)
+
+
+class Fleet:
+    def __init__(self, draw, labels, sessions, pages, slots):
+        self.draw, self.sessions, self.held = draw, sessions, set()
+        self.memories = {label: Memory(sessions, pages, 40, slots, 2) for label in labels}
+        self.map = dataclasses.replace(new_map("east", "-"), grids=dict.fromkeys(labels, "-"))
+        self.maps, self.counts = [self.map], collections.Counter()
+
+    def save(self, fleet_map):
+        self.map = fleet_map
+        self.maps.append(fleet_map)
+
+    def all(self):
+        return range(1, self.sessions + 1)
+
+    def late(self):
+        """A pending write takes effect."""
+        memory = self.draw.choice([each for each in self.memories.values() if each.pending] or [None])
+        if memory:
+            memory.take(memory.pending.pop(self.draw.randrange(len(memory.pending))))
+
+    def run(self, works, kills, late):
+        """`works` makes for each actor what it does, until it gives none."""
+        actors = {number: Actor(self, work()) for number, work in enumerate(works)}
+        weights = dict.fromkeys(actors, 1.0)
+        while any(number for number in actors if number):  # (number 0 is the mover)
+            if self.draw.random() < 0.02:
+                weights = {number: self.draw.choice((0.01, 0.1, 1, 1)) for number in actors}
+            if self.draw.random() < late:
+                self.late()
+            number = self.draw.choices(list(actors), [weights[each] * (1 if each else 4) for each in actors])[0]  # (a move has many steps)
+            actor = actors[number]
+            if self.draw.random() < kills:
+                actor.is_killed = True
+                self.counts["movers killed" if number == 0 else "clients killed"] += 1
+            actor.go()
+            self.counts["steps"] += 1
+            if actor.has_ended:
+                del actors[number]
+                if actor.is_killed or number == 0:
+                    actors[number] = Actor(self, works[number]())
+        if 0 in actors:
+            actors[0].is_killed = True
+            actors[0].go()
+
+
+def try_fleet(seed, operations=60):
+    draw = random.Random(seed)
+    labels = LABELS[: draw.choice((2, 2, 3))]
+    clients = draw.choice((2, 3))
+    fleet = Fleet(draw, labels, clients + draw.choice((1, 2)), draw.choice((1, 1, 2)), draw.choice((8, 12)))
+    names = ["a", "b b", "ç"][: draw.choice((1, 2, 3))]
+    history = History(names, (3, 45, 150), weights=draw.choice(((4, 5, 2, 1), (4, 4, 4, 0), (2, 6, 1, 0))))
+    kills, late, left = draw.choice((0, 0.001, 0.004, 0.01)), draw.choice((0.1, 0.02, 0.005)), [operations]
+
+    def client():
+        def work(actor):
+            while left[0] > 0:
+                fleet_map = draw.choice(fleet.maps) if draw.random() < 0.5 else fleet.map
+                files = FleetFiles(fleet_map, lambda grid, ground: actor.files(grid, fleet.all(), ground))
+                for _ in range(draw.choice((1, 2, 5))):
+                    left[0] -= 1
+                    history.do(actor, files, draw)
+                for grid, number in list(actor.held):
+                    actor.leave(grid, number)
+
+        return work
+
+    def mover():
+        def work(actor):
+            while not fleet.map.moves:
+                first, last = 0, SLICES - 1
+                if draw.random() < 0.4:
+                    first = last = slice_of(draw.choice(names))
+                try:
+                    fleet.save(fleet.map.begun(first, last, draw.choice(labels)))
+                except ClientError:
+                    actor.step()
+            move = fleet.map.moves[0]
+
+            @contextlib.contextmanager
+            def session(grid, numbers, ground):
+                files = actor.files(grid, numbers or fleet.all(), ground)
+                yield files
+                actor.leave(grid, files.me)
+
+            Mover(fleet.map, move, session, lambda grid: fleet.memories[grid].layout, fleet.save).run()
+            fleet.counts["moves ended"] += 1
+
+        return work
+
+    fleet.run([mover, *[client] * clients], kills, late)
+    return history, fleet
+
+
+def stays(walk, client):
+    return ways.at_end(walk)
+
+
+def new_alone(walk):
+    return 1 + max(page.number for page in core.for_change(walk.client(walk.last.grid)).values())
+
+
+def unsigned(self):
+    """Names are copied before all pages have signposts."""
+    lacking = self.lacking()[:1]
+    for session, page in lacking:
+        with self.files(self.move.source, [session]) as files:
+            sign(files, files.writer.bucket(page), self.move.signpost)
+
+
+def uncopied(self):
+    pass
+
+
+BUGS = {
+    "stays": (ways, "looked", stays),
+    "new-alone": (ways, "number_above", new_alone),
+    "unsigned": (Mover, "sign_all", unsigned),
+    "uncopied": (Mover, "copy_all", uncopied),
+}
+SEEDS = {"stays": 1, "new-alone": 1, "unsigned": 1, "uncopied": 9}  # of the history that finds each
+
+
+def is_found(seed, operations=60):
+    try:
+        return bool(try_fleet(seed, operations)[0].wrong()[0])
+    except (ClientError, AssertionError):
+        return True
+
+
+def planted(bug):
+    where, what, how = BUGS[bug]
+    return mock.patch.object(where, what, how)
+
+
+def main():
+    parser = argparse.ArgumentParser(description=__doc__, formatter_class=argparse.RawDescriptionHelpFormatter)
+    parser.add_argument("first", type=int, nargs="?", default=0)
+    parser.add_argument("count", type=int, nargs="?", default=20)
+    parser.add_argument("--operations", type=int, default=60)
+    parser.add_argument("--bug", choices=BUGS)
+    parser.add_argument("--bugs", action="store_true")
+    args = parser.parse_args()
+    if args.bugs:
+        for bug in BUGS:
+            with planted(bug):
+                seed = next((seed for seed in range(args.first, args.first + args.count) if is_found(seed)), None)
+            print(bug, "NOT FOUND" if seed is None else seed, flush=True)
+        return
+    total, start = collections.Counter(), time.monotonic()
+    with planted(args.bug) if args.bug else contextlib.nullcontext():
+        for seed in range(args.first, args.first + args.count):
+            history, fleet = try_fleet(seed, args.operations)
+            total.update(history.counts)
+            total.update(fleet.counts)
+            wrong, unknown = history.wrong()
+            if wrong or unknown:
+                print(seed, "WRONG" if wrong else "unknown", wrong, unknown, flush=True)
+            total.update(wrong=len(wrong), unknown=len(unknown))
+    print(dict(total), f"{time.monotonic() - start:.1f} s")
+
+
+if __name__ == "__main__":
+    main()
