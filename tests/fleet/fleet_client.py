@@ -5,7 +5,6 @@ when it has ended.
 """
 
 import contextlib
-import hashlib
 import json
 import os
 import random
@@ -16,8 +15,8 @@ sys.dont_write_bytecode = True
 HERE = os.path.dirname(os.path.abspath(__file__))
 sys.path[:0] = [HERE, os.path.join(HERE, "..", "names")]
 from fleets import planted
+from noted import Noted
 
-from gridfs_client import ClientError, NoRoom, NoSuchName
 from gridfs_client.fleet_map import read_map
 from gridfs_client.open_grids import OpenGrids
 from gridfs_client.settings import Settings
@@ -25,11 +24,8 @@ from gridfs_client.settings import Settings
 
 def main():
     settings = json.loads(sys.argv[1])
-    history = os.open(f"{settings['folder']}/history{settings['number']}", os.O_WRONLY | os.O_CREAT | os.O_APPEND, 0o600)
-    draw, process, serial, maps = random.Random(), f"{settings['number']}.{os.getpid()}", 0, [read_map(settings["map"])]
-
-    def note(**event):
-        os.write(history, (json.dumps(dict(event, time=time.monotonic_ns(), process=process, serial=serial)) + "\n").encode())
+    noted = Noted(f"{settings['folder']}/history{settings['number']}", f"{settings['number']}.{os.getpid()}")
+    draw, maps = random.Random(), [read_map(settings["map"])]
 
     while time.monotonic() < settings["until"]:
         latest = read_map(settings["map"])
@@ -43,30 +39,11 @@ def main():
         with contextlib.closing(grids):
             files = grids.files()
             for _ in range(draw.choice((1, 3, 8))):
-                serial += 1
+                noted.serial += 1
                 name, kind = draw.choice(settings["names"]), draw.choices(("put", "get", "remove", "names"), (4, 5, 2, 1))[0]
-                content = f"{process} {serial} ".encode()
-                content += draw.randbytes(max(0, draw.choice(settings["sizes"]) - len(content)))
-                note(type="begins", kind=kind, name=name, value=hashlib.sha256(content).hexdigest() if kind == "put" else None)
-                told = None
-                try:
-                    if kind == "put":
-                        files.put(name, content)
-                    elif kind == "remove":
-                        files.remove(name)
-                    elif kind == "get":
-                        told = hashlib.sha256(files.get(name)[0]).hexdigest()
-                    else:
-                        told = {entry.name: entry.sha256 for entry in files.names()}
-                except NoSuchName:
-                    note(type="absent")
-                except NoRoom:
-                    note(type="noroom")
-                except ClientError as fault:
-                    note(type="fault", fault=f"{type(fault).__name__}: {fault}")
-                    return fault.status
-                else:
-                    note(type="done", told=told)
+                status = noted.operate(files, kind, name, noted.content(draw, draw.choice(settings["sizes"])))
+                if status is not None:
+                    return status
     return 0
 
 

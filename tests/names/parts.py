@@ -117,14 +117,15 @@ def in_pipes(program, seconds, kills, has_room=False):
 
 def bug_in_pipes(program, seconds):
     """A client with a bug, over nodes, has to be found: on a busy machine, where few operations end in the time, by more than one attempt."""
-    bug, operations, wrong = planted.VersionsNotRaised.__name__, 0, []
+    bug, operations, found = planted.VersionsNotRaised.__name__, 0, []
     for attempt in range(ATTEMPTS):
         os.mkdir(f"attempt{attempt}")
         counts, wrong = trial.run(trial.Pipes(os.path.abspath(f"attempt{attempt}"), program), seconds, {}, bug)
         operations += counts.get("operations", 0)
-        if wrong or operations > MOST_OPERATIONS:
+        found = [text for text in wrong if ": no order of" in text]  # (a client that doesn't start is wrong too, and finds nothing)
+        if found or operations > MOST_OPERATIONS:
             break
-    return f"{bug} in pipes: {len(wrong)} wrong of {operations} operations", [] if wrong else [f"{bug} is not found"]
+    return f"{bug} in pipes: {len(found)} wrong of {operations} operations", [] if found else [f"{bug} is not found"]
 
 
 def carrier():

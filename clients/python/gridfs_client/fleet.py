@@ -14,7 +14,7 @@ from .core import Line, Version
 from .errors import BadSettings, ClientError, Damaged, NoRoom, NoSuchName, Replaced
 from .fleet_map import FleetMap
 from .layout import Layout
-from .names import BEGINNINGS, Entry, Listed, NamedFiles, Swept, entry_of, no_words, place_to_cut
+from .names import Entry, Listed, NamedFiles, Swept, copied_whole, entry_of, no_words
 from .pages import check_name, check_words, text_of
 from .streams import Source
 from .ways import Found, Ground, Opens, Walk, slice_of
@@ -128,21 +128,13 @@ class FleetFiles:
 
     def get_to(self, name: str, target: IO[bytes]) -> Entry:
         check_name(name)
-        start = place_to_cut(target)
-        for _ in range(BEGINNINGS):
+
+        def attempt() -> Entry | int:
             _, found, held = self.present(name)
             files = self.grid(found.grid)
-            told = files.copy_to(held, target)
-            if told is None:
-                return entry_of(held)
-            if not files.bucket(name).reread(found.session):
-                raise Damaged(f"{name}: its slots don't hold it")
-            if told and start is None:
-                raise Replaced(f"{name}: replaced while it was read, and {told} bytes of the old content are out")
-            if start is not None:
-                target.seek(start)
-                target.truncate()
-        raise Replaced(f"{name}: replaced each of {BEGINNINGS} times while it was read")
+            return files.attempt_to_copy(files.bucket(name), held, found.session, target)
+
+        return copied_whole(name, target, attempt)
 
     def stat(self, name: str) -> Entry:
         check_name(name)
