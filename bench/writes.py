@@ -87,7 +87,7 @@ class Lines:
         self.up ^= 1 << server
         return f"server {server} {'up' if self.up >> server & 1 else 'down'}\n"
 
-    def mates(self, server):
+    def peers(self, server):
         """The other servers of its column."""
         return next(column for column in self.grid.cols if column >> server & 1) & ~(1 << server)
 
@@ -95,16 +95,16 @@ class Lines:
         """A server is lost, or repaired; any server, so that now and then the line is refused."""
         server = self.draw.choice(self.grid.servers)
         if self.gone >> server & 1:
-            mates = self.mates(server) & self.up
-            if mates:
-                mate = (mates & -mates).bit_length() - 1
+            peers = self.peers(server) & self.up
+            if peers:
+                peer = (peers & -peers).bit_length() - 1
                 for tenant in self.tenants:
                     for file in range(self.files):
-                        tenant.tags[server, file] = tenant.tags.get((mate, file), FIRST)
+                        tenant.tags[server, file] = tenant.tags.get((peer, file), FIRST)
                 self.up |= 1 << server
                 self.gone ^= 1 << server
             return f"server {server} repaired\n"
-        if self.mates(server) & ~self.gone:
+        if self.peers(server) & ~self.gone:
             self.up &= ~(1 << server)
             self.gone |= 1 << server
             for tenant in self.tenants:

@@ -151,7 +151,7 @@ class Servers:
         """The servers that a round that begins now sends to: those of a row where it collects, of a column where it stores."""
         return self.row_up if round % 2 else self.column_up
 
-    def mates(self, server):
+    def peers(self, server):
         """The other servers of its column."""
         return set(range(server % self.cols, self.rows * self.cols, self.cols)) - {server}
 
@@ -166,8 +166,8 @@ class Servers:
         if (server in self.lost) == (verb == b"lost"):
             return b"same"
         if verb == b"lost":
-            return b"last" if self.mates(server) <= self.lost else None
-        return None if self.mates(server) & self.up else b"nomate"
+            return b"last" if self.peers(server) <= self.lost else None
+        return None if self.peers(server) & self.up else b"nomate"
 
     def answer(self, words, tenants):
         """The answer to a server line, by the words behind the first, and what it does to the tenants."""

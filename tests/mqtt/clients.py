@@ -193,7 +193,7 @@ def lost(program, carry):
         clients.held("old node 3 is let in", is_let_in(grid, 3), False)
         grid.kill_node(1)
         done = clients.load("--sessions", "1", "--seconds", "3", "--writes", "0", "--history", "history.ann.2")  # (session 1, whose home is up)
-        clients.held("all is read while its mate is down", done.returncode, DONE)
+        clients.held("all is read while its peer is down", done.returncode, DONE)
         for file, history in histories_of(".").items():
             clients.held(f"the history of {file}", is_linearizable(history, BOUND), True)
     finally:

@@ -24,7 +24,7 @@ ANSWERS = [
     "bob plan 4 0 2 16 16 8.2",
 ]
 OF_A_LOSS = 1_099_511_627_776  # numbers of tags that are left for what is written between two losses
-# A node's journal is lost, and a new node takes its place; so twice at one place, and then at the place of its mate.
+# A node's journal is lost, and a new node takes its place; so twice at one place, and then at the place of its peer.
 LOSSES = (
     "ann write 4 0 0 6869\nwait\nlose 3\nann read 4 0 0\nann read 1 0 0\nreplace 3\nwait 67\nwait\nann write 4 0 1 aa\nwait\n"
     + "lose 67\nreplace 67\nwait 131\nlose 1\nreplace 1\nwait 65\nann read 4 0 1\nann read 3 0 0\nbob plan\nwait\nlose 131\n"

@@ -72,7 +72,7 @@ LINES = {
     "it is asked whether it has joined": (b"67 0 joins 1\n67 0 joins 2\n67 0 joins 0\n67 3 joins 1\n67 131 joins 1\n", b"0 67 joined 1\n0 67 joined 0\n"),
     "a file that it lacks": (ASK + STORE + b"67 1 ann fetch 0 0\n", b""),
     "a file that it was given": (GIVEN + ASK, NEXT + COPY),
-    "a file that it was given, asked for by its mate": (GIVEN + b"67 1 ann fetch 0 0\n67 0 ann fetch 0 0\n67 2 ann fetch 0 0\n", NEXT + b"1 67 ann fetched 0 0 5 1 aa\n"),
+    "a file that it was given, asked for by its peer": (GIVEN + b"67 1 ann fetch 0 0\n67 0 ann fetch 0 0\n67 2 ann fetch 0 0\n", NEXT + b"1 67 ann fetched 0 0 5 1 aa\n"),
     "a file that it was given twice": (GIVEN + b"67 1 ann fetched 0 0 6 1 bb\n" + ASK, NEXT + COPY),
     "a file that another column gives": (b"67 0 ann fetched 0 0 5 1 aa\n67 2 ann fetched 0 0 5 1 aa\n67 3 ann fetched 0 0 5 1 aa\n" + ASK, b""),
     "a file that is not there": (b"67 1 ann fetched 0 4 5 1 aa\n67 1 ann fetched 2 0 5 1 aa\n67 1 zed fetched 0 0 5 1 aa\n", b""),
@@ -106,7 +106,7 @@ WITH_THE_OLD_PLAN = {
     "a new node asks whether it has joined": (b"0 67 joins 1\n0 67 joins 0\n", b""),
     "a letter of a new node": (b"0 67 ann 20 1 1 0 0 ask\n", b""),
     "a session of a new node": (b"0 ann read 20 1 0 0\n", b"ann 0 refused nosession 20 1\n"),
-    "a mate wants a file": (b"0 2 ann fetch 0 0\n0 66 ann fetch 0 0\n", b"2 0 ann fetched 0 0 0 0 -\n"),
+    "a peer wants a file": (b"0 2 ann fetch 0 0\n0 66 ann fetch 0 0\n", b"2 0 ann fetched 0 0 0 0 -\n"),
 }
 
 

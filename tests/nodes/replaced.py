@@ -292,14 +292,14 @@ class Losses(Storm):
         """The disk of a node is lost, or it is given up with its journal. Of its column another one has all files."""
         nodes = nodes_of(self.plan)
         whole = {number for number in nodes if number not in self.dead and self.has_all(number)}
-        found = [number for number in nodes if number not in self.dead and whole.intersection(self.mates(number))]
+        found = [number for number in nodes if number not in self.dead and whole.intersection(self.peers(number))]
         if not found:
             return
         number = self.draw.choice(found)
         self.losses["nodes lost"] += 1
         self.losses["of them new"] += number >= PLACES
         self.losses["that lacked files"] += number not in whole
-        self.losses["beside another of the column"] += any(mate not in whole for mate in self.mates(number))
+        self.losses["beside another of the column"] += any(peer not in whole for peer in self.peers(number))
         self.unsaid.append(number % PLACES)
         if number in self.begun and os.path.exists(self.journal(number)) and self.draw.random() < WITH_ITS_JOURNAL:
             self.losses["that live on"] += 1
@@ -313,7 +313,7 @@ class Losses(Storm):
             if name.startswith(f"journal{number}.") and not name.endswith(".lock") or name == f"journal{number}":
                 os.unlink(os.path.join(self.folder, name))
 
-    def mates(self, number):
+    def peers(self, number):
         """The other nodes of its column."""
         cols = cols_of(self.plan)
         return [node for node in nodes_of(self.plan) if node % PLACES % cols == number % PLACES % cols and node != number]

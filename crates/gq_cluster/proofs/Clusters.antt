@@ -87,13 +87,13 @@ acts_can s c (Acts act) can = (can, tt)
 acts_can s c (Restarts node) can = abandons_can s (going_at s c node) c
 acts_can s c (Reserves node number) can = tt
 acts_can s c (Loses server volumes) can = tt
-acts_can s c (Returns server file mate copy) can = tt
+acts_can s c (Returns server file peer copy) can = tt
 
 acts_few : (s : Setting) (c : Cluster) (step : NodeStep) → length (acts_of s c step) ≤ s.row.sessions + 1
 acts_few s c (Acts act) = omega arith
 acts_few s c (Reserves node number) = omega arith
 acts_few s c (Loses server volumes) = omega arith
-acts_few s c (Returns server file mate copy) = omega arith
+acts_few s c (Returns server file peer copy) = omega arith
 acts_few s c (Restarts node) =
     let each = length-map (going_at s c node) gives_up in
     let test : ℕ → Bool = λ k. (s.home k == node) && is_some ((c.part node).session k).current in
@@ -146,9 +146,9 @@ behind_run s (Reserves node number) p c stands can = record { turns = []; disks 
 behind_run s (Loses server volumes) p c stands can =
     let lost = loses s p c server volumes stands can in
     record { turns = Losing server volumes ∷ []; disks = refl; did = refl; stands = lost.stands; lines = (let lines = lost.lines in omega arith) }
-behind_run s (Returns server file mate copy) p c stands can =
-    let given = returns s p c server file mate copy stands can.0 can.1 can.2 in
-    record { turns = Returning server file mate copy ∷ []; disks = refl; did = refl; stands = given.stands; lines = (let lines = given.lines in omega arith) }
+behind_run s (Returns server file peer copy) p c stands can =
+    let given = returns s p c server file peer copy stands can.0 can.1 can.2 in
+    record { turns = Returning server file peer copy ∷ []; disks = refl; did = refl; stands = given.stands; lines = (let lines = given.lines in omega arith) }
 
 steps_run : (s : Setting) (steps : List NodeStep) (p : Past) (c : Cluster) → Stands s p c → p.lines + length steps * (s.row.sessions + 1) ≤ s.row.steps → CanFollow s c steps → Runs s p (fold (after_step s) c steps) (exchanges s c steps) (filter_map disk_step steps) (length steps * (s.row.sessions + 1))
 steps_run s [] p c stands enough can = record { turns = []; disks = refl; did = refl; stands = stands; lines = omega arith }
@@ -223,7 +223,7 @@ opens_lines grid row (v ∷ opens) p = let later = opens_lines grid row opens (a
 opened_stands : (grid : Grid) (row : TenantRow) (home : ℕ → ℕ) (opens : List VolumeRow) → Stands (setting_of grid row home opens) (opened grid row opens) new_cluster
 opened_stands grid row home opens =
     let fresh : IsFresh (opened grid row opens) = opens_fresh grid row opens start (record { none = refl; kept = λ n. refl; alive = λ n. refl; here = λ n. refl; whole = λ n file. refl; copies = λ n file. refl; sessions = λ k. refl }) in
-    record { opened = refl; written = fresh.none; kept = fresh.kept; beyond = λ n out. fresh.alive n; none_gone = fresh.here; lacking = fresh.whole; copies = fresh.copies; sessions = fresh.sessions; offers = λ server file mate copy within. absurd (omega (arith, within.1)) }
+    record { opened = refl; written = fresh.none; kept = fresh.kept; beyond = λ n out. fresh.alive n; none_gone = fresh.here; lacking = fresh.whole; copies = fresh.copies; sessions = fresh.sessions; offers = λ server file peer copy within. absurd (omega (arith, within.1)) }
 
 -- ---- the law
 

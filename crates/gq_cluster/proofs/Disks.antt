@@ -6,7 +6,7 @@ use Rattle.std.proofs.lemmas.Bool.{and_parts, eq-eqb, eqb-true, or_left, or_righ
 use Rattle.std.proofs.lemmas.Slice.Eq.{bytes_eq-Decides}
 use Rattle.gq_tag.specs.declared.StoredCopy.{StoredCopy}
 use Rattle.gq_tag.specs.Tag.{File, is_file, OwnMessage, to_server}
-use Rattle.gq_phase.specs.Quorums.{are_mates}
+use Rattle.gq_phase.specs.Quorums.{are_peers}
 use Rattle.gq_model.specs.Told.{ServerOk}
 use Rattle.gq_model.specs.Trace.{Turn, Losing, Returning, Entry, Past, questions, sent, lacks, is_awaited, brought, offered, session}
 use Rattle.gq_model.specs.Lone.{after, trace_after, quiet, is_counted, loss_told, equal_copies, return_told}
@@ -65,7 +65,7 @@ loses s p c server volumes stands none = subst P (sym then_is) (record {
     lacking = lacking;
     copies = copies;
     sessions = λ k. stands.sessions k ∙ kept (s.home k) k (eqb server (s.home k));
-    offers = λ to file mate copy within. offers_on _ _ _ _ copy (offers to file mate copy (eqb server to && is_within volumes file)) (holds_as (silent_entry turn ∷ p.trace) parts lacking copies file mate) within;
+    offers = λ to file peer copy within. offers_on _ _ _ _ copy (offers to file peer copy (eqb server to && is_within volumes file)) (holds_as (silent_entry turn ∷ p.trace) parts lacking copies file peer) within;
   };
   lines = refl;
 })
@@ -103,9 +103,9 @@ loses s p c server volumes stands none = subst P (sym then_is) (record {
     kept n k true = refl
     kept n k false = refl
 
-    offers : (to : ℕ) (file : File) (mate : ℕ) (copy : StoredCopy) (b : Bool) → Contains (if b then [] else c.offered to file mate) copy → Contains (if b then [] else offered p.trace to file mate) copy
-    offers to file mate copy true within = within
-    offers to file mate copy false within = stands.offers to file mate copy within
+    offers : (to : ℕ) (file : File) (peer : ℕ) (copy : StoredCopy) (b : Bool) → Contains (if b then [] else c.offered to file peer) copy → Contains (if b then [] else offered p.trace to file peer) copy
+    offers to file peer copy true within = within
+    offers to file peer copy false within = stands.offers to file peer copy within
 
 -- ---- a return
 
@@ -117,8 +117,8 @@ is_offered copy [] within = absurd (omega (arith, within.1))
 is_offered copy (x ∷ copies) (zero, low, is) = let P : StoredCopy → Type 0 = λ z. equal_copies copy z ≡ true in or_left (equal_copies copy x) (list_any (equal_copies copy) copies) (subst P (sym is) (equal_self copy))
 is_offered copy (x ∷ copies) (suc i, low, is) = or_right (equal_copies copy x) (list_any (equal_copies copy) copies) (is_offered copy copies (i, omega arith, is))
 
-pub returns : (s : Setting) (p : Past) (c : Cluster) (server : ℕ) (file : File) (mate : ℕ) (copy : StoredCopy) → Stands s p c → (c.part server).lacks file ≡ true → are_mates s.grid server mate ≡ true → Contains (c.offered server file mate) copy → IsDone s p (Returning server file mate copy) (with_return server file copy c)
-returns s p c server file mate copy stands lack mates among = subst P (sym then_is) (record {
+pub returns : (s : Setting) (p : Past) (c : Cluster) (server : ℕ) (file : File) (peer : ℕ) (copy : StoredCopy) → Stands s p c → (c.part server).lacks file ≡ true → are_peers s.grid server peer ≡ true → Contains (c.offered server file peer) copy → IsDone s p (Returning server file peer copy) (with_return server file copy c)
+returns s p c server file peer copy stands lack peers among = subst P (sym then_is) (record {
   stands = record {
     opened = stands.opened;
     written = append-nil (sent p.trace) ∙ stands.written;
@@ -134,15 +134,15 @@ returns s p c server file mate copy stands lack mates among = subst P (sym then_
 })
   where
     turn : Turn
-    turn = Returning server file mate copy
+    turn = Returning server file peer copy
 
     P : Past → Type 0
     P z = IsBehind s p z (with_return server file copy c)
 
-    told : return_told s.grid (questions p.trace) server file mate copy ≡ ServerOk
+    told : return_told s.grid (questions p.trace) server file peer copy ≡ ServerOk
     told =
         let lacks_it : lacks p.trace server file ≡ true = stands.lacking server file ∙ lack in
-        rw (lacks_it, mates, is_offered copy (offered p.trace server file mate) (stands.offers server file mate copy among)) refl
+        rw (lacks_it, peers, is_offered copy (offered p.trace server file peer) (stands.offers server file peer copy among)) refl
 
     then_is : after s.grid s.row p turn ≡ with_turn p turn
     then_is = λ i. record { lines = p.lines; trace = trace_after p.trace turn (quiet (told i)) }

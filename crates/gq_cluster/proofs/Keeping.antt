@@ -267,7 +267,7 @@ step_keeps : (s : Setting) (n : ℕ) (step : NodeStep) (c : Cluster) → IsKept 
 step_keeps s n (Acts act) c kept = refl
 step_keeps s n (Reserves node number) c kept = absurd kept
 step_keeps s n (Loses server volumes) c kept = absurd kept
-step_keeps s n (Returns server file mate copy) c kept = absurd kept
+step_keeps s n (Returns server file peer copy) c kept = absurd kept
 step_keeps s n (Restarts node) c kept = by (eqb n node)
   where
     by : (b : Bool) → kept_of (if b then leapt_part s node (c.part n) else c.part n) ≡ kept_of (c.part n)

@@ -32,7 +32,7 @@ leaps_for s c node ks = map (leap s c) (filter (λ k. eqb (s.home k) node) ks)
 
 -- all but the sessions, and what servers could give
 abbrev pub without_sessions : State → State
-without_sessions state = record { up = state.up; gone = state.gone; volumes = state.volumes; sent = state.sent; is_lost = state.is_lost; lacks = state.lacks; brought = state.brought; offered = λ server file mate. []; session = λ k. new_session }
+without_sessions state = record { up = state.up; gone = state.gone; volumes = state.volumes; sent = state.sent; is_lost = state.is_lost; lacks = state.lacks; brought = state.brought; offered = λ server file peer. []; session = λ k. new_session }
 
 -- ---- one turn
 
@@ -52,7 +52,7 @@ abbrev with_leap : Past → (k op number : ℕ) → Past
 with_leap p k op number = record { lines = p.lines; trace = entry_for k op number ∷ p.trace }
 
 rest_stays : (p : Past) (k op number : ℕ) → without_sessions (questions (with_leap p k op number).trace) ≡ without_sessions (questions p.trace)
-rest_stays p k op number = λ i. record { up = up p.trace; gone = gone p.trace; volumes = volumes p.trace; sent = append-nil (sent p.trace) i; is_lost = is_lost p.trace; lacks = lacks p.trace; brought = brought p.trace; offered = λ server file mate. []; session = λ j. new_session }
+rest_stays p k op number = λ i. record { up = up p.trace; gone = gone p.trace; volumes = volumes p.trace; sent = append-nil (sent p.trace) i; is_lost = is_lost p.trace; lacks = lacks p.trace; brought = brought p.trace; offered = λ server file peer. []; session = λ j. new_session }
 
 leap_goes : (s : Setting) (p : Past) (k op number : ℕ) → (session p.trace k).current ≡ None → GoesOn s k op number p (after s.grid s.row p (Leaping k op number))
 leap_goes s p k op number idle = subst P (sym then_is) (record {
@@ -60,7 +60,7 @@ leap_goes s p k op number idle = subst P (sym then_is) (record {
   rest = rest_stays p k op number;
   own = own;
   apart = λ j ne. rw (ne_eqb k j ne) refl;
-  offers = λ server file mate copy within. Contains-append_left (offered p.trace server file mate) _ copy within;
+  offers = λ server file peer copy within. Contains-append_left (offered p.trace server file peer) _ copy within;
 })
   where
     P : Past → Type 0
@@ -87,7 +87,7 @@ record AllGoOn (s : Setting) (c : Cluster) (node a n : ℕ) (p q : Past) : Type 
 
 -- the first is of the node and goes on, or is not of the node
 first_too : (s : Setting) (c : Cluster) (node a n : ℕ) (p mid q : Past) → s.home a ≡ node → GoesOn s a (reserved_at_home s c a).op (reserved_at_home s c a).floor p mid → AllGoOn s c node (a + 1) n mid q → AllGoOn s c node a (suc n) p q
-first_too s c node a n p mid q home one more = record { lines = more.lines ∙ one.lines; rest = more.rest ∙ one.rest; these = these; apart = apart; offers = λ server file mate copy within. more.offers server file mate copy (one.offers server file mate copy within) }
+first_too s c node a n p mid q home one more = record { lines = more.lines ∙ one.lines; rest = more.rest ∙ one.rest; these = these; apart = apart; offers = λ server file peer copy within. more.offers server file peer copy (one.offers server file peer copy within) }
   where
     Then : ℕ → Type 0
     Then k = session q.trace k ≡ session_by s.volumes k (Leaps (reserved_at_home s c k).op (reserved_at_home s c k).floor) (session p.trace k)
@@ -122,7 +122,7 @@ abbrev AreIdle : Setting → (node a n : ℕ) → Past → Type 0
 AreIdle s node a n p = (k : ℕ) → a ≤ k → k < a + n → s.home k ≡ node → (session p.trace k).current ≡ None
 
 all_go_on : (s : Setting) (c : Cluster) (node a n : ℕ) (p : Past) → AreIdle s node a n p → AllGoOn s c node a n p (fold (after s.grid s.row) p (leaps_for s c node (range_with_len a n)))
-all_go_on s c node a zero p idle = record { lines = refl; rest = refl; these = λ k low high home. absurd (omega arith); apart = λ k out. refl; offers = λ server file mate copy within. within }
+all_go_on s c node a zero p idle = record { lines = refl; rest = refl; these = λ k low high home. absurd (omega arith); apart = λ k out. refl; offers = λ server file peer copy within. within }
 all_go_on s c node a (suc n) p idle = by (cases_eq (s.home a) node) (λ (mid : Past) (later : AreIdle s node (a + 1) n mid). all_go_on s c node (a + 1) n mid later)
   where
     Goal : Bool → Type 0
@@ -186,7 +186,7 @@ node_leaps s p c node stands idle = record {
     lacking = λ n file. ap (λ z. z.lacks n file) all.rest ∙ stands.lacking n file ∙ same_lacks n file (eqb n node);
     copies = λ n file. ap (λ z. z.brought n file) all.rest ∙ stands.copies n file ∙ same_copies n file (eqb n node);
     sessions = sessions;
-    offers = λ server file mate copy within. all.offers server file mate copy (stands.offers server file mate copy within);
+    offers = λ server file peer copy within. all.offers server file peer copy (stands.offers server file peer copy within);
   };
   lines = all.lines;
 }

@@ -9,7 +9,7 @@ use Rattle.gq_tag.specs.Tag.{File, OwnMessage, first_copy}
 use Rattle.gq_desk.specs.declared.plans.TenantRow.{TenantRow}
 use Rattle.gq_desk.specs.declared.volumes.VolumeRow.{VolumeRow}
 use Rattle.gq_phase.specs.declared.Outcome.TheVariants.{Wrote, Gave}
-use Rattle.gq_phase.specs.Quorums.{collect_quorum, store_quorum, ends_collect, ends_store, are_mates}
+use Rattle.gq_phase.specs.Quorums.{collect_quorum, store_quorum, ends_collect, ends_store, are_peers}
 use Rattle.gq_model.specs.declared.events.Line.TheVariants.{Write, Read}
 use Rattle.gq_model.specs.declared.said.Said.TheVariants.{Began, Noted, Round, Done}
 use Rattle.gq_model.specs.Trace.{is_awaited}
@@ -103,7 +103,7 @@ loss_can m (suc (suc (suc (suc (suc (suc i))))), low, is) reply server within = 
 
 -- each letter was written before, at this place, and what server 1 gives it held
 pub can_follow : CanFollow two new_cluster steps
-unfolding collect_quorum store_quorum ends_collect ends_store are_mates
+unfolding collect_quorum store_quorum ends_collect ends_store are_peers
 can_follow =
     tt and (0, omega arith, refl) and (1, omega arith, refl) and (2, omega arith, refl) and (3, omega arith, refl) and (4, omega arith, refl) and (5, omega arith, refl)
     and loss_can

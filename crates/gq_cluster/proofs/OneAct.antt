@@ -90,7 +90,7 @@ plays s q c act stands steps p = record { line = p.line; did = did; stands = on 
 
     -- what a server could be given behind the act, by whether that is refused
     Offers : ℕ → File → ℕ → StoredCopy → Bool → Type 0
-    Offers server file mate copy b = Contains ((if b then c.offered else with_held (parts_after s c act) c.offered) server file mate) copy
+    Offers server file peer copy b = Contains ((if b then c.offered else with_held (parts_after s c act) c.offered) server file peer) copy
 
     lacking : is_refusal mine.told ≡ false → (m : ℕ) (file : File) → lacks more.trace m file ≡ (parts_after s c act m).lacks file
     lacking e m file = stands.lacking m file ∙ sym (parts_lack s c act m file) ∙ ap (λ z. z.lacks file) (sym (accepted_part s c act e m))
@@ -112,7 +112,7 @@ plays s q c act stands steps p = record { line = p.line; did = did; stands = on 
           lacking = λ m file. stands.lacking m file ∙ ap (λ z. z.lacks file) (sym (refused_part s c act e m));
           copies = λ m file. stands.copies m file ∙ ap (λ z. z.brought file) (sym (refused_part s c act e m));
           sessions = λ k. stands.sessions k ∙ ap (λ z. z.session k) (sym (refused_part s c act e (s.home k)));
-          offers = λ server file mate copy within. stands.offers server file mate copy (subst (Offers server file mate copy) e within);
+          offers = λ server file peer copy within. stands.offers server file peer copy (subst (Offers server file peer copy) e within);
         })
     on false e =
         let told : is_refusal (numbered n mine.told) ≡ false = refused_is ∙ e in
@@ -126,7 +126,7 @@ plays s q c act stands steps p = record { line = p.line; did = did; stands = on 
           lacking = lacking e;
           copies = copies e;
           sessions = λ k. p.sessions k ∙ ap (λ z. z.session k) (sym (accepted_part s c act e (s.home k)));
-          offers = λ server file mate copy within. offers_on (c.offered server file mate) (offered q.trace server file mate) _ _ copy (stands.offers server file mate copy) (holds_as more.trace (parts_after s c act) (lacking e) (copies e) file mate) (subst (Offers server file mate copy) e within);
+          offers = λ server file peer copy within. offers_on (c.offered server file peer) (offered q.trace server file peer) _ _ copy (stands.offers server file peer copy) (holds_as more.trace (parts_after s c act) (lacking e) (copies e) file peer) (subst (Offers server file peer copy) e within);
         })
 
 -- ---- what goes on alike

@@ -6,7 +6,7 @@ use Rattle.gq_grid.specs.Grid.{Grid, Servers}
 use Rattle.gq_tag.specs.declared.StoredCopy.{StoredCopy}
 use Rattle.gq_tag.specs.Tag.{File, OwnMessage, is_file}
 use Rattle.gq_desk.specs.declared.plans.TenantRow.{TenantRow}
-use Rattle.gq_phase.specs.Quorums.{are_mates}
+use Rattle.gq_phase.specs.Quorums.{are_peers}
 use Rattle.gq_model.specs.declared.events.Line.{Line}
 use Rattle.gq_model.specs.declared.events.ServerLine.{ServerLine}
 use Rattle.gq_model.specs.declared.events.ServerLine.TheVariants.{Bad as BadServer, Down, Up, Lost as ServerLost, Repaired as ServerRepaired}
@@ -171,7 +171,7 @@ own_places n (Own line ∷ turns) (suc i) = own_places (n + 1) turns i
 own_places n (Serving line ∷ turns) i = own_places (n + 1) turns i
 own_places n (Leaping k op number ∷ turns) i = own_places (n + 1) turns i
 own_places n (Losing s volumes ∷ turns) i = own_places (n + 1) turns i
-own_places n (Returning s f mate copy ∷ turns) i = own_places (n + 1) turns i
+own_places n (Returning s f peer copy ∷ turns) i = own_places (n + 1) turns i
 
 places_low : (n : ℕ) (turns : List Turn) (i : ℕ) → n ≤ own_places n turns i
 places_low n [] i = omega arith
@@ -180,7 +180,7 @@ places_low n (Own line ∷ turns) (suc i) = let low = places_low (n + 1) turns i
 places_low n (Serving line ∷ turns) i = let low = places_low (n + 1) turns i in omega arith
 places_low n (Leaping k op number ∷ turns) i = let low = places_low (n + 1) turns i in omega arith
 places_low n (Losing s volumes ∷ turns) i = let low = places_low (n + 1) turns i in omega arith
-places_low n (Returning s f mate copy ∷ turns) i = let low = places_low (n + 1) turns i in omega arith
+places_low n (Returning s f peer copy ∷ turns) i = let low = places_low (n + 1) turns i in omega arith
 
 pub places_rise : (n : ℕ) (turns : List Turn) → IsRising (own_places n turns)
 places_rise n [] i j low = omega arith
@@ -190,7 +190,7 @@ places_rise n (Own line ∷ turns) (suc i) (suc j) low = places_rise (n + 1) tur
 places_rise n (Serving line ∷ turns) i j low = places_rise (n + 1) turns i j low
 places_rise n (Leaping k op number ∷ turns) i j low = places_rise (n + 1) turns i j low
 places_rise n (Losing s volumes ∷ turns) i j low = places_rise (n + 1) turns i j low
-places_rise n (Returning s f mate copy ∷ turns) i j low = places_rise (n + 1) turns i j low
+places_rise n (Returning s f peer copy ∷ turns) i j low = places_rise (n + 1) turns i j low
 
 -- ---- one turn
 
@@ -222,8 +222,8 @@ loss_silent state turn = by (list_any (is_counted state turn) state.sent)
     by true = tt
     by false = tt
 
-return_silent : (grid : Grid) (state : State) (server : ℕ) (file : File) (mate : ℕ) (copy : StoredCopy) → IsSilent (return_told grid state server file mate copy)
-return_silent grid state server file mate copy = by (not (state.lacks server file)) (are_mates grid server mate && list_any (equal_copies copy) (state.offered server file mate))
+return_silent : (grid : Grid) (state : State) (server : ℕ) (file : File) (peer : ℕ) (copy : StoredCopy) → IsSilent (return_told grid state server file peer copy)
+return_silent grid state server file peer copy = by (not (state.lacks server file)) (are_peers grid server peer && list_any (equal_copies copy) (state.offered server file peer))
   where
     by : (a b : Bool) → IsSilent (if a then ServerRefused Same else if b then ServerOk else Refused NoMessage)
     by true b = tt
@@ -308,11 +308,11 @@ reads grid row (Losing s volumes ∷ turns) p n =
     subst P (sym (tells-cons grid row p n turn turns))
     (silent_left (first_told grid row p n turn) (tells grid row (after grid row p turn) (n + 1) turns) (answers_at (own_places (n + 1) turns) (exchanges_from grid row (after grid row p turn) turns)) (loss_silent (questions p.trace) turn)
     (reads grid row turns (after grid row p turn) (n + 1)))
-reads grid row (Returning s f mate copy ∷ turns) p n =
-    let turn : Turn = Returning s f mate copy in
+reads grid row (Returning s f peer copy ∷ turns) p n =
+    let turn : Turn = Returning s f peer copy in
     let P : List SessionAnswer → Type 0 = λ z. SameReading z (answers_at (own_places (n + 1) turns) (exchanges_from grid row (after grid row p turn) turns)) in
     subst P (sym (tells-cons grid row p n turn turns))
-    (silent_left (first_told grid row p n turn) (tells grid row (after grid row p turn) (n + 1) turns) (answers_at (own_places (n + 1) turns) (exchanges_from grid row (after grid row p turn) turns)) (return_silent grid (questions p.trace) s f mate copy)
+    (silent_left (first_told grid row p n turn) (tells grid row (after grid row p turn) (n + 1) turns) (answers_at (own_places (n + 1) turns) (exchanges_from grid row (after grid row p turn) turns)) (return_silent grid (questions p.trace) s f peer copy)
     (reads grid row turns (after grid row p turn) (n + 1)))
 reads grid row (Own line ∷ turns) p n =
     let P : List SessionAnswer → Type 0 = λ z. SameReading z (answers_at (own_places n (Own line ∷ turns)) (exchanges_from grid row p (Own line ∷ turns))) in

@@ -339,7 +339,7 @@ step_within s (Loses server volumes) c low = λ n k. by n k (eqb server n)
     by : (n k : ℕ) (b : Bool) → IsReserved (if b then lost_part volumes (c.part n) else c.part n) k
     by n k true = record { op = (low n k).op; floor = (low n k).floor }
     by n k false = low n k
-step_within s (Returns server file mate copy) c low = λ n k. by n k (eqb server n)
+step_within s (Returns server file peer copy) c low = λ n k. by n k (eqb server n)
   where
     by : (n k : ℕ) (b : Bool) → IsReserved (if b then given_part file copy (c.part n) else c.part n) k
     by n k true = record { op = (low n k).op; floor = (low n k).floor }

@@ -31,11 +31,11 @@ as_aimed grid aim = lines_for aim (below (grid.rows * grid.cols))
 
 -- all but who is up, and what servers could give
 abbrev pub others : State → State
-others state = record { up = everyone; gone = state.gone; volumes = state.volumes; sent = state.sent; is_lost = state.is_lost; lacks = state.lacks; brought = state.brought; offered = λ server file mate. []; session = state.session }
+others state = record { up = everyone; gone = state.gone; volumes = state.volumes; sent = state.sent; is_lost = state.is_lost; lacks = state.lacks; brought = state.brought; offered = λ server file peer. []; session = state.session }
 
 -- what a server could be given behind the first past, it could be given behind the second
 abbrev pub OffersMore : Past → Past → Type 0
-OffersMore p q = (server : ℕ) (file : File) (mate : ℕ) (copy : StoredCopy) → Contains (offered p.trace server file mate) copy → Contains (offered q.trace server file mate) copy
+OffersMore p q = (server : ℕ) (file : File) (peer : ℕ) (copy : StoredCopy) → Contains (offered p.trace server file peer) copy → Contains (offered q.trace server file peer) copy
 
 -- ---- one line
 
@@ -50,7 +50,7 @@ pub record Sets (p q : Past) (wanted : Bool) (n : ℕ) : Type 0 where
 stays : (p q : Past) (wanted : Bool) (n : ℕ) → q ≡ p → up p.trace n ≡ wanted → Sets p q wanted n
 stays p q wanted n same is =
     let P : Past → Type 0 = λ z. Sets p z wanted n in
-    subst P (sym same) (record { lines = refl; rest = refl; this = is; apart = λ x ne. refl; offers = λ server file mate copy within. within })
+    subst P (sym same) (record { lines = refl; rest = refl; this = is; apart = λ x ne. refl; offers = λ server file peer copy within. within })
 
 -- the entry of a server line
 abbrev changed_by : ServerLine → Entry
@@ -60,8 +60,8 @@ abbrev with_change : Past → ServerLine → Past
 with_change p line = record { lines = p.lines; trace = changed_by line ∷ p.trace }
 
 rest_stays : (p : Past) (wanted : Bool) (n : ℕ) → others (questions (with_change p (change wanted n)).trace) ≡ others (questions p.trace)
-rest_stays p true n = λ i. record { up = everyone; gone = gone p.trace; volumes = volumes p.trace; sent = append-nil (sent p.trace) i; is_lost = is_lost p.trace; lacks = lacks p.trace; brought = brought p.trace; offered = λ server file mate. []; session = session p.trace }
-rest_stays p false n = λ i. record { up = everyone; gone = gone p.trace; volumes = volumes p.trace; sent = append-nil (sent p.trace) i; is_lost = is_lost p.trace; lacks = lacks p.trace; brought = brought p.trace; offered = λ server file mate. []; session = session p.trace }
+rest_stays p true n = λ i. record { up = everyone; gone = gone p.trace; volumes = volumes p.trace; sent = append-nil (sent p.trace) i; is_lost = is_lost p.trace; lacks = lacks p.trace; brought = brought p.trace; offered = λ server file peer. []; session = session p.trace }
+rest_stays p false n = λ i. record { up = everyone; gone = gone p.trace; volumes = volumes p.trace; sent = append-nil (sent p.trace) i; is_lost = is_lost p.trace; lacks = lacks p.trace; brought = brought p.trace; offered = λ server file peer. []; session = session p.trace }
 
 this_is : (p : Past) (wanted : Bool) (n : ℕ) → up (with_change p (change wanted n)).trace n ≡ wanted
 this_is p true n = rw (eq-eqb n n refl) refl
@@ -72,8 +72,8 @@ apart_is p true n x ne = rw (ne_eqb n x ne) refl
 apart_is p false n x ne = rw (ne_eqb n x ne) refl
 
 offers_is : (p : Past) (wanted : Bool) (n : ℕ) → OffersMore p (with_change p (change wanted n))
-offers_is p true n = λ server file mate copy within. Contains-append_left (offered p.trace server file mate) _ copy within
-offers_is p false n = λ server file mate copy within. Contains-append_left (offered p.trace server file mate) _ copy within
+offers_is p true n = λ server file peer copy within. Contains-append_left (offered p.trace server file peer) _ copy within
+offers_is p false n = λ server file peer copy within. Contains-append_left (offered p.trace server file peer) _ copy within
 
 changes : (p q : Past) (wanted : Bool) (n : ℕ) → q ≡ with_change p (change wanted n) → Sets p q wanted n
 changes p q wanted n same =
@@ -107,7 +107,7 @@ pub record SetsAll (p q : Past) (aim : Servers) (a n : ℕ) : Type 0 where
   pub offers : OffersMore p q
 
 sets_more : (p q z : Past) (aim : Servers) (a n : ℕ) → Sets p q (aim a) a → SetsAll q z aim (a + 1) n → SetsAll p z aim a (suc n)
-sets_more p q z aim a n one more = record { lines = more.lines ∙ one.lines; rest = more.rest ∙ one.rest; these = these; apart = apart; offers = λ server file mate copy within. more.offers server file mate copy (one.offers server file mate copy within) }
+sets_more p q z aim a n one more = record { lines = more.lines ∙ one.lines; rest = more.rest ∙ one.rest; these = these; apart = apart; offers = λ server file peer copy within. more.offers server file peer copy (one.offers server file peer copy within) }
   where
     these : (x : ℕ) → a ≤ x → x < a + suc n → up z.trace x ≡ aim x
     these x low high = by (cases_eq a x)
@@ -125,7 +125,7 @@ abbrev pub NoneGone : Past → Type 0
 NoneGone p = (n : ℕ) → gone p.trace n ≡ false
 
 sets_from : (grid : Grid) (row : TenantRow) (aim : Servers) (a n : ℕ) (p : Past) → NoneGone p → a + n ≤ grid.rows * grid.cols → SetsAll p (fold (after grid row) p (lines_for aim (range_with_len a n))) aim a n
-sets_from grid row aim a zero p here low = record { lines = refl; rest = refl; these = λ x from below. absurd (omega arith); apart = λ x out. refl; offers = λ server file mate copy within. within }
+sets_from grid row aim a zero p here low = record { lines = refl; rest = refl; these = λ x from below. absurd (omega arith); apart = λ x out. refl; offers = λ server file peer copy within. within }
 sets_from grid row aim a (suc n) p here low =
     let one = sets grid row p (aim a) a (here a) (omega arith) in
     sets_more p (after grid row p (Serving (change (aim a) a))) (fold (after grid row) (after grid row p (Serving (change (aim a) a))) (lines_for aim (range_with_len (a + 1) n))) aim a n one

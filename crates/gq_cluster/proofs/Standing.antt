@@ -22,14 +22,14 @@ pub record Stands (s : Setting) (p : Past) (c : Cluster) : Type 0 where
   pub lacking : (n : ℕ) (file : File) → lacks p.trace n file ≡ (c.part n).lacks file
   pub copies : (n : ℕ) (file : File) → brought p.trace n file ≡ (c.part n).brought file
   pub sessions : (k : ℕ) → session p.trace k ≡ (c.part (s.home k)).session k
-  pub offers : (server : ℕ) (file : File) (mate : ℕ) (copy : StoredCopy) → Contains (c.offered server file mate) copy → Contains (offered p.trace server file mate) copy
+  pub offers : (server : ℕ) (file : File) (peer : ℕ) (copy : StoredCopy) → Contains (c.offered server file peer) copy → Contains (offered p.trace server file peer) copy
 
--- what the mate holds, where it has the file, is what its part has
-pub holds_as : (t : Trace) (parts : ℕ → Part) → ((n : ℕ) (file : File) → lacks t n file ≡ (parts n).lacks file) → ((n : ℕ) (file : File) → brought t n file ≡ (parts n).brought file) → (file : File) (mate : ℕ) →
-    ◌≡◌ {A = List StoredCopy} (if lacks t mate file then [] else copy_of (brought t mate file) ∷ []) (if (parts mate).lacks file then [] else copy_in (parts mate) file ∷ [])
-holds_as t parts lacking copies file mate = λ i. if lacking mate file i then [] else greatest (first_copy ∷ copies mate file i) ∷ []
+-- what the peer holds, where it has the file, is what its part has
+pub holds_as : (t : Trace) (parts : ℕ → Part) → ((n : ℕ) (file : File) → lacks t n file ≡ (parts n).lacks file) → ((n : ℕ) (file : File) → brought t n file ≡ (parts n).brought file) → (file : File) (peer : ℕ) →
+    ◌≡◌ {A = List StoredCopy} (if lacks t peer file then [] else copy_of (brought t peer file) ∷ []) (if (parts peer).lacks file then [] else copy_in (parts peer) file ∷ [])
+holds_as t parts lacking copies file peer = λ i. if lacking peer file i then [] else greatest (first_copy ∷ copies peer file i) ∷ []
 
--- so what a server could be given before, and what mates hold then, it could be given in the model too
+-- so what a server could be given before, and what peers hold then, it could be given in the model too
 pub offers_on : (before now : List StoredCopy) (held had : List StoredCopy) (copy : StoredCopy) → (Contains before copy → Contains now copy) → held ≡ had → Contains (before ++ had) copy → Contains (now ++ held) copy
 offers_on before now held had copy more same within = by (Contains-append_cases before had copy within)
   where
@@ -48,7 +48,7 @@ stands_on s p q c aim all stands = record {
   lacking = λ n file. ap (λ z. z.lacks n file) all.rest ∙ stands.lacking n file;
   copies = λ n file. ap (λ z. z.brought n file) all.rest ∙ stands.copies n file;
   sessions = λ k. ap (λ z. z.session k) all.rest ∙ stands.sessions k;
-  offers = λ server file mate copy within. all.offers server file mate copy (stands.offers server file mate copy within);
+  offers = λ server file peer copy within. all.offers server file peer copy (stands.offers server file peer copy within);
 }
 
 -- by them no disk is lost

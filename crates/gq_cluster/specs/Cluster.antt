@@ -5,7 +5,7 @@
 -- node does, by a line of a session or by a letter that comes; its *aim* is whom the node then takes to be up, whoever is. A
 -- *cluster* is the parts of all nodes with the letters that they wrote. A *node step* is an act, or a restart of a node, or a node reserves
 -- numbers of tags for its sessions, or what becomes of a server's disk: it is lost, with the copies of some files, which the server then
--- *lacks*; and for a file it is given a copy again by another server of its column, a *mate*. An *exchange* is what came to a session or to a
+-- *lacks*; and for a file it is given a copy again by another server of its column, a *peer*. An *exchange* is what came to a session or to a
 -- server, with what was told and sent.
 use Rattle.std.specs.Prelude.{◌≡◌, ℕ, List, [], ◌∷◌, ◌++◌, Bool, true, false, ◌==◌, ◌&&◌, ◌||◌, not, nat_lt, max, Option, Some, None, is_some, Contains, ⊤, map, filter, fold, if◌then◌else◌}
 use Rattle.std.specs.List.{range_with_len}
@@ -14,7 +14,7 @@ use Rattle.gq_tag.specs.declared.StoredCopy.{StoredCopy}
 use Rattle.gq_tag.specs.Tag.{File, is_file, OwnMessage, first_copy, greatest, to_server}
 use Rattle.gq_desk.specs.declared.plans.TenantRow.{TenantRow}
 use Rattle.gq_desk.specs.declared.volumes.VolumeRow.{VolumeRow}
-use Rattle.gq_phase.specs.Quorums.{are_mates}
+use Rattle.gq_phase.specs.Quorums.{are_peers}
 use Rattle.gq_model.specs.declared.events.Line.{Line}
 use Rattle.gq_model.specs.declared.events.Line.TheVariants.{Write, Read, List as ListFiles, Deliver, Retry, Abandon}
 use Rattle.gq_model.specs.declared.said.Said.{Said}
@@ -45,7 +45,7 @@ copy_in part file = greatest (first_copy ∷ part.brought file)
 -- that the node's lacks; of these an act looks at its own server's alone
 abbrev pub state_of : List VolumeRow → Servers → Part → State
 state_of volumes aim part =
-    record { up = aim; gone = λ server. false; volumes = volumes; sent = []; is_lost = λ n. false; lacks = λ server. part.lacks; brought = λ server. part.brought; offered = λ server file mate. []; session = part.session }
+    record { up = aim; gone = λ server. false; volumes = volumes; sent = []; is_lost = λ n. false; lacks = λ server. part.lacks; brought = λ server. part.brought; offered = λ server file peer. []; session = part.session }
 
 -- node n's part of a state, with what is reserved for its sessions
 abbrev pub part_of : ℕ → (ℕ → Reserved) → State → Part
@@ -121,19 +121,19 @@ part_after s n part act =
 -- ---- all nodes
 
 -- the parts of all nodes, and the letters that they wrote, in order; and what servers could give to others: of a file the copies that
--- the mate has held since the server lost its own, while the mate had the file
+-- the peer has held since the server lost its own, while the peer had the file
 pub record Cluster : Type 0 where
   pub part : ℕ → Part
   pub written : List OwnMessage
-  pub offered : (server : ℕ) → File → (mate : ℕ) → List StoredCopy
+  pub offered : (server : ℕ) → File → (peer : ℕ) → List StoredCopy
 
 -- all nodes as they start first
 abbrev pub new_cluster : Cluster
-new_cluster = record { part = λ n. new_part; written = []; offered = λ server file mate. [] }
+new_cluster = record { part = λ n. new_part; written = []; offered = λ server file peer. [] }
 
 -- what could be given before, and what these parts hold now
 abbrev pub with_held : (ℕ → Part) → (ℕ → File → ℕ → List StoredCopy) → ℕ → File → ℕ → List StoredCopy
-with_held parts before server file mate = before server file mate ++ (if (parts mate).lacks file then [] else copy_in (parts mate) file ∷ [])
+with_held parts before server file peer = before server file peer ++ (if (parts peer).lacks file then [] else copy_in (parts peer) file ∷ [])
 
 -- the node at which the act is done
 abbrev pub node_of : (ℕ → ℕ) → Act → ℕ
@@ -165,8 +165,8 @@ pub data NodeStep : Type 0 where
   Reserves : (node number : ℕ) → NodeStep
   -- the server's disk is lost: it lacks the files of the first volumes, so many, from then on
   Loses : (server volumes : ℕ) → NodeStep
-  -- the server is given this copy of the file by the mate, and has the file again
-  Returns : (server : ℕ) (file : File) (mate : ℕ) (copy : StoredCopy) → NodeStep
+  -- the server is given this copy of the file by the peer, and has the file again
+  Returns : (server : ℕ) (file : File) (peer : ℕ) (copy : StoredCopy) → NodeStep
 
 -- the node's sessions that have an operation
 abbrev pub going_at : Setting → Cluster → ℕ → List ℕ
@@ -181,7 +181,7 @@ acts_of s c (Acts act) = act ∷ []
 acts_of s c (Restarts node) = map gives_up (going_at s c node)
 acts_of s c (Reserves node number) = []
 acts_of s c (Loses server volumes) = []
-acts_of s c (Returns server file mate copy) = []
+acts_of s c (Returns server file peer copy) = []
 
 -- session k at the node, as the model has it, passes over all numbers that are reserved for it
 abbrev pub leapt_session : Setting → (node : ℕ) → Part → ℕ → Session
@@ -226,7 +226,7 @@ parts_with server change parts n = if server == n then change (parts n) else par
 
 -- what could be given to others, but no more to the server of these files
 abbrev pub forgetting : (server volumes : ℕ) → (ℕ → File → ℕ → List StoredCopy) → ℕ → File → ℕ → List StoredCopy
-forgetting server volumes before to file mate = if server == to && is_within volumes file then [] else before to file mate
+forgetting server volumes before to file peer = if server == to && is_within volumes file then [] else before to file peer
 
 abbrev pub with_loss : (server volumes : ℕ) → Cluster → Cluster
 with_loss server volumes c =
@@ -244,7 +244,7 @@ behind_acts s (Acts act) c = c
 behind_acts s (Restarts node) c = leapt s node c
 behind_acts s (Reserves node number) c = with_numbers s node number c
 behind_acts s (Loses server volumes) c = with_loss server volumes c
-behind_acts s (Returns server file mate copy) c = with_return server file copy c
+behind_acts s (Returns server file peer copy) c = with_return server file copy c
 
 abbrev pub after_step : Setting → Cluster → NodeStep → Cluster
 after_step s c step = behind_acts s step (after_acts s c (acts_of s c step))
@@ -274,13 +274,13 @@ NoneCounts s c server volumes =
     (letter : OwnMessage) → Contains c.written letter → to_server letter.body ≡ false → letter.server ≡ server → is_within volumes letter.file ≡ true →
     is_awaited ((c.part (s.home letter.session)).session letter.session) letter ≡ false
 
--- what a mate gives to a server that lacks the file is a copy that it held since the loss, while it had the file
+-- what a peer gives to a server that lacks the file is a copy that it held since the loss, while it had the file
 abbrev pub CanHappen : Setting → Cluster → NodeStep → Type 0
 CanHappen s c (Acts act) = CanAct c act
 CanHappen s c (Restarts node) = ⊤
 CanHappen s c (Reserves node number) = ⊤
 CanHappen s c (Loses server volumes) = NoneCounts s c server volumes
-CanHappen s c (Returns server file mate copy) = ((c.part server).lacks file ≡ true) × (are_mates s.grid server mate ≡ true) × Contains (c.offered server file mate) copy
+CanHappen s c (Returns server file peer copy) = ((c.part server).lacks file ≡ true) × (are_peers s.grid server peer ≡ true) × Contains (c.offered server file peer) copy
 
 -- each of the steps may happen when it does, the first of them in this cluster
 abbrev pub CanFollow : Setting → Cluster → List NodeStep → Type 0

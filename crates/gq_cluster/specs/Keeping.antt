@@ -45,7 +45,7 @@ facts_at s c n (step ∷ steps) = facts_of s c n (acts_of s c step) ++ facts_at 
 abbrev pub IsKept : NodeStep → Type 0
 IsKept (Reserves node number) = ⊥
 IsKept (Loses server volumes) = ⊥
-IsKept (Returns server file mate copy) = ⊥
+IsKept (Returns server file peer copy) = ⊥
 IsKept _ = ⊤
 
 -- from its facts alone, in order, each node knows again what must not be forgotten, whatever happened, while no disk is lost, and numbers are reserved by facts alone

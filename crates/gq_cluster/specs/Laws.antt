@@ -24,7 +24,7 @@ turn_exchanges state (Own line) step = record { came = arrival_by line (message_
 turn_exchanges state (Serving line) step = []
 turn_exchanges state (Leaping k op number) step = []
 turn_exchanges state (Losing s volumes) step = []
-turn_exchanges state (Returning s f mate copy) step = []
+turn_exchanges state (Returning s f peer copy) step = []
 
 -- the exchanges of turns, from a past on, in order
 abbrev pub exchanges_from : Grid → TenantRow → Past → List Turn → List Exchange
@@ -54,14 +54,14 @@ pub record Has (home : ℕ → ℕ) (trace : Trace) (c : Cluster) : Type 0 where
 -- what becomes of disks, among turns, and among node steps
 abbrev pub disk_turn : Turn → Option Turn
 disk_turn (Losing server volumes) = Some (Losing server volumes)
-disk_turn (Returning server file mate copy) = Some (Returning server file mate copy)
+disk_turn (Returning server file peer copy) = Some (Returning server file peer copy)
 disk_turn (Serving (ServerLost server)) = Some (Serving (ServerLost server))
 disk_turn (Serving (ServerRepaired server)) = Some (Serving (ServerRepaired server))
 disk_turn _ = None
 
 abbrev pub disk_step : NodeStep → Option Turn
 disk_step (Loses server volumes) = Some (Losing server volumes)
-disk_step (Returns server file mate copy) = Some (Returning server file mate copy)
+disk_step (Returns server file peer copy) = Some (Returning server file peer copy)
 disk_step _ = None
 
 -- a run of the service that does what was done at the nodes

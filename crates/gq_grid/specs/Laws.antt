@@ -30,11 +30,11 @@ ColumnUpIsColumn =
     (grid : Grid) (up : Servers) (col : ℕ) → least_column grid up ≡ Some col → has_column grid (column_servers grid col) ≡ true
 
 -- a set that has a full column has servers that have one, too, with each of which all that share its column are among them
-abbrev pub ColumnsHaveMates : Type 0
-ColumnsHaveMates =
+abbrev pub ColumnsHavePeers : Type 0
+ColumnsHavePeers =
     (grid : Grid) (set : Servers) → has_column grid set ≡ true →
-    (some : Servers) × (has_column grid some ≡ true) × ((server : ℕ) → some server ≡ true → set server ≡ true) × ((server mate : ℕ) → some server ≡ true → share_column grid server mate ≡ true → some mate ≡ true)
+    (some : Servers) × (has_column grid some ≡ true) × ((server : ℕ) → some server ≡ true → set server ≡ true) × ((server peer : ℕ) → some server ≡ true → share_column grid server peer ≡ true → some peer ≡ true)
 
 -- who shares a column with a server that shares one with a third shares one with that
-abbrev pub MatesOfMates : Type 0
-MatesOfMates = (grid : Grid) (server mate other : ℕ) → share_column grid server mate ≡ true → share_column grid mate other ≡ true → share_column grid server other ≡ true
+abbrev pub PeersOfPeers : Type 0
+PeersOfPeers = (grid : Grid) (server peer other : ℕ) → share_column grid server peer ≡ true → share_column grid peer other ≡ true → share_column grid server other ≡ true

@@ -13,7 +13,7 @@ use Rattle.gq_desk.specs.Volumes.{OpenFault, WrongSize, NoVolumeLeft, OverShare}
 use Rattle.gq_desk.specs.Volumes.{open_fault}
 use Rattle.gq_phase.specs.Phase.{Task, Writing, Reading, Listing, Operation, Heard, HeardStale, HeardNoted, HeardNext, HeardDone, hear, hear_current, with_reply, is_current, round_quorum, round_messages, messages_to, heard_servers}
 use Rattle.gq_phase.specs.declared.Outcome.{Outcome}
-use Rattle.gq_phase.specs.Quorums.{are_mates}
+use Rattle.gq_phase.specs.Quorums.{are_peers}
 use Rattle.gq_model.specs.Trace.{files_of, Past, up_by, gone_by, Turn, Own, Serving, Leaping, Losing, Returning, Entry, is_loss, is_awaited, counts_on, lacks, serves, Trace, Deed, Elsewhere, Begins, Hears, Moves, Ends, Leaps, is_lost, sent, up, gone, task_of, volumes, questions, session, session_by, operation_with, account_of, State}
 use Rattle.gq_model.specs.declared.events.Line.{Line}
 use Rattle.gq_model.specs.declared.events.ServerLine.{ServerLine}
@@ -255,7 +255,7 @@ awaited_kept grid row t e k l task next follows comes goes_on = go e.turn e.mess
     go (Serving BadServer) message said new f goes_on = refl
     go (Own line) message said new f goes_on = refl
     go (Leaping s last number) message said new f goes_on = refl
-    go (Returning s file mate copy) message said new f goes_on = refl
+    go (Returning s file peer copy) message said new f goes_on = refl
 
 -- an entry that delivers a message is of a line that does
 pub delivers_by : (grid : Grid) (row : TenantRow) (t : Trace) (turn : Turn) (message : Option OwnMessage) (l : OwnMessage) → message ≡ delivered t turn → message ≡ Some l → (n : ℕ) × (turn ≡ Own (Deliver n))
@@ -389,8 +389,8 @@ loss_passive state turn = by (list_any (is_counted state turn) state.sent)
     by true = tt
     by false = tt
 
-return_passive : (grid : Grid) (state : State) (server : ℕ) (file : File) (mate : ℕ) (copy : StoredCopy) → IsPassive (return_told grid state server file mate copy)
-return_passive grid state server file mate copy = by (not (state.lacks server file)) (are_mates grid server mate && list_any (equal_copies copy) (state.offered server file mate))
+return_passive : (grid : Grid) (state : State) (server : ℕ) (file : File) (peer : ℕ) (copy : StoredCopy) → IsPassive (return_told grid state server file peer copy)
+return_passive grid state server file peer copy = by (not (state.lacks server file)) (are_peers grid server peer && list_any (equal_copies copy) (state.offered server file peer))
   where
     by : (b c : Bool) → IsPassive (if b then ServerRefused Same else if c then ServerOk else Refused NoMessage)
     by true c = tt
@@ -438,9 +438,9 @@ act grid row t e follows = go e.turn e.message e.told e.new follows
     go (Losing s volumes) message said new f =
         let P : Told → Type 0 = λ x. IsPassive x in
         silent_act grid row t (Losing s volumes) message said new (λ k. refl) refl (subst P f.told (loss_passive (questions t) (Losing s volumes))) f.new
-    go (Returning s file mate copy) message said new f =
+    go (Returning s file peer copy) message said new f =
         let P : Told → Type 0 = λ x. IsPassive x in
-        silent_act grid row t (Returning s file mate copy) message said new (λ k. refl) refl (subst P f.told (return_passive grid (questions t) s file mate copy)) f.new
+        silent_act grid row t (Returning s file peer copy) message said new (λ k. refl) refl (subst P f.told (return_passive grid (questions t) s file peer copy)) f.new
 
 -- the reply with which a round of session k ends
 pub record Turning (grid : Grid) (t : Trace) (e : Entry) (k r : ℕ) (tag : Option Tag) : Type 0 where

@@ -17,15 +17,15 @@ use Rattle.gq_tag.specs.Tag.{File, is_file, OwnMessage, newer_of, greatest, firs
 use Rattle.gq_tag.proofs.Order.{IsAtMost, at_most_refl, at_most_trans, newer_of-left, newer_of-right}
 use Rattle.gq_tag.proofs.Greatest.{latest-cons}
 use Rattle.gq_desk.specs.declared.plans.TenantRow.{TenantRow}
-use Rattle.gq_phase.specs.Quorums.{are_mates}
-use Rattle.gq_phase.proofs.Meeting.{mates_of_mates}
+use Rattle.gq_phase.specs.Quorums.{are_peers}
+use Rattle.gq_phase.proofs.Meeting.{peers_of_peers}
 use Rattle.gq_model.specs.declared.events.ServerLine.TheVariants.{Bad as BadServer, Down, Up, Lost as ServerLost, Repaired as ServerRepaired}
 use Rattle.gq_model.specs.Told.{Told, Refused, Repaired, ServerRefused}
 use Rattle.gq_model.specs.declared.events.Refusal.TheVariants.{NoMessage}
 use Rattle.gq_model.specs.declared.events.ServerRefusal.TheVariants.{Same}
 use Rattle.gq_model.specs.Trace.{Turn, Own, Serving, Leaping, Losing, Returning, Entry, Trace, up, gone, is_loss, is_given, lacks, lacks_by, serves, stored_by, left_by, brought, copy_of, offered, questions}
 use Rattle.gq_model.specs.Lone.{equal_copies, return_told, server_told, is_refusal}
-use Rattle.gq_model.proofs.Mates.{repair}
+use Rattle.gq_model.proofs.Peers.{repair}
 use Rattle.gq_laws.proofs.Words.{delivered, held, step_on}
 use Rattle.gq_laws.proofs.Runs.{Extends, Follows, IsRun, Keeps, HeldBetween}
 
@@ -51,19 +51,19 @@ greatest_more c copies more =
 
 -- ---- what an entry does to a server's copy of a file
 
--- the entry gives the server, which lacks the file, a copy again: one that a mate held since the loss, or at a repair the one that a mate
+-- the entry gives the server, which lacks the file, a copy again: one that a peer held since the loss, or at a repair the one that a peer
 -- holds
 pub data Gift (turn : Turn) (told : Told) (t : Trace) (server : ℕ) (file : File) : Type 0 where
-  Returned : (mate : ℕ) (copy : StoredCopy) → turn ≡ Returning server file mate copy → Gift turn told t server file
-  Given : (mate : ℕ) → turn ≡ Serving (ServerRepaired server) → told ≡ Repaired mate → lacks t server file ≡ true → lacks t mate file ≡ false → Gift turn told t server file
+  Returned : (peer : ℕ) (copy : StoredCopy) → turn ≡ Returning server file peer copy → Gift turn told t server file
+  Given : (peer : ℕ) → turn ≡ Serving (ServerRepaired server) → told ≡ Repaired peer → lacks t server file ≡ true → lacks t peer file ≡ false → Gift turn told t server file
 
 abbrev pub giver : {turn : Turn} {told : Told} {t : Trace} {server : ℕ} {file : File} → Gift turn told t server file → ℕ
-giver (Returned mate copy is) = mate
-giver (Given mate is told lack had) = mate
+giver (Returned peer copy is) = peer
+giver (Given peer is told lack had) = peer
 
 abbrev pub gift : {turn : Turn} {told : Told} {t : Trace} {server : ℕ} {file : File} → Gift turn told t server file → StoredCopy
-gift (Returned mate copy is) = copy
-gift {t = t} {file = file} (Given mate is told lack had) = held t mate file
+gift (Returned peer copy is) = copy
+gift {t = t} {file = file} (Given peer is told lack had) = held t peer file
 
 -- the copy is lost, or given, or it is as it was
 pub data Copying (turn : Turn) (told : Told) (t : Trace) (server : ℕ) (file : File) : Type 0 where
@@ -93,14 +93,14 @@ copying (Serving (ServerRepaired n)) told t server file = go told refl
     nothing : is_given told n (lacks t) server file ≡ false → Result
     nothing none = Leaves refl (rw none (and_true (lacks t server file))) (λ before. rw none refl)
 
-    by : (mate : ℕ) → told ≡ Repaired mate → (b : Bool) → eqb n server ≡ b → (c : Bool) → lacks t server file ≡ c → (d : Bool) → lacks t mate file ≡ d → Result
-    by mate is true same true lack false had = Gains (Given mate (ap (λ z. Serving (ServerRepaired z)) (eqb-true n server same)) is lack had)
-    by mate is true same true lack true also = nothing (rw (is, same, lack, also) refl)
-    by mate is true same false has d e = nothing (rw (is, same, has) refl)
-    by mate is false other c lack d e = nothing (rw (is, other) refl)
+    by : (peer : ℕ) → told ≡ Repaired peer → (b : Bool) → eqb n server ≡ b → (c : Bool) → lacks t server file ≡ c → (d : Bool) → lacks t peer file ≡ d → Result
+    by peer is true same true lack false had = Gains (Given peer (ap (λ z. Serving (ServerRepaired z)) (eqb-true n server same)) is lack had)
+    by peer is true same true lack true also = nothing (rw (is, same, lack, also) refl)
+    by peer is true same false has d e = nothing (rw (is, same, has) refl)
+    by peer is false other c lack d e = nothing (rw (is, other) refl)
 
     go : (w : Told) → told ≡ w → Result
-    go (Repaired mate) is = by mate is (eqb n server) refl (lacks t server file) refl (lacks t mate file) refl
+    go (Repaired peer) is = by peer is (eqb n server) refl (lacks t server file) refl (lacks t peer file) refl
     go w is = nothing (rw is refl)
 copying (Leaping k op number) told t server file = Leaves refl refl (λ before. refl)
 copying (Losing s volumes) told t server file = by (is_loss (Losing s volumes) server file) refl
@@ -108,15 +108,15 @@ copying (Losing s volumes) told t server file = by (is_loss (Losing s volumes) s
     by : (b : Bool) → is_loss (Losing s volumes) server file ≡ b → Copying (Losing s volumes) told t server file
     by true is = Loses is
     by false is = Leaves is (rw is) (λ before. rw is)
-copying (Returning s f mate copy) told t server file = by (eqb s server && is_file f file) refl
+copying (Returning s f peer copy) told t server file = by (eqb s server && is_file f file) refl
   where
-    given : eqb s server && is_file f file ≡ true → Gift (Returning s f mate copy) told t server file
+    given : eqb s server && is_file f file ≡ true → Gift (Returning s f peer copy) told t server file
     given h =
         let both = and_parts (eqb s server) (is_file f file) h in
         let files = and_parts (eqb f.volume file.volume) (eqb f.place file.place) both.1 in
-        Returned mate copy (λ i. Returning (eqb-true s server both.0 i) (record { volume = eqb-true f.volume file.volume files.0 i; place = eqb-true f.place file.place files.1 i }) mate copy)
+        Returned peer copy (λ i. Returning (eqb-true s server both.0 i) (record { volume = eqb-true f.volume file.volume files.0 i; place = eqb-true f.place file.place files.1 i }) peer copy)
 
-    by : (b : Bool) → eqb s server && is_file f file ≡ b → Copying (Returning s f mate copy) told t server file
+    by : (b : Bool) → eqb s server && is_file f file ≡ b → Copying (Returning s f peer copy) told t server file
     by true h = Gains (given h)
     by false h = Leaves refl (rw h (and_true (lacks t server file))) (λ before. rw h)
 
@@ -130,7 +130,7 @@ loss_lacks (Serving (Up n)) told before server file is = absurd (true≢false (s
 loss_lacks (Serving BadServer) told before server file is = absurd (true≢false (sym is))
 loss_lacks (Own line) told before server file is = absurd (true≢false (sym is))
 loss_lacks (Leaping k op number) told before server file is = absurd (true≢false (sym is))
-loss_lacks (Returning s f mate copy) told before server file is = absurd (true≢false (sym is))
+loss_lacks (Returning s f peer copy) told before server file is = absurd (true≢false (sym is))
 
 -- a server that lacks the file lacked it before, or its copy is lost now
 pub lacked : (turn : Turn) (told : Told) (before : ℕ → File → Bool) (server : ℕ) (file : File) → is_loss turn server file ≡ false → lacks_by turn told before server file ≡ true → before server file ≡ true
@@ -142,7 +142,7 @@ lacked (Serving (ServerLost n)) told before server file is h = rw is at h
 lacked (Serving (ServerRepaired n)) told before server file is h = (and_parts (before server file) (not (is_given told n before server file)) h).0
 lacked (Leaping k op number) told before server file is h = h
 lacked (Losing s volumes) told before server file is h = rw is at h
-lacked (Returning s f mate copy) told before server file is h = (and_parts (before server file) (not (eqb s server && is_file f file)) h).0
+lacked (Returning s f peer copy) told before server file is h = (and_parts (before server file) (not (eqb s server && is_file f file)) h).0
 
 -- ---- a copy that is given
 
@@ -161,46 +161,46 @@ is_among copy (c ∷ copies) h = by (equal_copies copy c) refl (λ rest. is_amon
     by true same among = (0, omega arith, sym (same_copy copy c same))
     by false other among = let later = among (rw other at h) in (suc later.0, omega (arith, later.1), later.2)
 
--- the server lacked the file, and a mate could give it the copy
-pub record IsOffered (grid : Grid) (t : Trace) (server : ℕ) (file : File) (mate : ℕ) (copy : StoredCopy) : Type 0 where
+-- the server lacked the file, and a peer could give it the copy
+pub record IsOffered (grid : Grid) (t : Trace) (server : ℕ) (file : File) (peer : ℕ) (copy : StoredCopy) : Type 0 where
   pub lacked : lacks t server file ≡ true
-  pub mates : are_mates grid server mate ≡ true
-  pub among : Contains (offered t server file mate) copy
+  pub peers : are_peers grid server peer ≡ true
+  pub among : Contains (offered t server file peer) copy
 
-returned_offered : (grid : Grid) (row : TenantRow) (t : Trace) (e : Entry) (server : ℕ) (file : File) (mate : ℕ) (copy : StoredCopy) → Follows grid row t e → e.turn ≡ Returning server file mate copy → IsOffered grid t server file mate copy
-returned_offered grid row t e server file mate copy follows turn_is = by (lacks t server file) refl (are_mates grid server mate && list_any (equal_copies copy) (offered t server file mate)) refl
+returned_offered : (grid : Grid) (row : TenantRow) (t : Trace) (e : Entry) (server : ℕ) (file : File) (peer : ℕ) (copy : StoredCopy) → Follows grid row t e → e.turn ≡ Returning server file peer copy → IsOffered grid t server file peer copy
+returned_offered grid row t e server file peer copy follows turn_is = by (lacks t server file) refl (are_peers grid server peer && list_any (equal_copies copy) (offered t server file peer)) refl
   where
-    told : return_told grid (questions t) server file mate copy ≡ e.told
+    told : return_told grid (questions t) server file peer copy ≡ e.told
     told = sym (ap (λ z. (step_on grid row follows.lines t z).told) turn_is) ∙ follows.told
 
-    refused : (word : Told) → is_refusal word ≡ true → return_told grid (questions t) server file mate copy ≡ word → ⊥
+    refused : (word : Told) → is_refusal word ≡ true → return_told grid (questions t) server file peer copy ≡ word → ⊥
     refused word bad is = true≢false (sym bad ∙ ap is_refusal (sym is ∙ told) ∙ follows.accepted)
 
-    by : (b : Bool) → lacks t server file ≡ b → (c : Bool) → (are_mates grid server mate && list_any (equal_copies copy) (offered t server file mate)) ≡ c → IsOffered grid t server file mate copy
+    by : (b : Bool) → lacks t server file ≡ b → (c : Bool) → (are_peers grid server peer && list_any (equal_copies copy) (offered t server file peer)) ≡ c → IsOffered grid t server file peer copy
     by false has c h = absurd (refused (ServerRefused Same) refl (rw has))
     by true lack false h = absurd (refused (Refused NoMessage) refl (rw (lack, h)))
     by true lack true h =
-        let both = and_parts (are_mates grid server mate) (list_any (equal_copies copy) (offered t server file mate)) h in
-        record { lacked = lack; mates = both.0; among = is_among copy (offered t server file mate) both.1 }
+        let both = and_parts (are_peers grid server peer) (list_any (equal_copies copy) (offered t server file peer)) h in
+        record { lacked = lack; peers = both.0; among = is_among copy (offered t server file peer) both.1 }
 
--- what a mate holds that has the file it could give, where some server lacks the file
-now_offered : (t : Trace) (server : ℕ) (file : File) (mate : ℕ) → lacks t server file ≡ true → lacks t mate file ≡ false → Contains (offered t server file mate) (held t mate file)
-now_offered [] server file mate lack had = absurd (true≢false (sym lack))
-now_offered (e ∷ t) server file mate lack had = rw had (Contains-push (if is_loss e.turn server file then [] else offered t server file mate) (held (e ∷ t) mate file))
+-- what a peer holds that has the file it could give, where some server lacks the file
+now_offered : (t : Trace) (server : ℕ) (file : File) (peer : ℕ) → lacks t server file ≡ true → lacks t peer file ≡ false → Contains (offered t server file peer) (held t peer file)
+now_offered [] server file peer lack had = absurd (true≢false (sym lack))
+now_offered (e ∷ t) server file peer lack had = rw had (Contains-push (if is_loss e.turn server file then [] else offered t server file peer) (held (e ∷ t) peer file))
 
 -- at a repair
-repaired_offered : (grid : Grid) (row : TenantRow) (t : Trace) (e : Entry) (server : ℕ) (file : File) (mate : ℕ) → Follows grid row t e → e.turn ≡ Serving (ServerRepaired server) → e.told ≡ Repaired mate → lacks t server file ≡ true → lacks t mate file ≡ false → IsOffered grid t server file mate (held t mate file)
-repaired_offered grid row t e server file mate follows turn_is told_is lack had =
+repaired_offered : (grid : Grid) (row : TenantRow) (t : Trace) (e : Entry) (server : ℕ) (file : File) (peer : ℕ) → Follows grid row t e → e.turn ≡ Serving (ServerRepaired server) → e.told ≡ Repaired peer → lacks t server file ≡ true → lacks t peer file ≡ false → IsOffered grid t server file peer (held t peer file)
+repaired_offered grid row t e server file peer follows turn_is told_is lack had =
     let said : server_told grid (up t) (gone t) (ServerRepaired server) ≡ e.told = sym (ap (λ z. (step_on grid row follows.lines t z).told) turn_is) ∙ follows.told in
     let r = repair grid (up t) (gone t) server (ap is_refusal said ∙ follows.accepted) in
-    let both : Repaired r.mate ≡ Repaired mate = sym r.told ∙ said ∙ told_is in
-    let same : r.mate ≡ mate = cc in
-    let P : ℕ → Type 0 = λ z. are_mates grid server z ≡ true in
-    record { lacked = lack; mates = subst P same r.is_mate.mates; among = now_offered t server file mate lack had }
+    let both : Repaired r.peer ≡ Repaired peer = sym r.told ∙ said ∙ told_is in
+    let same : r.peer ≡ peer = cc in
+    let P : ℕ → Type 0 = λ z. are_peers grid server z ≡ true in
+    record { lacked = lack; peers = subst P same r.is_peer.peers; among = now_offered t server file peer lack had }
 
 pub given_offered : (grid : Grid) (row : TenantRow) (t : Trace) (e : Entry) (server : ℕ) (file : File) → Follows grid row t e → (g : Gift e.turn e.told t server file) → IsOffered grid t server file (giver g) (gift g)
-given_offered grid row t e server file follows (Returned mate copy turn_is) = returned_offered grid row t e server file mate copy follows turn_is
-given_offered grid row t e server file follows (Given mate turn_is told_is lack had) = repaired_offered grid row t e server file mate follows turn_is told_is lack had
+given_offered grid row t e server file follows (Returned peer copy turn_is) = returned_offered grid row t e server file peer copy follows turn_is
+given_offered grid row t e server file follows (Given peer turn_is told_is lack had) = repaired_offered grid row t e server file peer follows turn_is told_is lack had
 
 -- ---- what a server holds
 
@@ -232,13 +232,13 @@ held_left e t server file left =
 
 -- what a server holds that was given a copy
 pub held_given : (turn : Turn) (message : Option OwnMessage) (said : Told) (new : List OwnMessage) (t : Trace) (server : ℕ) (file : File) → message ≡ delivered t turn → (g : Gift turn said t server file) → held (record { turn = turn; message = message; told = said; new = new } ∷ t) server file ≡ newer_of first_copy (gift g)
-held_given turn message said new t server file comes (Returned mate copy turn_is) =
+held_given turn message said new t server file comes (Returned peer copy turn_is) =
     let is : brought (record { turn = turn; message = message; told = said; new = new } ∷ t) server file ≡ copy ∷ [] = ap (λ z. left_by (lacks t) z said (stored_by (serves (up t) (lacks t)) message (brought t)) server file) turn_is ∙ rw (eq-eqb server server refl, eq-eqb file.volume file.volume refl, eq-eqb file.place file.place refl) in
     ap copy_of is ∙ greatest-push first_copy copy []
-held_given turn message said new t server file comes (Given mate turn_is told_is lack had) =
+held_given turn message said new t server file comes (Given peer turn_is told_is lack had) =
     let none : message ≡ None = comes ∙ ap (delivered t) turn_is in
-    let is : brought (record { turn = turn; message = message; told = said; new = new } ∷ t) server file ≡ held t mate file ∷ [] = ap (λ z. left_by (lacks t) z said (stored_by (serves (up t) (lacks t)) message (brought t)) server file) turn_is ∙ rw (none, told_is, eq-eqb server server refl, lack, had) refl in
-    ap copy_of is ∙ greatest-push first_copy (held t mate file) []
+    let is : brought (record { turn = turn; message = message; told = said; new = new } ∷ t) server file ≡ held t peer file ∷ [] = ap (λ z. left_by (lacks t) z said (stored_by (serves (up t) (lacks t)) message (brought t)) server file) turn_is ∙ rw (none, told_is, eq-eqb server server refl, lack, had) refl in
+    ap copy_of is ∙ greatest-push first_copy (held t peer file) []
 
 -- ---- what a server keeps
 
@@ -263,73 +263,73 @@ pub one_is : (x y : StoredCopy) → Contains (x ∷ []) y → x ≡ y
 one_is x y (zero, low, is) = is
 one_is x y (suc i, low, is) = absurd (omega arith)
 
--- what a server keeps that lacks the file, its mates keep, and the copies have it that they could give since the loss
-abbrev pub MatesKeep : Grid → Trace → Type 0
-MatesKeep grid t = (server : ℕ) (file : File) (tag : Tag) → lacks t server file ≡ true → Keeps grid t server file tag → (mate : ℕ) → are_mates grid server mate ≡ true →
-    Keeps grid t mate file tag × ((copy : StoredCopy) → Contains (offered t server file mate) copy → IsAtMost tag copy.tag)
+-- what a server keeps that lacks the file, its peers keep, and the copies have it that they could give since the loss
+abbrev pub PeersKeep : Grid → Trace → Type 0
+PeersKeep grid t = (server : ℕ) (file : File) (tag : Tag) → lacks t server file ≡ true → Keeps grid t server file tag → (peer : ℕ) → are_peers grid server peer ≡ true →
+    Keeps grid t peer file tag × ((copy : StoredCopy) → Contains (offered t server file peer) copy → IsAtMost tag copy.tag)
 
 -- with one more entry, but a loss of it
-keeps_more : (grid : Grid) (row : TenantRow) (t : Trace) (e : Entry) → MatesKeep grid t → Follows grid row t e → (server : ℕ) (file : File) (tag : Tag) → is_loss e.turn server file ≡ false → Keeps grid t server file tag → Keeps grid (e ∷ t) server file tag
-keeps_more grid row t e mates follows server file tag none k = go (lacks (e ∷ t) server file) refl (copying e.turn e.told t server file)
+keeps_more : (grid : Grid) (row : TenantRow) (t : Trace) (e : Entry) → PeersKeep grid t → Follows grid row t e → (server : ℕ) (file : File) (tag : Tag) → is_loss e.turn server file ≡ false → Keeps grid t server file tag → Keeps grid (e ∷ t) server file tag
+keeps_more grid row t e peers follows server file tag none k = go (lacks (e ∷ t) server file) refl (copying e.turn e.told t server file)
   where
     go : (b : Bool) → lacks (e ∷ t) server file ≡ b → Copying e.turn e.told t server file → Keeps grid (e ∷ t) server file tag
     go true lack c = rw (none, lack) k
     go false had (Loses is) = absurd (true≢false (sym is ∙ none))
     go false had (Gains g) =
         let s = given_offered grid row t e server file follows g in
-        let low : IsAtMost tag (gift g).tag = (mates server file tag s.lacked k (giver g) s.mates).1 (gift g) s.among in
+        let low : IsAtMost tag (gift g).tag = (peers server file tag s.lacked k (giver g) s.peers).1 (gift g) s.among in
         let P : StoredCopy → Type 0 = λ z. IsAtMost tag z.tag in
         rw (none, had) (subst P (sym (held_given e.turn e.message e.told e.new t server file follows.message g)) (at_most_trans tag (gift g).tag (newer_of first_copy (gift g)).tag low (newer_of-right first_copy (gift g))))
     go false had (Leaves is lack left) =
         let before : IsAtMost tag (held t server file).tag = keeps_had grid t server file tag (sym lack ∙ had) k in
         rw (none, had) (at_most_trans tag (held t server file).tag (held (e ∷ t) server file).tag before (held_left e t server file left))
 
-mates_more : (grid : Grid) (row : TenantRow) (t : Trace) (e : Entry) → MatesKeep grid t → Follows grid row t e → MatesKeep grid (e ∷ t)
-mates_more grid row t e mates follows server file tag lack k mate are = (now mate are, λ copy within. shows copy (Contains-append_cases _ _ copy within))
+peers_more : (grid : Grid) (row : TenantRow) (t : Trace) (e : Entry) → PeersKeep grid t → Follows grid row t e → PeersKeep grid (e ∷ t)
+peers_more grid row t e peers follows server file tag lack k peer are = (now peer are, λ copy within. shows copy (Contains-append_cases _ _ copy within))
   where
     Kept : ℕ → Type 0
     Kept m = Keeps grid t m file tag
 
-    -- all mates kept it before
-    before : (m : ℕ) → are_mates grid server m ≡ true → Kept m
+    -- all peers kept it before
+    before : (m : ℕ) → are_peers grid server m ≡ true → Kept m
     before m is = by (is_loss e.turn server file) refl
       where
         by : (b : Bool) → is_loss e.turn server file ≡ b → Kept m
         by true lost = (rw lost at k) m is
-        by false none = let kept : Kept server = rw (none, lack) at k in (mates server file tag (lacked e.turn e.told (lacks t) server file none lack) kept m is).0
+        by false none = let kept : Kept server = rw (none, lack) at k in (peers server file tag (lacked e.turn e.told (lacks t) server file none lack) kept m is).0
 
-    now : (m : ℕ) → are_mates grid server m ≡ true → Keeps grid (e ∷ t) m file tag
+    now : (m : ℕ) → are_peers grid server m ≡ true → Keeps grid (e ∷ t) m file tag
     now m is = by (is_loss e.turn m file) refl
       where
         by : (b : Bool) → is_loss e.turn m file ≡ b → Keeps grid (e ∷ t) m file tag
-        by true lost = rw lost (λ other also. before other (mates_of_mates grid server m other is also))
-        by false none = keeps_more grid row t e mates follows m file tag none (before m is)
+        by true lost = rw lost (λ other also. before other (peers_of_peers grid server m other is also))
+        by false none = keeps_more grid row t e peers follows m file tag none (before m is)
 
-    shows : (copy : StoredCopy) → Contains (if is_loss e.turn server file then [] else offered t server file mate) copy ⊎ Contains (if lacks (e ∷ t) mate file then [] else held (e ∷ t) mate file ∷ []) copy → IsAtMost tag copy.tag
+    shows : (copy : StoredCopy) → Contains (if is_loss e.turn server file then [] else offered t server file peer) copy ⊎ Contains (if lacks (e ∷ t) peer file then [] else held (e ∷ t) peer file ∷ []) copy → IsAtMost tag copy.tag
     shows copy (inl old) = by (is_loss e.turn server file) refl
       where
         by : (b : Bool) → is_loss e.turn server file ≡ b → IsAtMost tag copy.tag
         by true lost = absurd (let none : Contains [] copy = rw lost at old in omega (arith, none.1))
         by false none =
             let kept : Kept server = rw (none, lack) at k in
-            let within : Contains (offered t server file mate) copy = rw none at old in
-            (mates server file tag (lacked e.turn e.told (lacks t) server file none lack) kept mate are).1 copy within
-    shows copy (inr new) = by (lacks (e ∷ t) mate file) refl
+            let within : Contains (offered t server file peer) copy = rw none at old in
+            (peers server file tag (lacked e.turn e.told (lacks t) server file none lack) kept peer are).1 copy within
+    shows copy (inr new) = by (lacks (e ∷ t) peer file) refl
       where
-        by : (b : Bool) → lacks (e ∷ t) mate file ≡ b → IsAtMost tag copy.tag
+        by : (b : Bool) → lacks (e ∷ t) peer file ≡ b → IsAtMost tag copy.tag
         by true none = absurd (let empty : Contains [] copy = rw none at new in omega (arith, empty.1))
         by false had =
-            let one : Contains (held (e ∷ t) mate file ∷ []) copy = rw had at new in
-            let same : held (e ∷ t) mate file ≡ copy = one_is (held (e ∷ t) mate file) copy one in
+            let one : Contains (held (e ∷ t) peer file ∷ []) copy = rw had at new in
+            let same : held (e ∷ t) peer file ≡ copy = one_is (held (e ∷ t) peer file) copy one in
             let P : StoredCopy → Type 0 = λ z. IsAtMost tag z.tag in
-            subst P same (keeps_had grid (e ∷ t) mate file tag had (now mate are))
+            subst P same (keeps_had grid (e ∷ t) peer file tag had (now peer are))
 
-pub mates_keep : (grid : Grid) (row : TenantRow) (t : Trace) → IsRun grid row t → MatesKeep grid t
-mates_keep grid row [] run = λ server file tag lack k mate are. absurd (true≢false (sym lack))
-mates_keep grid row (e ∷ t) run = mates_more grid row t e (mates_keep grid row t run.0) run.1
+pub peers_keep : (grid : Grid) (row : TenantRow) (t : Trace) → IsRun grid row t → PeersKeep grid t
+peers_keep grid row [] run = λ server file tag lack k peer are. absurd (true≢false (sym lack))
+peers_keep grid row (e ∷ t) run = peers_more grid row t e (peers_keep grid row t run.0) run.1
 
 pub keeps_step : (grid : Grid) (row : TenantRow) (t : Trace) (e : Entry) → IsRun grid row t → Follows grid row t e → (server : ℕ) (file : File) (tag : Tag) → is_loss e.turn server file ≡ false → Keeps grid t server file tag → Keeps grid (e ∷ t) server file tag
-keeps_step grid row t e run follows = keeps_more grid row t e (mates_keep grid row t run) follows
+keeps_step grid row t e run follows = keeps_more grid row t e (peers_keep grid row t run) follows
 
 -- ---- moments
 

@@ -61,7 +61,7 @@ pub record Invariant (grid : Grid) (t : Trace) : Type 0 where
   pub heard_sent : (k : ℕ) (task : Task) (x : Reply) → current t k ≡ Some task → Contains (heard t k) x → WasSent t k task x
   pub messages : (m : OwnMessage) → Contains (sent t) m → Sound grid t m
   pub held_known : (server : ℕ) (file : File) → IsKnown t file (held t server file)
-  pub offered_known : (server mate : ℕ) (file : File) (c : StoredCopy) → Contains (offered t server file mate) c → IsKnown t file c
+  pub offered_known : (server peer : ℕ) (file : File) (c : StoredCopy) → Contains (offered t server file peer) c → IsKnown t file c
 
 -- ---- when operations began
 

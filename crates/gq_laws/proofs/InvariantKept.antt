@@ -238,7 +238,7 @@ held_lost (Serving (Up n)) message said new t s file lost = absurd (true≢false
 held_lost (Serving BadServer) message said new t s file lost = absurd (true≢false (sym lost))
 held_lost (Own line) message said new t s file lost = absurd (true≢false (sym lost))
 held_lost (Leaping k last number) message said new t s file lost = absurd (true≢false (sym lost))
-held_lost (Returning server f mate copy) message said new t s file lost = absurd (true≢false (sym lost))
+held_lost (Returning server f peer copy) message said new t s file lost = absurd (true≢false (sym lost))
 
 -- a message that is delivered was sent
 delivered_sent : (t : Trace) (turn : Turn) (l : OwnMessage) → delivered t turn ≡ Some l → Contains (sent t) l
@@ -277,24 +277,24 @@ held_step grid row t e follows inv s file = by (copying e.turn e.told t s file)
         subst P (sym (held_given e.turn e.message e.told e.new t s file follows.message g)) (pick first_copy (gift g) (inl refl) known (is_less first_copy.tag (gift g).tag) refl)
     by (Leaves none lack left) = subst P (sym (ap copy_of (left (stored_by (serves (up t) (lacks t)) e.message (brought t))))) (go (stored_from t e.message s file))
 
--- what mates have offered since a loss
-offered_step : (grid : Grid) (row : TenantRow) (t : Trace) (e : Entry) → Follows grid row t e → Invariant grid t → (s mate : ℕ) (file : File) (c : StoredCopy) → Contains (offered (e ∷ t) s file mate) c → IsKnown (e ∷ t) file c
-offered_step grid row t e follows inv s mate file c within = go (Contains-append_cases _ _ c within)
+-- what peers have offered since a loss
+offered_step : (grid : Grid) (row : TenantRow) (t : Trace) (e : Entry) → Follows grid row t e → Invariant grid t → (s peer : ℕ) (file : File) (c : StoredCopy) → Contains (offered (e ∷ t) s file peer) c → IsKnown (e ∷ t) file c
+offered_step grid row t e follows inv s peer file c within = go (Contains-append_cases _ _ c within)
   where
-    go : Contains (if is_loss e.turn s file then [] else offered t s file mate) c ⊎ Contains (if lacks (e ∷ t) mate file then [] else held (e ∷ t) mate file ∷ []) c → IsKnown (e ∷ t) file c
+    go : Contains (if is_loss e.turn s file then [] else offered t s file peer) c ⊎ Contains (if lacks (e ∷ t) peer file then [] else held (e ∷ t) peer file ∷ []) c → IsKnown (e ∷ t) file c
     go (inl old) = by (is_loss e.turn s file) refl
       where
         by : (b : Bool) → is_loss e.turn s file ≡ b → IsKnown (e ∷ t) file c
         by true lost = absurd (let empty : Contains [] c = rw lost at old in omega (arith, empty.1))
-        by false none = let inside : Contains (offered t s file mate) c = rw none at old in known_grows e t file c (inv.offered_known s mate file c inside)
-    go (inr new) = by (lacks (e ∷ t) mate file) refl
+        by false none = let inside : Contains (offered t s file peer) c = rw none at old in known_grows e t file c (inv.offered_known s peer file c inside)
+    go (inr new) = by (lacks (e ∷ t) peer file) refl
       where
-        by : (b : Bool) → lacks (e ∷ t) mate file ≡ b → IsKnown (e ∷ t) file c
+        by : (b : Bool) → lacks (e ∷ t) peer file ≡ b → IsKnown (e ∷ t) file c
         by true none = absurd (let empty : Contains [] c = rw none at new in omega (arith, empty.1))
         by false had =
-            let one : Contains (held (e ∷ t) mate file ∷ []) c = rw had at new in
+            let one : Contains (held (e ∷ t) peer file ∷ []) c = rw had at new in
             let P : StoredCopy → Type 0 = λ z. IsKnown (e ∷ t) file z in
-            subst P (one_is (held (e ∷ t) mate file) c one) (held_step grid row t e follows inv mate file)
+            subst P (one_is (held (e ∷ t) peer file) c one) (held_step grid row t e follows inv peer file)
 
 -- ---- messages that a server sends back
 
@@ -443,6 +443,6 @@ invariant_along grid row [] run = record {
   heard_sent = λ k task x busy within. absurd (let bad : None ≡ Some task = busy in cc);
   messages = λ m within. absurd (omega (arith, within.1));
   held_known = λ s file. inl refl;
-  offered_known = λ s mate file c within. absurd (omega (arith, within.1));
+  offered_known = λ s peer file c within. absurd (omega (arith, within.1));
 }
 invariant_along grid row (e ∷ t) run = invariant_step grid row t e run.0 run.1 (invariant_along grid row t run.0)

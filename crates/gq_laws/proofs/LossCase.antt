@@ -6,7 +6,7 @@ use Rattle.gq_tag.specs.declared.Tag.{Tag}
 use Rattle.gq_tag.specs.declared.StoredCopy.{StoredCopy}
 use Rattle.gq_tag.specs.Tag.{File, first_copy}
 use Rattle.gq_desk.specs.declared.plans.TenantRow.{TenantRow}
-use Rattle.gq_phase.specs.Quorums.{collect_quorum, store_quorum, ends_collect, ends_store, are_mates}
+use Rattle.gq_phase.specs.Quorums.{collect_quorum, store_quorum, ends_collect, ends_store, are_peers}
 use Rattle.gq_model.specs.declared.events.Line.TheVariants.{NewVolume, Write, Read, Deliver}
 use Rattle.gq_model.specs.declared.events.Refusal.TheVariants.{Busy, NoMessage}
 use Rattle.gq_model.specs.declared.events.ServerRefusal.TheVariants.{Same}
@@ -48,12 +48,12 @@ end_turns = Losing 0 1 ∷ Returning 0 file 1 copy ∷ Own (Deliver 8) ∷ Own (
 
 pub told_of_a_loss : told_from column row (past_of column row write_turns) loss_turns ≡
     ServerOk ∷ Began 1 6 1 ∷ IsDown ∷ Refused NoMessage ∷ Refused NoMessage ∷ ServerOk ∷ ServerRefused Same ∷ Replied 7 ∷ Refused Busy ∷ Round 2 (Some tag) 8 2 ∷ []
-unfolding collect_quorum store_quorum ends_collect ends_store are_mates
+unfolding collect_quorum store_quorum ends_collect ends_store are_peers
 told_of_a_loss = refl
 
 pub operations_of_a_loss : lone_operations column row (write_turns ++ loss_turns ++ end_turns) file ≡
     record { kind = Writes (104 ∷ 105 ∷ []); session = 1; op = 1; begin = 1; end = Some 7; tag = Some tag }
     ∷ record { kind = Reads (Some (104 ∷ 105 ∷ [])); session = 2; op = 1; begin = 9; end = Some 23; tag = Some tag }
     ∷ []
-unfolding collect_quorum store_quorum ends_collect ends_store are_mates
+unfolding collect_quorum store_quorum ends_collect ends_store are_peers
 operations_of_a_loss = refl

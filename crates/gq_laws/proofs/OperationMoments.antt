@@ -331,7 +331,7 @@ own_deed t k e line is = go e.turn e.message e.told e.new is
     go (Serving l) message told new is = absurd (let bad : Serving l ≡ Own line = is in cc)
     go (Leaping s last number) message told new is = refl
     go (Losing s volumes) message told new is = refl
-    go (Returning s f mate copy) message told new is = refl
+    go (Returning s f peer copy) message told new is = refl
 
 began_goes : (grid : Grid) (row : TenantRow) (p : Past) (x : Turn) (o first count : ℕ) → said grid row p x ≡ Began o first count → Goes grid row p x
 began_goes grid row p x o first count says = go (goes_or_not grid row p x)

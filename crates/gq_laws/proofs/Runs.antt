@@ -8,7 +8,7 @@ use Rattle.gq_tag.specs.Tag.{first_copy, File, OwnMessage}
 use Rattle.gq_tag.proofs.Order.{IsAtMost}
 use Rattle.gq_desk.specs.declared.plans.TenantRow.{TenantRow}
 use Rattle.gq_phase.specs.Phase.{Task, Writing}
-use Rattle.gq_phase.specs.Quorums.{ends_store, are_mates}
+use Rattle.gq_phase.specs.Quorums.{ends_store, are_peers}
 use Rattle.gq_model.specs.Trace.{Entry, Trace, Deed, Begins, Moves, is_loss, lacks}
 use Rattle.gq_model.specs.Lone.{is_refusal}
 use Rattle.gq_laws.proofs.Words.{delivered, step_on, deed_on, held, current}
@@ -64,14 +64,14 @@ Extends later earlier = (more : Trace) × (more ++ earlier ≡ later)
 
 -- ---- what a server keeps
 
--- The server keeps a tag of the file: where it has the file, it holds this tag or a greater one; where it lacks the file, all its mates
+-- The server keeps a tag of the file: where it has the file, it holds this tag or a greater one; where it lacks the file, all its peers
 -- kept the tag when it lost its own, so that each of them can give it no less.
 abbrev pub Keeps : Grid → Trace → ℕ → File → Tag → Type 0
 Keeps grid [] server file tag = IsAtMost tag (held [] server file).tag
-Keeps grid (e ∷ t) server file tag = by (is_loss e.turn server file) (lacks (e ∷ t) server file) (λ mate. Keeps grid t mate file tag)
+Keeps grid (e ∷ t) server file tag = by (is_loss e.turn server file) (lacks (e ∷ t) server file) (λ peer. Keeps grid t peer file tag)
   where
     by : Bool → Bool → (ℕ → Type 0) → Type 0
-    by true lacking before = (mate : ℕ) → are_mates grid server mate ≡ true → before mate
+    by true lacking before = (peer : ℕ) → are_peers grid server peer ≡ true → before peer
     by false true before = before server
     by false false before = IsAtMost tag (held (e ∷ t) server file).tag
 
@@ -110,9 +110,9 @@ made (e ∷ t) = made t ++ by e.message
 abbrev pub IsKnown : Trace → File → StoredCopy → Type 0
 IsKnown t file copy = (copy ≡ first_copy) ⊎ Contains (made t) (record { file = file; copy = copy })
 
--- the tag is kept by the servers of some set that ends a store round and has, with each of them, all its mates
+-- the tag is kept by the servers of some set that ends a store round and has, with each of them, all its peers
 pub record Settled (grid : Grid) (t : Trace) (file : File) (tag : Tag) : Type 0 where
   pub set : Servers
   pub ends : ends_store grid set ≡ true
-  pub mates : (server mate : ℕ) → set server ≡ true → are_mates grid server mate ≡ true → set mate ≡ true
+  pub peers : (server peer : ℕ) → set server ≡ true → are_peers grid server peer ≡ true → set peer ≡ true
   pub kept_there : (server : ℕ) → set server ≡ true → Keeps grid t server file tag

@@ -13,7 +13,7 @@ use Rattle.gq_tag.specs.declared.Body.TheVariants.{Copy}
 use Rattle.gq_tag.proofs.Order.{IsAtMost, at_most_trans, less_from, at_most-parts}
 use Rattle.gq_phase.specs.Phase.{Task, Reply, Writing, Reading, Listing, is_collect, round_file, stored_copy, heard_servers, heard_copies, hear_reply, givers}
 use Rattle.gq_phase.specs.Quorums.{ends_collect, ends_store}
-use Rattle.gq_phase.proofs.Meeting.{rounds_meet, stores_have_mates}
+use Rattle.gq_phase.proofs.Meeting.{rounds_meet, stores_have_peers}
 use Rattle.gq_desk.specs.declared.plans.TenantRow.{TenantRow}
 use Rattle.gq_model.specs.Trace.{Entry, Trace, is_loss}
 use Rattle.gq_laws.proofs.Holding.{keeps_step, keeps_had, run_before, extends_join, held_between_more}
@@ -22,7 +22,7 @@ use Rattle.gq_phase.proofs.Saying.{odd_is, even_is}
 use Rattle.gq_laws.proofs.Found.{push_at, stored-push, last_at, greatest_in, greatest_bound, hear_in, server_in, giver_in, copies_in, copies_to, position_of}
 
 -- all that is used of quorums: a set that ends a store round and one that ends a collect round share a server; and among the servers
--- of the first are some that end it with all their mates
+-- of the first are some that end it with all their peers
 quorums_meet : (grid : Grid) (left right : Servers) → ends_store grid left ≡ true → ends_collect grid right ≡ true → (server : ℕ) × (left server ≡ true) × (right server ≡ true)
 quorums_meet grid left right stored ends = let both = rounds_meet grid right left ends stored in (both.0, both.3, both.2)
 
@@ -53,7 +53,7 @@ pub known_grows : (e : Entry) (t : Trace) (file : File) (c : StoredCopy) → IsK
 known_grows e t file c (inl first) = inl first
 known_grows e t file c (inr within) = inr (Contains-append_left (made t) _ (record { file = file; copy = c }) within)
 
--- the servers of a set, and all their mates in it, keep a tag
+-- the servers of a set, and all their peers in it, keep a tag
 abbrev KeepAll : Grid → Trace → File → Tag → Servers → Type 0
 KeepAll grid t file tag set = (server : ℕ) → set server ≡ true → Keeps grid t server file tag
 
@@ -61,11 +61,11 @@ keep_all_step : (grid : Grid) (row : TenantRow) (e : Entry) (t : Trace) (file : 
 keep_all_step grid row e t file tag s later run follows all server inside = by (is_loss e.turn server file) refl
   where
     by : (b : Bool) → is_loss e.turn server file ≡ b → Keeps grid (e ∷ later) server file tag
-    by true lost = rw lost (λ mate are. all mate (s.mates server mate inside are))
+    by true lost = rw lost (λ peer are. all peer (s.peers server peer inside are))
     by false none = keeps_step grid row later e run follows server file tag none (all server inside)
 
 pub settled_grows : (grid : Grid) (row : TenantRow) (e : Entry) (t : Trace) (file : File) (tag : Tag) → IsRun grid row t → Follows grid row t e → Settled grid t file tag → Settled grid (e ∷ t) file tag
-settled_grows grid row e t file tag run follows s = record { set = s.set; ends = s.ends; mates = s.mates; kept_there = keep_all_step grid row e t file tag s t run follows s.kept_there }
+settled_grows grid row e t file tag run follows s = record { set = s.set; ends = s.ends; peers = s.peers; kept_there = keep_all_step grid row e t file tag s t run follows s.kept_there }
 
 -- what was settled is kept later by the same servers
 pub kept_since : (grid : Grid) (row : TenantRow) (later t : Trace) (file : File) (tag : Tag) → IsRun grid row later → Extends later t → (s : Settled grid t file tag) → (server : ℕ) → s.set server ≡ true → Keeps grid later server file tag
@@ -79,7 +79,7 @@ kept_since grid row later t file tag run extends s =
     along (e ∷ more) run = keep_all_step grid row e t file tag s (more ++ t) run.0 run.1 (along more run.0)
 
 pub settled_since : (grid : Grid) (row : TenantRow) (later t : Trace) (file : File) (tag : Tag) → IsRun grid row later → Extends later t → Settled grid t file tag → Settled grid later file tag
-settled_since grid row later t file tag run extends s = record { set = s.set; ends = s.ends; mates = s.mates; kept_there = kept_since grid row later t file tag run extends s }
+settled_since grid row later t file tag run extends s = record { set = s.set; ends = s.ends; peers = s.peers; kept_there = kept_since grid row later t file tag run extends s }
 
 -- the entry loses no copy of the file at a server that was heard
 abbrev pub Steady : Entry → File → List Reply → Type 0
@@ -261,8 +261,8 @@ holds_next grid t task r hs cs start now h even later last = record {
 -- where the servers of a set that ends a store round keep the tag, it is settled
 settled_by : (grid : Grid) (t : Trace) (file : File) (tag : Tag) (set : Servers) → ends_store grid set ≡ true → ((server : ℕ) → set server ≡ true → Keeps grid t server file tag) → Settled grid t file tag
 settled_by grid t file tag set ends keeps =
-    let some = stores_have_mates grid set ends in
-    record { set = some.0; ends = some.1; mates = some.3; kept_there = λ server inside. keeps server (some.2 server inside) }
+    let some = stores_have_peers grid set ends in
+    record { set = some.0; ends = some.1; peers = some.3; kept_there = λ server inside. keeps server (some.2 server inside) }
 
 -- where the servers heard end a store round, its copy is settled
 pub stored_settled : (grid : Grid) (t : Trace) (task : Task) (r : ℕ) (hs : List Reply) (cs : List StoredCopy) (start : Starts) → Holds grid t task r hs cs start → is_collect r ≡ false → ends_store grid (heard_servers hs) ≡ true →

@@ -1,11 +1,11 @@
 -- The four facts of a tenant's run on which its law of tags stands.
 --
--- 1. `settled_stays`: a tag that is settled stays settled. A server's tag of a file falls only where its copy is lost, and then its mates
+-- 1. `settled_stays`: a tag that is settled stays settled. A server's tag of a file falls only where its copy is lost, and then its peers
 --    keep the tag, one of which gives it what it has when it has the file again.
 -- 2. `held_was_made`: what a server holds of a file is the first copy, or a copy with which the store round of a write of
 --    the file began; `made_tags_differ`: the tags of these rounds differ.
 -- 3. `store_round_settles`: once a store round of a copy has ended, its tag is settled: servers that end it keep the tag, and all their
---    mates are among them; `skip_settles`: so is the tag that servers told where the store round of the copy is left out.
+--    peers are among them; `skip_settles`: so is the tag that servers told where the store round of the copy is left out.
 -- 4. `heard_was_held`: a copy heard in a collect round was held at its server, which had the file, at a moment since the round began.
 --
 -- A set that ends a store round and one that ends a collect round share a server, and a server that has the file holds what it keeps. So

@@ -4,11 +4,11 @@ ghost use Rattle.gq_session.specs.Attending.{Asks, GivesUp, GivesUpWhereStuck, G
 ghost use Rattle.gq_session.specs.Faults.{NoGate};
 ghost use Rattle.gq_live.specs.Notes.{TakesNote};
 
-use crate::starts::{Mailboxes, Note, Seat, post};
+use crate::starts::{Mailboxes, Note, SessionState, post};
 use crossbeam_channel::{Receiver, Sender};
 use gq_cell::Letter;
 use gq_grid::Grid;
-use gq_session::{Agenda, LiveFault, Outbox, Session};
+use gq_session::{LiveFault, Outbox, Schedule, Session};
 use gq_tag::Message;
 use std::alloc::Global;
 use std::sync::{Mutex, Wait};
@@ -70,14 +70,14 @@ fn send_all<R: Wait>(
 // One hold of the board's lock, in which a letter is heard.
 fn hear<R: Wait>(
     rt: &R,
-    agenda: &Mutex<Agenda>,
+    schedule: &Mutex<Schedule>,
     session: &mut Session,
     letter: Letter,
 ) -> Result<Outbox, LiveFault>
     ensures hears { IfOk result (λ outbox. Hears letter session.old session.new outbox.stamp outbox.messages outbox.stuck) }
     ensures gate { NoGate result }
 {
-    let mut board = agenda.lock(rt);
+    let mut board = schedule.lock(rt);
     let heard = session.hear(&mut *board, letter);
     drop(board);
     heard
@@ -86,13 +86,13 @@ fn hear<R: Wait>(
 // One hold, in which the round's message is sent once more.
 fn retry<R: Wait>(
     rt: &R,
-    agenda: &Mutex<Agenda>,
+    schedule: &Mutex<Schedule>,
     session: &mut Session,
 ) -> Result<Outbox, LiveFault>
     ensures retries { IfOk result (λ outbox. SendsAgain session.old session.new outbox.stamp outbox.messages outbox.stuck) }
     ensures gate { NoGate result }
 {
-    let mut board = agenda.lock(rt);
+    let mut board = schedule.lock(rt);
     let sent = session.retry(&mut *board);
     drop(board);
     sent
@@ -101,13 +101,13 @@ fn retry<R: Wait>(
 // One hold, in which the operation is given up.
 fn give_up<R: Wait>(
     rt: &R,
-    agenda: &Mutex<Agenda>,
+    schedule: &Mutex<Schedule>,
     session: &mut Session,
 ) -> Result<Outbox, LiveFault>
     ensures ends { IfOk result (λ outbox. GivesUp outbox.stamp session.old session.new) }
     ensures gate { NoGate result }
 {
-    let mut board = agenda.lock(rt);
+    let mut board = schedule.lock(rt);
     let ended = session.give_up(&mut *board);
     drop(board);
     ended
@@ -116,14 +116,14 @@ fn give_up<R: Wait>(
 // One hold, in which the next request is asked. None where none is left.
 fn ask_next<R: Wait>(
     rt: &R,
-    agenda: &Mutex<Agenda>,
+    schedule: &Mutex<Schedule>,
     session: &mut Session,
 ) -> Result<Option<Outbox>, LiveFault>
     ensures asks { IfOk result (λ asked. MatchOption asked (session.new ≡ session.old)
         (λ outbox. Asks session.old session.new outbox.stamp outbox.messages)) }
     ensures gate { NoGate result }
 {
-    let mut board = agenda.lock(rt);
+    let mut board = schedule.lock(rt);
     let asked = session.ask_next(&mut *board);
     drop(board);
     asked
@@ -133,7 +133,7 @@ fn ask_next<R: Wait>(
 fn go_on<R: Wait>(
     rt: &R,
     alloc: Global,
-    agenda: &Mutex<Agenda>,
+    schedule: &Mutex<Schedule>,
     servers: &[Sender<Letter>],
     session: &mut Session,
     outbox: Outbox,
@@ -142,7 +142,7 @@ fn go_on<R: Wait>(
     ensures gate { NoGate result }
 {
     if outbox.stuck {
-        let ended = give_up(rt, agenda, session)?;
+        let ended = give_up(rt, schedule, session)?;
         send_all(rt, alloc, servers, ended)?;
     }
     send_all(rt, alloc, servers, outbox)
@@ -152,7 +152,7 @@ fn go_on<R: Wait>(
 fn take_reply<R: Wait>(
     rt: &R,
     alloc: Global,
-    agenda: &Mutex<Agenda>,
+    schedule: &Mutex<Schedule>,
     servers: &[Sender<Letter>],
     session: &mut Session,
     letter: Letter,
@@ -160,15 +160,15 @@ fn take_reply<R: Wait>(
     ensures takes { OnOk result (TakesReply letter session.old session.new) }
     ensures gate { NoGate result }
 {
-    let heard = hear(rt, agenda, session, letter)?;
-    go_on(rt, alloc, agenda, servers, session, heard)
+    let heard = hear(rt, schedule, session, letter)?;
+    go_on(rt, alloc, schedule, servers, session, heard)
 }
 
 // Tries the round once more on a notice of it, and passes by another.
 fn take_notice<R: Wait>(
     rt: &R,
     alloc: Global,
-    agenda: &Mutex<Agenda>,
+    schedule: &Mutex<Schedule>,
     servers: &[Sender<Letter>],
     session: &mut Session,
     returned: &Letter,
@@ -179,15 +179,15 @@ fn take_notice<R: Wait>(
     if !session.is_current(&returned.message) {
         return Ok(());
     }
-    let sent = retry(rt, agenda, session)?;
-    go_on(rt, alloc, agenda, servers, session, sent)
+    let sent = retry(rt, schedule, session)?;
+    go_on(rt, alloc, schedule, servers, session, sent)
 }
 
 // Does what a note is for. False where the session has to quit.
 fn take_note<R: Wait>(
     rt: &R,
     alloc: Global,
-    agenda: &Mutex<Agenda>,
+    schedule: &Mutex<Schedule>,
     servers: &[Sender<Letter>],
     session: &mut Session,
     note: Note,
@@ -198,8 +198,8 @@ fn take_note<R: Wait>(
 {
     match note {
         Note::Quit => return Ok(false),
-        Note::Returned(letter) => take_notice(rt, alloc, agenda, servers, session, &letter)?,
-        Note::Letter(letter) => take_reply(rt, alloc, agenda, servers, session, letter)?,
+        Note::Returned(letter) => take_notice(rt, alloc, schedule, servers, session, &letter)?,
+        Note::Letter(letter) => take_reply(rt, alloc, schedule, servers, session, letter)?,
     }
     Ok(true)
 }
@@ -208,7 +208,7 @@ fn take_note<R: Wait>(
 fn end_operation<R: Wait>(
     rt: &R,
     alloc: Global,
-    agenda: &Mutex<Agenda>,
+    schedule: &Mutex<Schedule>,
     inbox: &Receiver<Note>,
     servers: &[Sender<Letter>],
     session: &mut Session,
@@ -224,7 +224,7 @@ fn end_operation<R: Wait>(
         let Ok(note) = inbox.recv(rt) else {
             return Ok(false);
         };
-        if !take_note(rt, alloc, agenda, servers, session, note)? {
+        if !take_note(rt, alloc, schedule, servers, session, note)? {
             return Ok(false);
         }
     }
@@ -235,7 +235,7 @@ fn end_operation<R: Wait>(
 fn ask_all<R: Wait>(
     rt: &R,
     alloc: Global,
-    agenda: &Mutex<Agenda>,
+    schedule: &Mutex<Schedule>,
     inbox: &Receiver<Note>,
     servers: &[Sender<Letter>],
     session: &mut Session,
@@ -244,11 +244,11 @@ fn ask_all<R: Wait>(
     ensures gate { NoGate result }
 {
     for _ in rt.forever() {
-        let Some(outbox) = ask_next(rt, agenda, session)? else {
+        let Some(outbox) = ask_next(rt, schedule, session)? else {
             return Ok(());
         };
         send_all(rt, alloc, servers, outbox)?;
-        if !end_operation(rt, alloc, agenda, inbox, servers, session)? {
+        if !end_operation(rt, alloc, schedule, inbox, servers, session)? {
             return Ok(());
         }
     }
@@ -260,11 +260,11 @@ pub(crate) fn attend<R: Wait>(
     rt: &R,
     alloc: Global,
     grid: Grid,
-    agenda: &Mutex<Agenda>,
+    schedule: &Mutex<Schedule>,
     mailboxes: &Mailboxes,
-    seat: Seat,
+    session_state: SessionState,
 ) -> SessionEnd {
-    let Seat {
+    let SessionState {
         place,
         tenant,
         number,
@@ -273,9 +273,16 @@ pub(crate) fn attend<R: Wait>(
         inbox,
         servers,
         ..
-    } = seat;
+    } = session_state;
     let mut session = Session::new(alloc, grid, tenant, number, volumes, lines);
-    match ask_all(rt, alloc, agenda, &inbox, servers.as_slice(), &mut session) {
+    match ask_all(
+        rt,
+        alloc,
+        schedule,
+        &inbox,
+        servers.as_slice(),
+        &mut session,
+    ) {
         Ok(()) => SessionEnd {
             result: Ok(Attendance { place, session }),
         },

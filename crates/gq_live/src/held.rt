@@ -6,7 +6,7 @@ ghost use Rattle.gq_live.specs.Faults.{IsFor, IsServeFault};
 
 use crate::thread_ends::CellRecord;
 use gq_cell::{Cell, CellRefused, Letter, Served, Share};
-use gq_session::{Agenda, Gate, LiveFault, change_cell};
+use gq_session::{Gate, LiveFault, Schedule, change_cell};
 use gq_tag::Message;
 use std::sync::ledger::Ledger;
 
@@ -59,10 +59,10 @@ impl<L: Ledger> HeldCell<L> {
     }
 
     // Does the next change of the list, at the board and then at the cell.
-    pub(crate) fn change(&mut self, agenda: &mut Agenda) -> Result<(), LiveFault>
+    pub(crate) fn change(&mut self, schedule: &mut Schedule) -> Result<(), LiveFault>
         ensures { NoGate result }
     {
-        change_cell(agenda, &mut self.cell)
+        change_cell(schedule, &mut self.cell)
     }
 
     // The journal, once the workers have ended.

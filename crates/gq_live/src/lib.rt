@@ -1,4 +1,4 @@
-//! A run of the service in threads: servers with two workers each, sessions, and a steward that stops servers and brings
+//! A run of the service in threads: servers with two workers each, sessions, and a fault injector that stops servers and brings
 //! them back. What was done is recorded under locks. The names of the crates that need no threads are passed on.
 #![tactic(auto)]
 

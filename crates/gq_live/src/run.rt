@@ -12,33 +12,34 @@ ghost use Rattle.gq_live.specs.Runs.{AllLawful, AllAsked};
 use crate::attending::{SessionEnd, attend};
 use crate::serving::serve;
 use crate::starts::{
-    Mailboxes, Order, Seat, Seats, ServerChannels, ServerInbox, Site, all_seats, open_all, sites,
+    Mailboxes, Order, ServerChannels, ServerInbox, SessionState, SessionStates, Site,
+    all_session_states, open_all, sites,
 };
 use crate::thread_ends::{CellRecord, GatedEnd, all_or_least, entries, journals, least};
 use crossbeam_channel::Sender;
 use gq_desk::{Desk, Plan};
 use gq_grid::Grid;
 use gq_memory::{GrowVec, OutOfMemory, RoomInVec, channel_of_one, send, slice_copied};
-use gq_session::{Agenda, Gate, LiveFault, Programs, Records};
+use gq_session::{Gate, LiveFault, Programs, Records, Schedule};
 use std::alloc::Global;
 use std::sync::{Mutex, Wait};
 use std::thread;
 use std::thread::{JoinHandle, Threads};
 
-// ---- the steward
+// ---- the fault injector
 
 // Hands out the changes of the list, each when the last is done.
 fn hand_out<R: Wait>(
     rt: &R,
     alloc: Global,
-    agenda: &Mutex<Agenda>,
+    schedule: &Mutex<Schedule>,
     orders: Vec<Sender<Order>>,
     count: usize,
 ) -> Option<LiveFault>
     ensures { ForSome result (λ fault. fault ≢ FaultIs.Gate) }
 {
     for _ in 0..count {
-        let Some(next) = agenda.lock(rt).next() else {
+        let Some(next) = schedule.lock(rt).next() else {
             break;
         };
         let Some(to) = orders.get(next.server as usize) else {
@@ -55,27 +56,27 @@ fn hand_out<R: Wait>(
     None
 }
 
-// How the steward ended. Its fault is not the gate's.
+// How the fault injector ended. Its fault is not the gate's.
 #[derive(Drop)]
-struct StewardEnd {
+struct FaultInjectorEnd {
     fault: Option<LiveFault>,
     ghost no_gate: { ForSome fault (λ fault. fault ≢ FaultIs.Gate) },
 }
 
-// The steward's thread.
-fn steward<R: Wait>(
+// The fault injector's thread.
+fn fault_injector<R: Wait>(
     rt: &R,
     alloc: Global,
-    agenda: &Mutex<Agenda>,
+    schedule: &Mutex<Schedule>,
     mailboxes: &Mailboxes,
     orders: Vec<Sender<Order>>,
     count: usize,
-) -> StewardEnd {
-    let fault = hand_out(rt, alloc, agenda, orders, count);
+) -> FaultInjectorEnd {
+    let fault = hand_out(rt, alloc, schedule, orders, count);
     if fault.is_some() {
         mailboxes.quit(rt);
     }
-    StewardEnd { fault }
+    FaultInjectorEnd { fault }
 }
 
 // ---- the threads
@@ -95,11 +96,11 @@ fn run_threads<'x, G: Gate + Send + Sync, R: Threads + Wait + Sync>(
     rt: &'x R,
     alloc: Global,
     grid: Grid,
-    agenda: &'x Mutex<Agenda>,
+    schedule: &'x Mutex<Schedule>,
     mailboxes: &'x Mailboxes,
     sites: &'x [Site<'x, G>],
     inboxes: Vec<ServerInbox>,
-    seats: Vec<Seat>,
+    session_states: Vec<SessionState>,
     orders: Vec<Sender<Order>>,
     count: usize,
 ) -> AllEnds<G> {
@@ -117,29 +118,29 @@ fn run_threads<'x, G: Gate + Send + Sync, R: Threads + Wait + Sync>(
                 None => fault = Some(least(fault, LiveFault::Thread)),
             }
         }
-        for seat in seats {
+        for session_state in session_states {
             if let Err(refused) = attending.make_room(1) {
                 fault = Some(LiveFault::Memory(refused));
                 break;
             }
             match scope
-                .spawn(move || attend(rt, alloc, grid, agenda, mailboxes, seat))
+                .spawn(move || attend(rt, alloc, grid, schedule, mailboxes, session_state))
                 .ok()
             {
                 Some(thread) => attending.push_reserved(thread),
                 None => fault = Some(least(fault, LiveFault::Thread)),
             }
         }
-        let steward = scope
-            .spawn(move || steward(rt, alloc, agenda, mailboxes, orders, count))
+        let fault_injector = scope
+            .spawn(move || fault_injector(rt, alloc, schedule, mailboxes, orders, count))
             .ok();
-        if steward.is_none() {
+        if fault_injector.is_none() {
             fault = Some(least(fault, LiveFault::Thread));
         }
         if fault.is_some() {
             mailboxes.quit(rt);
         }
-        join_threads(rt, alloc, serving, attending, steward, fault)
+        join_threads(rt, alloc, serving, attending, fault_injector, fault)
     })
 }
 
@@ -150,23 +151,23 @@ fn run_all<'x, G: Gate + Send + Sync, R: Threads + Wait + Sync>(
     plan: &'x Plan,
     programs: &'x Programs,
     gate: &'x G,
-    agenda: &'x Mutex<Agenda>,
+    schedule: &'x Mutex<Schedule>,
     mailboxes: &'x Mailboxes,
     inboxes: Vec<ServerInbox>,
-    seats: Vec<Seat>,
+    session_states: Vec<SessionState>,
     orders: Vec<Sender<Order>>,
 ) -> Result<AllEnds<G>, OutOfMemory> {
     let volumes = programs.volumes.as_slice();
-    let sites = sites(alloc, plan, volumes, gate, agenda, mailboxes)?;
+    let sites = sites(alloc, plan, volumes, gate, schedule, mailboxes)?;
     Ok(run_threads(
         rt,
         alloc,
         *plan.grid(),
-        agenda,
+        schedule,
         mailboxes,
         sites.as_slice(),
         inboxes,
-        seats,
+        session_states,
         orders,
         programs.changes.len(),
     ))
@@ -177,15 +178,15 @@ fn join_threads<G: Gate, R: Threads>(
     alloc: Global,
     serving: Vec<JoinHandle<GatedEnd<CellRecord, G>>>,
     attending: Vec<JoinHandle<SessionEnd>>,
-    steward: Option<JoinHandle<StewardEnd>>,
+    fault_injector: Option<JoinHandle<FaultInjectorEnd>>,
     fault: Option<LiveFault>,
 ) -> AllEnds<G>
     requires { ForSome fault (λ fault. fault ≢ FaultIs.Gate) }
 {
-    let fault = match steward {
+    let fault = match fault_injector {
         None => fault,
-        Some(steward) => {
-            let StewardEnd { fault: met, .. } = steward.join(rt);
+        Some(fault_injector) => {
+            let FaultInjectorEnd { fault: met, .. } = fault_injector.join(rt);
             match met {
                 None => fault,
                 Some(met) => Some(least(fault, met)),
@@ -276,23 +277,28 @@ fn run_opened<G: Gate + Send + Sync, R: Threads + Wait + Sync>(
         orders,
         inboxes,
     } = ServerChannels::new(alloc, plan.grid().servers())?;
-    let Seats { seats, mailboxes } = all_seats(
-        rt,
-        alloc,
-        plan,
-        desk,
-        programs_asked,
-        letters.as_slice(),
-    )?;
+    let SessionStates {
+        session_states,
+        mailboxes,
+    } = all_session_states(rt, alloc, plan, desk, programs_asked, letters.as_slice())?;
     drop(letters);
-    let agenda = Mutex::new(Agenda::new(alloc, plan.grid(), list));
+    let schedule = Mutex::new(Schedule::new(alloc, plan.grid(), list));
     let AllEnds {
         servers,
         sessions,
         fault,
         ..
     } = run_all(
-        rt, alloc, plan, programs, gate, &agenda, &mailboxes, inboxes, seats, orders,
+        rt,
+        alloc,
+        plan,
+        programs,
+        gate,
+        &schedule,
+        &mailboxes,
+        inboxes,
+        session_states,
+        orders,
     )?;
     let met = journals(alloc, servers);
     let kept = entries(alloc, programs_asked, sessions);
@@ -300,7 +306,7 @@ fn run_opened<G: Gate + Send + Sync, R: Threads + Wait + Sync>(
     if cells.len() != plan.grid().servers() || sessions.len() != programs.sessions.len() {
         return Err(LiveFault::Letter);
     }
-    match agenda.into_inner().close(programs.changes.as_slice()) {
+    match schedule.into_inner().close(programs.changes.as_slice()) {
         Some(board) => Ok(Records {
             volumes,
             cells,
@@ -312,7 +318,7 @@ fn run_opened<G: Gate + Send + Sync, R: Threads + Wait + Sync>(
 }
 
 /// Opens the volumes in order, and then runs the programs in threads: one with two workers for each server, one for each
-/// session, and one steward for the servers' changes. It gives what was recorded under the locks. It may wait for ever.
+/// session, and one fault injector for the servers' changes. It gives what was recorded under the locks. It may wait for ever.
 ///
 /// `Volume` tells the first volume that is refused, before any thread starts, and comes only then. `Gate` comes only where
 /// the gate gave up; of several threads' faults the first in the order of [`LiveFault`] is told.

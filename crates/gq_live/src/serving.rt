@@ -12,7 +12,7 @@ use crate::thread_ends::{CellRecord, GatedEnd, both_or_least};
 use crossbeam_channel::Receiver;
 use gq_cell::{Cell, Letter, Served, Share};
 use gq_desk::{Desk, OpenRefused, Plan};
-use gq_session::{Agenda, Gate, LiveFault, Opening};
+use gq_session::{Gate, LiveFault, Opening, Schedule};
 use std::alloc::Global;
 use std::marker::Brand;
 use std::sync::ledger::{Blank, Ledger};
@@ -102,10 +102,10 @@ fn work<L: Ledger, G: Gate, R: Wait>(
     }
 }
 
-// Does the changes that the steward hands out. The board's lock is taken before the cell's.
+// Does the changes that the fault injector hands out. The board's lock is taken before the cell's.
 fn do_orders<L: Ledger, R: Wait>(
     rt: &R,
-    agenda: &Mutex<Agenda>,
+    schedule: &Mutex<Schedule>,
     cell: &Mutex<HeldCell<L>>,
     orders: &Receiver<Order>,
 ) -> Result<(), LiveFault>
@@ -115,11 +115,11 @@ fn do_orders<L: Ledger, R: Wait>(
         let Ok(order) = orders.recv(rt) else {
             break;
         };
-        let mut agenda = agenda.lock(rt);
+        let mut schedule = schedule.lock(rt);
         let mut cell = cell.lock(rt);
-        let changed = (*cell).change(&mut *agenda);
+        let changed = (*cell).change(&mut *schedule);
         drop(cell);
-        drop(agenda);
+        drop(schedule);
         changed?;
         let _ = order.done.send(rt, ());
     }
@@ -151,7 +151,7 @@ fn work_both<'x, L: Ledger + Send + Sync, G: Gate + Send + Sync, R: Threads + Wa
         if first.is_none() || second.is_none() {
             site.mailboxes.quit(rt);
         }
-        let ordered = do_orders(rt, site.agenda, cell, &inbox.orders);
+        let ordered = do_orders(rt, site.schedule, cell, &inbox.orders);
         if ordered.is_err() {
             site.mailboxes.quit(rt);
         }

@@ -14,7 +14,7 @@ use gq_memory::{
     GrowVec, OutOfMemory, RoomInVec, channel, room_for, send, sender_copied, slice_copied,
 };
 use gq_model::Line;
-use gq_session::{Agenda, Gate, Lines, LiveFault, Opening};
+use gq_session::{Gate, Lines, LiveFault, Opening, Schedule};
 use std::alloc::Global;
 use std::sync::{Mutex, Wait};
 
@@ -48,7 +48,7 @@ pub(crate) struct Site<'a, G: Gate> {
     pub plan: &'a Plan,
     pub volumes: &'a [Opening],
     pub gate: &'a G,
-    pub agenda: &'a Mutex<Agenda>,
+    pub schedule: &'a Mutex<Schedule>,
     pub mailboxes: &'a Mailboxes,
 }
 
@@ -85,7 +85,7 @@ pub(crate) fn sites<'x, G: Gate>(
     plan: &'x Plan,
     volumes: &'x [Opening],
     gate: &'x G,
-    agenda: &'x Mutex<Agenda>,
+    schedule: &'x Mutex<Schedule>,
     mailboxes: &'x Mailboxes,
 ) -> Result<Vec<Site<'x, G>>, OutOfMemory> {
     let mut all = Vec::new(alloc);
@@ -95,7 +95,7 @@ pub(crate) fn sites<'x, G: Gate>(
             plan,
             volumes,
             gate,
-            agenda,
+            schedule,
             mailboxes,
         })?;
     }
@@ -144,7 +144,7 @@ impl Mailboxes {
 /// What a session's thread owns: its place among all sessions, its tenant with the tenant's volumes, its number among the
 /// tenant's, its requests, its mailbox, and the servers' mailboxes.
 #[derive(Drop)]
-pub(crate) struct Seat {
+pub(crate) struct SessionState {
     pub place: usize,
     pub tenant: u8,
     pub number: u8,
@@ -156,10 +156,10 @@ pub(crate) struct Seat {
     pub ghost requests: { All IsRequest lines.items },
 }
 
-/// The seats of all sessions, and their mailboxes.
+/// The session states of all sessions, and their mailboxes.
 #[derive(Drop)]
-pub(crate) struct Seats {
-    pub seats: Vec<Seat>,
+pub(crate) struct SessionStates {
+    pub session_states: Vec<SessionState>,
     pub mailboxes: Mailboxes,
 }
 
@@ -227,8 +227,8 @@ fn make_room<R: Wait>(rt: &R, to: &Sender<Note>, inbox: &Receiver<Note>) -> Resu
     }
 }
 
-// A seat for a session of the tenant, and its mailbox.
-fn make_seat<R: Wait>(
+// A session state for a session of the tenant, and its mailbox.
+fn make_session_state<R: Wait>(
     rt: &R,
     alloc: Global,
     desk: &Desk,
@@ -237,7 +237,7 @@ fn make_seat<R: Wait>(
     number: u8,
     program: &Lines,
     servers: &[Sender<Letter>],
-) -> Result<(Seat, Sender<Note>), LiveFault>
+) -> Result<(SessionState, Sender<Note>), LiveFault>
     requires desk { tenant < length desk.now }
     requires requests { All IsRequest program.now }
     ensures { NoGate result }
@@ -247,7 +247,7 @@ fn make_seat<R: Wait>(
     let volumes = slice_copied(alloc, desk.volumes(tenant))?;
     let lines = copy_lines(alloc, program.items.as_slice())?;
     let servers = copy_senders(alloc, servers)?;
-    let seat = Seat {
+    let session_state = SessionState {
         place,
         tenant,
         number,
@@ -256,11 +256,11 @@ fn make_seat<R: Wait>(
         inbox,
         servers,
     };
-    Ok((seat, to))
+    Ok((session_state, to))
 }
 
-// Adds a seat for each session of the tenant, and their mailboxes.
-fn add_seats<R: Wait>(
+// Adds a session state for each session of the tenant, and their mailboxes.
+fn add_session_states<R: Wait>(
     rt: &R,
     alloc: Global,
     plan: &Plan,
@@ -268,7 +268,7 @@ fn add_seats<R: Wait>(
     tenant: u8,
     programs: &[Lines],
     servers: &[Sender<Letter>],
-    all: &mut Seats,
+    all: &mut SessionStates,
 ) -> Result<(), LiveFault>
     requires plan { tenant < length plan.now.rows }
     requires desk { tenant < length desk.now }
@@ -277,7 +277,7 @@ fn add_seats<R: Wait>(
 {
     let mut mailboxes = Vec::new(alloc);
     for number in 1..=plan.row(tenant).sessions {
-        let place = all.seats.len();
+        let place = all.session_states.len();
         let Ok(number) = u8::try_from(number) else {
             return Err(LiveFault::Letter);
         };
@@ -285,8 +285,8 @@ fn add_seats<R: Wait>(
             return Err(LiveFault::Letter);
         }
         mailboxes.make_room(1)?;
-        all.seats.make_room(1)?;
-        let (seat, to) = make_seat(
+        all.session_states.make_room(1)?;
+        let (session_state, to) = make_session_state(
             rt,
             alloc,
             desk,
@@ -297,34 +297,34 @@ fn add_seats<R: Wait>(
             servers,
         )?;
         mailboxes.push_reserved(to);
-        all.seats.push_reserved(seat);
+        all.session_states.push_reserved(session_state);
     }
     all.mailboxes.tenants.make_room(1)?;
     all.mailboxes.tenants.push_reserved(mailboxes);
     Ok(())
 }
 
-// A seat for each session of the plan, and their mailboxes.
-pub(crate) fn all_seats<R: Wait>(
+// A session state for each session of the plan, and their mailboxes.
+pub(crate) fn all_session_states<R: Wait>(
     rt: &R,
     alloc: Global,
     plan: &Plan,
     desk: &Desk,
     programs: &[Lines],
     servers: &[Sender<Letter>],
-) -> Result<Seats, LiveFault>
+) -> Result<SessionStates, LiveFault>
     requires desk { length desk.now ≡ length plan.now.rows }
     requires requests { All (All IsRequest) programs.now }
     ensures { NoGate result }
 {
-    let mut all = Seats {
-        seats: Vec::new(alloc),
+    let mut all = SessionStates {
+        session_states: Vec::new(alloc),
         mailboxes: Mailboxes {
             tenants: Vec::new(alloc),
         },
     };
     for tenant in 0..plan.tenants() {
-        add_seats(
+        add_session_states(
             rt,
             alloc,
             plan,

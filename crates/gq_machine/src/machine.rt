@@ -16,7 +16,7 @@ ghost use Rattle.gq_wire.specs.Incoming.{FitsPlan};
 ghost use Rattle.gq_facts.specs.Facts.{fact_text};
 ghost use Rattle.gq_facts.specs.Laws.{FitsFact};
 ghost use Rattle.gq_parts.specs.Inputs.{session_ticks, ticks_of};
-ghost use Rattle.gq_parts.specs.Texts.{answer_text, sent_line, parcel_text, step_text, joins_text, joined_text};
+ghost use Rattle.gq_parts.specs.Texts.{answer_text, sent_line, transfer_text, step_text, joins_text, joined_text};
 ghost use Rattle.gq_parts.specs.Steps.{AskedToJoin, fact_lines, HasAddress, IsOfPlan, IsOfTenant, goes_home, going_home, going_by_lines, Appended, TookHop, TookOwn, PutAll, TookOf, TookAll, TookIncoming, some_lacks, all_lacked};
 
 use crate::ranges::{fact_fits, plan_is_sound};
@@ -24,10 +24,10 @@ use gq_facts::{put_fact, read_fact};
 use gq_keeper::{Fault, Lasting, Machine, Unread};
 use gq_memory::{GrowVec, OutOfMemory};
 use gq_model::Line;
-use gq_node::{Answer, Ended, Fact, NeedRefused, Node, Output, Parcel};
+use gq_node::{Answer, Ended, Fact, NeedRefused, Node, Output, Transfer};
 use gq_parts::laws::MOST_HOPS;
 use gq_tag::{Body, FileId, Message, StoredCopy};
-use gq_wire::{Incoming, put_joined, put_joins, put_letter, put_parcel, put_told, read_incoming};
+use gq_wire::{Incoming, put_joined, put_joins, put_letter, put_told, put_transfer, read_incoming};
 use std::alloc::Global;
 
 /// A node that takes lines. After an `Err` of any call it is given up: a part of what a step gives may have been appended, and where
@@ -62,10 +62,10 @@ impl NodeMachine {
     }
 
     // That memory was never wanting: the node has a part for each tenant.
-    fn goes(&self) -> Result<(), OutOfMemory>
+    fn has_memory(&self) -> Result<(), OutOfMemory>
         ensures { OnOk result (AllStand self.now.node.tables) }
     {
-        self.node.goes().map_err(no_memory)
+        self.node.has_memory().map_err(no_memory)
     }
 
     // Appends the line to the tenant, if it is told something.
@@ -163,13 +163,17 @@ impl NodeMachine {
         Ok(())
     }
 
-    // Appends the line of the parcel, if there is one.
-    fn put_parcel(&self, parcel: &Option<Parcel>, told: &mut Vec<u8>) -> Result<(), OutOfMemory>
-        requires { IsOfPlan self.now.node.tables.plan parcel.now }
-        ensures { OnOk result (told.new.items ≡ told.old.items ++ parcel_text self.now.node.tables.plan self.now.node.tables.here parcel.now) }
+    // Appends the line of the transfer, if there is one.
+    fn put_transfer(
+        &self,
+        transfer: &Option<Transfer>,
+        told: &mut Vec<u8>,
+    ) -> Result<(), OutOfMemory>
+        requires { IsOfPlan self.now.node.tables.plan transfer.now }
+        ensures { OnOk result (told.new.items ≡ told.old.items ++ transfer_text self.now.node.tables.plan self.now.node.tables.here transfer.now) }
     {
-        match parcel {
-            Some(parcel) => put_parcel(told, self.node.plan(), self.node.number(), parcel),
+        match transfer {
+            Some(transfer) => put_transfer(told, self.node.plan(), self.node.number(), transfer),
             None => Ok(()),
         }
     }
@@ -215,15 +219,15 @@ impl NodeMachine {
         requires tenant { tenant < length self.now.node.tables.plan.rows }
         requires fact { IfSome out.now.fact (λ fact. tenant_of fact < length self.now.node.tables.plan.rows) }
         requires letters { All (IsOfTenant tenant) out.now.letters.items }
-        requires parcel { IsOfPlan self.now.node.tables.plan out.now.parcel }
-        ensures appended { OnOk result (Appended self.now.node.tables.plan (option_to_list out.now.fact) (step_text self.now.node.tables.plan self.now.node.tables.here tenant asked.now out.now.answer (going_by_lines self.now.node.tables.plan self.now.node.tables.here out.now.letters.items) out.now.parcel) facts.old.items facts.new.items told.old.items told.new.items) }
+        requires transfer { IsOfPlan self.now.node.tables.plan out.now.transfer }
+        ensures appended { OnOk result (Appended self.now.node.tables.plan (option_to_list out.now.fact) (step_text self.now.node.tables.plan self.now.node.tables.here tenant asked.now out.now.answer (going_by_lines self.now.node.tables.plan self.now.node.tables.here out.now.letters.items) out.now.transfer) facts.old.items facts.new.items told.old.items told.new.items) }
         ensures own { OnOk result (own.new.items ≡ own.old.items ++ going_home self.now.node.tables.plan self.now.node.tables.here out.now.letters.items) }
         ensures fit { OnOk result (All (FitsFact self.now.node.tables.plan) (option_to_list out.now.fact)) }
     {
         self.put_fact(&out.fact, facts)?;
         self.put_answer(tenant, asked, &out.answer, told)?;
         self.put_letters(out.letters.as_slice(), own, told)?;
-        self.put_parcel(&out.parcel, told)
+        self.put_transfer(&out.transfer, told)
     }
 
     // Takes a letter of the tenant from this node to itself. Those that this gives, and that the node takes itself, are put behind its own ones.
@@ -239,7 +243,7 @@ impl NodeMachine {
         requires letter { IsOfTenant tenant letter.now }
         ensures { OnOk result (TookHop self.old.node.tables tenant (own_message letter.now ∷ []) own.old.items own.new.items facts.old.items facts.new.items told.old.items told.new.items self.new.node.tables) }
     {
-        self.goes()?;
+        self.has_memory()?;
         let here = self.node.number();
         match self.node.letter(here, letter) {
             Ok(out) => Ok(self.put_step(tenant, &Line::Bad, &out, own, facts, told)?),
@@ -299,7 +303,7 @@ impl NodeMachine {
         requires tenant { tenant < length self.old.node.tables.plan.rows }
         requires fact { IfSome out.now.fact (λ fact. tenant_of fact < length self.old.node.tables.plan.rows) }
         requires letters { All (IsOfTenant tenant) out.now.letters.items }
-        requires parcel { IsOfPlan self.old.node.tables.plan out.now.parcel }
+        requires transfer { IsOfPlan self.old.node.tables.plan out.now.transfer }
         ensures { OnOk result (PutAll self.old.node.tables tenant asked.now out.now facts.old.items facts.new.items told.old.items told.new.items self.new.node.tables) }
     {
         let mut own = Vec::new(self.alloc);
@@ -319,7 +323,7 @@ impl NodeMachine {
         requires { tenant < length self.old.node.tables.plan.rows }
         ensures { OnOk result (TookOf self.old.node.tables tenant (Asked op line.now ∷ []) facts.old.items facts.new.items told.old.items told.new.items self.new.node.tables) }
     {
-        self.goes()?;
+        self.has_memory()?;
         match self.node.request(tenant, op, line) {
             Ok(out) => Ok(self.put(tenant, line, &out, facts, told)?),
             Err(ended) => Err(no_memory(ended)),
@@ -336,7 +340,7 @@ impl NodeMachine {
         requires { tenant < length self.old.node.tables.plan.rows }
         ensures { OnOk result (TookOf self.old.node.tables tenant (AskedPlan ∷ []) facts.old.items facts.new.items told.old.items told.new.items self.new.node.tables) }
     {
-        self.goes()?;
+        self.has_memory()?;
         match self.node.holding(tenant) {
             Ok(out) => Ok(self.put(tenant, &Line::Bad, &out, facts, told)?),
             Err(ended) => Err(no_memory(ended)),
@@ -355,7 +359,7 @@ impl NodeMachine {
         requires own { message.now.file.tenant ≡ message.now.tenant }
         ensures { OnOk result (TookOf self.old.node.tables message.now.tenant (Brought from (own_message message.now) ∷ []) facts.old.items facts.new.items told.old.items told.new.items self.new.node.tables) }
     {
-        self.goes()?;
+        self.has_memory()?;
         match self.node.letter(from, message) {
             Ok(out) => Ok(self.put(message.tenant, &Line::Bad, &out, facts, told)?),
             Err(ended) => Err(no_memory(ended)),
@@ -373,7 +377,7 @@ impl NodeMachine {
         requires { file.tenant < length self.old.node.tables.plan.rows }
         ensures { OnOk result (TookOf self.old.node.tables file.tenant (Fetching from (file_place file) ∷ []) facts.old.items facts.new.items told.old.items told.new.items self.new.node.tables) }
     {
-        self.goes()?;
+        self.has_memory()?;
         match self.node.fetch(from, file) {
             Ok(out) => Ok(self.put(file.tenant, &Line::Bad, &out, facts, told)?),
             Err(ended) => Err(no_memory(ended)),
@@ -392,7 +396,7 @@ impl NodeMachine {
         requires { file.tenant < length self.old.node.tables.plan.rows }
         ensures { OnOk result (TookOf self.old.node.tables file.tenant (WasFetched from (file_place file) copy.now ∷ []) facts.old.items facts.new.items told.old.items told.new.items self.new.node.tables) }
     {
-        self.goes()?;
+        self.has_memory()?;
         let shared = copy.share()?;
         match self.node.fetched(from, file, shared) {
             Ok(out) => Ok(self.put(file.tenant, &Line::Bad, &out, facts, told)?),
@@ -412,7 +416,7 @@ impl NodeMachine {
         requires place { place < (row_at self.old.node.tables.plan tenant).sessions }
         ensures { OnOk result (TookOf self.old.node.tables tenant (Ticked (session_at self.old.node.tables.plan self.old.node.tables.here tenant place) ∷ []) facts.old.items facts.new.items told.old.items told.new.items self.new.node.tables) }
     {
-        self.goes()?;
+        self.has_memory()?;
         match self.node.tick(tenant, place) {
             Ok(out) => Ok(self.put(tenant, &Line::Bad, &out, facts, told)?),
             Err(ended) => Err(no_memory(ended)),
@@ -446,7 +450,7 @@ impl NodeMachine {
         requires { tenant < length self.old.node.tables.plan.rows }
         ensures { OnOk result (TookOf self.old.node.tables tenant (Looked ∷ []) facts.old.items facts.new.items told.old.items told.new.items self.new.node.tables) }
     {
-        self.goes()?;
+        self.has_memory()?;
         match self.node.look(tenant) {
             Ok(out) => Ok(self.put(tenant, &Line::Bad, &out, facts, told)?),
             Err(ended) => Err(no_memory(ended)),
@@ -606,7 +610,7 @@ impl Machine for NodeMachine {
         told: &mut Vec<u8>,
     ) -> Result<(), OutOfMemory> {
         plan_is_sound(self.node.plan());
-        self.goes()?;
+        self.has_memory()?;
         let incoming = read_incoming(self.alloc, line, self.node.plan(), self.node.number())?;
         self.take_incoming(&incoming, facts, told)
     }
@@ -623,7 +627,7 @@ impl Lasting for NodeMachine {
 
     fn put_needed(&self, facts: &mut Vec<u8>) -> Result<(), Fault> {
         plan_is_sound(self.node.plan());
-        self.goes()?;
+        self.has_memory()?;
         match self.node.needed() {
             Ok(needed) => Ok(self.put_facts(needed.as_slice(), facts)?),
             Err(NeedRefused::Memory(refused)) => Err(Fault::Memory(refused)),

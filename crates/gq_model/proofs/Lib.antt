@@ -1,3 +1,3 @@
 pub mod Changes
-pub mod Mates
+pub mod Peers
 pub mod Whole

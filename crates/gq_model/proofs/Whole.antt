@@ -15,7 +15,7 @@ use Rattle.gq_model.specs.Told.{Told, Repaired}
 use Rattle.gq_model.specs.Trace.{Own, Serving, Entry, Trace, Past, start, up, gone, lacks, is_given, questions}
 use Rattle.gq_model.specs.Lone.{after, step_at, entry_of, quiet, server_told, is_refusal}
 use Rattle.gq_model.specs.Events.{own, past_at}
-use Rattle.gq_model.proofs.Mates.{Repair, repair, comes_kept}
+use Rattle.gq_model.proofs.Peers.{Repair, repair, comes_kept}
 
 -- a server lacks a file exactly where it was lost, and then it is not up
 pub record IsWhole (t : Trace) : Type 0 where
@@ -69,8 +69,8 @@ served_whole grid t (ServerRepaired n) whole fine = record { lacking = lacking; 
 
     lacking : (server : ℕ) (file : File) → lacks (served grid t (ServerRepaired n) ∷ t) server file ≡ (if eqb n server then false else gone t server)
     lacking server file =
-        let has : lacks t r.mate file ≡ false = up_has t whole r.mate file r.is_mate.inside in
-        let now : (told : Told) → told ≡ Repaired r.mate → (lacks t server file && not (is_given told n (lacks t) server file)) ≡ (if eqb n server then false else lacks t server file) = (λ told is. rw (is, has) (repaired_lacks (eqb n server) (lacks t server file))) in
+        let has : lacks t r.peer file ≡ false = up_has t whole r.peer file r.is_peer.inside in
+        let now : (told : Told) → told ≡ Repaired r.peer → (lacks t server file && not (is_given told n (lacks t) server file)) ≡ (if eqb n server then false else lacks t server file) = (λ told is. rw (is, has) (repaired_lacks (eqb n server) (lacks t server file))) in
         now (server_told grid (up t) (gone t) (ServerRepaired n)) r.told ∙ (λ i. if eqb n server then false else whole.lacking server file i)
 
     down : (server : ℕ) (b : Bool) → (if b then false else gone t server) ≡ true → (if b then true else up t server) ≡ false

@@ -13,7 +13,7 @@ use Rattle.gq_desk.specs.Plans.{is_in}
 use Rattle.gq_desk.specs.declared.plans.TenantRow.{TenantRow}
 use Rattle.gq_desk.specs.Volumes.{OpenFault, WrongSize, NoVolumeLeft, OverShare, free_of, open_fault}
 use Rattle.gq_phase.specs.Phase.{Task, Operation, Heard, HeardStale, HeardNoted, HeardNext, HeardDone, begun, round_quorum, round_messages, resent, hear}
-use Rattle.gq_phase.specs.Quorums.{are_mates}
+use Rattle.gq_phase.specs.Quorums.{are_peers}
 use Rattle.gq_model.specs.declared.events.Line.{Line}
 use Rattle.gq_model.specs.declared.events.Line.TheVariants.{Bad, Quorum, NewVolume, Volumes, Write, Read, List as ListFiles, Deliver, Lose, Retry, Abandon}
 use Rattle.gq_model.specs.declared.events.ServerLine.{ServerLine}
@@ -21,7 +21,7 @@ use Rattle.gq_model.specs.declared.events.ServerLine.TheVariants.{Bad as BadServ
 use Rattle.gq_model.specs.declared.events.Refusal.{Refusal}
 use Rattle.gq_model.specs.declared.events.Refusal.TheVariants.{Spent, Bad as BadLine, NoSession, Busy, Idle, NoVolume, NoFile, TooLong, NoQuorum, NoMessage, Size, Volumes as TooMany, Share}
 use Rattle.gq_model.specs.declared.events.ServerRefusal.{ServerRefusal}
-use Rattle.gq_model.specs.declared.events.ServerRefusal.TheVariants.{Bad as ServerBad, NoServer, Lost as IsGone, Same, Last, NoMate}
+use Rattle.gq_model.specs.declared.events.ServerRefusal.TheVariants.{Bad as ServerBad, NoServer, Lost as IsGone, Same, Last, NoPeer}
 use Rattle.gq_model.specs.Told.{Told, Chosen, Opened, VolumesAre, Began, Replied, IsDown, Stale, Noted, Round, Done, Lost, Resent, Abandoned, Refused, ServerOk, Repaired, ServerRefused}
 use Rattle.gq_model.specs.Trace.{Turn, Own, Serving, Leaping, Losing, Returning, Entry, Trace, State, Known, Past, start, asked, is_loss, is_awaited, serves, questions, own_message_at, held, operation, account_of, limit_at, task_of}
 
@@ -41,8 +41,8 @@ change_refusal grid up gone n comes =
     else None
 
 -- the least of these servers that can give this one its copies back, itself left out
-abbrev pub mate_among : Grid → Servers → ℕ → Option ℕ
-mate_among grid set n = find (λ mate. set mate && (not (mate == n) && are_mates grid n mate)) (below (grid.rows * grid.cols))
+abbrev pub peer_among : Grid → Servers → ℕ → Option ℕ
+peer_among grid set n = find (λ peer. set peer && (not (peer == n) && are_peers grid n peer)) (below (grid.rows * grid.cols))
 
 -- the servers that are not in the set
 abbrev pub outside : Servers → Servers
@@ -53,7 +53,7 @@ abbrev pub loss_refusal : Grid → Servers → ℕ → Option ServerRefusal
 loss_refusal grid gone n =
     if not (nat_lt n (grid.rows * grid.cols)) then Some NoServer
     else if gone n then Some Same
-    else if is_none (mate_among grid (outside gone) n) then Some Last
+    else if is_none (peer_among grid (outside gone) n) then Some Last
     else None
 
 -- why a line is refused by which it is repaired
@@ -61,7 +61,7 @@ abbrev pub repair_refusal : Grid → Servers → Servers → ℕ → Option Serv
 repair_refusal grid up gone n =
     if not (nat_lt n (grid.rows * grid.cols)) then Some NoServer
     else if not (gone n) then Some Same
-    else if is_none (mate_among grid up n) then Some NoMate
+    else if is_none (peer_among grid up n) then Some NoPeer
     else None
 
 -- why a server line is refused
@@ -72,9 +72,9 @@ server_refusal grid up gone (Up n) = change_refusal grid up gone n true
 server_refusal grid up gone (ServerLost n) = loss_refusal grid gone n
 server_refusal grid up gone (ServerRepaired n) = repair_refusal grid up gone n
 
--- what is told to a server line that is not refused; a repair that is not refused has a mate (`repair_refusal`)
+-- what is told to a server line that is not refused; a repair that is not refused has a peer (`repair_refusal`)
 abbrev pub server_done : Grid → Servers → ServerLine → Told
-server_done grid up (ServerRepaired n) = Repaired (unwrap_or (mate_among grid up n) n)
+server_done grid up (ServerRepaired n) = Repaired (unwrap_or (peer_among grid up n) n)
 server_done grid up (ServerLost n) = ServerOk
 server_done grid up (Down n) = ServerOk
 server_done grid up (Up n) = ServerOk
@@ -267,11 +267,11 @@ loss_told state turn = if list_any (is_counted state turn) state.sent then Refus
 abbrev pub equal_copies : StoredCopy → StoredCopy → Bool
 equal_copies a b = equal_tags a.tag b.tag && bytes_eq a.bytes b.bytes
 
--- a server that lacks the file is given it by a mate, which had it and held this copy at some time since the loss
+-- a server that lacks the file is given it by a peer, which had it and held this copy at some time since the loss
 abbrev pub return_told : Grid → State → ℕ → File → ℕ → StoredCopy → Told
-return_told grid state server file mate copy =
+return_told grid state server file peer copy =
     if not (state.lacks server file) then ServerRefused Same
-    else if are_mates grid server mate && list_any (equal_copies copy) (state.offered server file mate) then ServerOk
+    else if are_peers grid server peer && list_any (equal_copies copy) (state.offered server file peer) then ServerOk
     else Refused NoMessage
 
 -- what is told and sent to a turn
@@ -280,7 +280,7 @@ step grid row known (Own line) = if nat_le row.steps known.lines then quiet (Ref
 step grid row known (Serving line) = quiet (server_told grid known.state.up known.state.gone line)
 step grid row known (Leaping k op number) = quiet (leap_told known.state k)
 step grid row known (Losing s volumes) = quiet (loss_told known.state (Losing s volumes))
-step grid row known (Returning s f mate copy) = quiet (return_told grid known.state s f mate copy)
+step grid row known (Returning s f peer copy) = quiet (return_told grid known.state s f peer copy)
 
 abbrev pub told : Grid → TenantRow → Known → Turn → Told
 told grid row known turn = (step grid row known turn).told
@@ -297,7 +297,7 @@ lines_after lines (Own line) = lines + 1
 lines_after lines (Serving line) = lines
 lines_after lines (Leaping k op number) = lines
 lines_after lines (Losing s volumes) = lines
-lines_after lines (Returning s f mate copy) = lines
+lines_after lines (Returning s f peer copy) = lines
 
 -- what is told to a turn, and what it sends
 abbrev pub step_at : Grid → TenantRow → Past → Turn → Step

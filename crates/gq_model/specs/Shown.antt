@@ -21,6 +21,6 @@ shown (IsResent first count) = Resent first count
 shown IsAbandoned = Abandoned
 shown (IsRefused refusal) = Refused refusal
 shown IsServerOk = ServerOk
-shown (IsRepaired mate) = Repaired mate
+shown (IsRepaired peer) = Repaired peer
 shown (IsServerRefused refusal) = ServerRefused refusal
 shown IsStrayBad = StrayBad

@@ -31,6 +31,6 @@ pub data Told : Type 0 where
   Refused : (refusal : Refusal) → Told
   ServerOk : Told
   -- the server has the copies of this one
-  Repaired : (mate : ℕ) → Told
+  Repaired : (peer : ℕ) → Told
   ServerRefused : (refusal : ServerRefusal) → Told
   StrayBad : Told

@@ -34,8 +34,8 @@ pub data Turn : Type 0 where
   Leaping : (session op number : ℕ) → Turn
   -- the server's disk is lost: its copies of the files of the first volumes, so many, are gone, and it lacks these files
   Losing : (server volumes : ℕ) → Turn
-  -- the server has the file again, with a copy that a mate gave it
-  Returning : (server : ℕ) (file : File) (mate : ℕ) (copy : StoredCopy) → Turn
+  -- the server has the file again, with a copy that a peer gave it
+  Returning : (server : ℕ) (file : File) (peer : ℕ) (copy : StoredCopy) → Turn
 
 -- ---- the trace
 
@@ -62,7 +62,7 @@ up_by (Serving BadServer) before server = before server
 up_by (Own line) before server = before server
 up_by (Leaping k op number) before server = before server
 up_by (Losing s volumes) before server = before server
-up_by (Returning s f mate copy) before server = before server
+up_by (Returning s f peer copy) before server = before server
 
 abbrev pub up : Trace → Servers
 up [] = λ server. true
@@ -78,7 +78,7 @@ gone_by (Serving BadServer) before server = before server
 gone_by (Own line) before server = before server
 gone_by (Leaping k op number) before server = before server
 gone_by (Losing s volumes) before server = before server
-gone_by (Returning s f mate copy) before server = before server
+gone_by (Returning s f peer copy) before server = before server
 
 abbrev pub gone : Trace → Servers
 gone [] = λ server. false
@@ -114,7 +114,7 @@ copy_of copies = greatest (first_copy ∷ copies)
 -- whether by the turn the server's copy of the file is lost
 abbrev pub is_loss : Turn → ℕ → File → Bool
 is_loss (Losing s volumes) server file = s == server && nat_lt file.volume volumes
-is_loss (Returning s f mate copy) server file = false
+is_loss (Returning s f peer copy) server file = false
 is_loss (Own line) server file = false
 is_loss (Serving (ServerLost n)) server file = n == server
 is_loss (Serving (ServerRepaired n)) server file = false
@@ -123,20 +123,20 @@ is_loss (Serving (Up n)) server file = false
 is_loss (Serving BadServer) server file = false
 is_loss (Leaping k op number) server file = false
 
--- whether server n, of whose repair this is told, is that server, and is given the file: it lacks it, and the mate that is told has it
+-- whether server n, of whose repair this is told, is that server, and is given the file: it lacks it, and the peer that is told has it
 abbrev pub is_given : Told → ℕ → (ℕ → File → Bool) → ℕ → File → Bool
-is_given (Repaired mate) n lacking server file = (n == server) && (lacking server file && not (lacking mate file))
+is_given (Repaired peer) n lacking server file = (n == server) && (lacking server file && not (lacking peer file))
 is_given _ n lacking server file = false
 
--- the copy that it is given, where these came to servers; where no mate is told nothing is given
+-- the copy that it is given, where these came to servers; where no peer is told nothing is given
 abbrev pub given_copy : Told → (ℕ → File → List StoredCopy) → File → StoredCopy
-given_copy (Repaired mate) copies file = copy_of (copies mate file)
+given_copy (Repaired peer) copies file = copy_of (copies peer file)
 given_copy _ copies file = first_copy
 
 -- whether the server lacks the file: it lost its copy, and was given none again
 abbrev pub lacks_by : Turn → Told → (ℕ → File → Bool) → ℕ → File → Bool
 lacks_by (Losing s volumes) told before server file = is_loss (Losing s volumes) server file || before server file
-lacks_by (Returning s f mate copy) told before server file = before server file && not ((s == server) && is_file f file)
+lacks_by (Returning s f peer copy) told before server file = before server file && not ((s == server) && is_file f file)
 lacks_by (Serving (ServerLost n)) told before server file = n == server || before server file
 lacks_by (Serving (ServerRepaired n)) told before server file = before server file && not (is_given told n before server file)
 lacks_by (Serving (Down n)) told before server file = before server file
@@ -165,7 +165,7 @@ stored_by serving (Some message) before server file = by message.body
 -- what a loss and a return leave of them, where servers lack these files: none, and the copy given
 abbrev pub left_by : (ℕ → File → Bool) → Turn → Told → (ℕ → File → List StoredCopy) → ℕ → File → List StoredCopy
 left_by lacking (Losing s volumes) told before server file = if is_loss (Losing s volumes) server file then [] else before server file
-left_by lacking (Returning s f mate copy) told before server file = if (s == server) && is_file f file then copy ∷ [] else before server file
+left_by lacking (Returning s f peer copy) told before server file = if (s == server) && is_file f file then copy ∷ [] else before server file
 left_by lacking (Serving (ServerLost n)) told before server file = if n == server then [] else before server file
 left_by lacking (Serving (ServerRepaired n)) told before server file = if is_given told n lacking server file then given_copy told before file ∷ [] else before server file
 left_by lacking (Serving (Down n)) told before server file = before server file
@@ -182,13 +182,13 @@ abbrev pub brought : Trace → ℕ → File → List StoredCopy
 brought [] = λ server file. []
 brought (e ∷ t) = brought_by (up t) (lacks t) e.turn e.message e.told (brought t)
 
--- the copies of the file that the mate has held since the server lost its own, while the mate had the file
+-- the copies of the file that the peer has held since the server lost its own, while the peer had the file
 abbrev pub offered_by : Turn → (ℕ → File → Bool) → (ℕ → File → List StoredCopy) → (ℕ → File → ℕ → List StoredCopy) → ℕ → File → ℕ → List StoredCopy
-offered_by turn lacking copies before server file mate =
-    (if is_loss turn server file then [] else before server file mate) ++ (if lacking mate file then [] else copy_of (copies mate file) ∷ [])
+offered_by turn lacking copies before server file peer =
+    (if is_loss turn server file then [] else before server file peer) ++ (if lacking peer file then [] else copy_of (copies peer file) ∷ [])
 
 abbrev pub offered : Trace → ℕ → File → ℕ → List StoredCopy
-offered [] = λ server file mate. []
+offered [] = λ server file peer. []
 offered (e ∷ t) = offered_by e.turn (lacks (e ∷ t)) (brought (e ∷ t)) (offered t)
 
 -- ---- questions about one session

@@ -177,7 +177,7 @@ pub enum ServerRefusal {
     /// All other servers of its column are lost: this one has the copies that are left there.
     Last,
     /// No other server of its column is up that could give its copies.
-    NoMate,
+    NoPeer,
 }
 
 /// What is answered to a line. Messages that are sent are told by the number of the first and how many they are.
@@ -235,7 +235,7 @@ pub enum Answer {
     ServerOk,
     /// The server is up again, and has the copies of this one.
     Repaired {
-        mate: u32,
+        peer: u32,
     },
     /// The server line is refused, and changes nothing.
     ServerRefused(ServerRefusal),

@@ -17,7 +17,7 @@ use Rattle.gq_node.specs.declared.output.Answer.{Answer}
 use Rattle.gq_node.specs.Again.{TellsEnd, is_start, begun_at, NoneBegins, forgotten, end_after, AllEndsToldAgain}
 use Rattle.gq_node.specs.Bridge.{AtHome}
 use Rattle.gq_node.specs.Inputs.{Input, Asked, AskedPlan, Brought, Ticked, Looked, Joined, Fetching, Fetched, does}
-use Rattle.gq_node.specs.Joining.{tells_joined, hears_joined, all_joined, next_mate, asks_mate, looks, is_mate, has_file, gives, takes}
+use Rattle.gq_node.specs.Joining.{tells_joined, hears_joined, all_joined, next_peer, asks_peer, looks, is_peer, has_file, gives, takes}
 use Rattle.gq_node.specs.Local.{Local, Resident, Doing, new_local, part_in, state_of, given, file_fits, recalled, fits_local}
 use Rattle.gq_node.specs.Nodes.{first_plan_in, NodeWorld, site_in, site_at, plan_volumes, Nodes, new_nodes, Event, Started, Came, AskedToJoin, node_in, started, first_of, fact_list, doing_of, takes_word, with_ready, after_doing, after_word, after_input, after_event, nodes_after}
 use Rattle.gq_node.specs.Once.{begun_by}
@@ -187,7 +187,7 @@ looks_residents : (site : Site) (local : Local) → (looks site local).local.res
 looks_residents site local = by (all_joined site local.joined) refl
   where
     by : (b : Bool) → all_joined site local.joined ≡ b → (looks site local).local.residents ≡ local.residents
-    by true is = let e : looks site local ≡ asks_mate site local (next_mate site local.mate) = rw is refl in ap (λ (d : Doing). d.local.residents) e ∙ (asks_quiet site local (next_mate site local.mate)).0
+    by true is = let e : looks site local ≡ asks_peer site local (next_peer site local.peer) = rw is refl in ap (λ (d : Doing). d.local.residents) e ∙ (asks_quiet site local (next_peer site local.peer)).0
     by false is = rw is refl
 
 joined_residents : (from losses : ℕ) (site : Site) (local : Local) → (hears_joined from losses site local).local.residents ≡ local.residents
@@ -198,20 +198,20 @@ joined_residents from losses site local = by (takes_word site from losses) refl
     by false is = rw is refl
 
 gives_residents : (from : ℕ) (file : File) (site : Site) (local : Local) → (gives from file site local).local.residents ≡ local.residents
-gives_residents from file site local = by (is_mate site from && has_file local file) refl
+gives_residents from file site local = by (is_peer site from && has_file local file) refl
   where
-    by : (b : Bool) → (is_mate site from && has_file local file) ≡ b → (gives from file site local).local.residents ≡ local.residents
+    by : (b : Bool) → (is_peer site from && has_file local file) ≡ b → (gives from file site local).local.residents ≡ local.residents
     by true is = rw is refl
     by false is = rw is refl
 
 abbrev taking : (from : ℕ) → File → StoredCopy → Site → Local → Bool
-taking from file copy site local = is_mate site from && local.lacks file && file_fits (limit_at (state_of everyone local) file.volume file.place) (Store copy)
+taking from file copy site local = is_peer site from && local.lacks file && file_fits (limit_at (state_of everyone local) file.volume file.place) (Store copy)
 
 takes_residents : (from : ℕ) (file : File) (copy : StoredCopy) (site : Site) (local : Local) → (takes from file copy site local).local.residents ≡ local.residents
 takes_residents from file copy site local = by (taking from file copy site local) refl
   where
     asked : Doing
-    asked = asks_mate site (given file copy local) (place_of from)
+    asked = asks_peer site (given file copy local) (place_of from)
 
     by : (b : Bool) → taking from file copy site local ≡ b → (takes from file copy site local).local.residents ≡ local.residents
     by true is = let e : takes from file copy site local ≡ record asked { fact = Some (Had file copy) } = rw is refl in ap (λ (d : Doing). d.local.residents) e ∙ (asks_quiet site (given file copy local) (place_of from)).0

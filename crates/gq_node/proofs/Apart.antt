@@ -48,7 +48,7 @@ same_given t [] (a ∷ ones) twos one two = absurd one
 same_given t (doing ∷ doings) [] twos one two = absurd one
 same_given t (doing ∷ doings) (a ∷ ones) [] one two = absurd two
 same_given t (doing ∷ doings) (a ∷ ones) (b ∷ twos) one two = (
-  record { answer = one.0.answer ∙ sym two.0.answer; letters = one.0.letters ∙ sym two.0.letters; parcel = one.0.parcel ∙ sym two.0.parcel; fact = one.0.fact ∙ sym two.0.fact },
+  record { answer = one.0.answer ∙ sym two.0.answer; letters = one.0.letters ∙ sym two.0.letters; transfer = one.0.transfer ∙ sym two.0.transfer; fact = one.0.fact ∙ sym two.0.fact },
   same_given t doings ones twos one.1 two.1,
 )
 

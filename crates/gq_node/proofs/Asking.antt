@@ -29,7 +29,7 @@ use Rattle.gq_model.specs.declared.events.Line.TheVariants.{Bad, Quorum, NewVolu
 use Rattle.gq_model.specs.Told.{Abandoned, Refused}
 use Rattle.gq_model.specs.Trace.{Own, Elsewhere, Begins as BeginsDeed, State, Session, changed, operation_with, session_by, task_of, files_of, account_of}
 use Rattle.gq_model.specs.Lone.{Step, Cause, first_cause, session_causes, no_session, busy, no_quorum, quiet, unless, begin_step, asked_step, entry_of, first_operation}
-use Rattle.gq_node.specs.declared.seats.Seat.{Seat}
+use Rattle.gq_node.specs.declared.session_states.SessionState.{SessionState}
 use Rattle.gq_node.specs.declared.output.Answer.{Answer}
 use Rattle.gq_node.specs.declared.output.Answer.TheVariants.{Gone, Bad as IsBad}
 use Rattle.gq_node.specs.declared.output.Admission.TheVariants.{Tells, Passes, Goes}
@@ -41,11 +41,11 @@ use Rattle.gq_node.proofs.Aiming.{all_aims_have_quorums}
 use Rattle.gq_node.specs.Asking.{volume_causes, file_causes, write_causes, admission_at, MayGo, HasBegunWith, Starts}
 use Rattle.gq_cluster.specs.Facts.{Reserved, reserved_by, greatest_op}
 use Rattle.gq_node.specs.Heard.{new_run}
-use Rattle.gq_node.specs.Seats.{busy_seat, rested_seat, last_in, seat_aim, GivesNothing}
+use Rattle.gq_node.specs.SessionStates.{busy_session_state, rested_session_state, last_in, session_state_aim, GivesNothing}
 use Rattle.gq_node.specs.Shape.{IsShaped}
-use Rattle.gq_node.specs.Tables.{Tables, Agrees, Acts, Gives, IsOfPlan, Sits, seat_at, with_seat}
+use Rattle.gq_node.specs.Tables.{Tables, Agrees, Acts, Gives, IsOfPlan, Sits, session_state_at, with_session_state}
 use Rattle.gq_node.proofs.Reserving.{begun_reserves, begun_keeps, begun_gives_fact}
-use Rattle.gq_node.proofs.Seating.{Settles, aim_is, placed, is_number, seat_of, seat_leads, seat_there, same_leads, last_agrees}
+use Rattle.gq_node.proofs.Placing.{Settles, aim_is, placed, is_number, session_state_of, session_state_leads, session_state_there, same_leads, last_agrees}
 
 -- ---- a session of the tables
 
@@ -94,12 +94,12 @@ admission_is w t k op b local agrees = elim (cases_Bool (has_session (site_of w.
   | inl inside ↦ (
       let site : Site = site_of w.plan w.here t in
       let at = placed w t k inside in
-      let seat = seat_of w t k local agrees at in
-      let old : Seat = seat_at w t k in
+      let session_state = session_state_of w t k local agrees at in
+      let old : SessionState = session_state_at w t k in
       let session : Session = (local.residents k).session in
-      ap (λ n. admission site k op b n (is_some old.operation) old.outcome) seat.op
-      ∙ ap (λ going. admission site k op b session.op going old.outcome) (sym (is_busy w.plan.grid t old.floor session.floor old.operation k session session.current seat.sits))
-      ∙ ap (admission site k op b session.op (is_some session.current)) seat.outcome)
+      ap (λ n. admission site k op b n (is_some old.operation) old.outcome) session_state.op
+      ∙ ap (λ going. admission site k op b session.op going old.outcome) (sym (is_busy w.plan.grid t old.floor session.floor old.operation k session session.current session_state.sits))
+      ∙ ap (admission site k op b session.op (is_some session.current)) session_state.outcome)
 ]
 
 admission_tells : (site : Site) (local : Local) (op : ℕ) (line : Line) (k : ℕ) (answer : Answer) → admission_in site local k op (begins_line line) ≡ Tells answer → asks_in site local op line k ≡ tells local answer
@@ -149,9 +149,9 @@ next_number k op last going outcome goes = elim (cases_Bool (nat_lt op last || o
   ])
 ]
 
-pub goes_number : (w : Tables) (t k op : ℕ) → admission_at w t k op true ≡ Goes → op ≡ (seat_at w t k).op + 1
+pub goes_number : (w : Tables) (t k op : ℕ) → admission_at w t k op true ≡ Goes → op ≡ (session_state_at w t k).op + 1
 goes_number w t k op goes =
-    let old : Seat = seat_at w t k in
+    let old : SessionState = session_state_at w t k in
     next_number k op old.op (is_some old.operation) old.outcome (goes_home (site_of w.plan w.here t) k op old.op true (is_some old.operation) old.outcome goes).2
 
 -- so the last number is not the greatest
@@ -169,9 +169,9 @@ gives_up k op last false outcome goes = elim (cases_Bool (nat_lt op last || op =
   ])
 ]
 
-going_there : (w : Tables) (t k op : ℕ) → admission_at w t k op false ≡ Goes → is_some (seat_at w t k).operation ≡ true
+going_there : (w : Tables) (t k op : ℕ) → admission_at w t k op false ≡ Goes → is_some (session_state_at w t k).operation ≡ true
 going_there w t k op goes =
-    let old : Seat = seat_at w t k in
+    let old : SessionState = session_state_at w t k in
     gives_up k op old.op (is_some old.operation) old.outcome (goes_home (site_of w.plan w.here t) k op old.op false (is_some old.operation) old.outcome goes).2
 
 -- the line is a request of session k
@@ -185,13 +185,13 @@ of_line k line is = record { asks = λ op site local. rw is refl }
 pub record IsTold (answer : Answer) (out : Output) : Type 0 where
   pub answer_is : out.answer ≡ Some answer
   pub letters : out.letters.items ≡ []
-  pub parcel : out.parcel ≡ None
+  pub transfer : out.transfer ≡ None
   pub fact : out.fact ≡ None
 
 told_acts : (w : Tables) (t : ℕ) (step : Site → Local → Doing) (answer : Answer) (out : Output) → ((local : Local) → Agrees w t local → step (site_of w.plan w.here t) local ≡ tells local answer) → IsTold answer out → Acts w t step out w
 told_acts w t step answer out does told = record {
   leads = same_leads w t step (λ local agrees. ap (λ (d : Doing). d.local) (does local agrees));
-  gives = λ local agrees. subst (λ (d : Doing). Gives t d out) (sym (does local agrees)) (record { answer = told.answer_is; letters = told.letters; parcel = told.parcel; fact = told.fact });
+  gives = λ local agrees. subst (λ (d : Doing). Gives t d out) (sym (does local agrees)) (record { answer = told.answer_is; letters = told.letters; transfer = told.transfer; fact = told.fact });
 }
 
 pub told_by_number : (w : Tables) (t k op : ℕ) (line : Line) (answer : Answer) (out : Output) → IsOf k line → admission_at w t k op (begins_line line) ≡ Tells answer → IsTold answer out → Acts w t (asks op line) out w
@@ -204,19 +204,19 @@ passed_by_number w t k op line out of is none =
     λ local agrees. of.asks op (site_of w.plan w.here t) local ∙ admission_passes (site_of w.plan w.here t) local op line k (sym (admission_is w t k op (begins_line line) local agrees) ∙ is) in
     record {
       leads = same_leads w t (asks op line) (λ local agrees. ap (λ (d : Doing). d.local) (does local agrees));
-      gives = λ local agrees. subst (λ (d : Doing). Gives t d out) (sym (does local agrees)) (record { answer = none.answer; letters = none.letters; parcel = none.parcel; fact = none.fact });
+      gives = λ local agrees. subst (λ (d : Doing). Gives t d out) (sym (does local agrees)) (record { answer = none.answer; letters = none.letters; transfer = none.transfer; fact = none.fact });
     }
 
 -- the model refuses it
 pub refused_acts : (w : Tables) (t k op : ℕ) (line : Line) (word : Refusal) (out : Output) → IsOf k line → admission_at w t k op (begins_line line) ≡ Goes →
-    ((local : Local) → Agrees w t local → asked_step w.plan.grid (numbered (row_at w.plan t)) (state_for (site_of w.plan w.here t) local k) line ≡ quiet (Refused word)) → IsTold (refused_with k op (seat_at w t k).op word) out → Acts w t (asks op line) out w
+    ((local : Local) → Agrees w t local → asked_step w.plan.grid (numbered (row_at w.plan t)) (state_for (site_of w.plan w.here t) local k) line ≡ quiet (Refused word)) → IsTold (refused_with k op (session_state_at w t k).op word) out → Acts w t (asks op line) out w
 refused_acts w t k op line word out of goes refuses told =
     let site : Site = site_of w.plan w.here t in
     let at = goes_placed w t k op (begins_line line) goes in
-    told_acts w t (asks op line) (refused_with k op (seat_at w t k).op word) out (λ local agrees.
+    told_acts w t (asks op line) (refused_with k op (session_state_at w t k).op word) out (λ local agrees.
     of.asks op site local ∙ admission_goes site local op line k (sym (admission_is w t k op (begins_line line) local agrees) ∙ goes)
     ∙ ap (asked_by local k op (state_for site local k) line) (refuses local agrees)
-    ∙ ap (λ last. tells local (refused_with k op last word)) (sym (seat_of w t k local agrees at).op)) told
+    ∙ ap (λ last. tells local (refused_with k op last word)) (sym (session_state_of w t k local agrees at).op)) told
 
 -- ---- the causes in the tables are those of the model
 
@@ -237,7 +237,7 @@ abbrev not_there : Tables → ℕ → ℕ → Cause
 not_there w t k = (not (has_session (site_of w.plan w.here t) k), NoSession)
 
 abbrev busy_at : Tables → ℕ → ℕ → Cause
-busy_at w t k = (is_some (seat_at w t k).operation, Busy)
+busy_at w t k = (is_some (session_state_at w t k).operation, Busy)
 
 -- the answers for session k
 abbrev state_at : Tables → ℕ → ℕ → Local → State
@@ -253,10 +253,10 @@ causes_are : (w : Tables) (t k : ℕ) (rest : Account → List Cause) (local : L
 causes_are w t k rest local inside agrees =
     let row : TenantRow = numbered (row_at w.plan t) in
     let state : State = state_at w t k local in
-    let seat = seat_of w t k local agrees (placed w t k inside) in
-    let old : Seat = seat_at w t k in
+    let session_state = session_state_of w t k local agrees (placed w t k inside) in
+    let old : SessionState = session_state_at w t k in
     let same : is_some (state.session k).current ≡ is_some old.operation =
-    is_busy w.plan.grid t old.floor (state.session k).floor old.operation k (state.session k) (state.session k).current seat.sits in
+    is_busy w.plan.grid t old.floor (state.session k).floor old.operation k (state.session k) (state.session k).current session_state.sits in
     let last : Cause = no_quorum w.plan.grid state 1 in
     let there : not (is_in 1 row.sessions k) ≡ not (has_session (site_of w.plan w.here t) k) = ap not (is_number (site_of w.plan w.here t) k inside ∙ sym inside) in
     let C : Bool → Bool → Account → Option Refusal = λ n b a. first_cause ((n, NoSession) ∷ (b, Busy) ∷ rest a ++ last ∷ []) in
@@ -267,11 +267,11 @@ causes_are w t k rest local inside agrees =
 
 -- where no cause holds there is such a session, which has no operation
 there_at_rest : (w : Tables) (t k : ℕ) (rest : List Cause) → first_cause (not_there w t k ∷ busy_at w t k ∷ rest) ≡ None →
-    IsOfPlan w t k × ((seat_at w t k).operation ≡ None)
+    IsOfPlan w t k × ((session_state_at w t k).operation ≡ None)
 there_at_rest w t k rest is =
     let a = first_none (not_there w t k) (busy_at w t k ∷ rest) is in
     let b = first_none (busy_at w t k) rest a.1 in
-    (placed w t k (not_false (has_session (site_of w.plan w.here t) k) a.0), none_is (seat_at w t k).operation b.0)
+    (placed w t k (not_false (has_session (site_of w.plan w.here t) k) a.0), none_is (session_state_at w t k).operation b.0)
 
 -- ---- the session after it
 
@@ -298,7 +298,7 @@ session_begins volumes k line task s asks =
 pub record IsRequest (w : Tables) (t k : ℕ) (task : Task) (line : Line) (causes : List Cause) : Type 0 where
   pub is_of : IsOf k line
   pub begins : begins_line line ≡ true
-  pub session : first_cause causes ≡ None → IsOfPlan w t k × ((seat_at w t k).operation ≡ None)
+  pub session : first_cause causes ≡ None → IsOfPlan w t k × ((session_state_at w t k).operation ≡ None)
   pub same : (local : Local) → has_session (site_of w.plan w.here t) k ≡ true → Agrees w t local → first_cause (session_causes w.plan.grid (numbered (row_at w.plan t)) (state_at w t k local) line) ≡ else_cause (first_cause causes) (no_quorum w.plan.grid (state_at w t k local) 1)
   pub asks : (local : Local) → Agrees w t local → asked_step w.plan.grid (numbered (row_at w.plan t)) (state_at w t k local) line ≡ unless (first_cause (session_causes w.plan.grid (numbered (row_at w.plan t)) (state_at w t k local) line)) (begin_step w.plan.grid (state_at w t k local) k (Some task))
   pub does : (local : Local) → Agrees w t local → (s : Step) → (changed (entry_of (state_at w t k local) (Own line) s) (state_at w t k local)).session k ≡ begun_session (local.residents k).session task
@@ -354,13 +354,13 @@ early w t k task line causes word r inside is local agrees =
     ∙ ap (λ o. unless o (begin_step w.plan.grid (state_at w t k local) k (Some task))) (r.same local inside agrees ∙ ap (λ o. else_cause o (no_quorum w.plan.grid (state_at w t k local) 1)) is)
 
 pub early_acts : (w : Tables) (t k op : ℕ) (task : Task) (line : Line) (causes : List Cause) (word : Refusal) (out : Output) → IsRequest w t k task line causes → admission_at w t k op true ≡ Goes → first_cause causes ≡ Some word →
-    IsTold (refused_with k op (seat_at w t k).op word) out → Acts w t (asks op line) out w
+    IsTold (refused_with k op (session_state_at w t k).op word) out → Acts w t (asks op line) out w
 early_acts w t k op task line causes word out r goes is told =
     refused_acts w t k op line word out r.is_of (ap (admission_at w t k op) r.begins ∙ goes) (early w t k task line causes word r (goes_inside w t k op true goes) is) told
 
 -- whom the session asks
-its_aim : (w : Tables) (t k : ℕ) (local : Local) → Agrees w t local → IsOfPlan w t k → seat_aim w.plan.grid (seat_at w t k) ≡ aim_at w.plan.grid (local.residents k)
-its_aim w t k local agrees at = aim_is w.plan.grid t k (seat_at w t k) (local.residents k) (seat_of w t k local agrees at)
+its_aim : (w : Tables) (t k : ℕ) (local : Local) → Agrees w t local → IsOfPlan w t k → session_state_aim w.plan.grid (session_state_at w t k) ≡ aim_at w.plan.grid (local.residents k)
+its_aim w t k local agrees at = aim_is w.plan.grid t k (session_state_at w t k) (local.residents k) (session_state_of w t k local agrees at)
 
 some_rows : (rows cols n : ℕ) → n < rows * cols → 0 < rows
 some_rows zero cols n less = absurd (omega (arith, zero-mul cols))
@@ -371,13 +371,13 @@ some_cols rows zero n less = absurd (omega (arith, mul-zero rows))
 some_cols rows (suc cols) n less = omega arith
 
 -- a full row and a full column, so there is a quorum
-quorum_there : (w : Tables) (t k : ℕ) → IsShaped w → collect_quorum w.plan.grid (seat_aim w.plan.grid (seat_at w t k)) ≢ None
+quorum_there : (w : Tables) (t k : ℕ) → IsShaped w → collect_quorum w.plan.grid (session_state_aim w.plan.grid (session_state_at w t k)) ≢ None
 quorum_there w t k shaped =
     let grid : Grid = w.plan.grid in
-    (all_aims_have_quorums grid (seat_at w t k).row (seat_at w t k).column (some_rows grid.rows grid.cols (place_of w.here.node) shaped.place) (some_cols grid.rows grid.cols (place_of w.here.node) shaped.place)).0
+    (all_aims_have_quorums grid (session_state_at w t k).row (session_state_at w t k).column (some_rows grid.rows grid.cols (place_of w.here.node) shaped.place) (some_cols grid.rows grid.cols (place_of w.here.node) shaped.place)).0
 
 -- so no operation is refused for want of one
-pub never_refused : (w : Tables) (t k : ℕ) (began : Result (Code × List Message) BeginRefused) (grid : Grid) (set : ServerSet) → IsShaped w → grid ≡ w.plan.grid → servers set ≡ seat_aim w.plan.grid (seat_at w t k) →
+pub never_refused : (w : Tables) (t k : ℕ) (began : Result (Code × List Message) BeginRefused) (grid : Grid) (set : ServerSet) → IsShaped w → grid ≡ w.plan.grid → servers set ≡ session_state_aim w.plan.grid (session_state_at w t k) →
     (IsErrOf began NoneUp ↔ (collect_quorum grid (servers set) ≡ None)) → ¬ IsErrOf began NoneUp
 never_refused w t k began grid set shaped grid_is up_is none is =
     quorum_there w t k shaped (ap (collect_quorum w.plan.grid) (sym up_is) ∙ ap (λ g. collect_quorum g (servers set)) (sym grid_is) ∙ none.0 is)
@@ -386,36 +386,36 @@ never_refused w t k began grid set shaped grid_is up_is none is =
 
 -- the operation that begins in the tables
 abbrev pub first_at : Tables → ℕ → ℕ → Task → Operation
-first_at w t k task = begun k ((seat_at w t k).op + 1) task (seat_at w t k).floor
+first_at w t k task = begun k ((session_state_at w t k).op + 1) task (session_state_at w t k).floor
 
 is_there : (q : Option Servers) → q ≢ None → is_none q ≡ false
 is_there None h = absurd (h refl)
 is_there (Some set) h = refl
 
-begins_so : (w : Tables) (t k : ℕ) (task : Task) (line : Line) (causes : List Cause) (local : Local) → IsRequest w t k task line causes → has_session (site_of w.plan w.here t) k ≡ true → Agrees w t local → first_cause causes ≡ None → collect_quorum w.plan.grid (seat_aim w.plan.grid (seat_at w t k)) ≢ None →
+begins_so : (w : Tables) (t k : ℕ) (task : Task) (line : Line) (causes : List Cause) (local : Local) → IsRequest w t k task line causes → has_session (site_of w.plan w.here t) k ≡ true → Agrees w t local → first_cause causes ≡ None → collect_quorum w.plan.grid (session_state_aim w.plan.grid (session_state_at w t k)) ≢ None →
     asked_step w.plan.grid (numbered (row_at w.plan t)) (state_at w t k local) line ≡ begin_step w.plan.grid (state_at w t k local) k (Some task)
 begins_so w t k task line causes local r inside agrees asked there =
     let s = r.session asked in
-    let q : is_none (round_quorum w.plan.grid (aim_at w.plan.grid (local.residents k)) 1) ≡ false = ap (λ up. is_none (collect_quorum w.plan.grid up)) (sym (its_aim w t k local agrees s.0)) ∙ is_there (collect_quorum w.plan.grid (seat_aim w.plan.grid (seat_at w t k))) there in
+    let q : is_none (round_quorum w.plan.grid (aim_at w.plan.grid (local.residents k)) 1) ≡ false = ap (λ up. is_none (collect_quorum w.plan.grid up)) (sym (its_aim w t k local agrees s.0)) ∙ is_there (collect_quorum w.plan.grid (session_state_aim w.plan.grid (session_state_at w t k))) there in
     let none : first_cause (session_causes w.plan.grid (numbered (row_at w.plan t)) (state_at w t k local) line) ≡ None =
     r.same local inside agrees ∙ ap (λ o. else_cause o (no_quorum w.plan.grid (state_at w t k local) 1)) asked ∙ ap (λ b. first_cause ((b, NoQuorum) ∷ [])) q in
     r.asks local agrees ∙ ap (λ o. unless o (begin_step w.plan.grid (state_at w t k local) k (Some task))) none
 
-first_is : (w : Tables) (t k : ℕ) (task : Task) (local : Local) → Agrees w t local → IsOfPlan w t k × ((seat_at w t k).operation ≡ None) → first_at w t k task ≡ first_operation (state_at w t k local) k task
+first_is : (w : Tables) (t k : ℕ) (task : Task) (local : Local) → Agrees w t local → IsOfPlan w t k × ((session_state_at w t k).operation ≡ None) → first_at w t k task ≡ first_operation (state_at w t k local) k task
 first_is w t k task local agrees s =
-    let old : Seat = seat_at w t k in
+    let old : SessionState = session_state_at w t k in
     let session : Session = (local.residents k).session in
-    let seat = seat_of w t k local agrees s.0 in
-    let floor = floor_is w.plan.grid t old.floor session.floor old.operation k session session.current s.1 seat.sits in
-    ap (λ op. begun k (op + 1) task old.floor) seat.op ∙ ap (begun k (session.op + 1) task) floor
+    let session_state = session_state_of w t k local agrees s.0 in
+    let floor = floor_is w.plan.grid t old.floor session.floor old.operation k session session.current s.1 session_state.sits in
+    ap (λ op. begun k (op + 1) task old.floor) session_state.op ∙ ap (begun k (session.op + 1) task) floor
 
 -- what began for the session
 pub record IsBegun (w : Tables) (t k op : ℕ) (task : Task) (line : Line) (causes : List Cause) (code : Code) (messages : List Message) : Type 0 where
   pub request : IsRequest w t k task line causes
   pub goes : admission_at w t k op true ≡ Goes
   pub asked : first_cause causes ≡ None
-  pub quorum : collect_quorum w.plan.grid (seat_aim w.plan.grid (seat_at w t k)) ≢ None
-  pub begins : Begins w.plan.grid (record { tenant = t; session = k; op = (seat_at w t k).op + 1 }) task (seat_at w t k).floor (seat_aim w.plan.grid (seat_at w t k)) code messages
+  pub quorum : collect_quorum w.plan.grid (session_state_aim w.plan.grid (session_state_at w t k)) ≢ None
+  pub begins : Begins w.plan.grid (record { tenant = t; session = k; op = (session_state_at w t k).op + 1 }) task (session_state_at w t k).floor (session_state_aim w.plan.grid (session_state_at w t k)) code messages
 
 -- the model's messages
 abbrev first_messages : Tables → ℕ → ℕ → Task → Local → List OwnMessage
@@ -435,13 +435,13 @@ does_is w t k op task line causes code messages local h agrees =
     ∙ ap (asked_by local k op (state_at w t k local) line) (begins_so w t k task line causes local r (goes_inside w t k op true h.goes) agrees h.asked h.quorum)
 
 begun_settles : (w : Tables) (t k op : ℕ) (task : Task) (line : Line) (causes : List Cause) (code : Code) (messages : List Message) (local : Local) → IsBegun w t k op task line causes code messages → Agrees w t local →
-    Settles w t k (busy_seat (seat_at w t k) code) (asks op line) local
+    Settles w t k (busy_session_state (session_state_at w t k) code) (asks op line) local
 begun_settles w t k op task line causes code messages local h agrees =
-    let old : Seat = seat_at w t k in
+    let old : SessionState = session_state_at w t k in
     let state : State = state_at w t k local in
     let r : IsRequest w t k task line causes = h.request in
     let s = r.session h.asked in
-    let seat = seat_of w t k local agrees s.0 in
+    let session_state = session_state_of w t k local agrees s.0 in
     let step : Step = first_step w t k task local in
     let P : Session → Type 0 = λ x. (old.op + 1 ≡ x.op) × Sits w.plan.grid t old.floor (Some code) x.floor (option_map (operation_with k x) x.current) in
     let session : Session = (local.residents k).session in
@@ -450,7 +450,7 @@ begun_settles w t k op task line causes code messages local h agrees =
     let count : ℕ = length step.new in
     let r' : Reserved = (local.residents k).reserved in
     let now : P after = subst P (sym (r.does local agrees step))
-    (ap (λ n. n + 1) seat.op, subst (StandsFor w.plan.grid t code) (first_is w t k task local agrees s) h.begins.0) in
+    (ap (λ n. n + 1) session_state.op, subst (StandsFor w.plan.grid t code) (first_is w t k task local agrees s) h.begins.0) in
     record {
       resident = record (local.residents k) {
         session = after;
@@ -461,14 +461,14 @@ begun_settles w t k op task line causes code messages local h agrees =
       agrees = record {
         op = now.0;
         reserved_op =
-            ap (λ n. unwrap_or (new_run greatest_op (n + 1) old.reserved_op) old.reserved_op) seat.op
-            ∙ ap (λ n. unwrap_or (new_run greatest_op (session.op + 1) n) n) seat.reserved_op
+            ap (λ n. unwrap_or (new_run greatest_op (n + 1) old.reserved_op) old.reserved_op) session_state.op
+            ∙ ap (λ n. unwrap_or (new_run greatest_op (session.op + 1) n) n) session_state.reserved_op
             ∙ begun_reserves k (session.op + 1) first count after.floor r';
-        reserved_floor = seat.reserved_floor ∙ begun_keeps k (session.op + 1) first count after.floor r';
+        reserved_floor = session_state.reserved_floor ∙ begun_keeps k (session.op + 1) first count after.floor r';
         sits = now.1;
         outcome = refl;
-        row = seat.row;
-        column = seat.column;
+        row = session_state.row;
+        column = session_state.column;
         waited = refl;
       };
       left = ap (λ (d : Doing). d.local) (does_is w t k op task line causes code messages local h agrees);
@@ -477,38 +477,38 @@ begun_settles w t k op task line causes code messages local h agrees =
 begun_gives : (w : Tables) (t k op : ℕ) (task : Task) (line : Line) (causes : List Cause) (code : Code) (messages : List Message) (out : Output) (new : Tables) (local : Local) → IsBegun w t k op task line causes code messages → HasBegunWith w t k code messages out new → Agrees w t local →
     Gives t (asks op line (site_of w.plan w.here t) local) out
 begun_gives w t k op task line causes code messages out new local h gives agrees =
-    let old : Seat = seat_at w t k in
+    let old : SessionState = session_state_at w t k in
     let r : IsRequest w t k task line causes = h.request in
     let s = r.session h.asked in
-    let seat = seat_of w t k local agrees s.0 in
+    let session_state = session_state_of w t k local agrees s.0 in
     let first = first_is w t k task local agrees s in
     let session : Session = (local.residents k).session in
     let state : State = state_at w t k local in
     let step : Step = first_step w t k task local in
     let sends : messages ≡ map (message_of t) (first_messages w t k task local) =
     h.begins.1
-    ∙ ap (λ o. map (message_of t) (round_messages w.plan.grid (seat_aim w.plan.grid old) o)) first
+    ∙ ap (λ o. map (message_of t) (round_messages w.plan.grid (session_state_aim w.plan.grid old) o)) first
     ∙ ap (λ up. map (message_of t) (round_messages w.plan.grid up (first_operation (state_at w t k local) k task))) (its_aim w t k local agrees s.0) in
     subst (λ (d : Doing). Gives t d out) (sym (does_is w t k op task line causes code messages local h agrees)) (record {
       answer = gives.answer;
       letters = gives.letters ∙ sends;
-      parcel = gives.parcel;
+      transfer = gives.transfer;
       fact = gives.fact
-          ∙ ap (λ n. option_map (FactBegan t k) (new_run greatest_op (n + 1) old.reserved_op)) seat.op
-          ∙ ap (λ n. option_map (FactBegan t k) (new_run greatest_op (session.op + 1) n)) seat.reserved_op
+          ∙ ap (λ n. option_map (FactBegan t k) (new_run greatest_op (n + 1) old.reserved_op)) session_state.op
+          ∙ ap (λ n. option_map (FactBegan t k) (new_run greatest_op (session.op + 1) n)) session_state.reserved_op
           ∙ begun_gives_fact t k (session.op + 1) (length state.sent) (length step.new) ((changed (entry_of state (Own line) step) state).session k).floor (local.residents k).reserved;
     })
 
 -- what comes of the request
 start_acts : (w : Tables) (t k op : ℕ) (task : Task) (line : Line) (causes : List Cause) (began : Result (Code × List Message) BeginRefused) (out : Output) (new : Tables) → IsShaped w → t < length w.plan.rows → IsRequest w t k task line causes →
     admission_at w t k op true ≡ Goes → first_cause causes ≡ None →
-    IfOk began (λ b. Begins w.plan.grid (record { tenant = t; session = k; op = (seat_at w t k).op + 1 }) task (seat_at w t k).floor (seat_aim w.plan.grid (seat_at w t k)) b.0 b.1) →
+    IfOk began (λ b. Begins w.plan.grid (record { tenant = t; session = k; op = (session_state_at w t k).op + 1 }) task (session_state_at w t k).floor (session_state_aim w.plan.grid (session_state_at w t k)) b.0 b.1) →
     Starts w t k began out new → Acts w t (asks op line) out new
 start_acts w t k op task line causes (Ok (code, messages)) out new shaped within r goes asked begins starts =
     let s = r.session asked in
     let h : IsBegun w t k op task line causes code messages = record { request = r; goes = goes; asked = asked; quorum = quorum_there w t k shaped; begins = begins } in
     subst (Acts w t (asks op line) out) (sym starts.busy) (record {
-      leads = seat_leads w t k (busy_seat (seat_at w t k) code) (asks op line) (seat_there w t k shaped within s.0)
+      leads = session_state_leads w t k (busy_session_state (session_state_at w t k) code) (asks op line) (session_state_there w t k shaped within s.0)
           (λ local agrees. begun_settles w t k op task line causes code messages local h agrees);
       gives = λ local agrees. begun_gives w t k op task line causes code messages out new local h starts agrees;
     })
@@ -517,13 +517,13 @@ start_acts w t k op task line causes (Err refused) out new shaped within r goes 
 -- the same, of an operation that the call made with this grid, this number, this last number and these servers
 pub requested : (w : Tables) (t k op : ℕ) (task : Task) (line : Line) (causes : List Cause) (began : Result (Code × List Message) BeginRefused) (grid : Grid) (who : Who) (floor : ℕ) (set : ServerSet) (out : Output) (new : Tables) → IsShaped w → t < length w.plan.rows →
     IsRequest w t k task line causes → admission_at w t k op true ≡ Goes → first_cause causes ≡ None →
-    grid ≡ w.plan.grid → who ≡ record { tenant = t; session = k; op = (seat_at w t k).op + 1 } → floor ≡ (seat_at w t k).floor → servers set ≡ seat_aim w.plan.grid (seat_at w t k) →
+    grid ≡ w.plan.grid → who ≡ record { tenant = t; session = k; op = (session_state_at w t k).op + 1 } → floor ≡ (session_state_at w t k).floor → servers set ≡ session_state_aim w.plan.grid (session_state_at w t k) →
     IfOk began (λ b. Begins grid who task floor (servers set) b.0 b.1) → Starts w t k began out new → Acts w t (asks op line) out new
 requested w t k op task line causes began grid who floor set out new shaped within r goes asked grid_is who_is floor_is' up_is ok starts =
     let B : Grid → Who → ℕ → Servers → Type 0 = λ g x n up. IfOk began (λ b. Begins g x task n up b.0 b.1) in
-    let next : Who = record { tenant = t; session = k; op = (seat_at w t k).op + 1 } in
+    let next : Who = record { tenant = t; session = k; op = (session_state_at w t k).op + 1 } in
     start_acts w t k op task line causes began out new shaped within r goes asked
-    (subst (B w.plan.grid next (seat_at w t k).floor) up_is (subst (λ n. B w.plan.grid next n (servers set)) floor_is' (subst (λ x. B w.plan.grid x floor (servers set)) who_is (subst (λ g. B g who floor (servers set)) grid_is ok)))) starts
+    (subst (B w.plan.grid next (session_state_at w t k).floor) up_is (subst (λ n. B w.plan.grid next n (servers set)) floor_is' (subst (λ x. B w.plan.grid x floor (servers set)) who_is (subst (λ g. B g who floor (servers set)) grid_is ok)))) starts
 
 -- ---- a session gives its operation up
 
@@ -532,34 +532,34 @@ none_idle : (w : Tables) (t k op : ℕ) (local : Local) → Agrees w t local →
     first_cause (session_causes w.plan.grid (numbered (row_at w.plan t)) (state_at w t k local) (Abandon k)) ≡ None
 none_idle w t k op local agrees goes =
     let at = goes_placed w t k op false goes in
-    let seat = seat_of w t k local agrees at in
+    let session_state = session_state_of w t k local agrees at in
     let session : Session = (local.residents k).session in
-    let busy : is_some session.current ≡ true = is_busy w.plan.grid t (seat_at w t k).floor session.floor (seat_at w t k).operation k session session.current seat.sits ∙ going_there w t k op goes in
+    let busy : is_some session.current ≡ true = is_busy w.plan.grid t (session_state_at w t k).floor session.floor (session_state_at w t k).operation k session session.current session_state.sits ∙ going_there w t k op goes in
     rw (is_number (site_of w.plan w.here t) k (goes_inside w t k op false goes), some_not_none session.current busy) refl
 
 pub abandon_acts : (w : Tables) (t k op : ℕ) (out : Output) → IsShaped w → t < length w.plan.rows → admission_at w t k op false ≡ Goes →
-    IsTold (Gone k op) out → Acts w t (asks op (Abandon k)) out (with_seat w t k (rested_seat (seat_at w t k)))
+    IsTold (Gone k op) out → Acts w t (asks op (Abandon k)) out (with_session_state w t k (rested_session_state (session_state_at w t k)))
 abandon_acts w t k op out shaped within goes told =
     let site : Site = site_of w.plan w.here t in
     let at = goes_placed w t k op false goes in
-    let old : Seat = seat_at w t k in
+    let old : SessionState = session_state_at w t k in
     let does : (local : Local) → Agrees w t local → asks op (Abandon k) site local ≡ goes_on local k op false (state_at w t k local) (entry_of (state_at w t k local) (Own (Abandon k)) (quiet Abandoned)) =
     λ local agrees. admission_goes site local op (Abandon k) k (sym (admission_is w t k op false local agrees) ∙ goes)
     ∙ ap (λ o. asked_by local k op (state_at w t k local) (Abandon k) (unless o (quiet Abandoned))) (none_idle w t k op local agrees goes) in
     record {
-      leads = seat_leads w t k (rested_seat old) (asks op (Abandon k)) (seat_there w t k shaped within at) (λ local agrees.
+      leads = session_state_leads w t k (rested_session_state old) (asks op (Abandon k)) (session_state_there w t k shaped within at) (λ local agrees.
           let state : State = state_at w t k local in
           let session : Session = (local.residents k).session in
-          let seat = seat_of w t k local agrees at in
+          let session_state = session_state_of w t k local agrees at in
           let ended : (changed (entry_of state (Own (Abandon k)) (quiet Abandoned)) state).session k ≡ record { op = session.op; current = None; round = session.round; heard = session.heard; collected = session.collected; floor = session.floor } = rw (eq-eqb k k refl) refl in
           let P : Session → Type 0 = λ x. (old.op ≡ x.op) × Sits w.plan.grid t (last_in old) None x.floor (option_map (operation_with k x) x.current) in
-          let now : P ((changed (entry_of state (Own (Abandon k)) (quiet Abandoned)) state).session k) = subst P (sym ended) (seat.op, last_agrees w.plan.grid t k old (local.residents k) seat) in
+          let now : P ((changed (entry_of state (Own (Abandon k)) (quiet Abandoned)) state).session k) = subst P (sym ended) (session_state.op, last_agrees w.plan.grid t k old (local.residents k) session_state) in
           record {
             resident = record (local.residents k) { session = (changed (entry_of state (Own (Abandon k)) (quiet Abandoned)) state).session k; outcome = None };
-            agrees = record { op = now.0; reserved_op = seat.reserved_op; reserved_floor = seat.reserved_floor; sits = now.1; outcome = refl; row = seat.row; column = seat.column; waited = seat.waited };
+            agrees = record { op = now.0; reserved_op = session_state.reserved_op; reserved_floor = session_state.reserved_floor; sits = now.1; outcome = refl; row = session_state.row; column = session_state.column; waited = session_state.waited };
             left = ap (λ (d : Doing). d.local) (does local agrees);
           });
-      gives = λ local agrees. subst (λ (d : Doing). Gives t d out) (sym (does local agrees)) (record { answer = told.answer_is; letters = told.letters; parcel = told.parcel; fact = told.fact });
+      gives = λ local agrees. subst (λ (d : Doing). Gives t d out) (sym (does local agrees)) (record { answer = told.answer_is; letters = told.letters; transfer = told.transfer; fact = told.fact });
     }
 
 -- ---- a line that is no request

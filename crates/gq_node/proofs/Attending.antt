@@ -17,17 +17,17 @@ use Rattle.gq_phase.specs.Standing.{heard_as, messages_of}
 use Rattle.gq_model.specs.declared.events.Line.TheVariants.{Deliver}
 use Rattle.gq_model.specs.Trace.{Own, Entry, State, Session, changed, operation, operation_with, session_by, heard_deed, floor_by}
 use Rattle.gq_model.specs.Lone.{heard_step, hear_step}
-use Rattle.gq_node.specs.declared.seats.Seat.{Seat}
+use Rattle.gq_node.specs.declared.session_states.SessionState.{SessionState}
 use Rattle.gq_node.specs.declared.output.Output.{Output}
-use Rattle.gq_node.specs.Sites.{Site, seat_place, site_of}
+use Rattle.gq_node.specs.Sites.{Site, session_state_place, site_of}
 use Rattle.gq_cluster.specs.Facts.{Reserved, reserved_by}
 use Rattle.gq_node.specs.Local.{Local, Resident, Doing, state_of, state_for, silently, goes_on, brings, hears, has_above, of_round, aim_at, outcome_after, waits_after, answer_of, session_fact}
 use Rattle.gq_node.specs.Heard.{HeardGives, heard_answer, heard_fact, heard_run, heard_outcome, heard_waits}
-use Rattle.gq_node.specs.Seats.{has_heard, is_of_round, seat_aim, SeatHears, SeatAttends, SaysAndGives, GivesNothing, said_by, operation_after, last_of, last_in}
+use Rattle.gq_node.specs.SessionStates.{has_heard, is_of_round, session_state_aim, SessionStateHears, SessionStateAttends, SaysAndGives, GivesNothing, said_by, operation_after, last_of, last_in}
 use Rattle.gq_node.specs.Shape.{IsShaped}
-use Rattle.gq_node.specs.Tables.{Tables, Agrees, Acts, Leads, Gives, SeatAgrees, IsOfPlan, Sits, seats_at, seat_at, with_seat, no_seat}
+use Rattle.gq_node.specs.Tables.{Tables, Agrees, Acts, Leads, Gives, SessionStateAgrees, IsOfPlan, Sits, session_states_at, session_state_at, with_session_state, no_session_state}
 use Rattle.gq_node.proofs.Reserving.{heard_keeps, heard_reserves, heard_gives_fact}
-use Rattle.gq_node.proofs.Seating.{Settles, aim_is, seat_of, seat_leads, seat_there, same_leads, last_is, last_agrees}
+use Rattle.gq_node.proofs.Placing.{Settles, aim_is, session_state_of, session_state_leads, session_state_there, same_leads, last_is, last_agrees}
 
 -- ---- what the model says
 
@@ -136,12 +136,12 @@ heard_resident local state m s = record (local.residents m.session) {
 }
 
 -- the run that had to be reserved is
-abbrev IsReservedFor : Seat → Seat → Heard → Type 0
+abbrev IsReservedFor : SessionState → SessionState → Heard → Type 0
 IsReservedFor old new heard = new.reserved_floor ≡ unwrap_or (heard_run old.reserved_floor (last_in new) heard) old.reserved_floor
 
-heard_agrees : (grid : Grid) (t : ℕ) (local : Local) (up : Servers) (M : Message) (old new : Seat) (heard : Heard) → to_server M.body ≡ false →
-    SeatAgrees grid t M.session old (local.residents M.session) → SeatHears old new up M heard → IsReservedFor old new heard →
-    SeatAgrees grid t M.session new (heard_resident local (state_of up local) (own_message M) (said_by grid up (operation (state_of up local) M.session) (own_message M)))
+heard_agrees : (grid : Grid) (t : ℕ) (local : Local) (up : Servers) (M : Message) (old new : SessionState) (heard : Heard) → to_server M.body ≡ false →
+    SessionStateAgrees grid t M.session old (local.residents M.session) → SessionStateHears old new up M heard → IsReservedFor old new heard →
+    SessionStateAgrees grid t M.session new (heard_resident local (state_of up local) (own_message M) (said_by grid up (operation (state_of up local) M.session) (own_message M)))
 heard_agrees grid t local up M old new heard goes agrees h reserved =
     let k : ℕ = M.session in
     let m : OwnMessage = own_message M in
@@ -189,8 +189,8 @@ sent_as t HeardNoted = refl
 sent_as t (HeardNext round tag messages) = refl
 sent_as t (HeardDone outcome) = refl
 
-heard_gives : (grid : Grid) (t : ℕ) (local : Local) (up : Servers) (M : Message) (old new : Seat) (heard : Heard) (out : Output) → to_server M.body ≡ false →
-    SeatAgrees grid t M.session old (local.residents M.session) → SeatHears old new up M heard → IsReservedFor old new heard → HeardGives t M.session (heard_run old.reserved_floor (last_in new) heard) heard out →
+heard_gives : (grid : Grid) (t : ℕ) (local : Local) (up : Servers) (M : Message) (old new : SessionState) (heard : Heard) (out : Output) → to_server M.body ≡ false →
+    SessionStateAgrees grid t M.session old (local.residents M.session) → SessionStateHears old new up M heard → IsReservedFor old new heard → HeardGives t M.session (heard_run old.reserved_floor (last_in new) heard) heard out →
     Gives t (goes_on local M.session (local.residents M.session).session.op (heard_servers (local.residents M.session).session.heard M.server) (state_of up local)
     (delivery (own_message M) (said_by grid up (operation (state_of up local) M.session) (own_message M)))) out
 heard_gives grid t local up M old new heard out goes agrees h reserved gives =
@@ -205,7 +205,7 @@ heard_gives grid t local up M old new heard out goes agrees h reserved gives =
     record {
       answer = gives.answer ∙ ap heard_answer is ∙ answer_as k (state.session k).op (state.session k).op t s;
       letters = gives.letters ∙ ap messages_of is ∙ sent_as t s;
-      parcel = gives.parcel;
+      transfer = gives.transfer;
       fact = gives.fact
           ∙ ap (λ x. heard_fact t k (heard_run old.reserved_floor (last_in new) x) x) is
           ∙ ap (λ n. heard_fact t k (heard_run n (last_in new) (heard_as t s)) (heard_as t s)) agrees.reserved_floor
@@ -215,80 +215,80 @@ heard_gives grid t local up M old new heard out goes agrees h reserved gives =
 
 -- ---- the tables
 
-abbrev seat_hears_it : Seat → Message → Bool
-seat_hears_it seat M = has_above (last_in seat) && is_of_round seat.operation (file_place M.file)
+abbrev session_state_hears_it : SessionState → Message → Bool
+session_state_hears_it session_state M = has_above (last_in session_state) && is_of_round session_state.operation (file_place M.file)
 
-attends_it : (t k : ℕ) (grid : Grid) (old new : Seat) (M : Message) (out : Output) → seat_hears_it old M ≡ true → SeatAttends t k grid old new M out → SaysAndGives t k (seat_aim grid old) old new M out
+attends_it : (t k : ℕ) (grid : Grid) (old new : SessionState) (M : Message) (out : Output) → session_state_hears_it old M ≡ true → SessionStateAttends t k grid old new M out → SaysAndGives t k (session_state_aim grid old) old new M out
 attends_it t k grid old new M out fits attends = rw fits at attends
 
-attends_not : (t k : ℕ) (grid : Grid) (old new : Seat) (M : Message) (out : Output) → seat_hears_it old M ≡ false → SeatAttends t k grid old new M out → (new ≡ old) × GivesNothing out
+attends_not : (t k : ℕ) (grid : Grid) (old new : SessionState) (M : Message) (out : Output) → session_state_hears_it old M ≡ false → SessionStateAttends t k grid old new M out → (new ≡ old) × GivesNothing out
 attends_not t k grid old new M out none attends = rw none at attends
 
--- the seat hears what the session hears
-hears_it : (site : Site) (t : ℕ) (local : Local) (seat : Seat) (M : Message) → SeatAgrees site.grid t M.session seat (local.residents M.session) → seat_hears_it seat M ≡ heard_in site local (own_message M)
-hears_it site t local seat M agrees =
+-- the session state hears what the session hears
+hears_it : (site : Site) (t : ℕ) (local : Local) (session_state : SessionState) (M : Message) → SessionStateAgrees site.grid t M.session session_state (local.residents M.session) → session_state_hears_it session_state M ≡ heard_in site local (own_message M)
+hears_it site t local session_state M agrees =
     let k : ℕ = M.session in
     let session : Session = (local.residents k).session in
-    ap (λ n. has_above n && is_of_round seat.operation (file_place M.file)) (last_agrees site.grid t k seat (local.residents k) agrees)
-    ∙ ap (λ b. has_above session.floor && b) (round_is site.grid t k seat.floor seat.operation session session.current (file_place M.file) agrees.sits)
+    ap (λ n. has_above n && is_of_round session_state.operation (file_place M.file)) (last_agrees site.grid t k session_state (local.residents k) agrees)
+    ∙ ap (λ b. has_above session.floor && b) (round_is site.grid t k session_state.floor session_state.operation session session.current (file_place M.file) agrees.sits)
 
 -- what a part of the node that agrees does
-record Attended (w : Tables) (t : ℕ) (M : Message) (seat : Seat) (out : Output) (local : Local) : Type 0 where
-  pub settles : Settles w t M.session seat (λ site local. hears site local (own_message M)) local
+record Attended (w : Tables) (t : ℕ) (M : Message) (session_state : SessionState) (out : Output) (local : Local) : Type 0 where
+  pub settles : Settles w t M.session session_state (λ site local. hears site local (own_message M)) local
   pub gives : Gives t (hears (site_of w.plan w.here t) local (own_message M)) out
 
-attended : (w : Tables) (t : ℕ) (M : Message) (seat : Seat) (out : Output) (local : Local) → to_server M.body ≡ false → IsOfPlan w t M.session →
-    seat_hears_it (seat_at w t M.session) M ≡ true → SeatAttends t M.session w.plan.grid (seat_at w t M.session) seat M out → Agrees w t local → Attended w t M seat out local
-attended w t M seat out local goes at fits attends agrees =
+attended : (w : Tables) (t : ℕ) (M : Message) (session_state : SessionState) (out : Output) (local : Local) → to_server M.body ≡ false → IsOfPlan w t M.session →
+    session_state_hears_it (session_state_at w t M.session) M ≡ true → SessionStateAttends t M.session w.plan.grid (session_state_at w t M.session) session_state M out → Agrees w t local → Attended w t M session_state out local
+attended w t M session_state out local goes at fits attends agrees =
     let k : ℕ = M.session in
     let m : OwnMessage = own_message M in
     let site : Site = site_of w.plan w.here t in
     let grid : Grid = w.plan.grid in
-    let old : Seat = seat_at w t k in
+    let old : SessionState = session_state_at w t k in
     let r : Resident = local.residents k in
-    let before : SeatAgrees grid t k old r = seat_of w t k local agrees at in
-    let h : SaysAndGives t k (seat_aim grid old) old seat M out = attends_it t k grid old seat M out fits attends in
-    let hears' : SeatHears old seat (aim_at grid r) M h.heard = subst (λ (x : Servers). SeatHears old seat x M h.heard) (aim_is grid t k old r before) h.hears in
+    let before : SessionStateAgrees grid t k old r = session_state_of w t k local agrees at in
+    let h : SaysAndGives t k (session_state_aim grid old) old session_state M out = attends_it t k grid old session_state M out fits attends in
+    let hears' : SessionStateHears old session_state (aim_at grid r) M h.heard = subst (λ (x : Servers). SessionStateHears old session_state x M h.heard) (aim_is grid t k old r before) h.hears in
     let is = hears_is site local m (sym (hears_it site t local old M before) ∙ fits) in
     let state : State = state_for site local k in
     let s : Saying = said_by grid (aim_at grid r) (operation state k) m in
     record {
       settles = record {
         resident = heard_resident local state m s;
-        agrees = heard_agrees grid t local (aim_at grid r) M old seat h.heard goes before hears' h.reserved;
+        agrees = heard_agrees grid t local (aim_at grid r) M old session_state h.heard goes before hears' h.reserved;
         left = ap (λ (d : Doing). d.local) is;
       };
-      gives = subst (λ (d : Doing). Gives t d out) (sym is) (heard_gives grid t local (aim_at grid r) M old seat h.heard out goes before hears' h.reserved h.gives);
+      gives = subst (λ (d : Doing). Gives t d out) (sym is) (heard_gives grid t local (aim_at grid r) M old session_state h.heard out goes before hears' h.reserved h.gives);
     }
 
 gives_nothing : (t : ℕ) (local : Local) (out : Output) → GivesNothing out → Gives t (silently local) out
-gives_nothing t local out none = record { answer = none.answer; letters = none.letters; parcel = none.parcel; fact = none.fact }
+gives_nothing t local out none = record { answer = none.answer; letters = none.letters; transfer = none.transfer; fact = none.fact }
 
--- a seat put in its place again
-pub unchanged : (w : Tables) (t k : ℕ) (seat : Seat) → seat ≡ seat_at w t k → w ≡ with_seat w t k seat
-unchanged w t k seat is =
-    let seats : slice_set (seats_at w.seats t) (seat_place k) seat ≡ seats_at w.seats t = ap (slice_set (seats_at w.seats t) (seat_place k)) is ∙ set-get_or (seats_at w.seats t) (seat_place k) no_seat in
-    sym (ap (λ all. record w { seats = all }) (ap (slice_set w.seats t) seats ∙ set-get_or w.seats t []))
+-- a session state put in its place again
+pub unchanged : (w : Tables) (t k : ℕ) (session_state : SessionState) → session_state ≡ session_state_at w t k → w ≡ with_session_state w t k session_state
+unchanged w t k session_state is =
+    let session_states : slice_set (session_states_at w.session_states t) (session_state_place k) session_state ≡ session_states_at w.session_states t = ap (slice_set (session_states_at w.session_states t) (session_state_place k)) is ∙ set-get_or (session_states_at w.session_states t) (session_state_place k) no_session_state in
+    sym (ap (λ all. record w { session_states = all }) (ap (slice_set w.session_states t) session_states ∙ set-get_or w.session_states t []))
 
-pub attend_acts : (w : Tables) (t : ℕ) (M : Message) (seat : Seat) (out : Output) → IsShaped w → t < length w.plan.rows → to_server M.body ≡ false → IsOfPlan w t M.session →
-    SeatAttends t M.session w.plan.grid (seat_at w t M.session) seat M out → Acts w t (λ site local. hears site local (own_message M)) out (with_seat w t M.session seat)
-attend_acts w t M seat out shaped within goes at attends =
+pub attend_acts : (w : Tables) (t : ℕ) (M : Message) (session_state : SessionState) (out : Output) → IsShaped w → t < length w.plan.rows → to_server M.body ≡ false → IsOfPlan w t M.session →
+    SessionStateAttends t M.session w.plan.grid (session_state_at w t M.session) session_state M out → Acts w t (λ site local. hears site local (own_message M)) out (with_session_state w t M.session session_state)
+attend_acts w t M session_state out shaped within goes at attends =
     let k : ℕ = M.session in
-    let old : Seat = seat_at w t k in
+    let old : SessionState = session_state_at w t k in
     let step = λ (site : Site) (local : Local). hears site local (own_message M) in
-    let there = seat_there w t k shaped within at in
-    elim (cases_Bool (seat_hears_it old M)) [
+    let there = session_state_there w t k shaped within at in
+    elim (cases_Bool (session_state_hears_it old M)) [
       | inl fits ↦ (record {
-        leads = seat_leads w t k seat step there (λ local agrees. (attended w t M seat out local goes at fits attends agrees).settles);
-        gives = λ local agrees. (attended w t M seat out local goes at fits attends agrees).gives;
+        leads = session_state_leads w t k session_state step there (λ local agrees. (attended w t M session_state out local goes at fits attends agrees).settles);
+        gives = λ local agrees. (attended w t M session_state out local goes at fits attends agrees).gives;
       })
       | inr none ↦ (
-          let h = attends_not t k w.plan.grid old seat M out none attends in
+          let h = attends_not t k w.plan.grid old session_state M out none attends in
           let model : (local : Local) → Agrees w t local → hears (site_of w.plan w.here t) local (own_message M) ≡ silently local =
           λ local agrees. hears_nothing (site_of w.plan w.here t) local (own_message M)
-          (sym (hears_it (site_of w.plan w.here t) t local old M (seat_of w t k local agrees at)) ∙ none) in
+          (sym (hears_it (site_of w.plan w.here t) t local old M (session_state_of w t k local agrees at)) ∙ none) in
           record {
-            leads = subst (λ (x : Tables). Leads w t step x) (unchanged w t k seat h.0) (same_leads w t step (λ local agrees. ap (λ (d : Doing). d.local) (model local agrees)));
+            leads = subst (λ (x : Tables). Leads w t step x) (unchanged w t k session_state h.0) (same_leads w t step (λ local agrees. ap (λ (d : Doing). d.local) (model local agrees)));
             gives = λ local agrees. subst (λ (d : Doing). Gives t d out) (sym (model local agrees)) (gives_nothing t local out h.1);
           })
     ]

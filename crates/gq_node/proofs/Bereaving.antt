@@ -22,10 +22,10 @@ use Rattle.gq_node.specs.Local.{Local, Resident, Doing, new_local, new_resident,
 use Rattle.gq_node.specs.Opening.{Becomes, lost_local, Loses, reserved_at, Reserves, Bereaves}
 use Rattle.gq_node.specs.Resting.{FirstPlan, begun_floor, bare_local, begun_local}
 use Rattle.gq_node.specs.Shape.{IsShaped}
-use Rattle.gq_node.specs.Sites.{Site, Here, site_of, is_new, has_session, session_at, seat_place, home_of, home_place}
-use Rattle.gq_node.specs.Tables.{Tables, Agrees, Leads, SeatAgrees, seats_at, seat_in, given_at, lacks_at, is_new_node}
+use Rattle.gq_node.specs.Sites.{Site, Here, site_of, is_new, has_session, session_at, session_state_place, home_of, home_place}
+use Rattle.gq_node.specs.Tables.{Tables, Agrees, Leads, SessionStateAgrees, session_states_at, session_state_in, given_at, lacks_at, is_new_node}
 use Rattle.gq_node.proofs.Recalling.{recalls_fits}
-use Rattle.gq_node.proofs.Seating.{place_again, has_placed, is_number}
+use Rattle.gq_node.proofs.Placing.{place_again, has_placed, is_number}
 
 -- the tenant's part as it was new
 abbrev pub IsNew : Tables → ℕ → Type 0
@@ -73,16 +73,16 @@ loses w t lost given within new is agrees = record {
     copies = agrees.copies;
     lacks = λ f. its_lacks w t lost given f within is ∙ ap (λ b. b && is_within lost f) (sym new);
     joined = agrees.joined;
-    mate = agrees.mate;
-    seats = agrees.seats;
+    peer = agrees.peer;
+    session_states = agrees.session_states;
   };
   others = λ u other local before. record {
     account = before.account;
     copies = before.copies;
     lacks = λ f. other_lacks w t u given f other ∙ before.lacks f;
     joined = before.joined;
-    mate = before.mate;
-    seats = before.seats;
+    peer = before.peer;
+    session_states = before.session_states;
   };
 }
 
@@ -96,8 +96,8 @@ loses_not w t lost old agrees = record {
     copies = agrees.copies;
     lacks = λ f. agrees.lacks f ∙ ap (λ b. b && is_within lost f) (sym old);
     joined = agrees.joined;
-    mate = agrees.mate;
-    seats = agrees.seats;
+    peer = agrees.peer;
+    session_states = agrees.session_states;
   };
   others = λ u other local before. before;
 }
@@ -123,12 +123,12 @@ same_floors plan here w t volumes lost a b plan_is here_is same agrees = record 
   copies = agrees.copies;
   lacks = agrees.lacks;
   joined = agrees.joined;
-  mate = agrees.mate;
-  seats = λ p within.
+  peer = agrees.peer;
+  session_states = λ p within.
       let k : ℕ = session_at w.plan w.here t p in
       let floors : a k ≡ b k = now p within in
-      let P : ℕ → Type 0 = λ floor. SeatAgrees w.plan.grid t k (seat_in (seats_at w.seats t) p) (behind (site_of plan here t) floor) in
-      subst P floors (agrees.seats p within);
+      let P : ℕ → Type 0 = λ floor. SessionStateAgrees w.plan.grid t k (session_state_in (session_states_at w.session_states t) p) (behind (site_of plan here t) floor) in
+      subst P floors (agrees.session_states p within);
 }
   where
     now : SameFloors w.plan w.here t a b
@@ -159,7 +159,7 @@ bereaves_not w t first old agrees = record {
 
 -- the sessions below this place begin where they have to
 abbrev pub floor_to : CheckedPlan → Here → (t losses n : ℕ) → ℕ → ℕ
-floor_to plan here t losses n k = if nat_lt (seat_place k) n then begun_floor (site_of plan here t) losses k else 0
+floor_to plan here t losses n k = if nat_lt (session_state_place k) n then begun_floor (site_of plan here t) losses k else 0
 
 abbrev pub part_to : Tables → (t lost losses n : ℕ) → Local
 part_to w t lost losses n = with_floors w.plan w.here t (account_at w.desk t).volumes lost (floor_to w.plan w.here t losses n)
@@ -170,7 +170,7 @@ none_to w t lost losses agrees = record {
   here = refl;
   desk = refl;
   own = same_floors w.plan w.here w t (account_at w.desk t).volumes lost (λ k. 0) (floor_to w.plan w.here t losses 0) refl refl
-      (λ p within. let k : ℕ = session_at w.plan w.here t p in sym (ap (λ b. if b then begun_floor (site_of w.plan w.here t) losses k else 0) (none_below (seat_place k)))) agrees;
+      (λ p within. let k : ℕ = session_at w.plan w.here t p in sym (ap (λ b. if b then begun_floor (site_of w.plan w.here t) losses k else 0) (none_below (session_state_place k)))) agrees;
   others = λ u other local before. before;
 }
 
@@ -186,7 +186,7 @@ module _ (plan : CheckedPlan) (here : Here) (t p lost losses : ℕ) (volumes : L
   abbrev number : ℕ
   number = losses * NUMBERS_OF_A_LOSS
 
-  again : seat_place k ≡ p
+  again : session_state_place k ≡ p
   again = place_again plan here t p (omega (arith, inside, few))
 
   -- where they begin behind the step
@@ -212,10 +212,10 @@ module _ (plan : CheckedPlan) (here : Here) (t p lost losses : ℕ) (volumes : L
       ∙ sym (floor_own b is)
       ∙ sym (ap (λ z. if z then begun_floor site losses k else 0) below)
     where
-      below : nat_lt (seat_place k) (p + 1) ≡ true
+      below : nat_lt (session_state_place k) (p + 1) ≡ true
       below = ap (λ n. nat_lt n (p + 1)) again ∙ lt-ltb p (p + 1) (omega arith)
 
-      not_yet : nat_lt (seat_place k) p ≡ false
+      not_yet : nat_lt (session_state_place k) p ≡ false
       not_yet = ap (λ n. nat_lt n p) again ∙ le-ltb p p (omega arith)
 
       by : (b : Bool) → stepped b k ≡ (if b then number else 0)
@@ -230,17 +230,17 @@ module _ (plan : CheckedPlan) (here : Here) (t p lost losses : ℕ) (volumes : L
       j : ℕ
       j = session_at plan here t q
 
-      place : seat_place j ≡ q
+      place : session_state_place j ≡ q
       place = place_again plan here t q (omega (arith, within, few))
 
       differs : k ≢ j
-      differs e = apart (sym place ∙ ap seat_place (sym e) ∙ again)
+      differs e = apart (sym place ∙ ap session_state_place (sym e) ∙ again)
 
       by : (b : Bool) → (b && (k == j)) ≡ false
       by true = ne_eqb k j differs
       by false = refl
 
-      same : nat_lt (seat_place j) p ≡ nat_lt (seat_place j) (p + 1)
+      same : nat_lt (session_state_place j) p ≡ nat_lt (session_state_place j) (p + 1)
       same = ap (λ n. nat_lt n p) place ∙ (elim (cases_lt q p) [
         | inl less ↦ (lt-ltb q p less ∙ sym (lt-ltb q (p + 1) (omega arith)))
         | inr most ↦ (le-ltb q p most ∙ sym (le-ltb q (p + 1) (omega (arith, above q apart most))))
@@ -340,7 +340,7 @@ all_to old w t lost losses n few past b = record {
   own = same_floors old.plan old.here w t (account_at old.desk t).volumes lost (floor_to old.plan old.here t losses n) (begun_floor (site_of old.plan old.here t) losses) b.plan b.here
       (λ p within.
       let k : ℕ = session_at old.plan old.here t p in
-      let place : seat_place k ≡ p = place_again old.plan old.here t p (omega (arith, within, few)) in
+      let place : session_state_place k ≡ p = place_again old.plan old.here t p (omega (arith, within, few)) in
       ap (λ z. if z then begun_floor (site_of old.plan old.here t) losses k else 0) (ap (λ q. nat_lt q n) place ∙ lt-ltb p n (omega (arith, within, past))))
       b.own;
   others = b.others;
@@ -384,9 +384,9 @@ bereaved_shaped w t lost given shaped within few new is agrees = record {
     | inl same ↦ (subst (λ n. length (given_at (with_lacks w t given) n) ≤ MOST_VOLUMES) (sym same) (subst (λ (g : Given). length g ≤ MOST_VOLUMES) (sym (get_or-set_same w.given t given [] within ∙ is)) (subst (λ n. n ≤ MOST_VOLUMES) (sym (length-replicate lost (replicate MOST_FILES false))) few)))
     | inr other ↦ (subst (λ (g : Given). length g ≤ MOST_VOLUMES) (sym (get_or-set_other w.given t u given [] other)) (shaped.few_given u))
   ];
-  mates = shaped.mates;
-  grid_mates = shaped.grid_mates;
+  peers = shaped.peers;
+  grid_peers = shaped.grid_peers;
   tenants = shaped.tenants;
-  seats = shaped.seats;
+  session_states = shaped.session_states;
   sessions = shaped.sessions;
 }

@@ -9,11 +9,11 @@ use Rattle.gq_desk.specs.declared.volumes.VolumeRow.{VolumeRow}
 use Rattle.gq_store.specs.Copies.{copies_account, volume_size, tenant_in}
 use Rattle.gq_store.proofs.Sums.{sum_by-map}
 use Rattle.gq_tag.specs.declared.TheConstants.{MOST_FILES}
-use Rattle.gq_node.specs.declared.seats.Seat.{Seat}
+use Rattle.gq_node.specs.declared.session_states.SessionState.{SessionState}
 use Rattle.gq_node.specs.Bounds.{operations_held, outcomes_held, IsBounded}
 use Rattle.gq_node.specs.Lacks.{Given, HasRoom}
 use Rattle.gq_node.specs.Shape.{IsShaped}
-use Rattle.gq_node.specs.Tables.{Tables, given_at, seats_at}
+use Rattle.gq_node.specs.Tables.{Tables, given_at, session_states_at}
 use Rattle.gq_node.proofs.Needing.{volumes_are}
 
 -- each volume has so many marks
@@ -45,11 +45,11 @@ shaped_bounded w shaped room = record {
   copied = sym (length-map w.store.tenants copies_account) ∙ ap length shaped.accounts ∙ shaped.desk;
   seated = shaped.tenants;
   marked = shaped.given;
-  asked = shaped.mates;
+  asked = shaped.peers;
   volumes = shaped.volumes;
   copies = λ t. sym (ap (sum_by (λ (v : VolumeRow). v.files)) (volumes_are w t shaped) ∙ sum_by-map (λ (v : VolumeRow). v.files) volume_size (tenant_in w.store.tenants t).volumes);
-  operations = λ t within. subst (λ n. operations_held w t ≤ n) (shaped.seats t within) (count_by-le-length (λ (seat : Seat). is_some seat.operation) (seats_at w.seats t));
-  outcomes = λ t within. subst (λ n. outcomes_held w t ≤ n) (shaped.seats t within) (count_by-le-length (λ (seat : Seat). is_some seat.outcome) (seats_at w.seats t));
+  operations = λ t within. subst (λ n. operations_held w t ≤ n) (shaped.session_states t within) (count_by-le-length (λ (session_state : SessionState). is_some session_state.operation) (session_states_at w.session_states t));
+  outcomes = λ t within. subst (λ n. outcomes_held w t ≤ n) (shaped.session_states t within) (count_by-le-length (λ (session_state : SessionState). is_some session_state.outcome) (session_states_at w.session_states t));
   lost = shaped.few_given;
   marks = λ t. marks_are (given_at w t) (room_at w room t);
 }

@@ -26,7 +26,7 @@ use Rattle.gq_node.specs.declared.output.Admission.TheVariants.{Tells, Passes, G
 use Rattle.gq_node.specs.Local.{Local, Resident, Doing, part_in, state_of, state_for, aim_at, tries_next, answer_of, asker, begins, admission_in, asks, asked_by, goes_on, with_resident, tells, silently, session_fact, receives, serves, hears, brings, ticks, waits_on, outcome_after, waits_after, letter_fits, goes_between, has_above, of_round}
 use Rattle.gq_node.specs.Sites.{Site, has_session}
 use Rattle.gq_node.specs.Bridge.{setting_in, AtHome, request_act, request_answer, letter_act, waited_act, tick_act, Bridges, AllRequestsAct, AllQuestionsTell, AllLettersAct, AllTicksAct}
-use Rattle.gq_node.proofs.Seating.{is_number}
+use Rattle.gq_node.proofs.Placing.{is_number}
 use Rattle.gq_node.proofs.Asking.{goes_home}
 use Rattle.gq_node.proofs.Ticking.{busy_is}
 use Rattle.gq_node.proofs.Receiving.{Parts, parts, its_server, to_a_session}
@@ -110,7 +110,7 @@ asked_act op line site local l home inside here = elim (cases_Bool (is_refusal s
       told = ap (λ (d : Doing). d.answer) (said_no is);
     };
     volumes = ap (λ (d : Doing). d.local.volumes) (said_no is);
-    parcel = ap (λ (d : Doing). d.parcel) (said_no is);
+    transfer = ap (λ (d : Doing). d.transfer) (said_no is);
     home = subst (λ (d : Doing). AtHome site d.local) (sym (said_no is)) home;
   })
   | inr is ↦ (record {
@@ -124,7 +124,7 @@ asked_act op line site local l home inside here = elim (cases_Bool (is_refusal s
       told = ap (λ (d : Doing). d.answer) (said_so is);
     };
     volumes = ap (λ (d : Doing). d.local.volumes) (said_so is);
-    parcel = ap (λ (d : Doing). d.parcel) (said_so is);
+    transfer = ap (λ (d : Doing). d.transfer) (said_so is);
     home = subst (λ (d : Doing). AtHome site d.local) (sym (said_so is)) (home_with site local k (went local k false state (act_entry act step)) inside here home);
   })
 ]
@@ -150,7 +150,7 @@ asked_act op line site local l home inside here = elim (cases_Bool (is_refusal s
     session_by' : ℕ → Deed → Session
     session_by' j d = session_by local.volumes j d (local.residents j).session
 
-    said_no : is_refusal step.told ≡ true → asked_by local k op state line step ≡ record { local = local; answer = answer_of k op (local.residents k).session.op step.told; letters = []; parcel = None; fact = None }
+    said_no : is_refusal step.told ≡ true → asked_by local k op state line step ≡ record { local = local; answer = answer_of k op (local.residents k).session.op step.told; letters = []; transfer = None; fact = None }
     said_no is = rw is refl
 
     said_so : is_refusal step.told ≡ false → asked_by local k op state line step ≡ goes_on local k op false state (act_entry act step)
@@ -175,13 +175,13 @@ request_in op line site local l home = by (admission_in site local k op (begins 
         let told : request_answer op line site local ≡ Some answer = rw (its, is) refl in
         let doing : asks op line site local ≡ tells local answer = rw (its, is) refl in
         bridged_as site local (request_act op line site local) None (request_answer op line site local) (Some answer) tell (asks op line site local) (tells local answer) act told doing
-        (record { does = record { part = refl; letters = refl; told = refl }; volumes = refl; parcel = refl; home = home })
+        (record { does = record { part = refl; letters = refl; told = refl }; volumes = refl; transfer = refl; home = home })
     by Passes is =
         let act : request_act op line site local ≡ None = rw (its, is) refl in
         let told : request_answer op line site local ≡ None = rw (its, is) refl in
         let doing : asks op line site local ≡ silently local = rw (its, is) refl in
         bridged_as site local (request_act op line site local) None (request_answer op line site local) None tell (asks op line site local) (silently local) act told doing
-        (record { does = record { part = refl; letters = refl; told = refl }; volumes = refl; parcel = refl; home = home })
+        (record { does = record { part = refl; letters = refl; told = refl }; volumes = refl; transfer = refl; home = home })
     by Goes is =
         let state : State = state_for site local k in
         let one : Act = Asks line (aim_at site.grid (local.residents k)) in
@@ -201,7 +201,7 @@ no_request op line site local tell none home =
     let told : request_answer op line site local ≡ Some IsBad = rw none refl in
     let doing : asks op line site local ≡ tells local IsBad = rw none refl in
     bridged_as site local (request_act op line site local) None (request_answer op line site local) (Some IsBad) tell (asks op line site local) (tells local IsBad) act told doing
-    (record { does = record { part = refl; letters = refl; told = refl }; volumes = refl; parcel = refl; home = home })
+    (record { does = record { part = refl; letters = refl; told = refl }; volumes = refl; transfer = refl; home = home })
 
 pub all_requests_act : AllRequestsAct
 all_requests_act op (Write k v f bytes) site local home =
@@ -218,7 +218,7 @@ all_requests_act op line site local home = no_request op line site local _ refl 
 
 passes : (site : Site) (local : Local) (act : Option Act) (tell : Told → Option Answer) (doing : Doing) → act ≡ None → doing ≡ silently local → AtHome site local → Bridges site local act None tell doing
 passes site local act tell doing none is home =
-    bridged_as site local act None None None tell doing (silently local) none refl is (record { does = record { part = refl; letters = refl; told = refl }; volumes = refl; parcel = refl; home = home })
+    bridged_as site local act None None None tell doing (silently local) none refl is (record { does = record { part = refl; letters = refl; told = refl }; volumes = refl; transfer = refl; home = home })
 
 -- to the server
 served_act : (site : Site) (local : Local) (m : OwnMessage) (tell : Told → Option Answer) → to_server m.body ≡ true → m.server ≡ site.place → local.lacks m.file ≡ false → AtHome site local →
@@ -232,7 +232,7 @@ served_act site local m tell goes here has home = record {
     told = nothing ∙ ap (λ (z : Step). answer_of m.session (local.residents m.session).session.op (local.residents m.session).session.op z.told) (sym law_step);
   };
   volumes = refl;
-  parcel = refl;
+  transfer = refl;
   home = home;
 }
   where
@@ -305,7 +305,7 @@ heard_act site local m goes inside here home = record {
     told = ap (λ (z : Step). answer_of k last last z.told) (sym law_step);
   };
   volumes = refl;
-  parcel = refl;
+  transfer = refl;
   home = home_with site local k (went local k heard_before state (brings m step)) inside here home;
 }
   where
@@ -394,7 +394,7 @@ all_letters_act from m site local home = elim (cases_Bool (letter_fits site (lim
 -- ---- what a tenant has
 
 pub all_questions_tell : AllQuestionsTell
-all_questions_tell site local home = record { does = record { part = refl; letters = refl; told = refl }; volumes = refl; parcel = refl; home = home }
+all_questions_tell site local home = record { does = record { part = refl; letters = refl; told = refl }; volumes = refl; transfer = refl; home = home }
 
 -- ---- a tick
 
@@ -484,7 +484,7 @@ retry_act site local k inside here home = record {
     told = refl;
   };
   volumes = refl;
-  parcel = refl;
+  transfer = refl;
   home = home_with site local k r inside here home;
 }
   where
@@ -514,7 +514,7 @@ all_ticks_act k site local home = elim (cases_Bool (is_some (local.residents k).
         by false inside here = record {
           does = record { part = same_sessions local k (record (local.residents k) { waited = true }) refl refl; letters = refl; told = refl };
           volumes = refl;
-          parcel = refl;
+          transfer = refl;
           home = home_with site local k (record (local.residents k) { waited = true }) inside here home;
         }
         by true inside here = retry_act site local k inside here home

@@ -12,7 +12,7 @@ use Rattle.gq_tag.specs.declared.Body.TheVariants.{Store}
 use Rattle.gq_tag.specs.Tag.{File, is_file, first_copy, greatest, newer_of}
 use Rattle.gq_desk.specs.declared.volumes.VolumeRow.{VolumeRow}
 use Rattle.gq_desk.specs.Volumes.{limit_in}
-use Rattle.gq_phase.specs.Quorums.{are_mates}
+use Rattle.gq_phase.specs.Quorums.{are_peers}
 use Rattle.gq_model.specs.Trace.{limit_at}
 use Rattle.gq_laws.proofs.Holding.{greatest-push}
 use Rattle.gq_laws.proofs.OperationMoments.{same_file}
@@ -23,7 +23,7 @@ use Rattle.gq_replace.specs.Fleet.{Fleet, Fetched as HasFetched, FleetStep, Give
 use Rattle.gq_replace.specs.Plans.{place_of}
 use Rattle.gq_node.specs.Bridge.{AtHome, Bridges}
 use Rattle.gq_node.specs.Inputs.{Fetching, Fetched}
-use Rattle.gq_node.specs.Joining.{all_joined, next_mate, first_lacked, asks_mate, looks, is_mate, has_file, gives, takes}
+use Rattle.gq_node.specs.Joining.{all_joined, next_peer, first_lacked, asks_peer, looks, is_peer, has_file, gives, takes}
 use Rattle.gq_node.specs.Local.{Local, Doing, Wants, Brings, part_in, state_of, silently, file_fits, given}
 use Rattle.gq_node.specs.Nodes.{NodeWorld, site_at, Nodes, Question, questions_in, copies_in, posts, after_doing, PartAlike, IsAlike, IsOwn, input_steps}
 use Rattle.gq_node.specs.Sites.{Site, has_node}
@@ -49,13 +49,13 @@ one_there x y (suc k, within, is) = absurd (omega (arith, within))
 pub idle_follows : (w : NodeWorld) → Grows w → (nodes : Nodes) (u : Fleet) (n : ℕ) → nodes.begun n ≡ true → nodes.gone n ≡ false → Sound w nodes → IsAlike w nodes u → OneStep w (after_doing w nodes n (silently (nodes.local n))) u [] (IsOwn None (silently (nodes.local n)))
 idle_follows w g nodes u n begun stays sound alike =
     let local : Local = nodes.local n in
-    let b : Bridges (site_at w nodes n) local None None (λ told. None) (silently local) = record { does = record { part = refl; letters = refl; told = refl }; volumes = refl; parcel = refl; home = (sound.each n begun).home } in
+    let b : Bridges (site_at w nodes n) local None None (λ told. None) (silently local) = record { does = record { part = refl; letters = refl; told = refl }; volumes = refl; transfer = refl; home = (sound.each n begun).home } in
     does_follow w g nodes u n None None (λ told. None) (silently local) begun stays sound alike b refl refl tt
 
 -- ---- a tick, behind those of the sessions
 
 asks_alike : (w : NodeWorld) → Grows w → (nodes : Nodes) (u : Fleet) (n place : ℕ) → nodes.begun n ≡ true → nodes.gone n ≡ false → Sound w nodes → IsAlike w nodes u → nodes.ready n ≡ true →
-    OneStep w (after_doing w nodes n (asks_mate (site_at w nodes n) (nodes.local n) place)) u [] (IsOwn None (asks_mate (site_at w nodes n) (nodes.local n) place))
+    OneStep w (after_doing w nodes n (asks_peer (site_at w nodes n) (nodes.local n) place)) u [] (IsOwn None (asks_peer (site_at w nodes n) (nodes.local n) place))
 asks_alike w g nodes u n place begun stays sound alike ready = by (first_lacked local) refl
   where
     site : Site
@@ -70,11 +70,11 @@ asks_alike w g nodes u n place begun stays sound alike ready = by (first_lacked 
     Goal : Doing → Type 0
     Goal doing = OneStep w (after_doing w nodes n doing) u [] (IsOwn None doing)
 
-    by : (o : Option File) → first_lacked local ≡ o → Goal (asks_mate site local place)
-    by None is = let e : asks_mate site local place ≡ silently local = rw is refl in subst Goal (sym e) (idle_follows w g nodes u n begun stays sound alike)
+    by : (o : Option File) → first_lacked local ≡ o → Goal (asks_peer site local place)
+    by None is = let e : asks_peer site local place ≡ silently local = rw is refl in subst Goal (sym e) (idle_follows w g nodes u n begun stays sound alike)
     by (Some file) is =
-        let asked : Doing = record (silently (record local { mate = place })) { parcel = Some (Wants (site.node_at place) file) } in
-        let e : asks_mate site local place ≡ asked = rw is refl in
+        let asked : Doing = record (silently (record local { peer = place })) { transfer = Some (Wants (site.node_at place) file) } in
+        let e : asks_peer site local place ≡ asked = rw is refl in
         subst Goal (sym e) (record {
           may = tt;
           said_is = record { told = refl; letters = refl };
@@ -87,7 +87,7 @@ pub looks_follow : (w : NodeWorld) → Grows w → (nodes : Nodes) (u : Fleet) (
     OneStep w (after_doing w nodes n (looks (site_at w nodes n) (nodes.local n))) u [] (IsOwn None (looks (site_at w nodes n) (nodes.local n)))
 looks_follow w g nodes u n begun stays sound alike = elim (cases_Bool (all_joined site local.joined)) [
   | inr not' ↦ (let e : looks site local ≡ silently local = rw not' refl in subst Goal (sym e) (idle_follows w g nodes u n begun stays sound alike))
-  | inl all ↦ (let e : looks site local ≡ asks_mate site local (next_mate site local.mate) = rw all refl in subst Goal (sym e) (asks_alike w g nodes u n (next_mate site local.mate) begun stays sound alike ((sound.each n begun).ready_is all)))
+  | inl all ↦ (let e : looks site local ≡ asks_peer site local (next_peer site local.peer) = rw all refl in subst Goal (sym e) (asks_alike w g nodes u n (next_peer site local.peer) begun stays sound alike ((sound.each n begun).ready_is all)))
 ]
   where
     site : Site
@@ -99,11 +99,11 @@ looks_follow w g nodes u n begun stays sound alike = elim (cases_Bool (all_joine
     Goal : Doing → Type 0
     Goal doing = OneStep w (after_doing w nodes n doing) u [] (IsOwn None doing)
 
--- ---- a mate gives its copy
+-- ---- a peer gives its copy
 
-mates_swap : (grid : Grid) (a b : ℕ) → are_mates grid a b ≡ are_mates grid b a
-unfolding are_mates
-mates_swap grid a b = λ i. list_any (λ c. and_swap (column_servers grid c a) (column_servers grid c b) i) (below grid.cols)
+peers_swap : (grid : Grid) (a b : ℕ) → are_peers grid a b ≡ are_peers grid b a
+unfolding are_peers
+peers_swap grid a b = λ i. list_any (λ c. and_swap (column_servers grid c a) (column_servers grid c b) i) (below grid.cols)
   where
     and_swap : (x y : Bool) → (x && y) ≡ (y && x)
     and_swap true true = refl
@@ -120,7 +120,7 @@ some_there volumes v f is = by (slice_get volumes v) refl
 
 pub gives_follow : (w : NodeWorld) → Grows w → (nodes : Nodes) (u : Fleet) (n from : ℕ) (file : File) → nodes.begun n ≡ true → nodes.gone n ≡ false → Sound w nodes → IsAlike w nodes u → Contains nodes.wanted (record { from = from; to = n; file = file }) →
     OneStep w (after_doing w nodes n (gives from file (site_at w nodes n) (nodes.local n))) u (input_steps (site_at w nodes n) (nodes.local n) n (Fetching from file)) (IsOwn None (gives from file (site_at w nodes n) (nodes.local n)))
-gives_follow w g nodes u n from file begun stays sound alike was = by (is_mate site from && has_file local file) refl
+gives_follow w g nodes u n from file begun stays sound alike was = by (is_peer site from && has_file local file) refl
   where
     site : Site
     site = site_at w nodes n
@@ -134,18 +134,18 @@ gives_follow w g nodes u n from file begun stays sound alike was = by (is_mate s
     Goal : Doing → List FleetStep → Type 0
     Goal doing steps = OneStep w (after_doing w nodes n doing) u steps (IsOwn None doing)
 
-    by : (b : Bool) → (is_mate site from && has_file local file) ≡ b → Goal (gives from file site local) (input_steps site local n (Fetching from file))
+    by : (b : Bool) → (is_peer site from && has_file local file) ≡ b → Goal (gives from file site local) (input_steps site local n (Fetching from file))
     by false is =
         let e : gives from file site local ≡ silently local = rw is refl in
         let f : input_steps site local n (Fetching from file) ≡ [] = rw is refl in
         subst (λ d. Goal d (input_steps site local n (Fetching from file))) (sym e) (subst (Goal (silently local)) (sym f) (idle_follows w g nodes u n begun stays sound alike))
     by true is =
         let copy : StoredCopy = copy_in (part_in local) file in
-        let doing : Doing = record (silently local) { parcel = Some (Brings from file copy) } in
+        let doing : Doing = record (silently local) { transfer = Some (Brings from file copy) } in
         let e : gives from file site local ≡ doing = rw is refl in
         let f : input_steps site local n (Fetching from file) ≡ Gives n from file ∷ [] = rw is refl in
-        let both = and_parts (is_mate site from) (has_file local file) is in
-        let mates = (and_parts (has_node site from) (are_mates site.grid site.place (place_of from)) both.0).1 in
+        let both = and_parts (is_peer site from) (has_file local file) is in
+        let peers = (and_parts (has_node site from) (are_peers site.grid site.place (place_of from)) both.0).1 in
         let there = and_parts (is_some (limit_at (state_of everyone local) file.volume file.place)) (not (local.lacks file)) both.1 in
         let low : file.volume < length local.volumes = some_there local.volumes file.volume file.place there.0 in
         let few : length local.volumes ≤ (w.world.plans (nodes.last_plan n)).volumes = subst (λ (vs : List VolumeRow). length vs ≤ (w.world.plans (nodes.last_plan n)).volumes) (sym its.volumes) (few_taken (w.world.plans (nodes.last_plan n)).volumes w.world.setting.volumes) in
@@ -155,7 +155,7 @@ gives_follow w g nodes u n from file begun stays sound alike was = by (is_mate s
         let fleet : fleet_has w.world u n file ≡ true = (rw (sym (alike.begun n) ∙ begun, inside, has) refl) in
         let ready : nodes.ready from ≡ true = sound.wanted (record { from = from; to = n; file = file }) was in
         subst (λ d. Goal d (input_steps site local n (Fetching from file))) (sym e) (subst (Goal doing) (sym f) (record {
-          may = (((sym (alike.begun n) ∙ begun, sym (alike.gone n) ∙ stays), fleet, mates_swap site.grid (place_of from) (place_of n) ∙ mates, sym (alike.ready from) ∙ ready), tt);
+          may = (((sym (alike.begun n) ∙ begun, sym (alike.gone n) ∙ stays), fleet, peers_swap site.grid (place_of from) (place_of n) ∙ peers, sym (alike.ready from) ∙ ready), tt);
           said_is = record { told = refl; letters = refl };
           alike = record {
             begun = alike.begun;
@@ -167,10 +167,10 @@ gives_follow w g nodes u n from file begun stays sound alike was = by (is_mate s
             gone = alike.gone;
             posted = append-nil nodes.posted ∙ alike.posted;
             joined = alike.joined;
-            fetched = ap (λ c. nodes.fetched ++ record { mate = n; node = from; file = file; copy = c } ∷ []) ((alike.parts n begun).copies file) ∙ ap (λ fs. fs ++ record { mate = n; node = from; file = file; copy = copy_in (u.part n) file } ∷ []) alike.fetched;
+            fetched = ap (λ c. nodes.fetched ++ record { peer = n; node = from; file = file; copy = c } ∷ []) ((alike.parts n begun).copies file) ∙ ap (λ fs. fs ++ record { peer = n; node = from; file = file; copy = copy_in (u.part n) file } ∷ []) alike.fetched;
           };
           sound = doing_sound w nodes n doing sound begun (doing_at w g (nodes.first_plan n) (nodes.last_plan n) n local (nodes.facts n) (nodes.ready n) doing its its.home its.used refl refl)
-              (λ q c. nothing_there c) (λ x c. subst (λ (y : HasFetched). nodes.ready y.node ≡ true) (one_there (record { mate = n; node = from; file = file; copy = copy }) x c) ready);
+              (λ q c. nothing_there c) (λ x c. subst (λ (y : HasFetched). nodes.ready y.node ≡ true) (one_there (record { peer = n; node = from; file = file; copy = copy }) x c) ready);
         }))
 
 -- ---- the new node takes it
@@ -182,18 +182,18 @@ record Quiet (n : ℕ) (l : Local) (doing : Doing) : Type 0 where
   view : SameView l doing
   letters : doing.letters ≡ []
   answer : doing.answer ≡ None
-  copies : copies_in n doing.parcel ≡ []
-  asks : (q : Question) → Contains (questions_in n doing.parcel) q → q.from ≡ n
+  copies : copies_in n doing.transfer ≡ []
+  asks : (q : Question) → Contains (questions_in n doing.transfer) q → q.from ≡ n
 
-asks_quietly : (site : Site) (l : Local) (place n : ℕ) → Quiet n l (asks_mate site l place)
+asks_quietly : (site : Site) (l : Local) (place n : ℕ) → Quiet n l (asks_peer site l place)
 asks_quietly site l place n = by (first_lacked l) refl
   where
-    by : (o : Option File) → first_lacked l ≡ o → Quiet n l (asks_mate site l place)
+    by : (o : Option File) → first_lacked l ≡ o → Quiet n l (asks_peer site l place)
     by None is =
-        let e : asks_mate site l place ≡ silently l = rw is refl in
+        let e : asks_peer site l place ≡ silently l = rw is refl in
         subst (Quiet n l) (sym e) (record { part = refl; residents = refl; view = refl; letters = refl; answer = refl; copies = refl; asks = λ q c. nothing_there c })
     by (Some file) is =
-        let e : asks_mate site l place ≡ record (silently (record l { mate = place })) { parcel = Some (Wants (site.node_at place) file) } = rw is refl in
+        let e : asks_peer site l place ≡ record (silently (record l { peer = place })) { transfer = Some (Wants (site.node_at place) file) } = rw is refl in
         subst (Quiet n l) (sym e) (record { part = refl; residents = refl; view = refl; letters = refl; answer = refl; copies = refl; asks = λ q c. ap (λ (x : Question). x.from) (sym (one_there (record { from = n; to = site.node_at place; file = file }) q c)) })
 
 -- the copy that it is given is the one that it has
@@ -221,7 +221,7 @@ given_alike home n local p file copy lacks bare alike = record {
         ap (λ xs. greatest (first_copy ∷ xs)) one ∙ alike.copies f ∙ sym (ap (λ xs. greatest (first_copy ∷ xs)) other)
 
 pub takes_follow : (w : NodeWorld) → Grows w → (nodes : Nodes) (u : Fleet) (n from : ℕ) (file : File) (copy : StoredCopy) → nodes.begun n ≡ true → nodes.gone n ≡ false → Sound w nodes → IsAlike w nodes u →
-    Contains nodes.fetched (record { mate = from; node = n; file = file; copy = copy }) →
+    Contains nodes.fetched (record { peer = from; node = n; file = file; copy = copy }) →
     OneStep w (after_doing w nodes n (takes from file copy (site_at w nodes n) (nodes.local n))) u (input_steps (site_at w nodes n) (nodes.local n) n (Fetched from file copy)) (IsOwn None (takes from file copy (site_at w nodes n) (nodes.local n)))
 takes_follow w g nodes u n from file copy begun stays sound alike was = by decides refl
   where
@@ -235,7 +235,7 @@ takes_follow w g nodes u n from file copy begun stays sound alike was = by decid
     its = sound.each n begun
 
     decides : Bool
-    decides = is_mate site from && local.lacks file && file_fits (limit_at (state_of everyone local) file.volume file.place) (Store copy)
+    decides = is_peer site from && local.lacks file && file_fits (limit_at (state_of everyone local) file.volume file.place) (Store copy)
 
     Goal : Doing → List FleetStep → Type 0
     Goal doing steps = OneStep w (after_doing w nodes n doing) u steps (IsOwn None doing)
@@ -247,20 +247,20 @@ takes_follow w g nodes u n from file copy begun stays sound alike was = by decid
         subst (λ d. Goal d (input_steps site local n (Fetched from file copy))) (sym e) (subst (Goal (silently local)) (sym f) (idle_follows w g nodes u n begun stays sound alike))
     by true is =
         let mid : Local = given file copy local in
-        let asked : Doing = asks_mate site mid (place_of from) in
+        let asked : Doing = asks_peer site mid (place_of from) in
         let doing : Doing = record asked { fact = Some (Had file copy) } in
         let quiet : Quiet n mid asked = asks_quietly site mid (place_of from) n in
         let e : takes from file copy site local ≡ doing = rw is refl in
         let f : input_steps site local n (Fetched from file copy) ≡ Takes n from file copy ∷ [] = rw is refl in
-        let lacks : local.lacks file ≡ true = (and_parts (is_mate site from) (local.lacks file) (and_parts (is_mate site from && local.lacks file) (file_fits (limit_at (state_of everyone local) file.volume file.place) (Store copy)) is).0).1 in
-        let told : Contains u.fetched (record { mate = from; node = n; file = file; copy = copy }) = subst (λ (all : List HasFetched). Contains all (record { mate = from; node = n; file = file; copy = copy })) alike.fetched was in
+        let lacks : local.lacks file ≡ true = (and_parts (is_peer site from) (local.lacks file) (and_parts (is_peer site from && local.lacks file) (file_fits (limit_at (state_of everyone local) file.volume file.place) (Store copy)) is).0).1 in
+        let told : Contains u.fetched (record { peer = from; node = n; file = file; copy = copy }) = subst (λ (all : List HasFetched). Contains all (record { peer = from; node = n; file = file; copy = copy })) alike.fetched was in
         let new : Fleet = after_fleet_step w.world u (Takes n from file copy) in
         let own : new.part n ≡ given_part file copy (u.part n) = rw (eq-eqb n n refl) refl in
         let others : (m : ℕ) → m ≢ n → new.part m ≡ u.part m = λ m away. rw (ne_eqb m n away) refl in
         let keeps : Keeps site local doing = subst (Keeps site local) e (does_keep (Fetched from file copy) site local its.bare) in
         let home : AtHome site doing.local = λ k some. its.home k (ap (λ rs. is_some (rs k).session.current) (sym quiet.residents) ∙ some) in
         let used : AllUsed doing.local = λ k. subst (λ (p : Part). IsReserved p k) (sym quiet.part) (record { op = (its.used k).op; floor = (its.used k).floor }) in
-        let ready : nodes.ready n ≡ true = sound.fetched (record { mate = from; node = n; file = file; copy = copy }) was in
+        let ready : nodes.ready n ≡ true = sound.fetched (record { peer = from; node = n; file = file; copy = copy }) was in
         subst (λ d. Goal d (input_steps site local n (Fetched from file copy))) (sym e) (subst (Goal doing) (sym f) (record {
           may = (((sym (alike.begun n) ∙ begun, sym (alike.gone n) ∙ stays), sym ((alike.parts n begun).lacks file) ∙ lacks, told), tt);
           said_is = record { told = quiet.answer; letters = quiet.letters };

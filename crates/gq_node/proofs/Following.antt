@@ -64,7 +64,7 @@ at_nodes P w nodes n doing here there m = elim (cases_eq m n) [
 
 pub doing_sound : (w : NodeWorld) (nodes : Nodes) (n : ℕ) (doing : Doing) → Sound w nodes → nodes.begun n ≡ true →
     SoundAt w (nodes.first_plan n) (nodes.last_plan n) n doing.local (nodes.facts n ++ fact_list doing.fact) (nodes.ready n) →
-    ((q : Question) → Contains (questions_in n doing.parcel) q → nodes.ready q.from ≡ true) → ((f : HasFetched) → Contains (copies_in n doing.parcel) f → nodes.ready f.node ≡ true) → Sound w (after_doing w nodes n doing)
+    ((q : Question) → Contains (questions_in n doing.transfer) q → nodes.ready q.from ≡ true) → ((f : HasFetched) → Contains (copies_in n doing.transfer) f → nodes.ready f.node ≡ true) → Sound w (after_doing w nodes n doing)
 doing_sound w nodes n doing sound begun here asks tells = record {
   fresh = λ m none. elim (cases_eq m n) [
     | inl same ↦ (absurd (true≢false (sym begun ∙ ap nodes.begun (sym same) ∙ none)))
@@ -74,8 +74,8 @@ doing_sound w nodes n doing sound begun here asks tells = record {
     | inl same ↦ (rw (eq-eqb m n same) (subst (λ x. SoundAt w (nodes.first_plan x) (nodes.last_plan x) x doing.local (nodes.facts x ++ fact_list doing.fact) (nodes.ready x)) (sym same) here))
     | inr away ↦ (rw (ne_eqb m n away) (sound.each m started))
   ];
-  wanted = λ q c. elim (Contains-append_cases nodes.wanted (questions_in n doing.parcel) q c) [ inl before ↦ (sound.wanted q before) | inr now ↦ (asks q now) ];
-  fetched = λ f c. elim (Contains-append_cases nodes.fetched (copies_in n doing.parcel) f c) [ inl before ↦ (sound.fetched f before) | inr now ↦ (tells f now) ];
+  wanted = λ q c. elim (Contains-append_cases nodes.wanted (questions_in n doing.transfer) q c) [ inl before ↦ (sound.wanted q before) | inr now ↦ (asks q now) ];
+  fetched = λ f c. elim (Contains-append_cases nodes.fetched (copies_in n doing.transfer) f c) [ inl before ↦ (sound.fetched f before) | inr now ↦ (tells f now) ];
 }
 
 -- by something that leaves the volumes and who joined
@@ -93,7 +93,7 @@ doing_at w g first last n local facts ready doing sound home used view keeps = r
 }
 
 -- nothing of the tenant's part is changed, and no letter and no copy is written
-pub still_alike : (w : NodeWorld) (nodes : Nodes) (u : Fleet) (n : ℕ) (doing : Doing) → IsAlike w nodes u → part_in doing.local ≡ part_in (nodes.local n) → doing.letters ≡ [] → doing.local.joined ≡ (nodes.local n).joined → copies_in n doing.parcel ≡ [] →
+pub still_alike : (w : NodeWorld) (nodes : Nodes) (u : Fleet) (n : ℕ) (doing : Doing) → IsAlike w nodes u → part_in doing.local ≡ part_in (nodes.local n) → doing.letters ≡ [] → doing.local.joined ≡ (nodes.local n).joined → copies_in n doing.transfer ≡ [] →
     IsAlike w (after_doing w nodes n doing) u
 still_alike w nodes u n doing alike part none joined no_copy = record {
   begun = alike.begun;
@@ -138,14 +138,14 @@ does_follow w g nodes u n act answer tell doing begun stays sound alike b keeps 
     its : SoundAt w (nodes.first_plan n) (nodes.last_plan n) n local (nodes.facts n) (nodes.ready n)
     its = sound.each n begun
 
-    no_questions : (a : Option Act) → Bridges site local a answer tell doing → (q : Question) → Contains (questions_in n doing.parcel) q → nodes.ready q.from ≡ true
-    no_questions a b q c = let e : questions_in n doing.parcel ≡ [] = ap (questions_in n) b.parcel in nothing (subst (λ qs. Contains qs q) e c)
+    no_questions : (a : Option Act) → Bridges site local a answer tell doing → (q : Question) → Contains (questions_in n doing.transfer) q → nodes.ready q.from ≡ true
+    no_questions a b q c = let e : questions_in n doing.transfer ≡ [] = ap (questions_in n) b.transfer in nothing (subst (λ qs. Contains qs q) e c)
       where
         nothing : {X : Type 0} {x : X} → Contains [] x → nodes.ready q.from ≡ true
         nothing c = let low = c.1 in absurd (omega (arith, low))
 
-    no_copies : (a : Option Act) → Bridges site local a answer tell doing → (f : HasFetched) → Contains (copies_in n doing.parcel) f → nodes.ready f.node ≡ true
-    no_copies a b f c = let e : copies_in n doing.parcel ≡ [] = ap (copies_in n) b.parcel in nothing (subst (λ fs. Contains fs f) e c)
+    no_copies : (a : Option Act) → Bridges site local a answer tell doing → (f : HasFetched) → Contains (copies_in n doing.transfer) f → nodes.ready f.node ≡ true
+    no_copies a b f c = let e : copies_in n doing.transfer ≡ [] = ap (copies_in n) b.transfer in nothing (subst (λ fs. Contains fs f) e c)
       where
         nothing : {X : Type 0} {x : X} → Contains [] x → nodes.ready f.node ≡ true
         nothing c = let low = c.1 in absurd (omega (arith, low))
@@ -160,7 +160,7 @@ does_follow w g nodes u n act answer tell doing begun stays sound alike b keeps 
     by None b may = record {
       may = tt;
       said_is = record { told = b.does.told; letters = b.does.letters };
-      alike = still_alike w nodes u n doing alike b.does.part b.does.letters (λ i. (view i).1) (ap (copies_in n) b.parcel);
+      alike = still_alike w nodes u n doing alike b.does.part b.does.letters (λ i. (view i).1) (ap (copies_in n) b.transfer);
       sound = sound_after None b;
     }
     by (Some act) b may =
@@ -194,7 +194,7 @@ does_follow w g nodes u n act answer tell doing begun stays sound alike b keeps 
             gone = alike.gone;
             posted = ap (λ ls. nodes.posted ++ posts w nodes n ls) letters ∙ ap (λ ps. nodes.posted ++ ps) (posts_same w nodes u n (step_of s (u.part n) act).new (alike.last_plan n begun)) ∙ ap (λ ps. ps ++ fleet_posts w.world u n (step_of s (u.part n) act).new) alike.posted;
             joined = alike.joined;
-            fetched = ap (λ cs. nodes.fetched ++ cs) (ap (copies_in n) b.parcel) ∙ append-nil nodes.fetched ∙ alike.fetched;
+            fetched = ap (λ cs. nodes.fetched ++ cs) (ap (copies_in n) b.transfer) ∙ append-nil nodes.fetched ∙ alike.fetched;
           };
           sound = sound_after (Some act) b;
         }
@@ -225,11 +225,11 @@ request_follows w g nodes u n (Some act) own tell doing begun stays sound alike 
         let nothing : Bridges site local None (tell step.told) tell doing = record {
           does = record { part = b.does.part ∙ same; letters = b.does.letters ∙ refused_quiet site.grid site.row (state_of local.volumes (aim_of act) (part_in local)) act refused; told = b.does.told };
           volumes = b.volumes;
-          parcel = b.parcel;
+          transfer = b.transfer;
           home = b.home;
         } in
         subst Goal (sym e) (does_follow w g nodes u n None (tell step.told) tell doing begun stays sound alike nothing keeps view tt)
     by false goes =
         let e : accepted site local (Some act) ≡ Some act = rw goes refl in
-        let also : Bridges site local (Some act) (tell step.told) tell doing = record { does = b.does; volumes = b.volumes; parcel = b.parcel; home = b.home } in
+        let also : Bridges site local (Some act) (tell step.told) tell doing = record { does = b.does; volumes = b.volumes; transfer = b.transfer; home = b.home } in
         subst Goal (sym e) (does_follow w g nodes u n (Some act) (tell step.told) tell doing begun stays sound alike also keeps view ((may act refl).0, (may act refl).1, goes))

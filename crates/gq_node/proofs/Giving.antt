@@ -22,18 +22,18 @@ use Rattle.gq_cluster.specs.Facts.{Had}
 use Rattle.gq_replace.specs.Plans.{place_of, node_at}
 use Rattle.gq_node.specs.declared.output.Fact.TheVariants.{Had as WasGiven}
 use Rattle.gq_node.specs.declared.output.Output.{Output}
-use Rattle.gq_node.specs.declared.output.Parcel.{Parcel as Code}
-use Rattle.gq_node.specs.declared.output.Parcel.TheVariants.{Wants as CodeWants, Brings as CodeBrings}
+use Rattle.gq_node.specs.declared.output.Transfer.{Transfer as Code}
+use Rattle.gq_node.specs.declared.output.Transfer.TheVariants.{Wants as CodeWants, Brings as CodeBrings}
 use Rattle.gq_node.specs.Deciding.{joins_it, gives_it, takes_it}
-use Rattle.gq_node.specs.Joining.{hears_joined, all_joined, next_mate, files_in_volume, first_among, first_lacked, asks_mate, looks, is_mate, has_file, gives, takes}
+use Rattle.gq_node.specs.Joining.{hears_joined, all_joined, next_peer, files_in_volume, first_among, first_lacked, asks_peer, looks, is_peer, has_file, gives, takes}
 use Rattle.gq_node.specs.Lacks.{Given, lacks_in}
 use Rattle.gq_node.specs.Local.{Local, Doing, Wants, Brings, part_in, state_of, silently, file_fits, recalls, given as given_local}
-use Rattle.gq_node.specs.Seats.{GivesNothing}
+use Rattle.gq_node.specs.SessionStates.{GivesNothing}
 use Rattle.gq_node.specs.Shape.{IsShaped}
 use Rattle.gq_node.specs.Sites.{Site, plan_in, site_of}
-use Rattle.gq_node.specs.Tables.{Tables, Agrees, Leads, LeadsAll, Acts, Gives, given_at, lacks_at, mate_at}
+use Rattle.gq_node.specs.Tables.{Tables, Agrees, Leads, LeadsAll, Acts, Gives, given_at, lacks_at, peer_at}
 use Rattle.gq_node.proofs.Recalling.{copies_put, copies_elsewhere}
-use Rattle.gq_node.proofs.Seating.{same_leads}
+use Rattle.gq_node.proofs.Placing.{same_leads}
 use Rattle.gq_node.proofs.Serving.{limit_is}
 
 -- ---- the server is given a file
@@ -65,16 +65,16 @@ given_leads w file copy store given within h =
         copies = copies_put w file copy store local h.held h.others agrees;
         lacks = λ f. lacks_here w t store given f within ∙ h.lacks f ∙ ap (λ b. b && not (is_file (file_place file) f)) (agrees.lacks f);
         joined = agrees.joined;
-        mate = agrees.mate;
-        seats = agrees.seats;
+        peer = agrees.peer;
+        session_states = agrees.session_states;
       };
       others = λ u other local agrees. record {
         account = agrees.account;
         copies = copies_elsewhere w file store u local other h.others agrees;
         lacks = λ f. lacks_there w t u store given f other ∙ agrees.lacks f;
         joined = agrees.joined;
-        mate = agrees.mate;
-        seats = agrees.seats;
+        peer = agrees.peer;
+        session_states = agrees.session_states;
       };
     }
 
@@ -106,10 +106,10 @@ given_shaped w file copy store given shaped within h long accounts = record {
     | inl same ↦ (subst (λ n. length (given_at new n) ≤ MOST_VOLUMES) (sym same) (subst (λ (g : Given). length g ≤ MOST_VOLUMES) (sym (get_or-set_same w.given t given [] within)) (subst (λ n. n ≤ MOST_VOLUMES) (sym long) (shaped.few_given t))))
     | inr other ↦ (subst (λ (g : Given). length g ≤ MOST_VOLUMES) (sym (get_or-set_other w.given t u given [] other)) (shaped.few_given u))
   ];
-  mates = shaped.mates;
-  grid_mates = shaped.grid_mates;
+  peers = shaped.peers;
+  grid_peers = shaped.grid_peers;
   tenants = shaped.tenants;
-  seats = shaped.seats;
+  session_states = shaped.session_states;
   sessions = shaped.sessions;
 }
   where
@@ -201,10 +201,10 @@ volume_files volumes v = files_in_volume v (files_of volumes v)
 -- ---- whom it asks
 
 -- the tables in which the tenant's files were asked of that place last
-abbrev pub with_mate : Tables → (t place : ℕ) → Tables
-with_mate w t place = record w { mates = slice_set w.mates t place }
+abbrev pub with_peer : Tables → (t place : ℕ) → Tables
+with_peer w t place = record w { peers = slice_set w.peers t place }
 
-pub mated_shaped : (w : Tables) (t place : ℕ) → IsShaped w → t < length w.mates → place < w.plan.grid.rows * w.plan.grid.cols → IsShaped (with_mate w t place)
+pub mated_shaped : (w : Tables) (t place : ℕ) → IsShaped w → t < length w.peers → place < w.plan.grid.rows * w.plan.grid.cols → IsShaped (with_peer w t place)
 mated_shaped w t place shaped within inside = record {
   place = shaped.place;
   few = shaped.few;
@@ -216,13 +216,13 @@ mated_shaped w t place shaped within inside = record {
   whole = shaped.whole;
   bare = shaped.bare;
   few_given = shaped.few_given;
-  mates = length-set w.mates t place ∙ shaped.mates;
-  grid_mates = λ u there. elim (cases_eq u t) [
-    | inl same ↦ (subst (λ n. mate_at (with_mate w t place) n < w.plan.grid.rows * w.plan.grid.cols) (sym same) (subst (λ n. n < w.plan.grid.rows * w.plan.grid.cols) (sym (get_or-set_same w.mates t place 0 within)) inside))
-    | inr other ↦ (subst (λ n. n < w.plan.grid.rows * w.plan.grid.cols) (sym (get_or-set_other w.mates t u place 0 other)) (shaped.grid_mates u there))
+  peers = length-set w.peers t place ∙ shaped.peers;
+  grid_peers = λ u there. elim (cases_eq u t) [
+    | inl same ↦ (subst (λ n. peer_at (with_peer w t place) n < w.plan.grid.rows * w.plan.grid.cols) (sym same) (subst (λ n. n < w.plan.grid.rows * w.plan.grid.cols) (sym (get_or-set_same w.peers t place 0 within)) inside))
+    | inr other ↦ (subst (λ n. n < w.plan.grid.rows * w.plan.grid.cols) (sym (get_or-set_other w.peers t u place 0 other)) (shaped.grid_peers u there))
   ];
   tenants = shaped.tenants;
-  seats = shaped.seats;
+  session_states = shaped.session_states;
   sessions = shaped.sessions;
 }
 
@@ -230,58 +230,58 @@ mated_shaped w t place shaped within inside = record {
 pub first_is : (w : Tables) (t : ℕ) (local : Local) → Agrees w t local → first_among (lacks_at w t) (account_at w.desk t).volumes ≡ first_lacked local
 first_is w t local agrees = (λ i. first_among (λ f. agrees.lacks f i) (account_at w.desk t).volumes) ∙ ap (λ (a : Account). first_among local.lacks a.volumes) agrees.account
 
-asks_none : (site : Site) (local : Local) (place : ℕ) → first_lacked local ≡ None → asks_mate site local place ≡ silently local
+asks_none : (site : Site) (local : Local) (place : ℕ) → first_lacked local ≡ None → asks_peer site local place ≡ silently local
 asks_none site local place is = rw is refl
 
-asks_some : (site : Site) (local : Local) (place : ℕ) (file : File) → first_lacked local ≡ Some file → asks_mate site local place ≡ record (silently (record local { mate = place })) { parcel = Some (Wants (site.node_at place) file) }
+asks_some : (site : Site) (local : Local) (place : ℕ) (file : File) → first_lacked local ≡ Some file → asks_peer site local place ≡ record (silently (record local { peer = place })) { transfer = Some (Wants (site.node_at place) file) }
 asks_some site local place file is = rw is refl
 
-pub none_asked : (w : Tables) (t place : ℕ) (out : Output) → first_among (lacks_at w t) (account_at w.desk t).volumes ≡ None → GivesNothing out → Acts w t (λ site local. asks_mate site local place) out w
+pub none_asked : (w : Tables) (t place : ℕ) (out : Output) → first_among (lacks_at w t) (account_at w.desk t).volumes ≡ None → GivesNothing out → Acts w t (λ site local. asks_peer site local place) out w
 none_asked w t place out is none =
-    let same : (local : Local) → Agrees w t local → asks_mate (site_of w.plan w.here t) local place ≡ silently local = λ local agrees. asks_none (site_of w.plan w.here t) local place (sym (first_is w t local agrees) ∙ is) in
+    let same : (local : Local) → Agrees w t local → asks_peer (site_of w.plan w.here t) local place ≡ silently local = λ local agrees. asks_none (site_of w.plan w.here t) local place (sym (first_is w t local agrees) ∙ is) in
     record {
-      leads = same_leads w t (λ site local. asks_mate site local place) (λ local agrees. ap (λ (d : Doing). d.local) (same local agrees));
-      gives = λ local agrees. subst (λ (d : Doing). Gives t d out) (sym (same local agrees)) (record { answer = none.answer; letters = none.letters; parcel = none.parcel; fact = none.fact });
+      leads = same_leads w t (λ site local. asks_peer site local place) (λ local agrees. ap (λ (d : Doing). d.local) (same local agrees));
+      gives = λ local agrees. subst (λ (d : Doing). Gives t d out) (sym (same local agrees)) (record { answer = none.answer; letters = none.letters; transfer = none.transfer; fact = none.fact });
     }
 
--- the parcel alone is given
-pub record GivesParcel (parcel : Code) (out : Output) : Type 0 where
+-- the transfer alone is given
+pub record GivesTransfer (transfer : Code) (out : Output) : Type 0 where
   pub answer : out.answer ≡ None
   pub letters : out.letters.items ≡ []
-  pub parcel_is : out.parcel ≡ Some parcel
+  pub transfer_is : out.transfer ≡ Some transfer
   pub fact : out.fact ≡ None
 
-pub some_asked : (w : Tables) (t place : ℕ) (file : FileId) (out : Output) → t < length w.mates → file.tenant ≡ t → first_among (lacks_at w t) (account_at w.desk t).volumes ≡ Some (file_place file) → GivesParcel (CodeWants (node_at (plan_in w.here.lost) place) file) out →
-    Acts w t (λ site local. asks_mate site local place) out (with_mate w t place)
+pub some_asked : (w : Tables) (t place : ℕ) (file : FileId) (out : Output) → t < length w.peers → file.tenant ≡ t → first_among (lacks_at w t) (account_at w.desk t).volumes ≡ Some (file_place file) → GivesTransfer (CodeWants (node_at (plan_in w.here.lost) place) file) out →
+    Acts w t (λ site local. asks_peer site local place) out (with_peer w t place)
 some_asked w t place file out within own is given =
-    let same : (local : Local) → Agrees w t local → asks_mate (site_of w.plan w.here t) local place ≡ record (silently (record local { mate = place })) { parcel = Some (Wants (node_at (plan_in w.here.lost) place) (file_place file)) } =
+    let same : (local : Local) → Agrees w t local → asks_peer (site_of w.plan w.here t) local place ≡ record (silently (record local { peer = place })) { transfer = Some (Wants (node_at (plan_in w.here.lost) place) (file_place file)) } =
     λ local agrees. asks_some (site_of w.plan w.here t) local place (file_place file) (sym (first_is w t local agrees) ∙ is) in
     let its : file ≡ file_of t (file_place file) = λ i. record { tenant = own i; volume = file.volume; file = file.file } in
     record {
       leads = record {
         plan = refl;
         here = refl;
-        own = λ local agrees. subst (λ (d : Doing). Agrees (with_mate w t place) t d.local) (sym (same local agrees)) (record {
+        own = λ local agrees. subst (λ (d : Doing). Agrees (with_peer w t place) t d.local) (sym (same local agrees)) (record {
           account = agrees.account;
           copies = agrees.copies;
           lacks = agrees.lacks;
           joined = agrees.joined;
-          mate = get_or-set_same w.mates t place 0 within;
-          seats = agrees.seats;
+          peer = get_or-set_same w.peers t place 0 within;
+          session_states = agrees.session_states;
         });
         others = λ u other local agrees. record {
           account = agrees.account;
           copies = agrees.copies;
           lacks = agrees.lacks;
           joined = agrees.joined;
-          mate = get_or-set_other w.mates t u place 0 other ∙ agrees.mate;
-          seats = agrees.seats;
+          peer = get_or-set_other w.peers t u place 0 other ∙ agrees.peer;
+          session_states = agrees.session_states;
         };
       };
       gives = λ local agrees. subst (λ (d : Doing). Gives t d out) (sym (same local agrees)) (record {
         answer = given.answer;
         letters = given.letters;
-        parcel = given.parcel_is ∙ ap (λ (f : FileId). Some (CodeWants (node_at (plan_in w.here.lost) place) f)) its;
+        transfer = given.transfer_is ∙ ap (λ (f : FileId). Some (CodeWants (node_at (plan_in w.here.lost) place) f)) its;
         fact = given.fact;
       });
     }
@@ -292,7 +292,7 @@ some_asked w t place file out within own is given =
 pub quiet_acts : (w : Tables) (t : ℕ) (step : Site → Local → Doing) (out : Output) → ((local : Local) → Agrees w t local → step (site_of w.plan w.here t) local ≡ silently local) → GivesNothing out → Acts w t step out w
 quiet_acts w t step out same none = record {
   leads = same_leads w t step (λ local agrees. ap (λ (d : Doing). d.local) (same local agrees));
-  gives = λ local agrees. subst (λ (d : Doing). Gives t d out) (sym (same local agrees)) (record { answer = none.answer; letters = none.letters; parcel = none.parcel; fact = none.fact });
+  gives = λ local agrees. subst (λ (d : Doing). Gives t d out) (sym (same local agrees)) (record { answer = none.answer; letters = none.letters; transfer = none.transfer; fact = none.fact });
 }
 
 -- what the one step does the other does
@@ -315,16 +315,16 @@ looks_not w t out not' none = quiet_acts w t looks out (λ local agrees. by loca
     by : (local : Local) → all_joined (site_of w.plan w.here t) local.joined ≡ false → looks (site_of w.plan w.here t) local ≡ silently local
     by local is = rw is refl
 
-pub looks_on : (w new : Tables) (t place : ℕ) (out : Output) → ((u : ℕ) → all_joined (site_of w.plan w.here u) (servers w.joined) ≡ true) → ((u : ℕ) → place ≡ next_mate (site_of w.plan w.here u) (mate_at w t)) → Acts w t (λ site local. asks_mate site local place) out new → Acts w t looks out new
-looks_on w new t place out all next acts = same_acts w new t looks (λ site local. asks_mate site local place) out (λ local agrees. by local (ap (all_joined site) (sym agrees.joined) ∙ all t) ∙ ap (asks_mate site local) (ap (next_mate site) (sym agrees.mate) ∙ sym (next t))) acts
+pub looks_on : (w new : Tables) (t place : ℕ) (out : Output) → ((u : ℕ) → all_joined (site_of w.plan w.here u) (servers w.joined) ≡ true) → ((u : ℕ) → place ≡ next_peer (site_of w.plan w.here u) (peer_at w t)) → Acts w t (λ site local. asks_peer site local place) out new → Acts w t looks out new
+looks_on w new t place out all next acts = same_acts w new t looks (λ site local. asks_peer site local place) out (λ local agrees. by local (ap (all_joined site) (sym agrees.joined) ∙ all t) ∙ ap (asks_peer site local) (ap (next_peer site) (sym agrees.peer) ∙ sym (next t))) acts
   where
     site : Site
     site = site_of w.plan w.here t
 
-    by : (local : Local) → all_joined site local.joined ≡ true → looks site local ≡ asks_mate site local (next_mate site local.mate)
+    by : (local : Local) → all_joined site local.joined ≡ true → looks site local ≡ asks_peer site local (next_peer site local.peer)
     by local is = rw is refl
 
--- ---- a mate asks for a file
+-- ---- a peer asks for a file
 
 -- whether the file is there
 pub there_is : (w : Tables) (file : FileId) (local : Local) → Agrees w file.tenant local → is_some (limit_of w.desk file) ≡ is_some (limit_at (state_of everyone local) file.volume file.file)
@@ -335,22 +335,22 @@ file_is w file local agrees =
     ap (λ b. b && not (local.lacks (file_place file))) (sym (there_is w file local agrees))
     ∙ ap (λ b. is_some (limit_of w.desk file) && not b) (sym (agrees.lacks (file_place file)))
 
-given_by : (w : Tables) (from : ℕ) (file : FileId) (local : Local) → Agrees w file.tenant local → (b : Bool) → gives_it w from file ≡ b → (is_mate (site_of w.plan w.here file.tenant) from && has_file local (file_place file)) ≡ b
-given_by w from file local agrees b is = ap (λ h. is_mate (site_of w.plan w.here file.tenant) from && h) (file_is w file local agrees) ∙ is
+given_by : (w : Tables) (from : ℕ) (file : FileId) (local : Local) → Agrees w file.tenant local → (b : Bool) → gives_it w from file ≡ b → (is_peer (site_of w.plan w.here file.tenant) from && has_file local (file_place file)) ≡ b
+given_by w from file local agrees b is = ap (λ h. is_peer (site_of w.plan w.here file.tenant) from && h) (file_is w file local agrees) ∙ is
 
 pub gives_not : (w : Tables) (from : ℕ) (file : FileId) (out : Output) → gives_it w from file ≡ false → GivesNothing out → Acts w file.tenant (gives from (file_place file)) out w
 gives_not w from file out not' none = quiet_acts w file.tenant (gives from (file_place file)) out (λ local agrees. by local (given_by w from file local agrees false not')) none
   where
-    by : (local : Local) → (is_mate (site_of w.plan w.here file.tenant) from && has_file local (file_place file)) ≡ false → gives from (file_place file) (site_of w.plan w.here file.tenant) local ≡ silently local
+    by : (local : Local) → (is_peer (site_of w.plan w.here file.tenant) from && has_file local (file_place file)) ≡ false → gives from (file_place file) (site_of w.plan w.here file.tenant) local ≡ silently local
     by local is = rw is refl
 
-pub gives_so : (w : Tables) (from : ℕ) (file : FileId) (copy : StoredCopy) (out : Output) → gives_it w from file ≡ true → copy ≡ copy_at w.store file → GivesParcel (CodeBrings from file copy) out → Acts w file.tenant (gives from (file_place file)) out w
+pub gives_so : (w : Tables) (from : ℕ) (file : FileId) (copy : StoredCopy) (out : Output) → gives_it w from file ≡ true → copy ≡ copy_at w.store file → GivesTransfer (CodeBrings from file copy) out → Acts w file.tenant (gives from (file_place file)) out w
 gives_so w from file copy out is its given = record {
   leads = same_leads w t (gives from (file_place file)) (λ local agrees. ap (λ (d : Doing). d.local) (same local agrees));
   gives = λ local agrees. subst (λ (d : Doing). Gives t d out) (sym (same local agrees)) (record {
     answer = given.answer;
     letters = given.letters;
-    parcel = given.parcel_is ∙ ap (λ c. Some (CodeBrings from file c)) (its ∙ agrees.copies (file_place file));
+    transfer = given.transfer_is ∙ ap (λ c. Some (CodeBrings from file c)) (its ∙ agrees.copies (file_place file));
     fact = given.fact;
   });
 }
@@ -358,47 +358,47 @@ gives_so w from file copy out is its given = record {
     t : ℕ
     t = file.tenant
 
-    by : (local : Local) → (is_mate (site_of w.plan w.here t) from && has_file local (file_place file)) ≡ true →
-        gives from (file_place file) (site_of w.plan w.here t) local ≡ record (silently local) { parcel = Some (Brings from (file_place file) (copy_in (part_in local) (file_place file))) }
+    by : (local : Local) → (is_peer (site_of w.plan w.here t) from && has_file local (file_place file)) ≡ true →
+        gives from (file_place file) (site_of w.plan w.here t) local ≡ record (silently local) { transfer = Some (Brings from (file_place file) (copy_in (part_in local) (file_place file))) }
     by local is = rw is refl
 
-    same : (local : Local) → Agrees w t local → gives from (file_place file) (site_of w.plan w.here t) local ≡ record (silently local) { parcel = Some (Brings from (file_place file) (copy_in (part_in local) (file_place file))) }
+    same : (local : Local) → Agrees w t local → gives from (file_place file) (site_of w.plan w.here t) local ≡ record (silently local) { transfer = Some (Brings from (file_place file) (copy_in (part_in local) (file_place file))) }
     same local agrees = by local (given_by w from file local agrees true is)
 
--- ---- a mate gives a file
+-- ---- a peer gives a file
 
 taken_by : (w : Tables) (from : ℕ) (file : FileId) (copy : StoredCopy) (local : Local) → Agrees w file.tenant local → (b : Bool) → takes_it w from file copy ≡ b →
-    (is_mate (site_of w.plan w.here file.tenant) from && local.lacks (file_place file) && file_fits (limit_at (state_of everyone local) file.volume file.file) (Store copy)) ≡ b
+    (is_peer (site_of w.plan w.here file.tenant) from && local.lacks (file_place file) && file_fits (limit_at (state_of everyone local) file.volume file.file) (Store copy)) ≡ b
 taken_by w from file copy local agrees b is =
-    ap (λ l. is_mate (site_of w.plan w.here file.tenant) from && l && file_fits (limit_at (state_of everyone local) file.volume file.file) (Store copy)) (sym (agrees.lacks (file_place file)))
-    ∙ ap (λ o. is_mate (site_of w.plan w.here file.tenant) from && lacks_at w file.tenant (file_place file) && file_fits o (Store copy)) (sym (limit_is w file.tenant file local refl agrees))
+    ap (λ l. is_peer (site_of w.plan w.here file.tenant) from && l && file_fits (limit_at (state_of everyone local) file.volume file.file) (Store copy)) (sym (agrees.lacks (file_place file)))
+    ∙ ap (λ o. is_peer (site_of w.plan w.here file.tenant) from && lacks_at w file.tenant (file_place file) && file_fits o (Store copy)) (sym (limit_is w file.tenant file local refl agrees))
     ∙ is
 
 pub takes_not : (w : Tables) (from : ℕ) (file : FileId) (copy : StoredCopy) (out : Output) → takes_it w from file copy ≡ false → GivesNothing out → Acts w file.tenant (takes from (file_place file) copy) out w
 takes_not w from file copy out not' none = quiet_acts w file.tenant (takes from (file_place file) copy) out (λ local agrees. by local (taken_by w from file copy local agrees false not')) none
   where
-    by : (local : Local) → (is_mate (site_of w.plan w.here file.tenant) from && local.lacks (file_place file) && file_fits (limit_at (state_of everyone local) file.volume file.file) (Store copy)) ≡ false →
+    by : (local : Local) → (is_peer (site_of w.plan w.here file.tenant) from && local.lacks (file_place file) && file_fits (limit_at (state_of everyone local) file.volume file.file) (Store copy)) ≡ false →
         takes from (file_place file) copy (site_of w.plan w.here file.tenant) local ≡ silently local
     by local is = rw is refl
 
 -- the server has the file, and the next one is asked for
 pub takes_so : (w mid new : Tables) (from : ℕ) (file : FileId) (copy : StoredCopy) (asked out : Output) → takes_it w from file copy ≡ true → Leads w file.tenant (λ site local. silently (given_local (file_place file) copy local)) mid →
-    Acts mid file.tenant (λ site local. asks_mate site local (place_of from)) asked new → out.answer ≡ None → out.letters.items ≡ [] → out.parcel ≡ asked.parcel → out.fact ≡ Some (WasGiven file copy) → Acts w file.tenant (takes from (file_place file) copy) out new
-takes_so w mid new from file copy asked out is gets asks answer letters parcel fact = record {
+    Acts mid file.tenant (λ site local. asks_peer site local (place_of from)) asked new → out.answer ≡ None → out.letters.items ≡ [] → out.transfer ≡ asked.transfer → out.fact ≡ Some (WasGiven file copy) → Acts w file.tenant (takes from (file_place file) copy) out new
+takes_so w mid new from file copy asked out is gets asks answer letters transfer fact = record {
   leads = record {
     plan = asks.leads.plan ∙ gets.plan;
     here = asks.leads.here ∙ gets.here;
     own = λ local agrees.
         subst (λ (d : Doing). Agrees new t d.local) (sym (same local agrees))
-        (subst (λ (s : Site). Agrees new t (asks_mate s (after local) (place_of from)).local) site_is (asks.leads.own (after local) (gets.own local agrees)));
+        (subst (λ (s : Site). Agrees new t (asks_peer s (after local) (place_of from)).local) site_is (asks.leads.own (after local) (gets.own local agrees)));
     others = λ u other local agrees. asks.leads.others u other local (gets.others u other local agrees);
   };
   gives = λ local agrees.
-      let next : Gives t (asks_mate site (after local) (place_of from)) asked = subst (λ (s : Site). Gives t (asks_mate s (after local) (place_of from)) asked) site_is (asks.gives (after local) (gets.own local agrees)) in
+      let next : Gives t (asks_peer site (after local) (place_of from)) asked = subst (λ (s : Site). Gives t (asks_peer s (after local) (place_of from)) asked) site_is (asks.gives (after local) (gets.own local agrees)) in
       subst (λ (d : Doing). Gives t d out) (sym (same local agrees)) (record {
         answer = answer ∙ sym (asked_quiet (after local)).0;
         letters = letters ∙ sym (ap (map (message_of t)) (asked_quiet (after local)).1);
-        parcel = parcel ∙ next.parcel;
+        transfer = transfer ∙ next.transfer;
         fact = fact;
       });
 }
@@ -415,18 +415,18 @@ takes_so w mid new from file copy asked out is gets asks answer letters parcel f
     site_is : site_of mid.plan mid.here t ≡ site
     site_is = ap (λ p. site_of p mid.here t) gets.plan ∙ ap (λ x. site_of w.plan x t) gets.here
 
-    asked_quiet : (local : Local) → ((asks_mate site local (place_of from)).answer ≡ None) × ((asks_mate site local (place_of from)).letters ≡ [])
+    asked_quiet : (local : Local) → ((asks_peer site local (place_of from)).answer ≡ None) × ((asks_peer site local (place_of from)).letters ≡ [])
     asked_quiet local = by (first_lacked local) refl
       where
-        by : (o : Option File) → first_lacked local ≡ o → ((asks_mate site local (place_of from)).answer ≡ None) × ((asks_mate site local (place_of from)).letters ≡ [])
+        by : (o : Option File) → first_lacked local ≡ o → ((asks_peer site local (place_of from)).answer ≡ None) × ((asks_peer site local (place_of from)).letters ≡ [])
         by None is = rw is (refl, refl)
         by (Some f) is = rw is (refl, refl)
 
-    by : (local : Local) → (is_mate site from && local.lacks (file_place file) && file_fits (limit_at (state_of everyone local) file.volume file.file) (Store copy)) ≡ true →
-        takes from (file_place file) copy site local ≡ record (asks_mate site (after local) (place_of from)) { fact = Some (Had (file_place file) copy) }
+    by : (local : Local) → (is_peer site from && local.lacks (file_place file) && file_fits (limit_at (state_of everyone local) file.volume file.file) (Store copy)) ≡ true →
+        takes from (file_place file) copy site local ≡ record (asks_peer site (after local) (place_of from)) { fact = Some (Had (file_place file) copy) }
     by local is = rw is refl
 
-    same : (local : Local) → Agrees w t local → takes from (file_place file) copy site local ≡ record (asks_mate site (after local) (place_of from)) { fact = Some (Had (file_place file) copy) }
+    same : (local : Local) → Agrees w t local → takes from (file_place file) copy site local ≡ record (asks_peer site (after local) (place_of from)) { fact = Some (Had (file_place file) copy) }
     same local agrees = by local (taken_by w from file copy local agrees true is)
 
 -- ---- another node joins
@@ -449,8 +449,8 @@ joins_so w from losses set is more = record {
     copies = agrees.copies;
     lacks = agrees.lacks;
     joined = more ∙ ap (with_server (place_of from)) agrees.joined;
-    mate = agrees.mate;
-    seats = agrees.seats;
+    peer = agrees.peer;
+    session_states = agrees.session_states;
   });
 }
   where
@@ -491,9 +491,9 @@ stored_shaped w file store shaped has others accounts = record {
       let apart : file_of u f ≢ file = λ e. true≢false (sym lacks ∙ (λ i. lacks_at w (e i).tenant (file_place (e i))) ∙ has) in
       others (file_of u f) apart ∙ shaped.bare u f lacks;
   few_given = shaped.few_given;
-  mates = shaped.mates;
-  grid_mates = shaped.grid_mates;
+  peers = shaped.peers;
+  grid_peers = shaped.grid_peers;
   tenants = shaped.tenants;
-  seats = shaped.seats;
+  session_states = shaped.session_states;
   sessions = shaped.sessions;
 }

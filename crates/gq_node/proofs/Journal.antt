@@ -24,7 +24,7 @@ use Rattle.gq_node.specs.declared.output.Admission.TheVariants.{Tells, Passes, G
 use Rattle.gq_cluster.specs.Facts.{OwnFact, Begun, Numbered, Kept, Had, Reserved, greatest_op, greatest_number, last_of_run, reserving, reserved_by}
 use Rattle.gq_node.specs.Local.{Local, Resident, Doing, part_in, state_of, state_for, aim_at, tries_next, asker, begins, admission_in, asks, asked_by, goes_on, answer_of, with_resident, receives, serves, hears, brings, ticks, waits_on, letter_fits, file_fits, has_above, of_round, fits_local, given, recalls, recalled, rested}
 use Rattle.gq_node.specs.Inputs.{Input, Asked, AskedPlan, Brought, Ticked, Looked, Joined, Fetching, Fetched, does}
-use Rattle.gq_node.specs.Joining.{hears_joined, all_joined, next_mate, first_lacked, asks_mate, looks, is_mate, has_file, gives, takes}
+use Rattle.gq_node.specs.Joining.{hears_joined, all_joined, next_peer, first_lacked, asks_peer, looks, is_peer, has_file, gives, takes}
 use Rattle.gq_node.specs.Resting.{IsBare}
 use Rattle.gq_node.specs.Sites.{Site, has_session, is_new, has_node}
 use Rattle.gq_node.proofs.Asking.{goes_home}
@@ -125,7 +125,7 @@ request_keeps op line site local its = by (admission_in site local k op (begins 
     step = asked_step site.grid site.row (state_of aim local) line
 
     said : IsHome site k → (b : Bool) → is_refusal step.told ≡ b → Keeps site local (asked_by local k op (state_of aim local) line step)
-    said inside true is = let same : asked_by local k op (state_of aim local) line step ≡ record { local = local; answer = answer_of k op (local.residents k).session.op step.told; letters = []; parcel = None; fact = None } = rw is refl in subst (Keeps site local) (sym same) refl
+    said inside true is = let same : asked_by local k op (state_of aim local) line step ≡ record { local = local; answer = answer_of k op (local.residents k).session.op step.told; letters = []; transfer = None; fact = None } = rw is refl in subst (Keeps site local) (sym same) refl
     said inside false is =
         let same : asked_by local k op (state_of aim local) line step ≡ goes_on local k op false (state_of aim local) (entry_of (state_of aim local) (Own line) step) = rw is refl in
         subst (Keeps site local) (sym same) (told_keeps site local k _ step.told _ inside refl)
@@ -273,10 +273,10 @@ joined_keeps from losses site local = by (is_new site && has_node site from && l
     by true is = rw is refl
     by false is = rw is refl
 
-pub asked_mate : (site : Site) (local : Local) (place : ℕ) → (part_in (asks_mate site local place).local ≡ part_in local) × ((asks_mate site local place).fact ≡ None)
-asked_mate site local place = by (first_lacked local) refl
+pub asked_peer : (site : Site) (local : Local) (place : ℕ) → (part_in (asks_peer site local place).local ≡ part_in local) × ((asks_peer site local place).fact ≡ None)
+asked_peer site local place = by (first_lacked local) refl
   where
-    by : (o : Option File) → first_lacked local ≡ o → (part_in (asks_mate site local place).local ≡ part_in local) × ((asks_mate site local place).fact ≡ None)
+    by : (o : Option File) → first_lacked local ≡ o → (part_in (asks_peer site local place).local ≡ part_in local) × ((asks_peer site local place).fact ≡ None)
     by None is = rw is (refl, refl)
     by (Some file) is = rw is (refl, refl)
 
@@ -285,16 +285,16 @@ looks_keep site local = by (all_joined site local.joined) refl
   where
     by : (b : Bool) → all_joined site local.joined ≡ b → Keeps site local (looks site local)
     by true is =
-        let same : looks site local ≡ asks_mate site local (next_mate site local.mate) = rw is refl in
-        let asked = asked_mate site local (next_mate site local.mate) in
+        let same : looks site local ≡ asks_peer site local (next_peer site local.peer) = rw is refl in
+        let asked = asked_peer site local (next_peer site local.peer) in
         let P : Option OwnFact → Part → Type 0 = λ fact part. KeepsBy site local fact part in
-        subst (Keeps site local) (sym same) (subst (λ x. P x (part_in (asks_mate site local (next_mate site local.mate)).local)) (sym asked.1) (subst (P None) (sym asked.0) refl))
+        subst (Keeps site local) (sym same) (subst (λ x. P x (part_in (asks_peer site local (next_peer site local.peer)).local)) (sym asked.1) (subst (P None) (sym asked.0) refl))
     by false is = rw is refl
 
 gives_keep : (from : ℕ) (file : File) (site : Site) (local : Local) → Keeps site local (gives from file site local)
-gives_keep from file site local = by (is_mate site from && has_file local file) refl
+gives_keep from file site local = by (is_peer site from && has_file local file) refl
   where
-    by : (b : Bool) → (is_mate site from && has_file local file) ≡ b → Keeps site local (gives from file site local)
+    by : (b : Bool) → (is_peer site from && has_file local file) ≡ b → Keeps site local (gives from file site local)
     by true is = rw is refl
     by false is = rw is refl
 
@@ -318,15 +318,15 @@ pub takes_keep : (from : ℕ) (file : File) (copy : StoredCopy) (site : Site) (l
 takes_keep from file copy site local bare = by fits refl
   where
     fits : Bool
-    fits = is_mate site from && local.lacks file && file_fits (limit_at (state_of everyone local) file.volume file.place) (Store copy)
+    fits = is_peer site from && local.lacks file && file_fits (limit_at (state_of everyone local) file.volume file.place) (Store copy)
 
     by : (b : Bool) → fits ≡ b → Keeps site local (takes from file copy site local)
     by false is = rw is refl
     by true is =
-        let parts = and_parts (is_mate site from && local.lacks file) (file_fits (limit_at (state_of everyone local) file.volume file.place) (Store copy)) is in
-        let lacks : local.lacks file ≡ true = (and_parts (is_mate site from) (local.lacks file) parts.0).1 in
-        let asked = asked_mate site (given file copy local) (place_of from) in
-        let same : takes from file copy site local ≡ record (asks_mate site (given file copy local) (place_of from)) { fact = Some (Had file copy) } = rw is refl in
+        let parts = and_parts (is_peer site from && local.lacks file) (file_fits (limit_at (state_of everyone local) file.volume file.place) (Store copy)) is in
+        let lacks : local.lacks file ≡ true = (and_parts (is_peer site from) (local.lacks file) parts.0).1 in
+        let asked = asked_peer site (given file copy local) (place_of from) in
+        let same : takes from file copy site local ≡ record (asks_peer site (given file copy local) (place_of from)) { fact = Some (Had file copy) } = rw is refl in
         subst (Keeps site local) (sym same)
         (ap files_of_part asked.0 ∙ given_files local file copy (bare file lacks), (parts.1, bare file lacks))
 

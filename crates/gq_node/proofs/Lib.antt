@@ -31,7 +31,7 @@ pub mod Progress
 pub mod Recalling
 pub mod Receiving
 pub mod Reserving
-pub mod Seating
+pub mod Placing
 pub mod Serving
 pub mod Sitting
 pub mod Starting

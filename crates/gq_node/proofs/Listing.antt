@@ -13,8 +13,8 @@ use Rattle.gq_model.specs.Trace.{files_of}
 use Rattle.gq_model.specs.Lone.{Cause, first_cause}
 use Rattle.gq_node.specs.Asking.{volume_causes}
 use Rattle.gq_node.specs.Sites.{site_of, has_session}
-use Rattle.gq_node.specs.Tables.{Tables, seat_at}
-use Rattle.gq_node.proofs.Seating.{in_range}
+use Rattle.gq_node.specs.Tables.{Tables, session_state_at}
+use Rattle.gq_node.proofs.Placing.{in_range}
 use Rattle.gq_node.proofs.Asking.{first_none}
 
 volume_there : (volumes : List VolumeRow) (v : ℕ) → not (nat_lt v (length volumes)) ≡ false → v < length volumes
@@ -25,9 +25,9 @@ pub listed_there : (w : Tables) (t k v : ℕ) → first_cause (volume_causes w t
 listed_there w t k v is =
     let volumes : List VolumeRow = (account_at w.desk t).volumes in
     let c2 : List Cause = (not (nat_lt v (length volumes)), NoVolume) ∷ [] in
-    let c1 : List Cause = (is_some (seat_at w t k).operation, Busy) ∷ c2 in
+    let c1 : List Cause = (is_some (session_state_at w t k).operation, Busy) ∷ c2 in
     let a = first_none (not (has_session (site_of w.plan w.here t) k), NoSession) c1 is in
-    let b = first_none (is_some (seat_at w t k).operation, Busy) c2 a.1 in
+    let b = first_none (is_some (session_state_at w t k).operation, Busy) c2 a.1 in
     let c = first_none (not (nat_lt v (length volumes)), NoVolume) [] b.1 in
     volume_there volumes v c.0
 

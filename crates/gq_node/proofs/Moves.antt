@@ -27,7 +27,7 @@ use Rattle.gq_node.specs.declared.output.Admission.{Admission}
 use Rattle.gq_node.specs.declared.output.Admission.TheVariants.{Tells, Passes, Goes}
 use Rattle.gq_node.specs.Again.{told_at_home, told_again, AllToldAgain, session_in, number_in, TellsEnd}
 use Rattle.gq_node.specs.Inputs.{Input, Asked, AskedPlan, Brought, Ticked, Looked, Joined, Fetching, Fetched, does}
-use Rattle.gq_node.specs.Joining.{hears_joined, all_joined, next_mate, first_lacked, asks_mate, looks, is_mate, has_file, gives, takes}
+use Rattle.gq_node.specs.Joining.{hears_joined, all_joined, next_peer, first_lacked, asks_peer, looks, is_peer, has_file, gives, takes}
 use Rattle.gq_node.specs.Local.{Local, Resident, Doing, Brings, given, file_fits, part_in, silently, state_of, state_for, aim_at, with_resident, tries_next, asker, begins, ended, again, own_admission, admission, admission_in, asks, asks_in, asked_by, goes_on, answer_of, refused_with, outcome_after, receives, at_server, serves, hears, brings, ticks, waits_on, letter_fits, has_above, of_round}
 use Rattle.gq_node.specs.Once.{begun_by}
 use Rattle.gq_node.specs.Sites.{Site, has_session, is_new, has_node}
@@ -459,7 +459,7 @@ goes_on_turns site local j n doing r told floor here part answer reserved after 
 
 -- ---- a request
 
-told_still : (site : Site) (local : Local) (n j : ℕ) (b : Bool) (answer : Answer) → admission_in site local j n b ≡ Tells answer → IsStill site local (record { local = local; answer = Some answer; letters = []; parcel = None; fact = None })
+told_still : (site : Site) (local : Local) (n j : ℕ) (b : Bool) (answer : Answer) → admission_in site local j n b ≡ Tells answer → IsStill site local (record { local = local; answer = Some answer; letters = []; transfer = None; fact = None })
 told_still site local n j b answer is = record {
   reserved = λ k. refl;
   each = λ k. alike_refl (local.residents k);
@@ -477,7 +477,7 @@ refusal_no_end j n last k op (Done outcome) answer refused is tells = absurd (cc
 refusal_no_end j n last k op Abandoned answer refused is tells = absurd (cc)
 refusal_no_end j n last k op told answer refused is tells = absurd (cc)
 
-refused_still : (site : Site) (local : Local) (j n : ℕ) (told : Told) → is_refusal told ≡ true → IsStill site local (record { local = local; answer = answer_of j n (local.residents j).session.op told; letters = []; parcel = None; fact = None })
+refused_still : (site : Site) (local : Local) (j n : ℕ) (told : Told) → is_refusal told ≡ true → IsStill site local (record { local = local; answer = answer_of j n (local.residents j).session.op told; letters = []; transfer = None; fact = None })
 refused_still site local j n told refused = record {
   reserved = λ k. refl;
   each = λ k. alike_refl (local.residents k);
@@ -527,7 +527,7 @@ request_moves op line k site local turn = by (admission_in site local k op (begi
 
     said : admission_in site local k op (begins line) ≡ Goes → (b : Bool) → is_refusal step.told ≡ b → Moves site local (asked_by local k op (state_of aim local) line step)
     said goes true is =
-        let e : asked_by local k op (state_of aim local) line step ≡ record { local = local; answer = answer_of k op r.session.op step.told; letters = []; parcel = None; fact = None } = rw is refl in
+        let e : asked_by local k op (state_of aim local) line step ≡ record { local = local; answer = answer_of k op r.session.op step.told; letters = []; transfer = None; fact = None } = rw is refl in
         subst (Moves site local) (sym e) (Stays (refused_still site local k op step.told is))
     said goes false is =
         let doing : Doing = goes_on local k op false (state_of aim local) (entry_of (state_of aim local) (Own line) step) in
@@ -539,7 +539,7 @@ request_moves op line k site local turn = by (admission_in site local k op (begi
 
     by : (g : Admission) → admission_in site local k op (begins line) ≡ g → Moves site local (asks op line site local)
     by (Tells answer) is =
-        let e : asks_in site local op line k ≡ record { local = local; answer = Some answer; letters = []; parcel = None; fact = None } = rw is refl in
+        let e : asks_in site local op line k ≡ record { local = local; answer = Some answer; letters = []; transfer = None; fact = None } = rw is refl in
         subst (Moves site local) (sym (same ∙ e)) (Stays (told_still site local op k (begins line) answer is))
     by Passes is =
         let e : asks_in site local op line k ≡ silently local = rw is refl in
@@ -688,10 +688,10 @@ ticks_move k site local = elim (cases_Bool (is_some (local.residents k).session.
 
 -- ---- what a new node asks for and is given
 
-pub asks_quiet : (site : Site) (local : Local) (place : ℕ) → ((asks_mate site local place).local.residents ≡ local.residents) × ((asks_mate site local place).answer ≡ None)
+pub asks_quiet : (site : Site) (local : Local) (place : ℕ) → ((asks_peer site local place).local.residents ≡ local.residents) × ((asks_peer site local place).answer ≡ None)
 asks_quiet site local place = by (first_lacked local) refl
   where
-    by : (o : Option File) → first_lacked local ≡ o → ((asks_mate site local place).local.residents ≡ local.residents) × ((asks_mate site local place).answer ≡ None)
+    by : (o : Option File) → first_lacked local ≡ o → ((asks_peer site local place).local.residents ≡ local.residents) × ((asks_peer site local place).answer ≡ None)
     by None is = rw is (refl, refl)
     by (Some file) is = rw is (refl, refl)
 
@@ -699,9 +699,9 @@ looks_move : (site : Site) (local : Local) → Moves site local (looks site loca
 looks_move site local = elim (cases_Bool (all_joined site local.joined)) [
   | inr not' ↦ (let e : looks site local ≡ silently local = rw not' refl in subst (Moves site local) (sym e) (Stays (quiet site local (silently local) refl refl)))
   | inl all ↦ (
-      let place : ℕ = next_mate site local.mate in
-      let e : looks site local ≡ asks_mate site local place = rw all refl in
-      subst (Moves site local) (sym e) (Stays (quiet site local (asks_mate site local place) (asks_quiet site local place).0 (asks_quiet site local place).1)))
+      let place : ℕ = next_peer site local.peer in
+      let e : looks site local ≡ asks_peer site local place = rw all refl in
+      subst (Moves site local) (sym e) (Stays (quiet site local (asks_peer site local place) (asks_quiet site local place).0 (asks_quiet site local place).1)))
 ]
 
 joins_move : (from losses : ℕ) (site : Site) (local : Local) → Moves site local (hears_joined from losses site local)
@@ -712,19 +712,19 @@ joins_move from losses site local = by (is_new site && has_node site from && los
     by false is = rw is (Stays (quiet site local (silently local) refl refl))
 
 gives_move : (from : ℕ) (file : File) (site : Site) (local : Local) → Moves site local (gives from file site local)
-gives_move from file site local = by (is_mate site from && has_file local file) refl
+gives_move from file site local = by (is_peer site from && has_file local file) refl
   where
-    by : (b : Bool) → (is_mate site from && has_file local file) ≡ b → Moves site local (gives from file site local)
-    by true is = rw is (Stays (quiet site local (record (silently local) { parcel = Some (Brings from file (copy_in (part_in local) file)) }) refl refl))
+    by : (b : Bool) → (is_peer site from && has_file local file) ≡ b → Moves site local (gives from file site local)
+    by true is = rw is (Stays (quiet site local (record (silently local) { transfer = Some (Brings from file (copy_in (part_in local) file)) }) refl refl))
     by false is = rw is (Stays (quiet site local (silently local) refl refl))
 
 takes_move : (from : ℕ) (file : File) (copy : StoredCopy) (site : Site) (local : Local) → Moves site local (takes from file copy site local)
-takes_move from file copy site local = by (is_mate site from && local.lacks file && file_fits (limit_at (state_of everyone local) file.volume file.place) (Store copy)) refl
+takes_move from file copy site local = by (is_peer site from && local.lacks file && file_fits (limit_at (state_of everyone local) file.volume file.place) (Store copy)) refl
   where
     asked : Doing
-    asked = asks_mate site (given file copy local) (place_of from)
+    asked = asks_peer site (given file copy local) (place_of from)
 
-    by : (b : Bool) → (is_mate site from && local.lacks file && file_fits (limit_at (state_of everyone local) file.volume file.place) (Store copy)) ≡ b → Moves site local (takes from file copy site local)
+    by : (b : Bool) → (is_peer site from && local.lacks file && file_fits (limit_at (state_of everyone local) file.volume file.place) (Store copy)) ≡ b → Moves site local (takes from file copy site local)
     by true is =
         let q = asks_quiet site (given file copy local) (place_of from) in
         let e : takes from file copy site local ≡ record asked { fact = Some (Had file copy) } = rw is refl in

@@ -28,16 +28,16 @@ use Rattle.gq_cluster.specs.Facts.{OwnFact, Begun, Numbered, Kept, Had}
 use Rattle.gq_node.specs.Local.{Local, state_of, recalled, fact_fits, fits_local, file_fits, file_in}
 use Rattle.gq_node.specs.Recalling.{tenant_of, own_fact, fits_in}
 use Rattle.gq_node.specs.Resting.{begun_floor, first_in, begun_local, recall_one, recall_all, those_of, IsAtRest, AllOfPlan, Needed}
-use Rattle.gq_node.specs.Needing.{is_own, begun_facts, number_facts, numbers_facts, seat_facts, place_numbers, seats_facts, copy_facts, file_facts, file_at, place_facts, files_in, volume_facts, volumes_facts, tenant_facts, all_facts, IsReadable, PlaceReadable, AllReadable, IsRefusedOf, IsRefusedIn}
+use Rattle.gq_node.specs.Needing.{is_own, begun_facts, number_facts, numbers_facts, session_state_facts, place_numbers, session_states_facts, copy_facts, file_facts, file_at, place_facts, files_in, volume_facts, volumes_facts, tenant_facts, all_facts, IsReadable, PlaceReadable, AllReadable, IsRefusedOf, IsRefusedIn}
 use Rattle.gq_node.specs.Shape.{IsShaped}
 use Rattle.gq_desk.specs.declared.limits.TheConstants.{MOST_SESSIONS}
-use Rattle.gq_node.specs.Sites.{Site, seat_place, session_at, home_place, home_of, site_of, has_session}
-use Rattle.gq_node.specs.Tables.{Tables, Agrees, IsOfPlan, seat_at, fact_of, lacks_at, is_new_node}
+use Rattle.gq_node.specs.Sites.{Site, session_state_place, session_at, home_place, home_of, site_of, has_session}
+use Rattle.gq_node.specs.Tables.{Tables, Agrees, IsOfPlan, session_state_at, fact_of, lacks_at, is_new_node}
 use Rattle.gq_node.proofs.Listing.{files_at}
 use Rattle.gq_node.proofs.Recalling.{recalls_fits, all_behind}
 use Rattle.gq_node.proofs.Serving.{limit_is, is_same_file}
 use Rattle.gq_node.proofs.Reserving.{same_reserved}
-use Rattle.gq_node.proofs.Seating.{placed, has_placed, place_again, seat_of}
+use Rattle.gq_node.proofs.Placing.{placed, has_placed, place_again, session_state_of}
 
 -- ---- lists of lists
 
@@ -383,8 +383,8 @@ own_number own k op number start first =
     not-true true e = sym e
     not-true false e = refl
 
-seat_copies : (own : Bool) (f : File) (k op number : ℕ) → copies_of f (numbers_facts own k op number) ≡ []
-seat_copies own f k op number = (copies_split f).join (begun_facts k op) (number_facts own k number) ∙ ap (λ z. z ++ copies_of f (number_facts own k number)) left ∙ right
+session_state_copies : (own : Bool) (f : File) (k op number : ℕ) → copies_of f (numbers_facts own k op number) ≡ []
+session_state_copies own f k op number = (copies_split f).join (begun_facts k op) (number_facts own k number) ∙ ap (λ z. z ++ copies_of f (number_facts own k number)) left ∙ right
   where
     left : copies_of f (begun_facts k op) ≡ []
     left = elim (cases_Bool (op == 0)) [
@@ -398,8 +398,8 @@ seat_copies own f k op number = (copies_split f).join (begun_facts k op) (number
       | inr is ↦ (rw is refl)
     ]
 
-seat_fit : (own : Bool) (site : Site) (lacks : File → Bool) (limit : File → Option ℕ) (k op number : ℕ) → has_session site k ≡ true → FactsFit site lacks limit (numbers_facts own k op number)
-seat_fit own site lacks limit k op number inside = fit_append site lacks limit (begun_facts k op) (number_facts own k number) left right
+session_state_fit : (own : Bool) (site : Site) (lacks : File → Bool) (limit : File → Option ℕ) (k op number : ℕ) → has_session site k ≡ true → FactsFit site lacks limit (numbers_facts own k op number)
+session_state_fit own site lacks limit k op number inside = fit_append site lacks limit (begun_facts k op) (number_facts own k number) left right
   where
     left : FactsFit site lacks limit (begun_facts k op)
     left = elim (cases_Bool (op == 0)) [
@@ -413,8 +413,8 @@ seat_fit own site lacks limit k op number inside = fit_append site lacks limit (
       | inr is ↦ (rw is (inside, tt))
     ]
 
-seat_given : (own : Bool) (f : File) (k op number : ℕ) → given_of f (numbers_facts own k op number) ≡ []
-seat_given own f k op number = (given_split f).join (begun_facts k op) (number_facts own k number) ∙ ap (λ z. z ++ given_of f (number_facts own k number)) left ∙ right
+session_state_given : (own : Bool) (f : File) (k op number : ℕ) → given_of f (numbers_facts own k op number) ≡ []
+session_state_given own f k op number = (given_split f).join (begun_facts k op) (number_facts own k number) ∙ ap (λ z. z ++ given_of f (number_facts own k number)) left ∙ right
   where
     left : given_of f (begun_facts k op) ≡ []
     left = elim (cases_Bool (op == 0)) [
@@ -658,8 +658,8 @@ abbrev tenant_limit : Tables → ℕ → File → Option ℕ
 tenant_limit w t f = limit_of w.desk (file_of t f)
 
 tenant_fit : (w : Tables) (t : ℕ) (lacks : File → Bool) → IsShaped w → t < length w.plan.rows → AllReadable w t → (is_new_node w ≡ false → (f : File) → lacks f ≡ false) → FactsFit (site_of w.plan w.here t) lacks (tenant_limit w t) (tenant_facts w t)
-tenant_fit w t lacks shaped inside readable old = fit_append site lacks limit (seats_facts w t n) (volumes_facts w t)
-    (fit_flat site lacks limit (place_numbers w t) 0 n (λ p low high. seat_fit (is_own w t (session_at w.plan w.here t p)) site lacks limit (session_at w.plan w.here t p) (seat_at w t (session_at w.plan w.here t p)).reserved_op (seat_at w t (session_at w.plan w.here t p)).reserved_floor
+tenant_fit w t lacks shaped inside readable old = fit_append site lacks limit (session_states_facts w t n) (volumes_facts w t)
+    (fit_flat site lacks limit (place_numbers w t) 0 n (λ p low high. session_state_fit (is_own w t (session_at w.plan w.here t p)) site lacks limit (session_at w.plan w.here t p) (session_state_at w t (session_at w.plan w.here t p)).reserved_op (session_state_at w t (session_at w.plan w.here t p)).reserved_floor
     (has_placed w t p (omega (arith, high)) (shaped.sessions t inside) (shaped.few (home_place w.plan t p)))))
     (fit_flat site lacks limit (volume_facts w t) 0 (length (account_at w.desk t).volumes) (λ u a b. fit_flat site lacks limit (place_facts w t u) 0 (files_in w t u) (λ p c d. there u p (omega arith) (omega arith))))
   where
@@ -685,13 +685,13 @@ pub at_rest : (w : Tables) (t : ℕ) (local : Local) → IsShaped w → t < leng
 at_rest w t local shaped within readable agrees = record {
   volumes = made.volumes;
   copies = λ f.
-      ap (λ xs. greatest (first_copy ∷ xs)) (made.brought f ∙ (copies_split f).join s v ∙ ap (λ z. z ++ copies_of f v) (seats_copies f))
+      ap (λ xs. greatest (first_copy ∷ xs)) (made.brought f ∙ (copies_split f).join s v ∙ ap (λ z. z ++ copies_of f v) (session_states_copies f))
       ∙ copies_again w t f shaped readable ∙ agrees.copies f;
   lacks = λ f some.
       let volumes : local.volumes ≡ (account_at w.desk t).volumes = ap (λ (a : Account). a.volumes) (sym agrees.account) in
       let there : is_some (limit_of w.desk (file_of t f)) ≡ true = ap is_some (limit_is w t (file_of t f) local refl agrees) ∙ some in
       let first : fresh.lacks f ≡ (is_new_node w && nat_lt f.volume (length (account_at w.desk t).volumes)) = ap (λ (vs : List VolumeRow). is_new_node w && nat_lt f.volume (length vs)) volumes in
-      made.lacks f ∙ ap (λ z. fresh.lacks f && is_none_of z) ((given_split f).join s v ∙ ap (λ z. z ++ given_of f v) (seats_given f))
+      made.lacks f ∙ ap (λ z. fresh.lacks f && is_none_of z) ((given_split f).join s v ∙ ap (λ z. z ++ given_of f v) (session_states_given f))
       ∙ lacks_again w t f fresh.lacks shaped there first ∙ agrees.lacks f;
   reserved = λ k inside. same_reserved ((recall_all site fresh (s ++ v)).residents k).reserved (local.residents k).reserved (op_is k inside) (floor_is k inside);
   behind = all_behind site fresh (s ++ v) (λ k. record { op = refl; floor = refl });
@@ -702,7 +702,7 @@ at_rest w t local shaped within readable agrees = record {
     n = (row_at w.plan t).sessions
 
     s : List OwnFact
-    s = seats_facts w t n
+    s = session_states_facts w t n
 
     v : List OwnFact
     v = volumes_facts w t
@@ -713,11 +713,11 @@ at_rest w t local shaped within readable agrees = record {
     fresh : Local
     fresh = begun_local site local.volumes (first_in w local)
 
-    seats_copies : (f : File) → copies_of f s ≡ []
-    seats_copies f = flat_none (copies_of f) (copies_split f) (place_numbers w t) 0 n (λ p a b. seat_copies (is_own w t (session_at w.plan w.here t p)) f (session_at w.plan w.here t p) (seat_at w t (session_at w.plan w.here t p)).reserved_op (seat_at w t (session_at w.plan w.here t p)).reserved_floor)
+    session_states_copies : (f : File) → copies_of f s ≡ []
+    session_states_copies f = flat_none (copies_of f) (copies_split f) (place_numbers w t) 0 n (λ p a b. session_state_copies (is_own w t (session_at w.plan w.here t p)) f (session_at w.plan w.here t p) (session_state_at w t (session_at w.plan w.here t p)).reserved_op (session_state_at w t (session_at w.plan w.here t p)).reserved_floor)
 
-    seats_given : (f : File) → given_of f s ≡ []
-    seats_given f = flat_none (given_of f) (given_split f) (place_numbers w t) 0 n (λ p a b. seat_given (is_own w t (session_at w.plan w.here t p)) f (session_at w.plan w.here t p) (seat_at w t (session_at w.plan w.here t p)).reserved_op (seat_at w t (session_at w.plan w.here t p)).reserved_floor)
+    session_states_given : (f : File) → given_of f s ≡ []
+    session_states_given f = flat_none (given_of f) (given_split f) (place_numbers w t) 0 n (λ p a b. session_state_given (is_own w t (session_at w.plan w.here t p)) f (session_at w.plan w.here t p) (session_state_at w t (session_at w.plan w.here t p)).reserved_op (session_state_at w t (session_at w.plan w.here t p)).reserved_floor)
 
     old_has : is_new_node w ≡ false → (f : File) → fresh.lacks f ≡ false
     old_has old f = rw old refl
@@ -732,12 +732,12 @@ at_rest w t local shaped within readable agrees = record {
     at_place p = session_at w.plan w.here t p
 
     -- the facts of a session of the plan are those of its place
-    own_place : (take_of : List OwnFact → List ℕ) (k : ℕ) → Splits take_of → ((own : Bool) (j op number : ℕ) → j ≢ k → take_of (numbers_facts own j op number) ≡ []) → IsOfPlan w t k → take_of s ≡ take_of (seat_facts w t k)
+    own_place : (take_of : List OwnFact → List ℕ) (k : ℕ) → Splits take_of → ((own : Bool) (j op number : ℕ) → j ≢ k → take_of (numbers_facts own j op number) ≡ []) → IsOfPlan w t k → take_of s ≡ take_of (session_state_facts w t k)
     own_place take_of k splits other at =
-        flat_one take_of splits (place_numbers w t) (seat_place k) 0 n (omega arith) (let h = at.within in omega arith)
-        (λ u above below apart. other (is_own w t (at_place u)) (at_place u) (seat_at w t (at_place u)).reserved_op (seat_at w t (at_place u)).reserved_floor
-        (λ e. apart (sym (place_again w.plan w.here t u (let h = few in omega arith)) ∙ ap seat_place e)))
-        ∙ ap (λ j. take_of (seat_facts w t j)) at.number
+        flat_one take_of splits (place_numbers w t) (session_state_place k) 0 n (omega arith) (let h = at.within in omega arith)
+        (λ u above below apart. other (is_own w t (at_place u)) (at_place u) (session_state_at w t (at_place u)).reserved_op (session_state_at w t (at_place u)).reserved_floor
+        (λ e. apart (sym (place_again w.plan w.here t u (let h = few in omega arith)) ∙ ap session_state_place e)))
+        ∙ ap (λ j. take_of (session_state_facts w t j)) at.number
 
     -- a session of another node began with 0, and so does one of a node that is no new one
     no_floor : (k : ℕ) → is_own w t k ≡ false → begun_floor site (length w.here.lost) k ≡ 0
@@ -754,14 +754,14 @@ at_rest w t local shaped within readable agrees = record {
         let at : IsOfPlan w t k = placed w t k has in
         made.ops k ∙ ap (last_of 0) ((ops_split k).join s v ∙ ap (λ z. ops_of k s ++ z) (volume_ops w t k) ∙ append-nil (ops_of k s)
         ∙ own_place (ops_of k) k (ops_split k) (λ own j op number other. other_ops own k j op number other) at)
-        ∙ own_op (is_own w t k) k (seat_at w t k).reserved_op (seat_at w t k).reserved_floor ∙ (seat_of w t k local agrees at).reserved_op
+        ∙ own_op (is_own w t k) k (session_state_at w t k).reserved_op (session_state_at w t k).reserved_floor ∙ (session_state_of w t k local agrees at).reserved_op
 
     floor_is : (k : ℕ) → has_session site k ≡ true → ((recall_all site fresh (s ++ v)).residents k).reserved.floor ≡ (local.residents k).reserved.floor
     floor_is k has =
         let at : IsOfPlan w t k = placed w t k has in
         made.floors k ∙ ap (last_of (begun_floor site (length w.here.lost) k)) ((numbers_split k).join s v ∙ ap (λ z. numbers_of k s ++ z) (volume_numbers w t k) ∙ append-nil (numbers_of k s)
         ∙ own_place (numbers_of k) k (numbers_split k) (λ own j op number other. other_numbers own k j op number other) at)
-        ∙ own_number (is_own w t k) k (seat_at w t k).reserved_op (seat_at w t k).reserved_floor (begun_floor site (length w.here.lost) k) (λ not_own. no_floor k not_own) ∙ (seat_of w t k local agrees at).reserved_floor
+        ∙ own_number (is_own w t k) k (session_state_at w t k).reserved_op (session_state_at w t k).reserved_floor (begun_floor site (length w.here.lost) k) (λ not_own. no_floor k not_own) ∙ (session_state_of w t k local agrees at).reserved_floor
 
 -- ---- all tenants
 

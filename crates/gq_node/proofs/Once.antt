@@ -14,8 +14,8 @@ use Rattle.gq_node.proofs.Asking.{goes_home, next_number}
 -- ---- a request that comes again
 
 quiet_by : (site : Site) (local : Local) (op : ℕ) (line : Line) (k : ℕ) (admission : Admission) → admission_in site local k op (begins line) ≡ admission → (admission ≡ Goes → ⊥) → LeavesAll local (asks_in site local op line k)
-quiet_by site local op line k (Tells answer) is goes = rw is (record { part = refl; letters = refl; parcel = refl; fact = refl })
-quiet_by site local op line k Passes is goes = rw is (record { part = refl; letters = refl; parcel = refl; fact = refl })
+quiet_by site local op line k (Tells answer) is goes = rw is (record { part = refl; letters = refl; transfer = refl; fact = refl })
+quiet_by site local op line k Passes is goes = rw is (record { part = refl; letters = refl; transfer = refl; fact = refl })
 quiet_by site local op line k Goes is goes = absurd (goes refl)
 
 pub never_goes : (site : Site) (local : Local) (op : ℕ) (line : Line) (k : ℕ) → begins line ≡ true → op ≤ (local.residents k).session.op → admission_in site local k op (begins line) ≡ Goes → ⊥

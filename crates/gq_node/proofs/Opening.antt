@@ -36,16 +36,16 @@ open_opens w t row store within sound copies = record {
     copies = λ file. copies (file_of t file) ∙ agrees.copies file;
     lacks = agrees.lacks;
     joined = agrees.joined;
-    mate = agrees.mate;
-    seats = agrees.seats;
+    peer = agrees.peer;
+    session_states = agrees.session_states;
   };
   others = λ u other local agrees. record {
     account = set_there w.desk t u (with_volume row (account_at w.desk t)) other ∙ agrees.account;
     copies = λ file. copies (file_of u file) ∙ agrees.copies file;
     lacks = agrees.lacks;
     joined = agrees.joined;
-    mate = agrees.mate;
-    seats = agrees.seats;
+    peer = agrees.peer;
+    session_states = agrees.session_states;
   };
 }
 
@@ -96,9 +96,9 @@ opened_shaped w t row store h within sound added copies = record {
   whole = h.whole;
   bare = λ u f lacks. copies (file_of u f) ∙ h.bare u f lacks;
   few_given = h.few_given;
-  mates = h.mates;
-  grid_mates = h.grid_mates;
+  peers = h.peers;
+  grid_peers = h.grid_peers;
   tenants = h.tenants;
-  seats = h.seats;
+  session_states = h.session_states;
   sessions = h.sessions;
 }

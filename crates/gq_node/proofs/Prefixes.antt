@@ -212,7 +212,7 @@ heard_never m (Resent first count) line is = cc
 heard_never m Abandoned line is = cc
 heard_never m (Refused word) line is = cc
 heard_never m ServerOk line is = cc
-heard_never m (Repaired mate) line is = cc
+heard_never m (Repaired peer) line is = cc
 heard_never m (ServerRefused word) line is = cc
 heard_never m StrayBad line is = cc
 

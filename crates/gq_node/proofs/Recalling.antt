@@ -16,10 +16,10 @@ use Rattle.gq_cluster.specs.Cluster.{everyone}
 use Rattle.gq_cluster.specs.Facts.{OwnFact, Begun, Numbered, Kept, Had, Reserved, reserved_by}
 use Rattle.gq_node.specs.Local.{Local, Doing, with_resident, with_copy, rested, recalls, recalled, silently, fits_local, file_fits, state_of}
 use Rattle.gq_node.specs.Resting.{GoesBehind, recall_one, recall_all}
-use Rattle.gq_node.specs.Seats.{recalled_seat}
+use Rattle.gq_node.specs.SessionStates.{recalled_session_state}
 use Rattle.gq_node.specs.Shape.{IsShaped}
-use Rattle.gq_node.specs.Tables.{Tables, Agrees, Leads, seat_at, with_seat, lacks_at}
-use Rattle.gq_node.proofs.Seating.{placed, seat_of, seat_leads, seat_there, same_leads}
+use Rattle.gq_node.specs.Tables.{Tables, Agrees, Leads, session_state_at, with_session_state, lacks_at}
+use Rattle.gq_node.proofs.Placing.{placed, session_state_of, session_state_leads, session_state_there, same_leads}
 use Rattle.gq_node.proofs.Serving.{with_store, other_file, limit_is}
 
 -- ---- a session
@@ -39,21 +39,21 @@ no_begun_leads w t k op not = passed_leads w t (Begun k op) (λ local agrees. no
 pub no_number_leads : (w : Tables) (t k number : ℕ) → has_session (site_of w.plan w.here t) k ≡ false → Leads w t (recalls (Numbered k number)) w
 no_number_leads w t k number not = passed_leads w t (Numbered k number) (λ local agrees. not)
 
-pub begun_leads : (w : Tables) (t k op : ℕ) → IsShaped w → t < length w.plan.rows → has_session (site_of w.plan w.here t) k ≡ true → Leads w t (recalls (Begun k op)) (with_seat w t k (recalled_seat (seat_at w t k) op (seat_at w t k).reserved_floor))
+pub begun_leads : (w : Tables) (t k op : ℕ) → IsShaped w → t < length w.plan.rows → has_session (site_of w.plan w.here t) k ≡ true → Leads w t (recalls (Begun k op)) (with_session_state w t k (recalled_session_state (session_state_at w t k) op (session_state_at w t k).reserved_floor))
 begun_leads w t k op shaped within inside =
     let at = placed w t k inside in
-    seat_leads w t k (recalled_seat (seat_at w t k) op (seat_at w t k).reserved_floor) (recalls (Begun k op)) (seat_there w t k shaped within at) (λ local agrees. record {
+    session_state_leads w t k (recalled_session_state (session_state_at w t k) op (session_state_at w t k).reserved_floor) (recalls (Begun k op)) (session_state_there w t k shaped within at) (λ local agrees. record {
       resident = rested (local.residents k) (reserved_by (Some (Begun k op)) (local.residents k).reserved);
-      agrees = record { op = refl; reserved_op = refl; reserved_floor = (seat_of w t k local agrees at).reserved_floor; sits = (seat_of w t k local agrees at).reserved_floor; outcome = refl; row = (seat_of w t k local agrees at).row; column = (seat_of w t k local agrees at).column; waited = refl };
+      agrees = record { op = refl; reserved_op = refl; reserved_floor = (session_state_of w t k local agrees at).reserved_floor; sits = (session_state_of w t k local agrees at).reserved_floor; outcome = refl; row = (session_state_of w t k local agrees at).row; column = (session_state_of w t k local agrees at).column; waited = refl };
       left = ap (λ (d : Doing). d.local) (recalls_fits (Begun k op) (site_of w.plan w.here t) local inside);
     })
 
-pub number_leads : (w : Tables) (t k number : ℕ) → IsShaped w → t < length w.plan.rows → has_session (site_of w.plan w.here t) k ≡ true → Leads w t (recalls (Numbered k number)) (with_seat w t k (recalled_seat (seat_at w t k) (seat_at w t k).reserved_op number))
+pub number_leads : (w : Tables) (t k number : ℕ) → IsShaped w → t < length w.plan.rows → has_session (site_of w.plan w.here t) k ≡ true → Leads w t (recalls (Numbered k number)) (with_session_state w t k (recalled_session_state (session_state_at w t k) (session_state_at w t k).reserved_op number))
 number_leads w t k number shaped within inside =
     let at = placed w t k inside in
-    seat_leads w t k (recalled_seat (seat_at w t k) (seat_at w t k).reserved_op number) (recalls (Numbered k number)) (seat_there w t k shaped within at) (λ local agrees. record {
+    session_state_leads w t k (recalled_session_state (session_state_at w t k) (session_state_at w t k).reserved_op number) (recalls (Numbered k number)) (session_state_there w t k shaped within at) (λ local agrees. record {
       resident = rested (local.residents k) (reserved_by (Some (Numbered k number)) (local.residents k).reserved);
-      agrees = record { op = (seat_of w t k local agrees at).reserved_op; reserved_op = (seat_of w t k local agrees at).reserved_op; reserved_floor = refl; sits = refl; outcome = refl; row = (seat_of w t k local agrees at).row; column = (seat_of w t k local agrees at).column; waited = refl };
+      agrees = record { op = (session_state_of w t k local agrees at).reserved_op; reserved_op = (session_state_of w t k local agrees at).reserved_op; reserved_floor = refl; sits = refl; outcome = refl; row = (session_state_of w t k local agrees at).row; column = (session_state_of w t k local agrees at).column; waited = refl };
       left = ap (λ (d : Doing). d.local) (recalls_fits (Numbered k number) (site_of w.plan w.here t) local inside);
     })
 
@@ -134,15 +134,15 @@ copy_leads w file copy store fits held others =
             copies = copies_put w file copy store local held others agrees;
             lacks = agrees.lacks;
             joined = agrees.joined;
-            mate = agrees.mate;
-            seats = agrees.seats;
+            peer = agrees.peer;
+            session_states = agrees.session_states;
           });
       others = λ u other local agrees. record {
         account = agrees.account;
         copies = copies_elsewhere w file store u local other others agrees;
         lacks = agrees.lacks;
         joined = agrees.joined;
-        mate = agrees.mate;
-        seats = agrees.seats;
+        peer = agrees.peer;
+        session_states = agrees.session_states;
       };
     }

@@ -13,9 +13,9 @@ use Rattle.gq_node.specs.declared.output.Output.{Output}
 use Rattle.gq_node.specs.Sites.{Site, site_of, has_session}
 use Rattle.gq_cluster.specs.Cluster.{everyone}
 use Rattle.gq_node.specs.Local.{Local, Doing, state_of, silently, receives, serves, at_server, hears, letter_fits, goes_between, file_fits, has_above}
-use Rattle.gq_node.specs.Seats.{GivesNothing}
+use Rattle.gq_node.specs.SessionStates.{GivesNothing}
 use Rattle.gq_node.specs.Tables.{Tables, Agrees, Acts, Gives, lacks_at}
-use Rattle.gq_node.proofs.Seating.{same_leads}
+use Rattle.gq_node.proofs.Placing.{same_leads}
 use Rattle.gq_node.proofs.Serving.{limit_is}
 
 -- what the one step does the other does
@@ -60,7 +60,7 @@ passed_acts w from m out own is none =
     λ local agrees. passed from (own_message m) (site_of w.plan w.here m.tenant) local (fits_as w from m false local own is agrees) in
     record {
       leads = same_leads w m.tenant (receives from (own_message m)) (λ local agrees. ap (λ (d : Doing). d.local) (same local agrees));
-      gives = λ local agrees. subst (λ (d : Doing). Gives m.tenant d out) (sym (same local agrees)) (record { answer = none.answer; letters = none.letters; parcel = none.parcel; fact = none.fact });
+      gives = λ local agrees. subst (λ (d : Doing). Gives m.tenant d out) (sym (same local agrees)) (record { answer = none.answer; letters = none.letters; transfer = none.transfer; fact = none.fact });
     }
 
 pub server_acts : (w new : Tables) (from : ℕ) (m : Message) (out : Output) → m.file.tenant ≡ m.tenant → fits_in w from m ≡ true → to_server m.body ≡ true →
@@ -81,7 +81,7 @@ lacks_acts w m out lacks none =
     λ local agrees. lacks_it (site_of w.plan w.here m.tenant) local (own_message m) (sym (agrees.lacks (file_place m.file)) ∙ lacks) in
     record {
       leads = same_leads w m.tenant step (λ local agrees. ap (λ (d : Doing). d.local) (same local agrees));
-      gives = λ local agrees. subst (λ (d : Doing). Gives m.tenant d out) (sym (same local agrees)) (record { answer = none.answer; letters = none.letters; parcel = none.parcel; fact = none.fact });
+      gives = λ local agrees. subst (λ (d : Doing). Gives m.tenant d out) (sym (same local agrees)) (record { answer = none.answer; letters = none.letters; transfer = none.transfer; fact = none.fact });
     }
 
 pub session_acts : (w new : Tables) (from : ℕ) (m : Message) (out : Output) → m.file.tenant ≡ m.tenant → fits_in w from m ≡ true → to_server m.body ≡ false →

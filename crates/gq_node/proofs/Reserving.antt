@@ -1,4 +1,4 @@
--- What is reserved for a seat is what is reserved for the resident that it stands for.
+-- What is reserved for a session state is what is reserved for the resident that it stands for.
 use Rattle.std.proofs.Common.{◌≡◌, ◌∙◌, ℕ, Bool, true, false, Some, None, refl, ap}
 use Rattle.std.specs.Prelude.{nat_le, option_map, unwrap_or, if◌then◌else◌}
 use Rattle.gq_phase.specs.Phase.{Heard as Saying, HeardStale, HeardNoted, HeardNext, HeardDone}

@@ -74,7 +74,7 @@ pub record Served (w : Tables) (t : ℕ) (m reply : Message) (store : StoreCopie
   pub others : (other : FileId) → other ≢ m.file → copy_at store other ≡ copy_at w.store other
   pub answer : out.answer ≡ None
   pub letters : out.letters.items ≡ reply ∷ []
-  pub parcel : out.parcel ≡ None
+  pub transfer : out.transfer ≡ None
   pub fact : out.fact ≡ option_map (fact_of t) (replaced_in (copy_at w.store m.file) (file_place m.file) m.body)
 
 file_is : (t : ℕ) (file : FileId) → file.tenant ≡ t → file ≡ file_of t (file_place file)
@@ -110,8 +110,8 @@ served_own w t m reply store out local h agrees =
           subst C h.server there;
       lacks = agrees.lacks;
       joined = agrees.joined;
-      mate = agrees.mate;
-      seats = agrees.seats;
+      peer = agrees.peer;
+      session_states = agrees.session_states;
     }
 
 served_gives : (w : Tables) (t : ℕ) (m reply : Message) (store : StoreCopies) (out : Output) (local : Local) → Served w t m reply store out → Agrees w t local → Gives t (serves (site_of w.plan w.here t) local (own_message m)) out
@@ -125,7 +125,7 @@ served_gives w t m reply store out local h agrees =
       answer = h.answer;
       letters = h.letters ∙ ap (λ r. r ∷ []) (h.reply_is ∙ ap (λ copy. server_reply copy m) held' ∙ ap (server_reply (greatest (first_copy ∷ local.brought (file_place m.file)))) is)
           ∙ sym (ap (map (message_of t)) stated);
-      parcel = h.parcel;
+      transfer = h.transfer;
       fact = h.fact ∙ ap (λ copy. option_map (fact_of t) (replaced_in copy (file_place m.file) m.body)) held';
     }
 
@@ -137,8 +137,8 @@ other_copies w t u file store local other own others agrees = record {
       others (file_of u f) apart ∙ agrees.copies f;
   lacks = agrees.lacks;
   joined = agrees.joined;
-  mate = agrees.mate;
-  seats = agrees.seats;
+  peer = agrees.peer;
+  session_states = agrees.session_states;
 }
 
 pub serve_acts : (w : Tables) (t : ℕ) (m reply : Message) (store : StoreCopies) (out : Output) → Served w t m reply store out → Acts w t (λ site local. serves site local (own_message m)) out (with_store w store)

@@ -1,4 +1,4 @@
--- What a session's seat stands for after a message.
+-- What a session's state stands for after a message.
 use Rattle.std.proofs.Common.{◌≡◌, ◌≢◌, ◌∙◌, ℕ, ◌<◌, Bool, true, false, Option, Some, None, refl, sym, ap, subst, arith}
 use Rattle.std.specs.Prelude.{◌&&◌, unwrap_or}
 use Rattle.std.proofs.lemmas.Bool.{lt-ltb}
@@ -16,14 +16,14 @@ use Rattle.gq_node.specs.Heard.{heard_run, heard_outcome, heard_waits, HeardGive
 use Rattle.gq_node.specs.Local.{has_above}
 use Rattle.gq_node.specs.Tables.{Sits}
 use Rattle.gq_node.specs.declared.output.Output.{Output}
-use Rattle.gq_node.specs.declared.seats.Seat.{Seat}
-use Rattle.gq_node.specs.Seats.{has_heard, is_of_round, said_by, operation_after, last_of, last_in, seat_aim, SeatHears, SeatAttends, SaysAndGives}
+use Rattle.gq_node.specs.declared.session_states.SessionState.{SessionState}
+use Rattle.gq_node.specs.SessionStates.{has_heard, is_of_round, said_by, operation_after, last_of, last_in, session_state_aim, SessionStateHears, SessionStateAttends, SaysAndGives}
 
 -- what the value says is what the operation says
-pub seat_says : (old new : Code) (floor : ℕ) (up : Servers) (m : Message) (heard : Heard) → HearsAs old new up m heard →
+pub session_state_says : (old new : Code) (floor : ℕ) (up : Servers) (m : Message) (heard : Heard) → HearsAs old new up m heard →
     (grid : Grid) (t last : ℕ) (o : Option Operation) → Sits grid t floor (Some old) last o → heard ≡ heard_as t (said_by grid up o (own_message m))
-seat_says old new floor up m heard hears grid t last None sits = absurd sits
-seat_says old new floor up m heard hears grid t last (Some o) sits = (hears grid t o sits).0
+session_state_says old new floor up m heard hears grid t last None sits = absurd sits
+session_state_says old new floor up m heard hears grid t last (Some o) sits = (hears grid t o sits).0
 
 -- it goes on
 after_saying : (grid : Grid) (t floor : ℕ) (new : Code) (o : Operation) (l : OwnMessage) (heard : Heard) (s : Saying) → heard ≡ heard_as t s → ((x : Outcome) → heard ≡ Done x → ⊥) → StandsAfter grid t new o l s →
@@ -33,10 +33,10 @@ after_saying grid t floor new o l heard HeardNoted is not stands = stands
 after_saying grid t floor new o l heard (HeardNext round tag messages) is not stands = stands
 after_saying grid t floor new o l heard (HeardDone outcome) is not stands = absurd (not outcome is)
 
-pub seat_goes_on : (old new : Code) (floor : ℕ) (up : Servers) (m : Message) (heard : Heard) → HearsAs old new up m heard → ((x : Outcome) → heard ≡ Done x → ⊥) →
+pub session_state_goes_on : (old new : Code) (floor : ℕ) (up : Servers) (m : Message) (heard : Heard) → HearsAs old new up m heard → ((x : Outcome) → heard ≡ Done x → ⊥) →
     (grid : Grid) (t last : ℕ) (o : Option Operation) → Sits grid t floor (Some old) last o → Sits grid t floor (Some new) (last_of last o) (operation_after o (own_message m) (said_by grid up o (own_message m)))
-seat_goes_on old new floor up m heard hears not grid t last None sits = absurd sits
-seat_goes_on old new floor up m heard hears not grid t last (Some o) sits =
+session_state_goes_on old new floor up m heard hears not grid t last None sits = absurd sits
+session_state_goes_on old new floor up m heard hears not grid t last (Some o) sits =
     let h = hears grid t o sits in
     after_saying grid t floor new o (own_message m) heard (hear grid up o (own_message m)) h.0 not h.1
 
@@ -48,14 +48,14 @@ done_saying grid t floor new o l outcome HeardNoted is stands own = absurd (cc)
 done_saying grid t floor new o l outcome (HeardNext round tag messages) is stands own = absurd (cc)
 done_saying grid t floor new o l outcome (HeardDone other) is stands own = own ∙ stands.1
 
-pub seat_rests : (old new : Code) (before floor : ℕ) (up : Servers) (m : Message) (outcome : Outcome) → HearsAs old new up m (Done outcome) → floor ≡ floor_of new →
+pub session_state_rests : (old new : Code) (before floor : ℕ) (up : Servers) (m : Message) (outcome : Outcome) → HearsAs old new up m (Done outcome) → floor ≡ floor_of new →
     (grid : Grid) (t last : ℕ) (o : Option Operation) → Sits grid t before (Some old) last o → Sits grid t floor None (last_of last o) (operation_after o (own_message m) (said_by grid up o (own_message m)))
-seat_rests old new before floor up m outcome hears own grid t last None sits = absurd sits
-seat_rests old new before floor up m outcome hears own grid t last (Some o) sits =
+session_state_rests old new before floor up m outcome hears own grid t last None sits = absurd sits
+session_state_rests old new before floor up m outcome hears own grid t last (Some o) sits =
     let h = hears grid t o sits in
     done_saying grid t floor new o (own_message m) outcome (hear grid up o (own_message m)) h.0 h.1 own
 
--- a seat without an operation says that the message is stale
+-- a session state without an operation says that the message is stale
 pub empty_says : (floor : ℕ) (up : Servers) (m : Message) (grid : Grid) (t last : ℕ) (o : Option Operation) → Sits grid t floor None last o → Stale ≡ heard_as t (said_by grid up o (own_message m))
 empty_says floor up m grid t last None sits = refl
 empty_says floor up m grid t last (Some o) sits = absurd sits
@@ -64,7 +64,7 @@ pub empty_stays : (floor : ℕ) (up : Servers) (m : Message) (grid : Grid) (t la
 empty_stays floor up m grid t last None sits = sits
 empty_stays floor up m grid t last (Some o) sits = absurd sits
 
--- ---- the seat
+-- ---- the session state
 
 not_stale : (heard : Heard) (heard_before waited : Bool) → (heard ≡ Stale → ⊥) → (heard ≡ Noted → ⊥) → heard_waits heard heard_before waited ≡ false
 not_stale Stale heard_before waited not noted = absurd (not refl)
@@ -78,40 +78,40 @@ not_done Noted outcome not = refl
 not_done (Next round tag messages) outcome not = refl
 not_done (Done done) outcome not = absurd (not done refl)
 
-pub seat_hears : (old : Seat) (code new : Code) (waited : Bool) (up : Servers) (m : Message) (heard : Heard) → old.operation ≡ Some code → HearsAs code new up m heard → ((x : Outcome) → heard ≡ Done x → ⊥) →
-    waited ≡ heard_waits heard (servers code.heard m.server) old.waited → SeatHears old (record old { operation = Some new; waited = waited }) up m heard
-seat_hears old code new waited up m heard is hears not waits = record {
+pub session_state_hears : (old : SessionState) (code new : Code) (waited : Bool) (up : Servers) (m : Message) (heard : Heard) → old.operation ≡ Some code → HearsAs code new up m heard → ((x : Outcome) → heard ≡ Done x → ⊥) →
+    waited ≡ heard_waits heard (servers code.heard m.server) old.waited → SessionStateHears old (record old { operation = Some new; waited = waited }) up m heard
+session_state_hears old code new waited up m heard is hears not waits = record {
   op = refl;
   reserved_op = refl;
   row = refl;
   column = refl;
   outcome = not_done heard old.outcome not;
   waited = waits ∙ ap (λ o. heard_waits heard (has_heard o m.server) old.waited) (sym is);
-  says = λ grid t last o sits. seat_says code new old.floor up m heard hears grid t last o (rw is at sits);
-  sits = λ grid t last o sits. seat_goes_on code new old.floor up m heard hears not grid t last o (rw is at sits);
+  says = λ grid t last o sits. session_state_says code new old.floor up m heard hears grid t last o (rw is at sits);
+  sits = λ grid t last o sits. session_state_goes_on code new old.floor up m heard hears not grid t last o (rw is at sits);
 }
 
 -- what is new ends the waiting
-pub seat_moves : (old : Seat) (code new : Code) (up : Servers) (m : Message) (heard : Heard) → old.operation ≡ Some code → HearsAs code new up m heard → ((x : Outcome) → heard ≡ Done x → ⊥) →
-    (heard ≡ Stale → ⊥) → (heard ≡ Noted → ⊥) → SeatHears old (record old { operation = Some new; waited = false }) up m heard
-seat_moves old code new up m heard is hears not stale noted =
-    seat_hears old code new false up m heard is hears not (sym (not_stale heard (servers code.heard m.server) old.waited stale noted))
+pub session_state_moves : (old : SessionState) (code new : Code) (up : Servers) (m : Message) (heard : Heard) → old.operation ≡ Some code → HearsAs code new up m heard → ((x : Outcome) → heard ≡ Done x → ⊥) →
+    (heard ≡ Stale → ⊥) → (heard ≡ Noted → ⊥) → SessionStateHears old (record old { operation = Some new; waited = false }) up m heard
+session_state_moves old code new up m heard is hears not stale noted =
+    session_state_hears old code new false up m heard is hears not (sym (not_stale heard (servers code.heard m.server) old.waited stale noted))
 
-pub seat_ends : (old : Seat) (code new : Code) (floor : ℕ) (up : Servers) (m : Message) (outcome : Outcome) → old.operation ≡ Some code → HearsAs code new up m (Done outcome) → floor ≡ floor_of new →
-    SeatHears old (record old { floor = floor; operation = None; outcome = Some outcome; waited = false }) up m (Done outcome)
-seat_ends old code new floor up m outcome is hears own = record {
+pub session_state_ends : (old : SessionState) (code new : Code) (floor : ℕ) (up : Servers) (m : Message) (outcome : Outcome) → old.operation ≡ Some code → HearsAs code new up m (Done outcome) → floor ≡ floor_of new →
+    SessionStateHears old (record old { floor = floor; operation = None; outcome = Some outcome; waited = false }) up m (Done outcome)
+session_state_ends old code new floor up m outcome is hears own = record {
   op = refl;
   reserved_op = refl;
   row = refl;
   column = refl;
   outcome = refl;
   waited = refl;
-  says = λ grid t last o sits. seat_says code new old.floor up m (Done outcome) hears grid t last o (rw is at sits);
-  sits = λ grid t last o sits. seat_rests code new old.floor floor up m outcome hears own grid t last o (rw is at sits);
+  says = λ grid t last o sits. session_state_says code new old.floor up m (Done outcome) hears grid t last o (rw is at sits);
+  sits = λ grid t last o sits. session_state_rests code new old.floor floor up m outcome hears own grid t last o (rw is at sits);
 }
 
-pub seat_is_empty : (old : Seat) (up : Servers) (m : Message) → old.operation ≡ None → SeatHears old old up m Stale
-seat_is_empty old up m is = record {
+pub session_state_is_empty : (old : SessionState) (up : Servers) (m : Message) → old.operation ≡ None → SessionStateHears old old up m Stale
+session_state_is_empty old up m is = record {
   op = refl;
   reserved_op = refl;
   row = refl;
@@ -124,8 +124,8 @@ seat_is_empty old up m is = record {
 
 -- ---- a run of numbers is reserved for what it said
 
-seat_reserves : (old heard_by : Seat) (floor : ℕ) (up : Servers) (m : Message) (heard : Heard) → SeatHears old heard_by up m heard → SeatHears old (record heard_by { reserved_floor = floor }) up m heard
-seat_reserves old heard_by floor up m heard h = record {
+session_state_reserves : (old heard_by : SessionState) (floor : ℕ) (up : Servers) (m : Message) (heard : Heard) → SessionStateHears old heard_by up m heard → SessionStateHears old (record heard_by { reserved_floor = floor }) up m heard
+session_state_reserves old heard_by floor up m heard h = record {
   op = h.op;
   reserved_op = h.reserved_op;
   row = h.row;
@@ -136,26 +136,26 @@ seat_reserves old heard_by floor up m heard h = record {
   sits = h.sits;
 }
 
-pub seat_attends : (t k : ℕ) (grid : Grid) (old heard_by new : Seat) (up : Servers) (m : Message) (heard : Heard) (run : Option ℕ) (out : Output) →
-    (has_above (last_in old) && is_of_round old.operation (file_place m.file)) ≡ true → up ≡ seat_aim grid old → SeatHears old heard_by up m heard → heard_by.reserved_floor ≡ old.reserved_floor →
-    run ≡ heard_run heard_by.reserved_floor (last_in heard_by) heard → new ≡ record heard_by { reserved_floor = unwrap_or run heard_by.reserved_floor } → HeardGives t k run heard out → SeatAttends t k grid old new m out
-seat_attends t k grid old heard_by new up m heard run out fits aims hears same reserves after gives =
+pub session_state_attends : (t k : ℕ) (grid : Grid) (old heard_by new : SessionState) (up : Servers) (m : Message) (heard : Heard) (run : Option ℕ) (out : Output) →
+    (has_above (last_in old) && is_of_round old.operation (file_place m.file)) ≡ true → up ≡ session_state_aim grid old → SessionStateHears old heard_by up m heard → heard_by.reserved_floor ≡ old.reserved_floor →
+    run ≡ heard_run heard_by.reserved_floor (last_in heard_by) heard → new ≡ record heard_by { reserved_floor = unwrap_or run heard_by.reserved_floor } → HeardGives t k run heard out → SessionStateAttends t k grid old new m out
+session_state_attends t k grid old heard_by new up m heard run out fits aims hears same reserves after gives =
     let floor : ℕ = unwrap_or run heard_by.reserved_floor in
     let run_is : run ≡ heard_run old.reserved_floor (last_in heard_by) heard = reserves ∙ ap (λ n. heard_run n (last_in heard_by) heard) same in
-    let S : Servers → Type 0 = λ x. SeatHears old (record heard_by { reserved_floor = floor }) x m heard in
+    let S : Servers → Type 0 = λ x. SessionStateHears old (record heard_by { reserved_floor = floor }) x m heard in
     let G : Option ℕ → Type 0 = λ r. HeardGives t k r heard out in
-    let says : SaysAndGives t k (seat_aim grid old) old (record heard_by { reserved_floor = floor }) m out = record {
+    let says : SaysAndGives t k (session_state_aim grid old) old (record heard_by { reserved_floor = floor }) m out = record {
       heard = heard;
-      hears = subst S aims (seat_reserves old heard_by floor up m heard hears);
+      hears = subst S aims (session_state_reserves old heard_by floor up m heard hears);
       reserved = ap (λ r. unwrap_or r heard_by.reserved_floor) run_is ∙ ap (unwrap_or (heard_run old.reserved_floor (last_in heard_by) heard)) same;
       gives = subst G run_is gives;
     } in
-    rw fits (subst (λ (x : Seat). SaysAndGives t k (seat_aim grid old) old x m out) (sym after) says)
+    rw fits (subst (λ (x : SessionState). SaysAndGives t k (session_state_aim grid old) old x m out) (sym after) says)
 
 -- ---- whether it hears
 
-pub may_hear : (seat : Seat) (file : File) (last : ℕ) (of_round : Bool) → last ≡ last_in seat → last < 18446744073709551616 → last ≢ 18446744073709551615 → of_round ≡ is_of_round seat.operation file → of_round ≡ true →
-    (has_above (last_in seat) && is_of_round seat.operation file) ≡ true
-may_hear seat file last of_round last_is small below round is =
-    let less : last_in seat < 18446744073709551615 = subst (λ n. n < 18446744073709551615) last_is (omega arith) in
-    rw (lt-ltb (last_in seat) 18446744073709551615 less, sym round ∙ is) refl
+pub may_hear : (session_state : SessionState) (file : File) (last : ℕ) (of_round : Bool) → last ≡ last_in session_state → last < 18446744073709551616 → last ≢ 18446744073709551615 → of_round ≡ is_of_round session_state.operation file → of_round ≡ true →
+    (has_above (last_in session_state) && is_of_round session_state.operation file) ≡ true
+may_hear session_state file last of_round last_is small below round is =
+    let less : last_in session_state < 18446744073709551615 = subst (λ n. n < 18446744073709551615) last_is (omega arith) in
+    rw (lt-ltb (last_in session_state) 18446744073709551615 less, sym round ∙ is) refl

@@ -14,7 +14,7 @@ use Rattle.gq_desk.specs.CheckedPlan.{CheckedPlan, nobody, row_at}
 use Rattle.gq_desk.specs.declared.volumes.VolumeRow.{VolumeRow}
 use Rattle.gq_desk.specs.Volumes.{Account, no_account, account_at, new_account}
 use Rattle.gq_store.specs.Copies.{StoreCopies, VolumeCopies, copies_account, store_accounts, new_tenant, empty_store, tenant_in, volume_copy, copy_at, empty_volume}
-use Rattle.gq_node.specs.declared.seats.Seat.{Seat}
+use Rattle.gq_node.specs.declared.session_states.SessionState.{SessionState}
 use Rattle.gq_replace.specs.Plans.{times, place_of}
 use Rattle.gq_node.specs.declared.lost.TheConstants.{MOST_TIMES}
 use Rattle.gq_node.specs.Sites.{Site, Here, plan_in, session_at, site_of}
@@ -23,7 +23,7 @@ use Rattle.gq_node.specs.Local.{Local, Doing, new_local, new_resident}
 use Rattle.gq_node.specs.Opening.{Bereaves, Opens, opened}
 use Rattle.gq_node.specs.Resting.{FirstPlan, begun_local}
 use Rattle.gq_node.specs.Shape.{IsShaped, IsFirst, FewSessions}
-use Rattle.gq_node.specs.Tables.{Tables, given_at, lacks_at, mate_at, Agrees, Leads, LeadsAll, Stands, AllStand, SeatAgrees, seats_at, seat_in, no_seat, first_seat}
+use Rattle.gq_node.specs.Tables.{Tables, given_at, lacks_at, peer_at, Agrees, Leads, LeadsAll, Stands, AllStand, SessionStateAgrees, session_states_at, session_state_in, no_session_state, first_session_state}
 
 fresh_at : (rows : List TenantRow) (t : ℕ) → account_at (map new_account rows) t ≡ new_account (unwrap_or (slice_get rows t) nobody)
 fresh_at rows t = rw (slice_get-map new_account rows t) (by (slice_get rows t))
@@ -32,13 +32,13 @@ fresh_at rows t = rw (slice_get-map new_account rows t) (by (slice_get rows t))
     by None = refl
     by (Some row) = refl
 
-abbrev new_seats : Seat → TenantRow → List Seat
-new_seats seat row = replicate row.sessions seat
+abbrev new_session_states : SessionState → TenantRow → List SessionState
+new_session_states session_state row = replicate row.sessions session_state
 
-seats_are : (seat : Seat) (rows : List TenantRow) (t : ℕ) → t < length rows → seats_at (map (new_seats seat) rows) t ≡ replicate (unwrap_or (slice_get rows t) nobody).sessions seat
-seats_are seat [] t within = absurd (omega arith)
-seats_are seat (row ∷ rows) zero within = refl
-seats_are seat (row ∷ rows) (suc t) within = seats_are seat rows t (omega arith)
+session_states_are : (session_state : SessionState) (rows : List TenantRow) (t : ℕ) → t < length rows → session_states_at (map (new_session_states session_state) rows) t ≡ replicate (unwrap_or (slice_get rows t) nobody).sessions session_state
+session_states_are session_state [] t within = absurd (omega arith)
+session_states_are session_state (row ∷ rows) zero within = refl
+session_states_are session_state (row ∷ rows) (suc t) within = session_states_are session_state rows t (omega arith)
 
 accounts_first : (rows : List TenantRow) → map copies_account (map new_tenant rows) ≡ map new_account rows
 accounts_first [] = refl
@@ -86,14 +86,14 @@ map_const n (row ∷ rows) = ap (λ ns. n ∷ ns) (map_const n rows)
 pub first_shaped : (plan : CheckedPlan) (here : Here) (w : Tables) → IsFirst plan here w → FewSessions plan → place_of here.node < plan.grid.rows * plan.grid.cols → plan.grid.rows * plan.grid.cols ≤ MOST_SERVERS → ((place : ℕ) → times (plan_in here.lost) place ≤ MOST_TIMES) → IsShaped w
 first_shaped plan here w first few inside small rare =
     let server : ℕ = place_of here.node in
-    let S : CheckedPlan → ℕ → Type 0 = λ p s. (s < p.grid.rows * p.grid.cols) × (p.grid.rows * p.grid.cols ≤ MOST_SERVERS) × (length w.desk ≡ length p.rows) × (length w.seats ≡ length p.rows)
-    × ((t : ℕ) → t < length p.rows → length (seats_at w.seats t) ≡ (row_at p t).sessions) × FewSessions p in
+    let S : CheckedPlan → ℕ → Type 0 = λ p s. (s < p.grid.rows * p.grid.cols) × (p.grid.rows * p.grid.cols ≤ MOST_SERVERS) × (length w.desk ≡ length p.rows) × (length w.session_states ≡ length p.rows)
+    × ((t : ℕ) → t < length p.rows → length (session_states_at w.session_states t) ≡ (row_at p t).sessions) × FewSessions p in
     let all : S plan server = (
       inside,
       small,
       ap length first.desk ∙ length-map plan.rows new_account,
-      ap length first.seats ∙ length-map plan.rows (new_seats (first_seat plan.grid server)),
-      (λ t within. ap (λ all. length (seats_at all t)) first.seats ∙ ap length (seats_are (first_seat plan.grid server) plan.rows t within) ∙ length-replicate (row_at plan t).sessions (first_seat plan.grid server)),
+      ap length first.session_states ∙ length-map plan.rows (new_session_states (first_session_state plan.grid server)),
+      (λ t within. ap (λ all. length (session_states_at all t)) first.session_states ∙ ap length (session_states_are (first_session_state plan.grid server) plan.rows t within) ∙ length-replicate (row_at plan t).sessions (first_session_state plan.grid server)),
       few,
     ) in
     let rows : length plan.rows ≡ length w.plan.rows = ap (λ (p : CheckedPlan). length p.rows) (sym first.plan_is) in
@@ -110,12 +110,12 @@ first_shaped plan here w first few inside small rare =
       whole = λ old t f. none_lacked w plan.rows t f first.given;
       bare = λ t f lacks. absurd (true≢false (sym lacks ∙ none_lacked w plan.rows t f first.given));
       few_given = λ t. subst (λ n. n ≤ MOST_VOLUMES) (sym (ap length (none_given_at w plan.rows t first.given))) (omega arith);
-      mates = ap length first.mates ∙ length-map plan.rows (λ row. server) ∙ rows;
-      grid_mates = λ t within.
-          let at : mate_at w t ≡ server = ap (λ ms. slice_index_or ms t 0) first.mates ∙ const_at server plan.rows t (subst (λ n. t < n) (sym rows) within) in
-          subst (λ (p : CheckedPlan). mate_at w t < p.grid.rows * p.grid.cols) (sym first.plan_is) (subst (λ n. n < plan.grid.rows * plan.grid.cols) (sym at) inside);
+      peers = ap length first.peers ∙ length-map plan.rows (λ row. server) ∙ rows;
+      grid_peers = λ t within.
+          let at : peer_at w t ≡ server = ap (λ ms. slice_index_or ms t 0) first.peers ∙ const_at server plan.rows t (subst (λ n. t < n) (sym rows) within) in
+          subst (λ (p : CheckedPlan). peer_at w t < p.grid.rows * p.grid.cols) (sym first.plan_is) (subst (λ n. n < plan.grid.rows * plan.grid.cols) (sym at) inside);
       tenants = h.3;
-      seats = h.4;
+      session_states = h.4;
       sessions = h.5;
     }
 
@@ -123,13 +123,13 @@ pub first_agrees : (plan : CheckedPlan) (here : Here) (w : Tables) (t : ℕ) →
 first_agrees plan here w t first within =
     let server : ℕ = place_of here.node in
     let P : CheckedPlan → Here → Type 0 = λ p x. (account_at w.desk t ≡ new_account (row_at p t))
-    × ((place : ℕ) → place < (row_at p t).sessions → SeatAgrees p.grid t (session_at p x t place) (seat_in (seats_at w.seats t) place) (new_resident plan.grid server)) in
+    × ((place : ℕ) → place < (row_at p t).sessions → SessionStateAgrees p.grid t (session_at p x t place) (session_state_in (session_states_at w.session_states t) place) (new_resident plan.grid server)) in
     let all : P plan here = (
       ap (λ desk. account_at desk t) first.desk ∙ fresh_at plan.rows t,
       (λ place inside.
-          let are : seats_at w.seats t ≡ replicate (row_at plan t).sessions (first_seat plan.grid server) = ap (λ all. seats_at all t) first.seats ∙ seats_are (first_seat plan.grid server) plan.rows t within in
-          let is : seat_in (seats_at w.seats t) place ≡ first_seat plan.grid server = ap (λ (seats : List Seat). seat_in seats place) are ∙ get_or-replicate (row_at plan t).sessions place (first_seat plan.grid server) no_seat inside in
-          subst (λ (seat : Seat). SeatAgrees plan.grid t (session_at plan here t place) seat (new_resident plan.grid server)) (sym is) (record { op = refl; reserved_op = refl; reserved_floor = refl; sits = refl; outcome = refl; row = refl; column = refl; waited = refl })),
+          let are : session_states_at w.session_states t ≡ replicate (row_at plan t).sessions (first_session_state plan.grid server) = ap (λ all. session_states_at all t) first.session_states ∙ session_states_are (first_session_state plan.grid server) plan.rows t within in
+          let is : session_state_in (session_states_at w.session_states t) place ≡ first_session_state plan.grid server = ap (λ (session_states : List SessionState). session_state_in session_states place) are ∙ get_or-replicate (row_at plan t).sessions place (first_session_state plan.grid server) no_session_state inside in
+          subst (λ (session_state : SessionState). SessionStateAgrees plan.grid t (session_at plan here t place) session_state (new_resident plan.grid server)) (sym is) (record { op = refl; reserved_op = refl; reserved_floor = refl; sits = refl; outcome = refl; row = refl; column = refl; waited = refl })),
     ) in
     let h : P w.plan w.here = subst (λ p. P p w.here) (sym first.plan_is) (subst (P plan) (sym first.here_is) all) in
     record {
@@ -137,8 +137,8 @@ first_agrees plan here w t first within =
       copies = λ file. ap (λ (store : StoreCopies). copy_at store (file_of t file)) first.store ∙ copy_first plan t file;
       lacks = λ file. none_lacked w plan.rows t file first.given;
       joined = first.joined;
-      mate = ap (λ ms. slice_index_or ms t 0) first.mates ∙ const_at server plan.rows t within;
-      seats = h.1;
+      peer = ap (λ ms. slice_index_or ms t 0) first.peers ∙ const_at server plan.rows t within;
+      session_states = h.1;
     }
 
 -- ---- all tenants

@@ -10,7 +10,7 @@ use Rattle.gq_grid.specs.Grid.{Grid}
 use Rattle.gq_desk.specs.declared.plans.TenantRow.{TenantRow}
 use Rattle.gq_desk.specs.declared.volumes.VolumeRow.{VolumeRow}
 use Rattle.gq_phase.specs.declared.Outcome.TheVariants.{Wrote, Gave}
-use Rattle.gq_phase.specs.Quorums.{collect_quorum, store_quorum, ends_collect, ends_store, are_mates}
+use Rattle.gq_phase.specs.Quorums.{collect_quorum, store_quorum, ends_collect, ends_store, are_peers}
 use Rattle.gq_model.specs.declared.events.Line.TheVariants.{Write, Read}
 use Rattle.gq_model.specs.declared.events.Refusal.TheVariants.{NoSession}
 use Rattle.gq_cluster.specs.Cluster.{copy_in}
@@ -151,22 +151,22 @@ losses = Started 0 0
 pub told_at_two : answers two (new_nodes two) losses ≡
     None ∷ None ∷ None ∷ None ∷ None ∷ None ∷ None ∷ None ∷ Some (Done (Wrote 1 1 tag)) ∷ None ∷ None ∷ None ∷ None ∷ None ∷ None ∷ None ∷ None ∷ None
     ∷ None ∷ None ∷ None ∷ None ∷ None ∷ Some (Done (Gave 17 1 written)) ∷ Some (Refused 1 1 NoSession) ∷ []
-unfolding collect_quorum store_quorum ends_collect ends_store are_mates
+unfolding collect_quorum store_quorum ends_collect ends_store are_peers
 told_at_two = refl
 
 -- what the new node may not forget of it: with a journal of these it has the file from then on
 pub facts_at_two : facts_at two (new_nodes two) 64 losses ≡ Begun 17 1024 ∷ Had file written ∷ []
-unfolding collect_quorum store_quorum ends_collect ends_store are_mates
+unfolding collect_quorum store_quorum ends_collect ends_store are_peers
 facts_at_two = refl
 
 -- from then on no line of the node that was lost is taken, and that one takes none
 pub gone_at_two : (nodes_after two (new_nodes two) losses).gone 0 ≡ true
-unfolding collect_quorum store_quorum ends_collect ends_store are_mates
+unfolding collect_quorum store_quorum ends_collect ends_store are_peers
 gone_at_two = refl
 
 -- what comes of another node was written by it before, and no node takes a step that is gone
 pub two_can : AllCanCome two (new_nodes two) losses
-unfolding collect_quorum store_quorum ends_collect ends_store are_mates
+unfolding collect_quorum store_quorum ends_collect ends_store are_peers
 two_can = (
   (refl, refl, λ begun. omega arith),
   (

@@ -48,7 +48,7 @@ AllCallsByParts = (old new : Tables) (calls : List Call) (t : ℕ) (local : Loca
 pub record GivesTheSame (one two : Output) : Type 0 where
   pub answer : one.answer ≡ two.answer
   pub letters : one.letters.items ≡ two.letters.items
-  pub parcel : one.parcel ≡ two.parcel
+  pub transfer : one.transfer ≡ two.transfer
   pub fact : one.fact ≡ two.fact
 
 abbrev pub AllGiveTheSame : List Output → List Output → Type 0

@@ -6,8 +6,8 @@ use Rattle.gq_desk.specs.declared.limits.TheConstants.{MOST_VOLUMES}
 use Rattle.gq_desk.specs.Volumes.{account_at}
 use Rattle.gq_store.specs.Copies.{VolumeCopies, tenant_in}
 use Rattle.gq_tag.specs.declared.TheConstants.{MOST_FILES}
-use Rattle.gq_node.specs.declared.seats.Seat.{Seat}
-use Rattle.gq_node.specs.Tables.{Tables, given_at, seats_at}
+use Rattle.gq_node.specs.declared.session_states.SessionState.{SessionState}
+use Rattle.gq_node.specs.Tables.{Tables, given_at, session_states_at}
 
 -- of the tenant at place t: the files of its open volumes, and the copies that the server has of them
 abbrev pub files_open : Tables → ℕ → ℕ
@@ -18,10 +18,10 @@ copies_held w t = sum_by (λ (v : VolumeCopies). length v.copies) (tenant_in w.s
 
 -- its sessions that have an operation, and those of whose last operation an outcome is known
 abbrev pub operations_held : Tables → ℕ → ℕ
-operations_held w t = count_by (λ (seat : Seat). is_some seat.operation) (seats_at w.seats t)
+operations_held w t = count_by (λ (session_state : SessionState). is_some session_state.operation) (session_states_at w.session_states t)
 
 abbrev pub outcomes_held : Tables → ℕ → ℕ
-outcomes_held w t = count_by (λ (seat : Seat). is_some seat.outcome) (seats_at w.seats t)
+outcomes_held w t = count_by (λ (session_state : SessionState). is_some session_state.outcome) (session_states_at w.session_states t)
 
 -- the volumes that it lost with the node that stood here before, and the marks, one for each file, which of these files the server was given
 abbrev pub volumes_lost : Tables → ℕ → ℕ
@@ -35,9 +35,9 @@ marks_held w t = sum_by length (given_at w t)
 -- which are no more than it may have, one mark for each file that a volume may have.
 pub record IsBounded (w : Tables) : Type 0 where
   pub copied : length w.store.tenants ≡ length w.plan.rows
-  pub seated : length w.seats ≡ length w.plan.rows
+  pub seated : length w.session_states ≡ length w.plan.rows
   pub marked : length w.given ≡ length w.plan.rows
-  pub asked : length w.mates ≡ length w.plan.rows
+  pub asked : length w.peers ≡ length w.plan.rows
   pub volumes : (t : ℕ) → length (account_at w.desk t).volumes ≤ MOST_VOLUMES
   pub copies : (t : ℕ) → copies_held w t ≡ files_open w t
   pub operations : (t : ℕ) → t < length w.plan.rows → operations_held w t ≤ (row_at w.plan t).sessions

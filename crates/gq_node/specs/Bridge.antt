@@ -109,7 +109,7 @@ Does site local (Some act) answer tell doing = DoesAct site local tell doing act
 pub record Bridges (site : Site) (local : Local) (act : Option Act) (answer : Option Answer) (tell : Told → Option Answer) (doing : Doing) : Type 0 where
   pub does : Does site local act answer tell doing
   pub volumes : doing.local.volumes ≡ local.volumes
-  pub parcel : doing.parcel ≡ None
+  pub transfer : doing.transfer ≡ None
   pub home : AtHome site doing.local
 
 -- each line, letter and tick is an act or nothing; that a tenant asks what it has is none

@@ -45,5 +45,5 @@ heard_outcome _ before = before
 pub record HeardGives (t k : ℕ) (run : Option ℕ) (heard : Heard) (out : Output) : Type 0 where
   pub answer : out.answer ≡ heard_answer heard
   pub letters : out.letters.items ≡ messages_of heard
-  pub parcel : out.parcel ≡ None
+  pub transfer : out.transfer ≡ None
   pub fact : out.fact ≡ heard_fact t k run heard

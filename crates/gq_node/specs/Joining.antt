@@ -9,7 +9,7 @@ use Rattle.gq_tag.specs.declared.StoredCopy.{StoredCopy}
 use Rattle.gq_tag.specs.declared.Body.TheVariants.{Store}
 use Rattle.gq_tag.specs.Tag.{File}
 use Rattle.gq_desk.specs.declared.volumes.VolumeRow.{VolumeRow}
-use Rattle.gq_phase.specs.Quorums.{are_mates}
+use Rattle.gq_phase.specs.Quorums.{are_peers}
 use Rattle.gq_model.specs.Trace.{files_of, limit_at}
 use Rattle.gq_cluster.specs.Cluster.{everyone, copy_in}
 use Rattle.gq_cluster.specs.Facts.{Had}
@@ -59,17 +59,17 @@ first_lacked local = first_among local.lacks local.volumes
 abbrev pub below_in_column : Grid → ℕ → ℕ
 below_in_column grid place = if nat_lt (place + grid.cols) (grid.rows * grid.cols) then place + grid.cols else place + grid.cols - grid.rows * grid.cols
 
-abbrev pub next_mate : Site → ℕ → ℕ
-next_mate site place =
+abbrev pub next_peer : Site → ℕ → ℕ
+next_peer site place =
     if below_in_column site.grid place == site.place then below_in_column site.grid site.place else below_in_column site.grid place
 
 -- it asks the node at that place for the first file
-abbrev pub asks_mate : Site → Local → (place : ℕ) → Doing
-asks_mate site local place = by (first_lacked local)
+abbrev pub asks_peer : Site → Local → (place : ℕ) → Doing
+asks_peer site local place = by (first_lacked local)
   where
     by : Option File → Doing
     by None = silently local
-    by (Some file) = record (silently (record local { mate = place })) { parcel = Some (Wants (site.node_at place) file) }
+    by (Some file) = record (silently (record local { peer = place })) { transfer = Some (Wants (site.node_at place) file) }
 
 -- at a tick, once all have joined, the next one
 abbrev pub looks : Site → Local → Doing
@@ -77,13 +77,13 @@ looks site local = by (all_joined site local.joined)
   where
     by : Bool → Doing
     by false = silently local
-    by true = asks_mate site local (next_mate site local.mate)
+    by true = asks_peer site local (next_peer site local.peer)
 
 -- ---- what it is given
 
 -- a node of its plan and its column
-abbrev pub is_mate : Site → (node : ℕ) → Bool
-is_mate site node = has_node site node && are_mates site.grid site.place (place_of node)
+abbrev pub is_peer : Site → (node : ℕ) → Bool
+is_peer site node = has_node site node && are_peers site.grid site.place (place_of node)
 
 -- the file is there, and its server has it
 abbrev pub has_file : Local → File → Bool
@@ -91,19 +91,19 @@ has_file local file = is_some (limit_at (state_of everyone local) file.volume fi
 
 -- a node of the column asks for this one's copy
 abbrev pub gives : (from : ℕ) → File → Site → Local → Doing
-gives from file site local = by (is_mate site from && has_file local file)
+gives from file site local = by (is_peer site from && has_file local file)
   where
     by : Bool → Doing
     by false = silently local
-    by true = record (silently local) { parcel = Some (Brings from file (copy_in (part_in local) file)) }
+    by true = record (silently local) { transfer = Some (Brings from file (copy_in (part_in local) file)) }
 
 -- a node of the column gives its own of a file that this one lacks; the next file is asked of it at once
 abbrev pub takes : (from : ℕ) → File → StoredCopy → Site → Local → Doing
-takes from file copy site local = by (is_mate site from && local.lacks file && file_fits (limit_at (state_of everyone local) file.volume file.place) (Store copy))
+takes from file copy site local = by (is_peer site from && local.lacks file && file_fits (limit_at (state_of everyone local) file.volume file.place) (Store copy))
   where
     by : Bool → Doing
     by false = silently local
-    by true = record (asks_mate site (given file copy local) (place_of from)) { fact = Some (Had file copy) }
+    by true = record (asks_peer site (given file copy local) (place_of from)) { fact = Some (Had file copy) }
 
 -- ---- how much it lacks
 

@@ -18,7 +18,7 @@ pub mod Opening
 pub mod Progress
 pub mod Recalling
 pub mod Resting
-pub mod Seats
+pub mod SessionStates
 pub mod Shape
 pub mod Sites
 pub mod Tables

@@ -47,7 +47,7 @@ pub record Local : Type 0 where
   -- the places whose nodes have told this one, since it was started, that their plan has it
   pub joined : Servers
   -- the place whose node it asked last for a file, or its own
-  pub mate : ℕ
+  pub peer : ℕ
   pub residents : ℕ → Resident
 
 -- a session that tries the row and the column of this server
@@ -56,7 +56,7 @@ new_resident grid server = record { session = new_session; reserved = none_reser
 
 -- of the node of that server which was never started, with these volumes
 abbrev pub new_local : Grid → ℕ → List VolumeRow → Local
-new_local grid server volumes = record { volumes = volumes; brought = λ file. []; lacks = λ file. false; joined = no_servers; mate = server; residents = λ k. new_resident grid server }
+new_local grid server volumes = record { volumes = volumes; brought = λ file. []; lacks = λ file. false; joined = no_servers; peer = server; residents = λ k. new_resident grid server }
 
 -- what the law of clusters calls the node's part
 abbrev pub part_in : Local → Part
@@ -81,26 +81,26 @@ with_resident local k resident = record local { residents = λ j. if k == j then
 -- ---- what a step gives
 
 -- what goes between a new node and a node of its column
-pub data Parcel : Type 0 where
+pub data Transfer : Type 0 where
   -- that node is asked for its copy of the file
-  Wants : (to : ℕ) (file : File) → Parcel
+  Wants : (to : ℕ) (file : File) → Transfer
   -- that node is given this one's
-  Brings : (to : ℕ) (file : File) (copy : StoredCopy) → Parcel
+  Brings : (to : ℕ) (file : File) (copy : StoredCopy) → Transfer
 
--- the tenant's part after a step, what the tenant is told, the letters and the parcel that go out, and what must not be forgotten
+-- the tenant's part after a step, what the tenant is told, the letters and the transfer that go out, and what must not be forgotten
 pub record Doing : Type 0 where
   pub local : Local
   pub answer : Option Answer
   pub letters : List OwnMessage
-  pub parcel : Option Parcel
+  pub transfer : Option Transfer
   pub fact : Option OwnFact
 
 -- nothing is told, sent or to be kept; the tenant is told this alone
 abbrev pub silently : Local → Doing
-silently local = record { local = local; answer = None; letters = []; parcel = None; fact = None }
+silently local = record { local = local; answer = None; letters = []; transfer = None; fact = None }
 
 abbrev pub tells : Local → Answer → Doing
-tells local answer = record { local = local; answer = Some answer; letters = []; parcel = None; fact = None }
+tells local answer = record { local = local; answer = Some answer; letters = []; transfer = None; fact = None }
 
 -- ---- a step of a session
 
@@ -148,7 +148,7 @@ goes_on local k op heard_before state e = record {
   });
   answer = answer_of k op (local.residents k).session.op e.told;
   letters = e.new;
-  parcel = None;
+  transfer = None;
   fact = session_fact local k state e;
 }
 
@@ -201,7 +201,7 @@ abbrev pub asked_by : Local → (k op : ℕ) → State → Line → Step → Doi
 asked_by local k op state line step = by (is_refusal step.told)
   where
     by : Bool → Doing
-    by true = record { local = local; answer = answer_of k op (local.residents k).session.op step.told; letters = []; parcel = None; fact = None }
+    by true = record { local = local; answer = answer_of k op (local.residents k).session.op step.told; letters = []; transfer = None; fact = None }
     by false = goes_on local k op false state (entry_of state (Own line) step)
 
 abbrev pub asks_in : Site → Local → (op : ℕ) → Line → ℕ → Doing
@@ -283,7 +283,7 @@ serves site local m =
       local = record local { brought = (changed (brings m step) state).brought site.place };
       answer = None;
       letters = step.new;
-      parcel = None;
+      transfer = None;
       fact = replaced_in (held state site.place m.file) m.file m.body;
     }
 

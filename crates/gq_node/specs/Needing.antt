@@ -13,7 +13,7 @@ use Rattle.gq_node.specs.declared.output.NeedRefused.TheVariants.{Memory, Unread
 use Rattle.gq_cluster.specs.Facts.{OwnFact, Begun, Numbered, Kept, Had}
 use Rattle.gq_node.specs.Local.{copy_fits}
 use Rattle.gq_node.specs.Sites.{session_at, home_of}
-use Rattle.gq_node.specs.Tables.{Tables, seat_at, fact_of, lacks_at, is_new_node}
+use Rattle.gq_node.specs.Tables.{Tables, session_state_at, fact_of, lacks_at, is_new_node}
 
 -- Whether the session's home is this node, and this is a new one. What is reserved for its tags is then told even where it is 0, since without
 -- it a start would begin where the journal's first plan says.
@@ -30,15 +30,15 @@ number_facts own k number = if (number == 0) && not own then [] else Numbered k 
 abbrev pub numbers_facts : (own : Bool) → (k op number : ℕ) → List OwnFact
 numbers_facts own k op number = begun_facts k op ++ number_facts own k number
 
-abbrev pub seat_facts : Tables → (t k : ℕ) → List OwnFact
-seat_facts w t k = numbers_facts (is_own w t k) k (seat_at w t k).reserved_op (seat_at w t k).reserved_floor
+abbrev pub session_state_facts : Tables → (t k : ℕ) → List OwnFact
+session_state_facts w t k = numbers_facts (is_own w t k) k (session_state_at w t k).reserved_op (session_state_at w t k).reserved_floor
 
 -- of so many sessions
 abbrev pub place_numbers : Tables → (t place : ℕ) → List OwnFact
-place_numbers w t place = seat_facts w t (session_at w.plan w.here t place)
+place_numbers w t place = session_state_facts w t (session_at w.plan w.here t place)
 
-abbrev pub seats_facts : Tables → (t places : ℕ) → List OwnFact
-seats_facts w t places = flat_map (place_numbers w t) (range_with_len 0 places)
+abbrev pub session_states_facts : Tables → (t places : ℕ) → List OwnFact
+session_states_facts w t places = flat_map (place_numbers w t) (range_with_len 0 places)
 
 -- the copy of a file, where it is above the first one
 abbrev pub copy_facts : File → StoredCopy → List OwnFact
@@ -75,7 +75,7 @@ volumes_facts w t = flat_map (volume_facts w t) (range_with_len 0 (length (accou
 
 -- of the tenant at place t
 abbrev pub tenant_facts : Tables → ℕ → List OwnFact
-tenant_facts w t = seats_facts w t (row_at w.plan t).sessions ++ volumes_facts w t
+tenant_facts w t = session_states_facts w t (row_at w.plan t).sessions ++ volumes_facts w t
 
 -- of all tenants
 abbrev pub all_facts : Tables → List Fact

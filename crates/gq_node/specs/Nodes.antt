@@ -19,8 +19,8 @@ use Rattle.gq_node.specs.declared.output.Answer.{Answer}
 use Rattle.gq_node.specs.declared.output.Answer.TheVariants.{Has}
 use Rattle.gq_node.specs.Bridge.{setting_in, request_act, request_answer, letter_act, tick_act}
 use Rattle.gq_node.specs.Inputs.{Input, Asked, AskedPlan, Brought, Ticked, Joined, Fetching, Fetched, does}
-use Rattle.gq_node.specs.Joining.{tells_joined, all_joined, is_mate, has_file}
-use Rattle.gq_node.specs.Local.{Local, Doing, Parcel, Wants, Brings, new_local, part_in, state_of, file_fits, silently, answer_of, holding}
+use Rattle.gq_node.specs.Joining.{tells_joined, all_joined, is_peer, has_file}
+use Rattle.gq_node.specs.Local.{Local, Doing, Transfer, Wants, Brings, new_local, part_in, state_of, file_fits, silently, answer_of, holding}
 use Rattle.gq_node.specs.Resting.{FirstPlan, begun_local, recall_all}
 use Rattle.gq_node.specs.Sites.{Site, is_new, has_node}
 use Rattle.gq_tag.specs.declared.Body.TheVariants.{Store}
@@ -145,12 +145,12 @@ abbrev pub fact_list : Option OwnFact → List OwnFact
 fact_list None = []
 fact_list (Some fact) = fact ∷ []
 
-abbrev pub questions_in : ℕ → Option Parcel → List Question
+abbrev pub questions_in : ℕ → Option Transfer → List Question
 questions_in n (Some (Wants to file)) = record { from = n; to = to; file = file } ∷ []
 questions_in n _ = []
 
-abbrev pub copies_in : ℕ → Option Parcel → List HasFetched
-copies_in n (Some (Brings to file copy)) = record { mate = n; node = to; file = file; copy = copy } ∷ []
+abbrev pub copies_in : ℕ → Option Transfer → List HasFetched
+copies_in n (Some (Brings to file copy)) = record { peer = n; node = to; file = file; copy = copy } ∷ []
 copies_in n _ = []
 
 abbrev pub after_doing : NodeWorld → Nodes → ℕ → Doing → Nodes
@@ -158,8 +158,8 @@ after_doing w nodes n doing = record nodes {
   local = λ m. if m == n then doing.local else nodes.local m;
   facts = λ m. if m == n then nodes.facts m ++ fact_list doing.fact else nodes.facts m;
   posted = nodes.posted ++ posts w nodes n doing.letters;
-  wanted = nodes.wanted ++ questions_in n doing.parcel;
-  fetched = nodes.fetched ++ copies_in n doing.parcel;
+  wanted = nodes.wanted ++ questions_in n doing.transfer;
+  fetched = nodes.fetched ++ copies_in n doing.transfer;
 }
 
 -- whether the node takes the word of that one
@@ -203,7 +203,7 @@ abbrev pub WasWritten : Nodes → (n : ℕ) → Input → Type 0
 WasWritten nodes n (Brought from letter) = Contains nodes.posted (record { from = from; to = n; letter = letter })
 WasWritten nodes n (Joined from losses) = Contains nodes.joined (record { from = from; to = n; losses = losses })
 WasWritten nodes n (Fetching from file) = Contains nodes.wanted (record { from = from; to = n; file = file })
-WasWritten nodes n (Fetched from file copy) = Contains nodes.fetched (record { mate = from; node = n; file = file; copy = copy })
+WasWritten nodes n (Fetched from file copy) = Contains nodes.fetched (record { peer = from; node = n; file = file; copy = copy })
 WasWritten nodes n _ = ⊤
 
 -- A node that is gone takes no step. Any other may be started with a plan that has it, again with the same one or a later one; what comes to it was
@@ -241,9 +241,9 @@ does_step n (Some act) = Does n act ∷ []
 
 abbrev pub input_steps : Site → Local → ℕ → Input → List FleetStep
 input_steps site local n (Joined from losses) = if takes_word site from losses then Hears n from ∷ [] else []
-input_steps site local n (Fetching from file) = if is_mate site from && has_file local file then Gives n from file ∷ [] else []
+input_steps site local n (Fetching from file) = if is_peer site from && has_file local file then Gives n from file ∷ [] else []
 input_steps site local n (Fetched from file copy) =
-    if is_mate site from && local.lacks file && file_fits (limit_at (state_of everyone local) file.volume file.place) (Store copy) then Takes n from file copy ∷ [] else []
+    if is_peer site from && local.lacks file && file_fits (limit_at (state_of everyone local) file.volume file.place) (Store copy) then Takes n from file copy ∷ [] else []
 input_steps site local n input = does_step n (act_of input site local)
 
 abbrev pub steps_of : NodeWorld → Nodes → Event → List FleetStep

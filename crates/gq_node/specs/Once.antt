@@ -20,7 +20,7 @@ comes_again local _ = false
 pub record LeavesAll (local : Local) (doing : Doing) : Type 0 where
   pub part : doing.local ≡ local
   pub letters : doing.letters ≡ []
-  pub parcel : doing.parcel ≡ None
+  pub transfer : doing.transfer ≡ None
   pub fact : doing.fact ≡ None
 
 -- so it is at each request that comes again

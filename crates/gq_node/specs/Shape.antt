@@ -11,7 +11,7 @@ use Rattle.gq_store.specs.Copies.{empty_store, store_accounts, copy_at}
 use Rattle.gq_replace.specs.Plans.{times, place_of}
 use Rattle.gq_node.specs.declared.lost.TheConstants.{MOST_TIMES}
 use Rattle.gq_node.specs.Sites.{Here, plan_in}
-use Rattle.gq_node.specs.Tables.{Tables, seats_at, first_seat, given_at, lacks_at, mate_at, is_new_node}
+use Rattle.gq_node.specs.Tables.{Tables, session_states_at, first_session_state, given_at, lacks_at, peer_at, is_new_node}
 
 -- the node's place is one of the grid's, and so many nodes may have been lost at each; the desk and the store have the same volumes, of each
 -- tenant at most the most; a node that is no new one lacks no
@@ -28,10 +28,10 @@ pub record IsShaped (w : Tables) : Type 0 where
   pub whole : is_new_node w ≡ false → (t : ℕ) (file : File) → lacks_at w t file ≡ false
   pub bare : (t : ℕ) (file : File) → lacks_at w t file ≡ true → copy_at w.store (file_of t file) ≡ first_copy
   pub few_given : (t : ℕ) → length (given_at w t) ≤ MOST_VOLUMES
-  pub mates : length w.mates ≡ length w.plan.rows
-  pub grid_mates : (t : ℕ) → t < length w.plan.rows → mate_at w t < w.plan.grid.rows * w.plan.grid.cols
-  pub tenants : length w.seats ≡ length w.plan.rows
-  pub seats : (t : ℕ) → t < length w.plan.rows → length (seats_at w.seats t) ≡ (row_at w.plan t).sessions
+  pub peers : length w.peers ≡ length w.plan.rows
+  pub grid_peers : (t : ℕ) → t < length w.plan.rows → peer_at w t < w.plan.grid.rows * w.plan.grid.cols
+  pub tenants : length w.session_states ≡ length w.plan.rows
+  pub session_states : (t : ℕ) → t < length w.plan.rows → length (session_states_at w.session_states t) ≡ (row_at w.plan t).sessions
   pub sessions : (t : ℕ) → t < length w.plan.rows → (row_at w.plan t).sessions ≤ MOST_SESSIONS
 
 -- each tenant has at most the most sessions that a plan may give
@@ -46,5 +46,5 @@ pub record IsFirst (plan : CheckedPlan) (here : Here) (w : Tables) : Type 0 wher
   pub store : w.store ≡ empty_store plan
   pub given : w.given ≡ map (λ row. []) plan.rows
   pub joined : servers w.joined ≡ no_servers
-  pub mates : w.mates ≡ map (λ row. place_of here.node) plan.rows
-  pub seats : w.seats ≡ map (λ row. replicate row.sessions (first_seat plan.grid (place_of here.node))) plan.rows
+  pub peers : w.peers ≡ map (λ row. place_of here.node) plan.rows
+  pub session_states : w.session_states ≡ map (λ row. replicate row.sessions (first_session_state plan.grid (place_of here.node))) plan.rows

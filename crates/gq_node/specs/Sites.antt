@@ -35,15 +35,15 @@ abbrev pub home_place : CheckedPlan → (t place : ℕ) → ℕ
 home_place plan t place = number_of plan.rows t place % (plan.grid.rows * plan.grid.cols)
 
 -- the place of session k among its tenant's; and how many nodes were lost before at the place of its home
-abbrev pub seat_place : ℕ → ℕ
-seat_place k = (k - 1) % MOST_SESSIONS
+abbrev pub session_state_place : ℕ → ℕ
+session_state_place k = (k - 1) % MOST_SESSIONS
 
 abbrev pub session_generation : ℕ → ℕ
 session_generation k = (k - 1) / MOST_SESSIONS
 
 -- the node that is its home
 abbrev pub home_of : CheckedPlan → (t k : ℕ) → ℕ
-home_of plan t k = session_generation k * most_places + home_place plan t (seat_place k)
+home_of plan t k = session_generation k * most_places + home_place plan t (session_state_place k)
 
 -- the session that the node's plan has at that place of the tenant at place t
 abbrev pub session_at : CheckedPlan → Here → (t place : ℕ) → ℕ
@@ -51,7 +51,7 @@ session_at plan here t place = times (plan_in here.lost) (home_place plan t plac
 
 -- whether this is one of them
 abbrev pub is_of_plan : CheckedPlan → Here → (t k : ℕ) → Bool
-is_of_plan plan here t k = nat_lt (seat_place k) (row_at plan t).sessions && session_generation k == times (plan_in here.lost) (home_place plan t (seat_place k))
+is_of_plan plan here t k = nat_lt (session_state_place k) (row_at plan t).sessions && session_generation k == times (plan_in here.lost) (home_place plan t (session_state_place k))
 
 -- the node that a letter goes to
 abbrev pub address_of : CheckedPlan → Here → Message → ℕ

@@ -12,16 +12,16 @@ use Rattle.gq_phase.specs.declared.operation.Operation.{Operation as Code}
 use Rattle.gq_store.specs.Copies.{StoreCopies, copy_at}
 use Rattle.gq_model.specs.Trace.{operation_with}
 use Rattle.gq_replace.specs.Plans.{place_of, generation}
-use Rattle.gq_node.specs.declared.seats.Seat.{Seat}
+use Rattle.gq_node.specs.declared.session_states.SessionState.{SessionState}
 use Rattle.gq_node.specs.declared.output.Output.{Output}
 use Rattle.gq_node.specs.declared.output.Fact.{Fact}
 use Rattle.gq_node.specs.declared.output.Fact.TheVariants.{Began, Numbered as HasNumber, Kept as IsKept, Had as WasGiven}
-use Rattle.gq_node.specs.declared.output.Parcel.{Parcel as CodeParcel}
-use Rattle.gq_node.specs.declared.output.Parcel.TheVariants.{Wants as CodeWants, Brings as CodeBrings}
+use Rattle.gq_node.specs.declared.output.Transfer.{Transfer as CodeTransfer}
+use Rattle.gq_node.specs.declared.output.Transfer.TheVariants.{Wants as CodeWants, Brings as CodeBrings}
 use Rattle.gq_cluster.specs.Facts.{OwnFact, Begun, Numbered, Kept, Had}
-use Rattle.gq_node.specs.Local.{Local, Resident, Parcel, Wants, Brings, Doing}
+use Rattle.gq_node.specs.Local.{Local, Resident, Transfer, Wants, Brings, Doing}
 use Rattle.gq_node.specs.Lacks.{Given, lacks_in}
-use Rattle.gq_node.specs.Sites.{Site, Here, seat_place, session_at, site_of}
+use Rattle.gq_node.specs.Sites.{Site, Here, session_state_place, session_at, site_of}
 
 -- the plan, which node it is, the tenants' volumes, the server's copies and which files it lacks, the nodes that have joined, whom the tenants'
 -- files were asked of last, and the tenants' sessions
@@ -32,23 +32,23 @@ pub record Tables : Type 0 where
   pub store : StoreCopies
   pub given : List Given
   pub joined : ServerSet
-  pub mates : List ℕ
-  pub seats : List (List Seat)
+  pub peers : List ℕ
+  pub session_states : List (List SessionState)
 
 -- a session that began nothing
-abbrev pub no_seat : Seat
-no_seat = record { op = 0; floor = 0; reserved_op = 0; reserved_floor = 0; operation = None; outcome = None; row = 0; column = 0; waited = false }
+abbrev pub no_session_state : SessionState
+no_session_state = record { op = 0; floor = 0; reserved_op = 0; reserved_floor = 0; operation = None; outcome = None; row = 0; column = 0; waited = false }
 
 -- and one that tries the row and the column of this server
-abbrev pub first_seat : Grid → ℕ → Seat
-first_seat grid server = record { op = 0; floor = 0; reserved_op = 0; reserved_floor = 0; operation = None; outcome = None; row = server / grid.cols; column = server % grid.cols; waited = false }
+abbrev pub first_session_state : Grid → ℕ → SessionState
+first_session_state grid server = record { op = 0; floor = 0; reserved_op = 0; reserved_floor = 0; operation = None; outcome = None; row = server / grid.cols; column = server % grid.cols; waited = false }
 
 -- the sessions of the tenant at place t, and the one at a place of them
-abbrev pub seats_at : List (List Seat) → ℕ → List Seat
-seats_at seats t = slice_index_or seats t []
+abbrev pub session_states_at : List (List SessionState) → ℕ → List SessionState
+session_states_at session_states t = slice_index_or session_states t []
 
-abbrev pub seat_in : List Seat → ℕ → Seat
-seat_in seats place = slice_index_or seats place no_seat
+abbrev pub session_state_in : List SessionState → ℕ → SessionState
+session_state_in session_states place = slice_index_or session_states place no_session_state
 
 -- whether another node was lost at this one's place before
 abbrev pub is_new_node : Tables → Bool
@@ -61,25 +61,25 @@ given_at w t = slice_index_or w.given t []
 abbrev pub lacks_at : Tables → ℕ → File → Bool
 lacks_at w t file = lacks_in (given_at w t) file
 
-abbrev pub mate_at : Tables → ℕ → ℕ
-mate_at w t = slice_index_or w.mates t 0
+abbrev pub peer_at : Tables → ℕ → ℕ
+peer_at w t = slice_index_or w.peers t 0
 
 -- the node at that place has joined, or is this one
 abbrev pub has_joined : Tables → (place : ℕ) → Bool
 has_joined w place = place == place_of w.here.node || servers w.joined place
 
 -- session k of the tenant at place t
-abbrev pub seat_at : Tables → ℕ → ℕ → Seat
-seat_at w t k = seat_in (seats_at w.seats t) (seat_place k)
+abbrev pub session_state_at : Tables → ℕ → ℕ → SessionState
+session_state_at w t k = session_state_in (session_states_at w.session_states t) (session_state_place k)
 
 -- the tables in which that session is another
-abbrev pub with_seat : Tables → ℕ → ℕ → Seat → Tables
-with_seat w t k seat = record w { seats = slice_set w.seats t (slice_set (seats_at w.seats t) (seat_place k) seat) }
+abbrev pub with_session_state : Tables → ℕ → ℕ → SessionState → Tables
+with_session_state w t k session_state = record w { session_states = slice_set w.session_states t (slice_set (session_states_at w.session_states t) (session_state_place k) session_state) }
 
 -- session k is that of the plan at its place
 pub record IsOfPlan (w : Tables) (t k : ℕ) : Type 0 where
-  pub within : seat_place k < (row_at w.plan t).sessions
-  pub number : session_at w.plan w.here t (seat_place k) ≡ k
+  pub within : session_state_place k < (row_at w.plan t).sessions
+  pub number : session_at w.plan w.here t (session_state_place k) ≡ k
 
 -- ---- what the tables stand for
 
@@ -90,15 +90,15 @@ Sits grid t floor None last (Some o) = ⊥
 Sits grid t floor (Some code) last None = ⊥
 Sits grid t floor (Some code) last (Some o) = StandsFor grid t code o
 
-pub record SeatAgrees (grid : Grid) (t k : ℕ) (seat : Seat) (r : Resident) : Type 0 where
-  pub op : seat.op ≡ r.session.op
-  pub reserved_op : seat.reserved_op ≡ r.reserved.op
-  pub reserved_floor : seat.reserved_floor ≡ r.reserved.floor
-  pub sits : Sits grid t seat.floor seat.operation r.session.floor (option_map (operation_with k r.session) r.session.current)
-  pub outcome : seat.outcome ≡ r.outcome
-  pub row : seat.row ≡ r.row
-  pub column : seat.column ≡ r.column
-  pub waited : seat.waited ≡ r.waited
+pub record SessionStateAgrees (grid : Grid) (t k : ℕ) (session_state : SessionState) (r : Resident) : Type 0 where
+  pub op : session_state.op ≡ r.session.op
+  pub reserved_op : session_state.reserved_op ≡ r.reserved.op
+  pub reserved_floor : session_state.reserved_floor ≡ r.reserved.floor
+  pub sits : Sits grid t session_state.floor session_state.operation r.session.floor (option_map (operation_with k r.session) r.session.current)
+  pub outcome : session_state.outcome ≡ r.outcome
+  pub row : session_state.row ≡ r.row
+  pub column : session_state.column ≡ r.column
+  pub waited : session_state.waited ≡ r.waited
 
 -- the tables have for the tenant at place t this part of the node
 pub record Agrees (w : Tables) (t : ℕ) (local : Local) : Type 0 where
@@ -106,8 +106,8 @@ pub record Agrees (w : Tables) (t : ℕ) (local : Local) : Type 0 where
   pub copies : (file : File) → copy_at w.store (file_of t file) ≡ greatest (first_copy ∷ local.brought file)
   pub lacks : (file : File) → lacks_at w t file ≡ local.lacks file
   pub joined : servers w.joined ≡ local.joined
-  pub mate : mate_at w t ≡ local.mate
-  pub seats : (place : ℕ) → place < (row_at w.plan t).sessions → SeatAgrees w.plan.grid t (session_at w.plan w.here t place) (seat_in (seats_at w.seats t) place) (local.residents (session_at w.plan w.here t place))
+  pub peer : peer_at w t ≡ local.peer
+  pub session_states : (place : ℕ) → place < (row_at w.plan t).sessions → SessionStateAgrees w.plan.grid t (session_at w.plan w.here t place) (session_state_in (session_states_at w.session_states t) place) (local.residents (session_at w.plan w.here t place))
 
 -- ---- what a step gives
 
@@ -118,16 +118,16 @@ fact_of t (Numbered k number) = HasNumber t k number
 fact_of t (Kept file copy) = IsKept (file_of t file) copy
 fact_of t (Had file copy) = WasGiven (file_of t file) copy
 
--- the parcel of the tenant at place t, if there is one
-abbrev pub parcel_of : ℕ → Parcel → CodeParcel
-parcel_of t (Wants to file) = CodeWants to (file_of t file)
-parcel_of t (Brings to file copy) = CodeBrings to (file_of t file) copy
+-- the transfer of the tenant at place t, if there is one
+abbrev pub transfer_of : ℕ → Transfer → CodeTransfer
+transfer_of t (Wants to file) = CodeWants to (file_of t file)
+transfer_of t (Brings to file copy) = CodeBrings to (file_of t file) copy
 
 -- what is written is what the step of the tenant at place t gives
 pub record Gives (t : ℕ) (doing : Doing) (out : Output) : Type 0 where
   pub answer : out.answer ≡ doing.answer
   pub letters : out.letters.items ≡ map (message_of t) doing.letters
-  pub parcel : out.parcel ≡ option_map (parcel_of t) doing.parcel
+  pub transfer : out.transfer ≡ option_map (transfer_of t) doing.transfer
   pub fact : out.fact ≡ option_map (fact_of t) doing.fact
 
 -- the step of the tenant at place t leads from the old tables to the new, whatever part of the node the tables have for the

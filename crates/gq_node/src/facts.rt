@@ -8,13 +8,13 @@ ghost use Rattle.gq_desk.specs.Volumes.{account_at, limit_of};
 ghost use Rattle.gq_desk.specs.declared.limits.TheConstants.{MOST_VOLUMES};
 ghost use Rattle.gq_store.specs.Copies.{copy_at};
 ghost use Rattle.gq_node.specs.Local.{recalls};
-ghost use Rattle.gq_node.specs.Needing.{is_own, file_facts, IsReadable, IsRefusedOf, place_numbers, seats_facts, file_at, place_facts, files_facts, files_in, volumes_facts, tenant_facts, PlaceReadable, AllReadable, IsRefusedIn};
+ghost use Rattle.gq_node.specs.Needing.{is_own, file_facts, IsReadable, IsRefusedOf, place_numbers, session_states_facts, file_at, place_facts, files_facts, files_in, volumes_facts, tenant_facts, PlaceReadable, AllReadable, IsRefusedIn};
 ghost use Rattle.gq_node.specs.Recalling.{tenant_of, own_fact, fits_in};
-ghost use Rattle.gq_node.specs.Tables.{fact_of, Leads, seat_at, with_seat};
+ghost use Rattle.gq_node.specs.Tables.{fact_of, Leads, session_state_at, with_session_state};
 ghost use Rattle.gq_node.specs.Resting.{Needed};
-ghost use Rattle.gq_node.specs.Seats.{recalled_seat};
+ghost use Rattle.gq_node.specs.SessionStates.{recalled_session_state};
 
-use crate::homes::{home, seat_place};
+use crate::homes::{home, session_state_place};
 use crate::letters::copy_fits;
 use crate::output::{Fact, NeedRefused, put_begun, put_number};
 use crate::tables::Core;
@@ -88,14 +88,18 @@ impl Core {
         requires { tenant < length self.old.plan.rows }
         ensures fits { result ≡ has_session (site_of self.old.plan self.old.here tenant) session }
         ensures none { result ≡ false → self.new ≡ self.old }
-        ensures recalled { result ≡ true → self.new ≡ with_seat self.old tenant session
-            (recalled_seat (seat_at self.old tenant session) (unwrap_or op (seat_at self.old tenant session).reserved_op) (unwrap_or number (seat_at self.old tenant session).reserved_floor)) }
+        ensures recalled { result ≡ true → self.new ≡ with_session_state self.old tenant session
+            (recalled_session_state (session_state_at self.old tenant session) (unwrap_or op (session_state_at self.old tenant session).reserved_op) (unwrap_or number (session_state_at self.old tenant session).reserved_floor)) }
         ensures desk { self.new.desk ≡ self.old.desk }
     {
         if !self.has(tenant, u32::from(session)) {
             return false;
         }
-        self.seats[tenant as usize].recall(seat_place(u32::from(session)), op, number);
+        self.session_states[tenant as usize].recall(
+            session_state_place(u32::from(session)),
+            op,
+            number,
+        );
         true
     }
 
@@ -183,26 +187,31 @@ impl Core {
     }
 
     // Appends what a start needs of the session at that place.
-    fn put_seat(&self, tenant: u8, place: usize, facts: &mut Vec<Fact>) -> Result<(), OutOfMemory>
+    fn put_session_state(
+        &self,
+        tenant: u8,
+        place: usize,
+        facts: &mut Vec<Fact>,
+    ) -> Result<(), OutOfMemory>
         requires tenant { tenant < length self.now.plan.rows }
         requires place { place < (row_at self.now.plan tenant).sessions }
         ensures { OnOk result (facts.new.items ≡ facts.old.items ++ map (fact_of tenant) (place_numbers self.now tenant place)) }
     {
         let session = self.session_at(tenant, place);
         let own = self.is_own(tenant, session);
-        let seat = &self.seats[tenant as usize].items[place];
-        put_begun(tenant, session, seat.reserved_op, facts)?;
-        put_number(own, tenant, session, seat.reserved_floor, facts)
+        let session_state = &self.session_states[tenant as usize].items[place];
+        put_begun(tenant, session, session_state.reserved_op, facts)?;
+        put_number(own, tenant, session, session_state.reserved_floor, facts)
     }
 
     // Appends what a start needs of the tenant's sessions.
-    fn put_seats(&self, tenant: u8, facts: &mut Vec<Fact>) -> Result<(), OutOfMemory>
+    fn put_session_states(&self, tenant: u8, facts: &mut Vec<Fact>) -> Result<(), OutOfMemory>
         requires { tenant < length self.now.plan.rows }
-        ensures { OnOk result (facts.new.items ≡ facts.old.items ++ map (fact_of tenant) (seats_facts self.now tenant (row_at self.now.plan tenant).sessions)) }
+        ensures { OnOk result (facts.new.items ≡ facts.old.items ++ map (fact_of tenant) (session_states_facts self.now tenant (row_at self.now.plan tenant).sessions)) }
     {
         let sessions = self.plan.row(tenant).sessions;
         for place in 0..sessions {
-            self.put_seat(tenant, place as usize, facts)?;
+            self.put_session_state(tenant, place as usize, facts)?;
         }
         Ok(())
     }
@@ -298,7 +307,7 @@ impl Core {
         ensures readable { OnOk result (AllReadable self.now tenant) }
         ensures refused { IfErr result (IsRefusedIn self.now) }
     {
-        self.put_seats(tenant, facts)?;
+        self.put_session_states(tenant, facts)?;
         self.put_volumes(tenant, facts)
     }
 

@@ -3,7 +3,7 @@
 ghost use Rattle.std.specs.Prelude.{◌≡◌, ◌<◌, ◌≤◌, ◌*◌, length};
 ghost use Rattle.gq_desk.specs.declared.limits.TheConstants.{MOST_SESSIONS};
 ghost use Rattle.gq_grid.specs.declared.TheConstants.{MOST_SERVERS};
-ghost use Rattle.gq_node.specs.Sites.{number_of, home_place, home_of, seat_place, session_generation};
+ghost use Rattle.gq_node.specs.Sites.{number_of, home_place, home_of, session_state_place, session_generation};
 
 use gq_desk::{MOST_SESSIONS, Plan, TenantRow};
 use gq_grid::MOST_SERVERS;
@@ -33,8 +33,8 @@ pub(crate) fn home_place(plan: &Plan, tenant: u8, place: usize) -> usize
 }
 
 /// The place of the session among its tenant's.
-pub(crate) fn seat_place(session: u32) -> usize
-    ensures place { result ≡ seat_place session }
+pub(crate) fn session_state_place(session: u32) -> usize
+    ensures place { result ≡ session_state_place session }
     ensures few { result < MOST_SESSIONS }
 {
     session.saturating_sub(1) as usize % MOST_SESSIONS as usize
@@ -53,6 +53,6 @@ pub(crate) fn home(plan: &Plan, tenant: u8, session: u8) -> u16
     ensures home { result ≡ home_of plan.now tenant session }
 {
     let session = u32::from(session);
-    let place = home_place(plan, tenant, seat_place(session));
+    let place = home_place(plan, tenant, session_state_place(session));
     (generation(session) as usize * MOST_SERVERS + place) as u16
 }

@@ -9,7 +9,7 @@ ghost use Rattle.gq_grid.specs.Sets.{servers};
 ghost use Rattle.gq_desk.specs.Volumes.{account_at, limit_of};
 ghost use Rattle.gq_desk.specs.declared.limits.TheConstants.{MOST_VOLUMES};
 ghost use Rattle.gq_replace.specs.Plans.{place_of};
-ghost use Rattle.gq_node.specs.Joining.{is_mate, hears_joined, all_joined, tells_joined, awaited, lacked_files, below_in_column, next_mate, files_in_volume, first_among, asks_mate, looks, gives, takes};
+ghost use Rattle.gq_node.specs.Joining.{is_peer, hears_joined, all_joined, tells_joined, awaited, lacked_files, below_in_column, next_peer, files_in_volume, first_among, asks_peer, looks, gives, takes};
 ghost use Rattle.gq_desk.specs.CheckedPlan.{row_at};
 ghost use Rattle.gq_node.specs.Local.{new_local, silently, given, file_fits};
 ghost use Rattle.gq_node.specs.Opening.{lost_local, Loses, Reserves, Bereaves};
@@ -23,11 +23,11 @@ ghost use Rattle.gq_node.specs.declared.lost.TheConstants.{MOST_TIMES};
 use crate::lacks::Lacks;
 use crate::letters::copy_fits;
 use crate::lost::MOST_TIMES;
-use crate::output::{Fact, Output, Parcel};
+use crate::output::{Fact, Output, Transfer};
 use crate::tables::{Core, place_of};
 use gq_grid::{Grid, MOST_SERVERS};
 use gq_memory::{GrowVec, OutOfMemory};
-use gq_phase::are_mates;
+use gq_phase::are_peers;
 use gq_replace::NUMBERS_OF_A_LOSS;
 use gq_tag::{FileId, StoredCopy};
 
@@ -71,12 +71,12 @@ impl Core {
     }
 
     // Whether it is a node of the plan and of this one's column.
-    fn is_mate(&self, node: u16) -> bool
-        ensures mate { (t : ℕ) → result ≡ is_mate (site_of self.now.plan self.now.here t) node }
+    fn is_peer(&self, node: u16) -> bool
+        ensures peer { (t : ℕ) → result ≡ is_peer (site_of self.now.plan self.now.here t) node }
         ensures within { result ≡ true → place_of node < self.now.plan.grid.rows * self.now.plan.grid.cols }
     {
         self.has_node(node)
-            && are_mates(
+            && are_peers(
                 self.plan.grid(),
                 usize::from(self.server()),
                 usize::from(place_of(node)),
@@ -252,9 +252,9 @@ impl Core {
     }
 
     // The place behind that one in the node's column, its own left out.
-    fn next_mate(&self, place: usize) -> usize
+    fn next_peer(&self, place: usize) -> usize
         requires { place < self.now.plan.grid.rows * self.now.plan.grid.cols }
-        ensures next { (t : ℕ) → result ≡ next_mate (site_of self.now.plan self.now.here t) place }
+        ensures next { (t : ℕ) → result ≡ next_peer (site_of self.now.plan self.now.here t) place }
         ensures within { result < self.now.plan.grid.rows * self.now.plan.grid.cols }
     {
         let own = usize::from(self.server());
@@ -270,14 +270,14 @@ impl Core {
     fn ask(&mut self, tenant: u8, place: usize) -> Output
         requires tenant { tenant < length self.old.plan.rows }
         requires place { place < self.old.plan.grid.rows * self.old.plan.grid.cols }
-        ensures { Acts self.old tenant (λ site local. asks_mate site local place) result self.new }
+        ensures { Acts self.old tenant (λ site local. asks_peer site local place) result self.new }
     {
         let Some(file) = self.first_lacked(tenant) else {
             return Output::nothing(self.alloc);
         };
-        self.mates[usize::from(tenant)] = place as u8;
+        self.peers[usize::from(tenant)] = place as u8;
         let to = self.lost.node_at(place);
-        Output::sent(self.alloc, Parcel::Wants { to, file })
+        Output::sent(self.alloc, Transfer::Wants { to, file })
     }
 
     // A tick, behind those of the sessions.
@@ -288,8 +288,8 @@ impl Core {
         if !self.all_joined() {
             return Output::nothing(self.alloc);
         }
-        let last = usize::from(self.mates[usize::from(tenant)]);
-        let place = self.next_mate(last);
+        let last = usize::from(self.peers[usize::from(tenant)]);
+        let place = self.next_peer(last);
         self.ask(tenant, place)
     }
 
@@ -299,7 +299,7 @@ impl Core {
         ensures gives { result ≡ gives_it self.now from file }
         ensures there { result ≡ true → is_some (limit_of self.now.desk file) ≡ true }
     {
-        if !self.is_mate(from) {
+        if !self.is_peer(from) {
             return false;
         }
         if !self.is_there(file) {
@@ -318,7 +318,7 @@ impl Core {
         }
         let copy = self.copy_of(file)?;
         let to = from;
-        Ok(Output::sent(self.alloc, Parcel::Brings { to, file, copy }))
+        Ok(Output::sent(self.alloc, Transfer::Brings { to, file, copy }))
     }
 
     // The server was given the copy of the file.
@@ -340,9 +340,9 @@ impl Core {
         ensures takes { result ≡ takes_it self.now from file copy.now }
         ensures there { result ≡ true → is_some (limit_of self.now.desk file) ≡ true }
         ensures few { result ≡ true → file.file < MOST_FILES }
-        ensures mate { result ≡ true → place_of from < self.now.plan.grid.rows * self.now.plan.grid.cols }
+        ensures peer { result ≡ true → place_of from < self.now.plan.grid.rows * self.now.plan.grid.cols }
     {
-        if !self.is_mate(from) {
+        if !self.is_peer(from) {
             return false;
         }
         if !self.lacks(file) {
@@ -370,7 +370,7 @@ impl Core {
         Output {
             answer: None,
             letters: Vec::new(self.alloc),
-            parcel: asked.parcel,
+            transfer: asked.transfer,
             fact: Some(Fact::Had { file, copy }),
         }
     }

@@ -13,7 +13,7 @@ ghost use Rattle.gq_node.specs.Sites.{site_of, has_session, session_at, address_
 ghost use Rattle.gq_replace.specs.Plans.{place_of};
 ghost use Rattle.gq_node.specs.Tables.{fact_of, Acts, Stands, lacks_at};
 
-use crate::homes::{home, seat_place};
+use crate::homes::{home, session_state_place};
 use crate::output::{Fact, Output, letters_of};
 use crate::tables::Core;
 use gq_memory::{GrowVec, OutOfMemory};
@@ -108,7 +108,7 @@ impl Core {
         Ok(Output {
             answer: None,
             letters,
-            parcel: None,
+            transfer: None,
             fact,
         })
     }
@@ -139,8 +139,8 @@ impl Core {
     {
         let alloc = self.alloc;
         let grid = *self.plan.grid();
-        self.seats[message.tenant as usize].attend(
-            seat_place(u32::from(message.session)),
+        self.session_states[message.tenant as usize].attend(
+            session_state_place(u32::from(message.session)),
             alloc,
             &grid,
             message,
@@ -183,11 +183,11 @@ impl Core {
         ensures acts { IfOk result (λ out. Acts self.old tenant (ticks (session_at self.old.plan self.old.here tenant place)) out self.new) }
     {
         let grid = *self.plan.grid();
-        let messages = self.seats[tenant as usize].tick(place, &grid)?;
+        let messages = self.session_states[tenant as usize].tick(place, &grid)?;
         Ok(Output {
             answer: None,
             letters: letters_of(self.alloc, messages)?,
-            parcel: None,
+            transfer: None,
             fact: None,
         })
     }

@@ -14,11 +14,11 @@ mod lost;
 mod node;
 mod output;
 mod requests;
-mod seats;
+mod session_states;
 mod tables;
 
 pub use gq_model::{Line, Refusal};
 pub use lost::{Lost, LostRefused, MOST_NUMBERS, MOST_TIMES, NODE_NUMBERS};
 pub use node::{Ended, Node};
-pub use output::{Answer, Fact, Holding, NeedRefused, NodeNumbers, Output, Parcel};
+pub use output::{Answer, Fact, Holding, NeedRefused, NodeNumbers, Output, Transfer};
 pub use tables::place_of;

@@ -61,7 +61,7 @@ impl Node {
         ensures plan { IfOk result (λ w. w.tables.plan ≡ plan) }
         ensures here { IfOk result (λ w. w.tables.here ≡ record { node = node; lost = lost }) }
         ensures agrees { IfOk result (λ w. (t : ℕ) → t < length plan.rows → Agrees w.tables t (new_local plan.grid (place_of node) [])) }
-        ensures goes { IfOk result (λ w. w.ended ≡ false) }
+        ensures has_memory { IfOk result (λ w. w.ended ≡ false) }
     {
         let tables = Core::new(alloc, plan, lost, node)?;
         Ok(Node {
@@ -77,10 +77,10 @@ impl Node {
         requires tenant { tenant < length self.old.tables.plan.rows }
         requires few { volumes ≤ MOST_VOLUMES }
         requires first { Agrees self.old.tables tenant (new_local self.old.tables.plan.grid (place_of self.old.tables.here.node) (account_at self.old.tables.desk tenant).volumes) }
-        requires goes { self.old.ended ≡ false }
+        requires has_memory { self.old.ended ≡ false }
         ensures begins { OnOk result (Bereaves self.old.tables tenant (record { volumes = volumes; losses = losses }) self.new.tables) }
         ensures ended { OnErr result (self.new.ended ≡ true) }
-        ensures goes { OnOk result (self.new.ended ≡ false) }
+        ensures has_memory { OnOk result (self.new.ended ≡ false) }
     {
         match self.tables.lack(tenant, volumes, losses) {
             Ok(()) => Ok(()),
@@ -95,9 +95,9 @@ impl Node {
     /// of a refusal are tested in the order of [`OpenRefused`]; the node is then given up.
     pub fn open(self, tenant: u8, files: u32, blocks: u32) -> Result<Node, OpenRefused>
         requires tenant { tenant < length self.tables.plan.rows }
-        requires goes { self.ended ≡ false }
+        requires has_memory { self.ended ≡ false }
         ensures opened { IfOk result (λ w. Opens self.tables tenant (record { files = files; blocks = blocks }) w.tables) }
-        ensures goes { IfOk result (λ w. w.ended ≡ false) }
+        ensures has_memory { IfOk result (λ w. w.ended ≡ false) }
         ensures refused { IfErr result (IsRefusedFor (open_fault (account_at self.tables.desk tenant) (record { files = files; blocks = blocks }))) }
     {
         let Node { tables, ended: _ } = self;
@@ -122,9 +122,9 @@ impl Node {
     }
 
     /// Whether the node takes lines, since memory was never wanting. Then it has a part for each tenant.
-    pub fn goes(&self) -> Result<(), Ended>
+    pub fn has_memory(&self) -> Result<(), Ended>
         ensures stand { OnOk result (AllStand self.now.tables) }
-        ensures goes { OnOk result (self.now.ended ≡ false) }
+        ensures has_memory { OnOk result (self.now.ended ≡ false) }
         ensures ended { OnErr result (self.now.ended ≡ true) }
     {
         match &self.ended {
@@ -188,7 +188,7 @@ impl Node {
         ensures ended { OnErr result (self.new.ended ≡ true) }
         ensures after { self.old.ended ≡ true → IsErr result }
         ensures still { self.old.ended ≡ true → self.new ≡ self.old }
-        ensures goes { OnOk result (self.new.ended ≡ false) }
+        ensures has_memory { OnOk result (self.new.ended ≡ false) }
     {
         if let Some(refused) = &self.ended {
             return Err(Ended(refused.again()));
@@ -210,7 +210,7 @@ impl Node {
         ensures ended { OnErr result (self.new.ended ≡ true) }
         ensures after { self.old.ended ≡ true → IsErr result }
         ensures still { self.old.ended ≡ true → self.new ≡ self.old }
-        ensures goes { OnOk result (self.new.ended ≡ false) }
+        ensures has_memory { OnOk result (self.new.ended ≡ false) }
     {
         if let Some(refused) = &self.ended {
             return Err(Ended(refused.again()));
@@ -232,7 +232,7 @@ impl Node {
         ensures ended { OnErr result (self.new.ended ≡ true) }
         ensures after { self.old.ended ≡ true → IsErr result }
         ensures still { self.old.ended ≡ true → self.new ≡ self.old }
-        ensures goes { OnOk result (self.new.ended ≡ false) }
+        ensures has_memory { OnOk result (self.new.ended ≡ false) }
     {
         if let Some(refused) = &self.ended {
             return Err(Ended(refused.again()));
@@ -260,7 +260,7 @@ impl Node {
         ensures ended { OnErr result (self.new.ended ≡ true) }
         ensures after { self.old.ended ≡ true → IsErr result }
         ensures still { self.old.ended ≡ true → self.new ≡ self.old }
-        ensures goes { OnOk result (self.new.ended ≡ false) }
+        ensures has_memory { OnOk result (self.new.ended ≡ false) }
     {
         if let Some(refused) = &self.ended {
             return Err(Ended(refused.again()));
@@ -301,7 +301,7 @@ impl Node {
         ensures ended { OnErr result (self.new.ended ≡ true) }
         ensures after { self.old.ended ≡ true → IsErr result }
         ensures still { self.old.ended ≡ true → self.new ≡ self.old }
-        ensures goes { OnOk result (self.new.ended ≡ false) }
+        ensures has_memory { OnOk result (self.new.ended ≡ false) }
     {
         if let Some(refused) = &self.ended {
             return Err(Ended(refused.again()));
@@ -318,7 +318,7 @@ impl Node {
         ensures ended { OnErr result (self.new.ended ≡ true) }
         ensures after { self.old.ended ≡ true → IsErr result }
         ensures still { self.old.ended ≡ true → self.new ≡ self.old }
-        ensures goes { OnOk result (self.new.ended ≡ false) }
+        ensures has_memory { OnOk result (self.new.ended ≡ false) }
     {
         if let Some(refused) = &self.ended {
             return Err(Ended(refused.again()));
@@ -340,7 +340,7 @@ impl Node {
         ensures ended { OnErr result (self.new.ended ≡ true) }
         ensures after { self.old.ended ≡ true → IsErr result }
         ensures still { self.old.ended ≡ true → self.new ≡ self.old }
-        ensures goes { OnOk result (self.new.ended ≡ false) }
+        ensures has_memory { OnOk result (self.new.ended ≡ false) }
     {
         if let Some(refused) = &self.ended {
             return Err(Ended(refused.again()));
@@ -357,7 +357,7 @@ impl Node {
         ensures ended { OnErr result (self.new.ended ≡ true) }
         ensures after { self.old.ended ≡ true → IsErr result }
         ensures still { self.old.ended ≡ true → self.new ≡ self.old }
-        ensures goes { OnOk result (self.new.ended ≡ false) }
+        ensures has_memory { OnOk result (self.new.ended ≡ false) }
     {
         if let Some(refused) = &self.ended {
             return Err(Ended(refused.again()));

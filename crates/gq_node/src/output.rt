@@ -134,7 +134,7 @@ pub enum Fact {
 
 /// What goes between a new node and a node of its column, so that the new one gets the files that its server lacks.
 #[derive(Debug, Drop)]
-pub enum Parcel {
+pub enum Transfer {
     /// The node `to` is asked for its copy of the file.
     Wants {
         to: u16,
@@ -148,13 +148,13 @@ pub enum Parcel {
     },
 }
 
-/// What a step gives: what the tenant is told, the letters and the parcel that go out, and what must not be forgotten. What
+/// What a step gives: what the tenant is told, the letters and the transfer that go out, and what must not be forgotten. What
 /// goes out rests on the fact: nothing of it may leave before the fact is safe.
 #[derive(Debug, Drop)]
 pub struct Output {
     pub answer: Option<Answer>,
     pub letters: Vec<Message>,
-    pub parcel: Option<Parcel>,
+    pub transfer: Option<Transfer>,
     pub fact: Option<Fact>,
 }
 
@@ -163,28 +163,28 @@ impl Output {
     pub(crate) fn nothing(alloc: Global) -> Output
         ensures answer { result.answer ≡ None }
         ensures letters { result.letters.items ≡ [] }
-        ensures parcel { result.parcel ≡ None }
+        ensures transfer { result.transfer ≡ None }
         ensures fact { result.fact ≡ None }
     {
         Output {
             answer: None,
             letters: Vec::new(alloc),
-            parcel: None,
+            transfer: None,
             fact: None,
         }
     }
 
-    // The parcel alone goes out.
-    pub(crate) fn sent(alloc: Global, parcel: Parcel) -> Output
+    // The transfer alone goes out.
+    pub(crate) fn sent(alloc: Global, transfer: Transfer) -> Output
         ensures answer { result.answer ≡ None }
         ensures letters { result.letters.items ≡ [] }
-        ensures parcel { result.parcel ≡ Some parcel }
+        ensures transfer { result.transfer ≡ Some transfer }
         ensures fact { result.fact ≡ None }
     {
         Output {
             answer: None,
             letters: Vec::new(alloc),
-            parcel: Some(parcel),
+            transfer: Some(transfer),
             fact: None,
         }
     }
@@ -193,13 +193,13 @@ impl Output {
     pub(crate) fn told(alloc: Global, answer: Answer) -> Output
         ensures answer { result.answer ≡ Some answer }
         ensures letters { result.letters.items ≡ [] }
-        ensures parcel { result.parcel ≡ None }
+        ensures transfer { result.transfer ≡ None }
         ensures fact { result.fact ≡ None }
     {
         Output {
             answer: Some(answer),
             letters: Vec::new(alloc),
-            parcel: None,
+            transfer: None,
             fact: None,
         }
     }
@@ -283,7 +283,7 @@ pub(crate) fn heard_output(
             Ok(Output {
                 answer: None,
                 letters,
-                parcel: None,
+                transfer: None,
                 fact: numbered_fact(tenant, session, run),
             })
         }

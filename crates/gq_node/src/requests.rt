@@ -8,12 +8,12 @@ ghost use Rattle.gq_model.specs.Lone.{first_cause};
 ghost use Rattle.gq_cluster.specs.Facts.{greatest_op};
 ghost use Rattle.gq_node.specs.declared.output.Admission.TheVariants.{Goes};
 ghost use Rattle.gq_node.specs.Local.{asks, asker, begins, refused_with};
-ghost use Rattle.gq_node.specs.Tables.{Acts, seat_at};
+ghost use Rattle.gq_node.specs.Tables.{Acts, session_state_at};
 ghost use Rattle.gq_node.specs.Asking.{volume_causes, file_causes, write_causes, admission_at, MayGo, HasBegunWith, Starts};
-ghost use Rattle.gq_node.specs.Seats.{seat_aim};
+ghost use Rattle.gq_node.specs.SessionStates.{session_state_aim};
 
 use crate::aims::aim;
-use crate::homes::{home, seat_place};
+use crate::homes::{home, session_state_place};
 use crate::output::{Admission, Answer, Output, begun_fact, refused_answer};
 use crate::tables::Core;
 use bytes::Bytes;
@@ -67,7 +67,9 @@ impl Core {
         if home != self.node {
             return Ok(Admission::Tells(Answer::Away { session, op, home }));
         }
-        self.seats[tenant as usize].items[seat_place(session)].admission(session, op, begins)
+        self.session_states[tenant as usize].items[session_state_place(session)].admission(
+            session, op, begins,
+        )
     }
 
     // Why a request of the session that names the volume is refused, the choice of a quorum apart.
@@ -78,7 +80,7 @@ impl Core {
         if !self.has(tenant, session) {
             return Some(Refusal::NoSession);
         }
-        if self.seats[tenant as usize].items[seat_place(session)]
+        if self.session_states[tenant as usize].items[session_state_place(session)]
             .operation
             .is_some()
         {
@@ -137,18 +139,18 @@ impl Core {
     fn last_op(&self, tenant: u8, session: u32) -> u32
         requires tenant { tenant < length self.now.plan.rows }
         requires has { has_session (site_of self.now.plan self.now.here tenant) session ≡ true }
-        ensures { result ≡ (seat_at self.now tenant session).op }
+        ensures { result ≡ (session_state_at self.now tenant session).op }
     {
-        self.seats[tenant as usize].items[seat_place(session)].op
+        self.session_states[tenant as usize].items[session_state_place(session)].op
     }
 
     // The session's request is refused.
     fn refused(&self, tenant: u8, session: u32, op: u32, refusal: Refusal) -> Output
         requires tenant { tenant < length self.now.plan.rows }
         requires has { has_session (site_of self.now.plan self.now.here tenant) session ≡ true }
-        ensures answer { result.answer ≡ Some (refused_with session op (seat_at self.now tenant session).op refusal) }
+        ensures answer { result.answer ≡ Some (refused_with session op (session_state_at self.now tenant session).op refusal) }
         ensures letters { result.letters.items ≡ [] }
-        ensures parcel { result.parcel ≡ None }
+        ensures transfer { result.transfer ≡ None }
         ensures fact { result.fact ≡ None }
     {
         let last = self.last_op(tenant, session);
@@ -165,15 +167,18 @@ impl Core {
     ) -> Result<Output, OutOfMemory>
         requires tenant { tenant < length self.old.plan.rows }
         requires has { has_session (site_of self.old.plan self.old.here tenant) session ≡ true }
-        requires number { (seat_at self.old tenant session).op < greatest_op }
+        requires number { (session_state_at self.old tenant session).op < greatest_op }
         ensures begins { IfOk result (λ out. HasBegunWith self.old tenant session operation messages out self.new) }
     {
         let letters = messages.to_vec(self.alloc)?;
-        let run = self.seats[tenant as usize].begin(seat_place(session), operation);
+        let run = self.session_states[tenant as usize].begin(
+            session_state_place(session),
+            operation,
+        );
         Ok(Output {
             answer: None,
             letters,
-            parcel: None,
+            transfer: None,
             fact: begun_fact(tenant, session as u8, run),
         })
     }
@@ -187,7 +192,7 @@ impl Core {
     ) -> Result<Output, OutOfMemory>
         requires tenant { tenant < length self.old.plan.rows }
         requires has { has_session (site_of self.old.plan self.old.here tenant) session ≡ true }
-        requires number { (seat_at self.old tenant session).op < greatest_op }
+        requires number { (session_state_at self.old tenant session).op < greatest_op }
         requires quorum { ¬ IsErrOf began BeginRefused.NoQuorum }
         ensures starts { IfOk result (λ out. Starts self.old tenant session began out self.new) }
     {
@@ -202,20 +207,22 @@ impl Core {
     fn next(&self, tenant: u8, session: u32) -> Next
         requires tenant { tenant < length self.now.plan.rows }
         requires has { has_session (site_of self.now.plan self.now.here tenant) session ≡ true }
-        requires number { (seat_at self.now tenant session).op < greatest_op }
-        ensures who { result.who ≡ record { tenant = tenant; session = session; op = (seat_at self.now tenant session).op + 1 } }
-        ensures floor { result.floor ≡ (seat_at self.now tenant session).floor }
-        ensures up { servers result.up ≡ seat_aim self.now.plan.grid (seat_at self.now tenant session) }
+        requires number { (session_state_at self.now tenant session).op < greatest_op }
+        ensures who { result.who ≡ record { tenant = tenant; session = session; op = (session_state_at self.now tenant session).op + 1 } }
+        ensures floor { result.floor ≡ (session_state_at self.now tenant session).floor }
+        ensures up { servers result.up ≡ session_state_aim self.now.plan.grid (session_state_at self.now tenant session) }
     {
-        let seat = &self.seats[tenant as usize].items[seat_place(session)];
+        let session_state = &self.session_states[tenant as usize].items[session_state_place(
+            session,
+        )];
         Next {
             who: Who {
                 tenant,
                 session: session as u8,
-                op: seat.op + 1,
+                op: session_state.op + 1,
             },
-            floor: seat.floor,
-            up: aim(self.plan.grid(), seat.row, seat.column),
+            floor: session_state.floor,
+            up: aim(self.plan.grid(), session_state.row, session_state.column),
         }
     }
 
@@ -322,7 +329,7 @@ impl Core {
         requires goes { admission_at self.old tenant session op false ≡ Goes }
         ensures { Acts self.old tenant (asks op (Line.Abandon session)) result self.new }
     {
-        self.seats[tenant as usize].abandon(seat_place(session));
+        self.session_states[tenant as usize].abandon(session_state_place(session));
         Output::told(self.alloc, Answer::Gone { session, op })
     }
 

@@ -8,17 +8,17 @@ ghost use Rattle.gq_model.specs.Trace.{files_of};
 ghost use Rattle.gq_node.specs.Local.{holding, tells_holding};
 ghost use Rattle.gq_node.specs.Bounds.{IsBounded};
 ghost use Rattle.gq_node.specs.Shape.{FewSessions, IsShaped, IsFirst};
-ghost use Rattle.gq_node.specs.Sites.{Here, site_of, has_session, seat_place, session_at};
+ghost use Rattle.gq_node.specs.Sites.{Here, site_of, has_session, session_state_place, session_at};
 ghost use Rattle.gq_replace.specs.Plans.{place_of};
 ghost use Rattle.gq_node.specs.declared.lost.TheConstants.{MOST_NUMBERS};
-ghost use Rattle.gq_node.specs.Tables.{first_seat, Tables, Acts, IsOfPlan, seats_at};
+ghost use Rattle.gq_node.specs.Tables.{first_session_state, Tables, Acts, IsOfPlan, session_states_at};
 ghost use Rattle.gq_node.specs.Opening.{Opens};
 
-use crate::homes::{generation, home_place, seat_place};
+use crate::homes::{generation, home_place, session_state_place};
 use crate::lacks::Lacks;
 use crate::lost::{Lost, MOST_NUMBERS};
 use crate::output::{Answer, Holding, NodeNumbers, Output};
-use crate::seats::Seats;
+use crate::session_states::SessionStates;
 use gq_desk::{Desk, MOST_SESSIONS, OpenRefused, Plan, VolumeRows};
 use gq_grid::{MOST_SERVERS, ServerSet};
 use gq_memory::{GrowVec, OutOfMemory, filled, room_for, slice_copied};
@@ -40,9 +40,9 @@ pub(crate) struct Core {
     // the places whose nodes have told, since the start, that their plan has this one
     pub(crate) joined: ServerSet,
     // whom each tenant's files were asked of last: a place
-    pub(crate) mates: Vec<u8>,
+    pub(crate) peers: Vec<u8>,
     // the sessions of each tenant
-    pub(crate) seats: Vec<Seats>,
+    pub(crate) session_states: Vec<SessionStates>,
 }
 
 impl Model for Core {
@@ -51,9 +51,9 @@ impl Model for Core {
 
     ghost Value = { Tables };
 
-    ghost view = { λ w. record { plan = w.plan; here = record { node = w.node; lost = w.lost }; desk = w.desk; store = w.store; given = w.lacks.items; joined = w.joined; mates = w.mates.items; seats = w.seats.items } };
+    ghost view = { λ w. record { plan = w.plan; here = record { node = w.node; lost = w.lost }; desk = w.desk; store = w.store; given = w.lacks.items; joined = w.joined; peers = w.peers.items; session_states = w.session_states.items } };
 
-    ghost invariant = { λ w. IsShaped (record { plan = w.plan; here = record { node = w.node; lost = w.lost }; desk = w.desk; store = w.store; given = w.lacks.items; joined = w.joined; mates = w.mates.items; seats = w.seats.items }) };
+    ghost invariant = { λ w. IsShaped (record { plan = w.plan; here = record { node = w.node; lost = w.lost }; desk = w.desk; store = w.store; given = w.lacks.items; joined = w.joined; peers = w.peers.items; session_states = w.session_states.items }) };
 }
 
 /// The place of the grid at which the node of that number stands.
@@ -64,16 +64,20 @@ pub fn place_of(node: u16) -> u8
 }
 
 // The sessions of each tenant of the plan, at the node of the server.
-fn new_seats(alloc: Global, plan: &Plan, server: u8) -> Result<Vec<Seats>, OutOfMemory>
-    ensures seats { IfOk result (λ seats. seats.items
-        ≡ map (λ row. replicate row.sessions (first_seat plan.now.grid server)) plan.now.rows) }
-    ensures few { IfOk result (λ seats. FewSessions plan.now) }
+fn new_session_states(
+    alloc: Global,
+    plan: &Plan,
+    server: u8,
+) -> Result<Vec<SessionStates>, OutOfMemory>
+    ensures session_states { IfOk result (λ session_states. session_states.items
+        ≡ map (λ row. replicate row.sessions (first_session_state plan.now.grid server)) plan.now.rows) }
+    ensures few { IfOk result (λ session_states. FewSessions plan.now) }
 {
-    let mut seats = Vec::new(alloc);
+    let mut session_states = Vec::new(alloc);
     for row in plan.rows() {
-        seats.grow(Seats::new(alloc, plan.grid(), server, row.sessions)?)?;
+        session_states.grow(SessionStates::new(alloc, plan.grid(), server, row.sessions)?)?;
     }
-    Ok(seats)
+    Ok(session_states)
 }
 
 // None of so many tenants has a file that the server lacks.
@@ -100,8 +104,8 @@ impl Core {
         let store = ServerStore::new(alloc, &plan)?;
         let tenants = plan.tenants();
         let lacks = no_lacks(alloc, tenants)?;
-        let mates = filled(alloc, server, tenants)?;
-        let seats = new_seats(alloc, &plan, server)?;
+        let peers = filled(alloc, server, tenants)?;
+        let session_states = new_session_states(alloc, &plan, server)?;
         Ok(Core {
             alloc,
             plan,
@@ -111,8 +115,8 @@ impl Core {
             store,
             lacks,
             joined: ServerSet::empty(),
-            mates,
-            seats,
+            peers,
+            session_states,
         })
     }
 
@@ -131,8 +135,8 @@ impl Core {
             mut store,
             lacks,
             joined,
-            mates,
-            seats,
+            peers,
+            session_states,
         } = self;
         let _number = desk.open_volume(tenant, files, blocks)?;
         match store.add_files(tenant, files, blocks) {
@@ -145,8 +149,8 @@ impl Core {
                 store,
                 lacks,
                 joined,
-                mates,
-                seats,
+                peers,
+                session_states,
             }),
             Err(refused) => Err(OpenRefused::Memory(refused)),
         }
@@ -194,15 +198,15 @@ impl Core {
         requires { tenant < length self.now.plan.rows }
         ensures has { result ≡ has_session (site_of self.now.plan self.now.here tenant) session }
         ensures first { result ≡ true → 1 ≤ session }
-        ensures last { result ≡ true → seat_place session < length (seats_at self.now.seats tenant) }
-        ensures within { tenant < length self.now.seats }
+        ensures last { result ≡ true → session_state_place session < length (session_states_at self.now.session_states tenant) }
+        ensures within { tenant < length self.now.session_states }
         ensures few { result ≡ true → session ≤ MOST_NUMBERS }
     {
         let sessions = self.plan.row(tenant).sessions;
         if session < 1 || MOST_NUMBERS < session {
             return false;
         }
-        let place = seat_place(session);
+        let place = session_state_place(session);
         if place >= sessions as usize {
             return false;
         }

@@ -64,15 +64,15 @@ module _ (w : World) (n k : ℕ) (here : w.setting.home k ≡ n) (inside : is_in
       by : (b : Bool) → is_ready_by w node other u ≡ b → ((after_fleet_step w u (Hears node other)).first_plan n ≡ u.first_plan n) × AtLeast ((after_fleet_step w u (Hears node other)).part n) k bound
       by true e = ((rw e refl), (rw e is))
       by false e = ((rw e refl), (rw e is))
-  on u (Gives mate node file) bound begun may is = (refl, is)
-  on u (Takes node mate file copy) bound begun may is = by (cases_eq n node)
+  on u (Gives peer node file) bound begun may is = (refl, is)
+  on u (Takes node peer file copy) bound begun may is = by (cases_eq n node)
     where
       given : AtLeast (given_part file copy (u.part n)) k bound
       given = record { floor = is.floor; reserved = is.reserved }
 
-      by : (n ≡ node) ⊎ (n ≢ node) → ((after_fleet_step w u (Takes node mate file copy)).first_plan n ≡ u.first_plan n) × AtLeast ((after_fleet_step w u (Takes node mate file copy)).part n) k bound
+      by : (n ≡ node) ⊎ (n ≢ node) → ((after_fleet_step w u (Takes node peer file copy)).first_plan n ≡ u.first_plan n) × AtLeast ((after_fleet_step w u (Takes node peer file copy)).part n) k bound
       by (inl same) =
-          let P : ℕ → Type 0 = λ z. AtLeast ((after_fleet_step w u (Takes z mate file copy)).part n) k bound in
+          let P : ℕ → Type 0 = λ z. AtLeast ((after_fleet_step w u (Takes z peer file copy)).part n) k bound in
           (refl, subst P same (rw (eq-eqb n n refl) given))
       by (inr ne) = (refl, (rw (ne_eqb n node ne) is))
 
@@ -100,8 +100,8 @@ module _ (w : World) (n k : ℕ) (here : w.setting.home k ≡ n) (inside : is_in
       by : (b : Bool) → is_ready_by w node other u ≡ b → AtLeast ((after_fleet_step w u (Hears node other)).part n) k (first_number w n ((after_fleet_step w u (Hears node other)).first_plan n))
       by true e = let still : u.begun n ≡ true = rw e at begun in absurd (true≢false (sym still ∙ none))
       by false e = let still : u.begun n ≡ true = rw e at begun in absurd (true≢false (sym still ∙ none))
-  starts u (Gives mate node file) none may begun = absurd (true≢false (sym begun ∙ none))
-  starts u (Takes node mate file copy) none may begun = absurd (true≢false (sym begun ∙ none))
+  starts u (Gives peer node file) none may begun = absurd (true≢false (sym begun ∙ none))
+  starts u (Takes node peer file copy) none may begun = absurd (true≢false (sym begun ∙ none))
 
   has_on : (u : Fleet) (step : FleetStep) → MayHappen w u step → Has u → Has (after_fleet_step w u step)
   has_on u step may has = by (cases_Bool (u.begun n))

@@ -49,8 +49,8 @@ other_same w u (Hears node other) h away = by (is_ready_by w node other u) refl
     by : (b : Bool) → is_ready_by w node other u ≡ b → SameAt u (after_fleet_step w u (Hears node other)) h
     by true e = rw e (record { part = refl; letters = λ x within from. within })
     by false e = rw e (record { part = refl; letters = λ x within from. within })
-other_same w u (Gives mate node file) h away = record { part = refl; letters = λ x within from. within }
-other_same w u (Takes node mate file copy) h away = record { part = rw (ne_eqb h node (λ e. away (sym e))) refl; letters = λ x within from. within }
+other_same w u (Gives peer node file) h away = record { part = refl; letters = λ x within from. within }
+other_same w u (Takes node peer file copy) h away = record { part = rw (ne_eqb h node (λ e. away (sym e))) refl; letters = λ x within from. within }
 
 -- ---- which plans there are
 
@@ -161,8 +161,8 @@ module _ (w : World) (chain : IsChain w.plans) (h losses : ℕ) (said : (i : ℕ
       by : (b : Bool) → is_ready_by w node other u ≡ b → Known v
       by true e = left u v (rw e refl) (rw e refl) (λ seen. other_same w u (Hears node other) h (apart_from u (Hears node other) silent seen)) known
       by false e = left u v (rw e refl) (rw e refl) (λ seen. other_same w u (Hears node other) h (apart_from u (Hears node other) silent seen)) known
-  known_on u (Gives mate node file) may below silent known = left u (after_fleet_step w u (Gives mate node file)) refl refl (λ seen. other_same w u (Gives mate node file) h (apart_from u (Gives mate node file) silent seen)) known
-  known_on u (Takes node mate file copy) may below silent known = left u (after_fleet_step w u (Takes node mate file copy)) refl refl (λ seen. other_same w u (Takes node mate file copy) h (apart_from u (Takes node mate file copy) silent seen)) known
+  known_on u (Gives peer node file) may below silent known = left u (after_fleet_step w u (Gives peer node file)) refl refl (λ seen. other_same w u (Gives peer node file) h (apart_from u (Gives peer node file) silent seen)) known
+  known_on u (Takes node peer file copy) may below silent known = left u (after_fleet_step w u (Takes node peer file copy)) refl refl (λ seen. other_same w u (Takes node peer file copy) h (apart_from u (Takes node peer file copy) silent seen)) known
 
   -- in the end the numbers of the lost node are below
   along : (steps : List FleetStep) (u : Fleet) → 0 < losses → AllMayHappen w u steps → AllAsked w u steps → Known u → IsBelow (fold (after_fleet_step w) u steps) h (losses * NUMBERS_OF_A_LOSS)

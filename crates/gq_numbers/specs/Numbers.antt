@@ -47,8 +47,8 @@ node_of (StartsAgain node plan) = node
 node_of (Does node act) = node
 node_of (Answers node new) = node
 node_of (Hears node other) = node
-node_of (Gives mate node file) = mate
-node_of (Takes node mate file copy) = node
+node_of (Gives peer node file) = peer
+node_of (Takes node peer file copy) = node
 
 -- no node that was started has a plan which says that this one is replaced
 abbrev pub IsNotSaid : World → Fleet → FleetStep → Type 0

@@ -18,7 +18,7 @@ use Rattle.gq_node.specs.Joining.{all_joined, tells_joined}
 use Rattle.gq_node.specs.Local.{Local, Doing}
 use Rattle.gq_node.specs.Nodes.{NodeWorld, Nodes, Event, Came, Started, site_in, site_at, new_nodes, takes_word, with_ready, after_word, after_doing, after_start, after_event, nodes_after, started, first_of as law_first, fact_list, AllCanCome, AllOpen, SessionsStay}
 use Rattle.gq_node.specs.Resting.{recall_all, those_of, begun_local}
-use Rattle.gq_node.specs.Sites.{Here, Site, site_of, numbered, plan_in, seat_place, session_generation, home_place, home_of, is_of_plan}
+use Rattle.gq_node.specs.Sites.{Here, Site, site_of, numbered, plan_in, session_state_place, session_generation, home_place, home_of, is_of_plan}
 use Rattle.gq_node.specs.Tables.{Agrees}
 use Rattle.gq_node.proofs.Events.{all_nodes_follow, all_nodes_serve}
 use Rattle.gq_node.proofs.Volumes.{all_volumes_open}
@@ -367,26 +367,26 @@ home_within : (plan : CheckedPlan) (t place : ℕ) → 1 < plan.grid.rows * plan
 home_within plan t place many = mod-lt _ (omega (arith, many))
 
 record HomeIs (plan : CheckedPlan) (t k : ℕ) : Type 0 where
-  place : place_of (home_of plan t k) ≡ home_place plan t (seat_place k)
+  place : place_of (home_of plan t k) ≡ home_place plan t (session_state_place k)
   hop : generation (home_of plan t k) ≡ session_generation k
 
 home_is : (plan : CheckedPlan) (t k : ℕ) → IsPlan plan → 1 < plan.grid.rows * plan.grid.cols → HomeIs plan t k
 home_is plan t k is many =
-    let few : home_place plan t (seat_place k) < most_places = omega (arith, home_within plan t (seat_place k) many, few_places plan is) in
-    record { place = mod-mul-add (session_generation k) most_places (home_place plan t (seat_place k)) few; hop = div-mul-add (session_generation k) most_places (home_place plan t (seat_place k)) few }
+    let few : home_place plan t (session_state_place k) < most_places = omega (arith, home_within plan t (session_state_place k) many, few_places plan is) in
+    record { place = mod-mul-add (session_generation k) most_places (home_place plan t (session_state_place k)) few; hop = div-mul-add (session_generation k) most_places (home_place plan t (session_state_place k)) few }
 
 homes_stand : (g : GridPlans) (t : ℕ) → AreSound g → HomesStand g.plan.grid (home_of g.plan t)
 homes_stand g t sound k =
-    subst (λ n. n < g.plan.grid.rows * g.plan.grid.cols) (sym (home_is g.plan t k sound.plan sound.servers).place) (home_within g.plan t (seat_place k) sound.servers)
+    subst (λ n. n < g.plan.grid.rows * g.plan.grid.cols) (sym (home_is g.plan t k sound.plan sound.servers).place) (home_within g.plan t (session_state_place k) sound.servers)
 
 -- a session of a plan is one of a later plan that has its home
 sessions_stay : (g : GridPlans) (t : ℕ) → AreSound g → SessionsStay (world_at g t)
 sessions_stay g t sound p q k later has is =
     let home : HomeIs g.plan t k = home_is g.plan t k sound.plan sound.servers in
-    let inside : nat_lt (seat_place k) (row_at g.plan t).sessions ≡ true = (and_parts _ _ is).0 in
-    let hop : session_generation k ≡ times (plans_of g t q) (home_place g.plan t (seat_place k)) =
+    let inside : nat_lt (session_state_place k) (row_at g.plan t).sessions ≡ true = (and_parts _ _ is).0 in
+    let hop : session_generation k ≡ times (plans_of g t q) (home_place g.plan t (session_state_place k)) =
     sym home.hop ∙ eqb-true (generation (home_of g.plan t k)) (times (plans_of g t q) (place_of (home_of g.plan t k))) has ∙ ap (times (plans_of g t q)) home.place in
-    rw (inside, eq-eqb (session_generation k) (times (plan_in (g.lost q)) (home_place g.plan t (seat_place k))) hop) refl
+    rw (inside, eq-eqb (session_generation k) (times (plan_in (g.lost q)) (home_place g.plan t (session_state_place k))) hop) refl
 
 -- each file is one register
 is_right : (g : GridPlans) (t : ℕ) (events : List Event) → AreSound g → AllCanCome (world_at g t) (new_nodes (world_at g t)) events → AllOpen (numbered (row_at g.plan t)) [] (g.opens t) →

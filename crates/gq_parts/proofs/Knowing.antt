@@ -16,7 +16,7 @@ use Rattle.gq_cluster.specs.Keeping.{KeptPart, kept_of, with_fact}
 use Rattle.gq_replace.specs.Keeping.{KeptFiles, files_of_part, with_fleet_fact, lacks_behind}
 use Rattle.gq_replace.specs.Plans.{place_of}
 use Rattle.gq_node.specs.Inputs.{Input, Asked, AskedPlan, Brought, Ticked, Looked, Joined, Fetching, Fetched, does, after_one, after_all}
-use Rattle.gq_node.specs.Joining.{hears_joined, all_joined, first_lacked, next_mate, asks_mate, looks, is_mate, has_file, gives, takes}
+use Rattle.gq_node.specs.Joining.{hears_joined, all_joined, first_lacked, next_peer, asks_peer, looks, is_peer, has_file, gives, takes}
 use Rattle.gq_node.specs.Local.{Local, Doing, part_in, state_of, file_fits, fits_local, with_copy, given, recalled}
 use Rattle.gq_node.specs.Resting.{GoesBehind, recall_one, recall_all, IsAtRest, IsBare}
 use Rattle.gq_node.specs.Sites.{Site, is_new, has_node}
@@ -29,14 +29,14 @@ use Rattle.gq_parts.specs.Texts.{own_facts}
 
 -- whether it takes the copy that it is given
 abbrev pub takes_it : Site → Local → (from : ℕ) → File → StoredCopy → Bool
-takes_it site local from file copy = is_mate site from && local.lacks file && file_fits (limit_at (state_of everyone local) file.volume file.place) (Store copy)
+takes_it site local from file copy = is_peer site from && local.lacks file && file_fits (limit_at (state_of everyone local) file.volume file.place) (Store copy)
 
 -- ---- a step
 
-asked_volumes : (site : Site) (local : Local) (place : ℕ) → (asks_mate site local place).local.volumes ≡ local.volumes
+asked_volumes : (site : Site) (local : Local) (place : ℕ) → (asks_peer site local place).local.volumes ≡ local.volumes
 asked_volumes site local place = by (first_lacked local) refl
   where
-    by : (o : Option File) → first_lacked local ≡ o → (asks_mate site local place).local.volumes ≡ local.volumes
+    by : (o : Option File) → first_lacked local ≡ o → (asks_peer site local place).local.volumes ≡ local.volumes
     by None is = rw is refl
     by (Some file) is = rw is refl
 
@@ -48,16 +48,16 @@ does_volumes (Ticked session) site local = ap (λ (v : List VolumeRow × Servers
 does_volumes Looked site local = by (all_joined site local.joined) refl
   where
     by : (b : Bool) → all_joined site local.joined ≡ b → (looks site local).local.volumes ≡ local.volumes
-    by true is = rw is (asked_volumes site local (next_mate site local.mate))
+    by true is = rw is (asked_volumes site local (next_peer site local.peer))
     by false is = rw is refl
 does_volumes (Joined from losses) site local = by (is_new site && has_node site from && losses == site.losses) refl
   where
     by : (b : Bool) → (is_new site && has_node site from && losses == site.losses) ≡ b → (hears_joined from losses site local).local.volumes ≡ local.volumes
     by true is = rw is refl
     by false is = rw is refl
-does_volumes (Fetching from file) site local = by (is_mate site from && has_file local file) refl
+does_volumes (Fetching from file) site local = by (is_peer site from && has_file local file) refl
   where
-    by : (b : Bool) → (is_mate site from && has_file local file) ≡ b → (gives from file site local).local.volumes ≡ local.volumes
+    by : (b : Bool) → (is_peer site from && has_file local file) ≡ b → (gives from file site local).local.volumes ≡ local.volumes
     by true is = rw is refl
     by false is = rw is refl
 does_volumes (Fetched from file copy) site local = by (takes_it site local from file copy) refl

@@ -56,7 +56,7 @@ letters_back t (m ∷ ms) theirs =
 
 -- one letter alone
 hop_alone : (old new : Tables) (t : ℕ) (letter : OwnMessage) (out : Output) → Acts old t (does (Brought old.here.node letter)) out new → All (IsOfTenant t) out.letters.items → All (FitsFact old.plan) (option_to_list out.fact) →
-    TakesHop old t (letter ∷ []) (option_to_list out.fact) (step_text old.plan old.here t NoLine out.answer (going_by_lines old.plan old.here out.letters.items) out.parcel) (going_home old.plan old.here out.letters.items) new
+    TakesHop old t (letter ∷ []) (option_to_list out.fact) (step_text old.plan old.here t NoLine out.answer (going_by_lines old.plan old.here out.letters.items) out.transfer) (going_home old.plan old.here out.letters.items) new
 hop_alone old new t letter out acts theirs fit = record {
   plan = acts.leads.plan;
   here = acts.leads.here;
@@ -83,17 +83,17 @@ hop_alone old new t letter out acts theirs fit = record {
 
 -- and what that appends
 pub took_letter : (old new : Tables) (t : ℕ) (letter : OwnMessage) (out : Output) (o0 o1 : List Message) (f0 f1 t0 t1 : List ℕ) → Acts old t (does (Brought old.here.node letter)) out new → All (IsOfTenant t) out.letters.items →
-    All (FitsFact new.plan) (option_to_list out.fact) → Appended new.plan (option_to_list out.fact) (step_text new.plan new.here t NoLine out.answer (going_by_lines new.plan new.here out.letters.items) out.parcel) f0 f1 t0 t1 →
+    All (FitsFact new.plan) (option_to_list out.fact) → Appended new.plan (option_to_list out.fact) (step_text new.plan new.here t NoLine out.answer (going_by_lines new.plan new.here out.letters.items) out.transfer) f0 f1 t0 t1 →
     o1 ≡ o0 ++ going_home new.plan new.here out.letters.items → TookHop old t (letter ∷ []) o0 o1 f0 f1 t0 t1 new
 took_letter old new t letter out o0 o1 f0 f1 t0 t1 acts theirs fit appended own =
     let P : CheckedPlan → Here → Type 0 = λ p s.
     All (FitsFact p) (option_to_list out.fact)
-    × Appended p (option_to_list out.fact) (step_text p s t NoLine out.answer (going_by_lines p s out.letters.items) out.parcel) f0 f1 t0 t1
+    × Appended p (option_to_list out.fact) (step_text p s t NoLine out.answer (going_by_lines p s out.letters.items) out.transfer) f0 f1 t0 t1
     × (o1 ≡ o0 ++ going_home p s out.letters.items) in
     let h : P old.plan old.here = subst (λ p. P p old.here) acts.leads.plan (subst (λ s. P new.plan s) acts.leads.here (fit, appended, own)) in
     record {
       facts = option_to_list out.fact;
-      told = step_text old.plan old.here t NoLine out.answer (going_by_lines old.plan old.here out.letters.items) out.parcel;
+      told = step_text old.plan old.here t NoLine out.answer (going_by_lines old.plan old.here out.letters.items) out.transfer;
       own = going_home old.plan old.here out.letters.items;
       takes = hop_alone old new t letter out acts theirs h.0;
       appended = h.1;

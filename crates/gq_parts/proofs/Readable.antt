@@ -16,13 +16,13 @@ use Rattle.gq_tag.specs.declared.Body.TheVariants.{Store}
 use Rattle.gq_keeper.specs.Starting.{RecallsAll}
 use Rattle.gq_node.specs.declared.output.Fact.{Fact}
 use Rattle.gq_node.specs.Inputs.{Input, Asked, AskedPlan, Brought, Ticked, Looked, Joined, Fetching, Fetched, does}
-use Rattle.gq_node.specs.Joining.{hears_joined, all_joined, next_mate, looks, is_mate, has_file, gives, takes}
+use Rattle.gq_node.specs.Joining.{hears_joined, all_joined, next_peer, looks, is_peer, has_file, gives, takes}
 use Rattle.gq_node.specs.Local.{Local, Doing, asks, receives, ticks, fact_fits, file_fits, file_in, part_in, state_of}
 use Rattle.gq_node.specs.Resting.{FirstPlan, begun_local}
 use Rattle.gq_node.specs.Recalling.{tenant_of, own_fact, fits_in}
 use Rattle.gq_node.specs.Sites.{Here, Site, site_of}
 use Rattle.gq_node.specs.Tables.{Tables, Agrees, fact_of}
-use Rattle.gq_node.proofs.Journal.{FactIn, KeepsBy, all_requests_keep, all_letters_keep, all_ticks_keep, asked_mate}
+use Rattle.gq_node.proofs.Journal.{FactIn, KeepsBy, all_requests_keep, all_letters_keep, all_ticks_keep, asked_peer}
 use Rattle.gq_facts.specs.Facts.{fact_line, fact_of_line}
 use Rattle.gq_facts.specs.Laws.{FitsFact}
 use Rattle.gq_facts.proofs.FactsBack.{facts_read_back}
@@ -157,18 +157,18 @@ doing_fits (Ticked session) site local = kept_fits site local (ticks session sit
 doing_fits Looked site local = no_fact site local (looks site local) (by (all_joined site local.joined) refl)
   where
     by : (b : Bool) → all_joined site local.joined ≡ b → (looks site local).fact ≡ None
-    by true is = rw is (asked_mate site local (next_mate site local.mate)).1
+    by true is = rw is (asked_peer site local (next_peer site local.peer)).1
     by false is = rw is refl
 doing_fits (Joined from losses) site local = no_fact site local (hears_joined from losses site local) (joined_silent from losses site local).fact
-doing_fits (Fetching from file) site local = no_fact site local (gives from file site local) (by (is_mate site from && has_file local file) refl)
+doing_fits (Fetching from file) site local = no_fact site local (gives from file site local) (by (is_peer site from && has_file local file) refl)
   where
-    by : (b : Bool) → (is_mate site from && has_file local file) ≡ b → (gives from file site local).fact ≡ None
+    by : (b : Bool) → (is_peer site from && has_file local file) ≡ b → (gives from file site local).fact ≡ None
     by true is = rw is refl
     by false is = rw is refl
 doing_fits (Fetched from file copy) site local = by (takes_it site local from file copy) refl
   where
     by : (b : Bool) → takes_it site local from file copy ≡ b → list_all (fits_part site local.volumes) (option_to_list (takes from file copy site local).fact) ≡ true
-    by true is = rw is (rw ((and_parts (is_mate site from && local.lacks file) (file_fits (limit_at (state_of everyone local) file.volume file.place) (Store copy)) is).1) refl)
+    by true is = rw is (rw ((and_parts (is_peer site from && local.lacks file) (file_fits (limit_at (state_of everyone local) file.volume file.place) (Store copy)) is).1) refl)
     by false is = rw is refl
 
 inputs_fit : (site : Site) (local : Local) (inputs : List Input) → list_all (fits_part site local.volumes) (own_facts site local inputs) ≡ true

@@ -18,11 +18,11 @@ use Rattle.gq_keeper.specs.Runs.{Takes}
 use Rattle.gq_node.specs.declared.output.Output.{Output}
 use Rattle.gq_node.specs.declared.output.Fact.{Fact}
 use Rattle.gq_node.specs.Inputs.{Input, Joined as HeardJoined, does, after_one, after_all, doings}
-use Rattle.gq_node.specs.Local.{Local, Doing, Parcel, Wants, Brings}
+use Rattle.gq_node.specs.Local.{Local, Doing, Transfer, Wants, Brings}
 use Rattle.gq_node.specs.Recalling.{tenant_of, own_fact}
 use Rattle.gq_node.specs.Resting.{AllOfPlan}
 use Rattle.gq_node.specs.Sites.{Here, Site, site_of, is_new, has_node}
-use Rattle.gq_node.specs.Tables.{Tables, Agrees, Acts, Gives, LeadsAll, Stands, AllStand, fact_of, parcel_of}
+use Rattle.gq_node.specs.Tables.{Tables, Agrees, Acts, Gives, LeadsAll, Stands, AllStand, fact_of, transfer_of}
 use Rattle.gq_facts.specs.Facts.{verb_of, fact_words, fact_line, fact_text}
 use Rattle.gq_facts.specs.Laws.{FitsFact}
 use Rattle.gq_facts.proofs.FactsBack.{facts_stand_in_batches}
@@ -160,14 +160,14 @@ letters_have old t x out new stand within acts =
 pub with_address : (plan : CheckedPlan) (t : ℕ) (ms : List Message) → t < length plan.rows → All (IsOfTenant t) ms → All (HasAddress plan) ms
 with_address plan t ms within theirs i d inside = subst (λ n. n < length plan.rows) (sym (theirs i d inside).0) within
 
--- the parcel is of a file of the tenant
-pub parcel_has : (old : Tables) (t : ℕ) (x : Input) (out : Output) (new : Tables) → AllStand old → t < length old.plan.rows → Acts old t (does x) out new → IsOfPlan old.plan out.parcel
-parcel_has old t x out new stand within acts =
+-- the transfer is of a file of the tenant
+pub transfer_has : (old : Tables) (t : ℕ) (x : Input) (out : Output) (new : Tables) → AllStand old → t < length old.plan.rows → Acts old t (does x) out new → IsOfPlan old.plan out.transfer
+transfer_has old t x out new stand within acts =
     let s : Stands old t = stand t within in
     let g : Gives t (does x (site_of old.plan old.here t) s.local) out = acts.gives s.local s.agrees in
-    subst (IsOfPlan old.plan) (sym g.parcel) (own (does x (site_of old.plan old.here t) s.local).parcel)
+    subst (IsOfPlan old.plan) (sym g.transfer) (own (does x (site_of old.plan old.here t) s.local).transfer)
   where
-    own : (o : Option Parcel) → IsOfPlan old.plan (option_map (parcel_of t) o)
+    own : (o : Option Transfer) → IsOfPlan old.plan (option_map (transfer_of t) o)
     own None = tt
     own (Some (Wants to file)) = within
     own (Some (Brings to file copy)) = within
@@ -222,12 +222,12 @@ lines_are_those plan here t (m ∷ ms) =
 
 -- what the code writes of a step is what the part writes
 pub text_is : (plan : CheckedPlan) (here : Here) (t : ℕ) (x : Input) (doing : Doing) (out : Output) → Gives t doing out →
-    step_text plan here t (asked_in x) out.answer (going_by_lines plan here out.letters.items) out.parcel ≡ doing_text plan here t x doing
+    step_text plan here t (asked_in x) out.answer (going_by_lines plan here out.letters.items) out.transfer ≡ doing_text plan here t x doing
 text_is plan here t x doing out g =
-    ap (λ z. step_text plan here t (asked_in x) z (going_by_lines plan here out.letters.items) out.parcel) g.answer
-    ∙ ap (λ z. step_text plan here t (asked_in x) doing.answer (going_by_lines plan here z) out.parcel) g.letters
-    ∙ ap (λ z. step_text plan here t (asked_in x) doing.answer z out.parcel) (lines_are_those plan here t doing.letters)
-    ∙ ap (λ z. step_text plan here t (asked_in x) doing.answer (map (message_of t) (others_of (site_of plan here t) doing.letters)) z) g.parcel
+    ap (λ z. step_text plan here t (asked_in x) z (going_by_lines plan here out.letters.items) out.transfer) g.answer
+    ∙ ap (λ z. step_text plan here t (asked_in x) doing.answer (going_by_lines plan here z) out.transfer) g.letters
+    ∙ ap (λ z. step_text plan here t (asked_in x) doing.answer z out.transfer) (lines_are_those plan here t doing.letters)
+    ∙ ap (λ z. step_text plan here t (asked_in x) doing.answer (map (message_of t) (others_of (site_of plan here t) doing.letters)) z) g.transfer
 
 -- what is taken within, by the plan and the number that the node had before
 record OwnThen (plan : CheckedPlan) (here : Here) (m : Tables) (t : ℕ) (letters : List OwnMessage) (b : List Fact) (y : List ℕ) (new : Tables) : Type 0 where
@@ -244,7 +244,7 @@ own_then old m new t letters b y plan here q =
 -- a step, and then what is taken within
 one_takes : (old m new : Tables) (t : ℕ) (x : Input) (out : Output) (b : List Fact) (y : List ℕ) → Acts old t (does x) out m → All (FitsFact old.plan) (option_to_list out.fact) →
     TakesOwn MOST_HOPS m t (map own_message (going_home old.plan old.here out.letters.items)) b y new →
-    TakesOf old t (x ∷ []) (option_to_list out.fact ++ b) (step_text old.plan old.here t (asked_in x) out.answer (going_by_lines old.plan old.here out.letters.items) out.parcel ++ y) new
+    TakesOf old t (x ∷ []) (option_to_list out.fact ++ b) (step_text old.plan old.here t (asked_in x) out.answer (going_by_lines old.plan old.here out.letters.items) out.transfer ++ y) new
 one_takes old m new t x out b y acts fit q = record {
   plan = q.plan ∙ acts.leads.plan;
   here = q.here ∙ acts.leads.here;
@@ -298,11 +298,11 @@ one_took old t x out m new f0 f1 t0 t1 acts put =
     let told : List ℕ = put.told_between in
     let P : CheckedPlan → Here → Type 0 = λ p s.
     All (FitsFact p) (option_to_list out.fact)
-    × Appended p (option_to_list out.fact) (step_text p s t (asked_in x) out.answer (going_by_lines p s out.letters.items) out.parcel) f0 f t0 told
+    × Appended p (option_to_list out.fact) (step_text p s t (asked_in x) out.answer (going_by_lines p s out.letters.items) out.transfer) f0 f t0 told
     × TakesOwn MOST_HOPS m t (map own_message (going_home p s out.letters.items)) b y new
     × Appended p b y f f1 told t1 in
     let h : P old.plan old.here = subst (λ p. P p old.here) acts.leads.plan (subst (λ s. P m.plan s) acts.leads.here (put.fit, put.step, put.own.takes, put.own.appended)) in
-    let first : List ℕ = step_text old.plan old.here t (asked_in x) out.answer (going_by_lines old.plan old.here out.letters.items) out.parcel in
+    let first : List ℕ = step_text old.plan old.here t (asked_in x) out.answer (going_by_lines old.plan old.here out.letters.items) out.transfer in
     record {
       facts = option_to_list out.fact ++ b;
       told = first ++ y;
@@ -504,15 +504,15 @@ below-all plan here n t below = rw (lt-ltb t n below) refl
 pub record GivesNothing (site : Site) (local : Local) (x : Input) (doing : Doing) : Type 0 where
   pub answer : doing.answer ≡ None
   pub letters : doing.letters ≡ []
-  pub parcel : doing.parcel ≡ None
+  pub transfer : doing.transfer ≡ None
   pub fact : doing.fact ≡ None
 
 pub joined_silent : (from losses : ℕ) (site : Site) (local : Local) → GivesNothing site local (HeardJoined from losses) (does (HeardJoined from losses) site local)
 joined_silent from losses site local = by (is_new site && has_node site from && losses == site.losses) refl
   where
     by : (b : Bool) → (is_new site && has_node site from && losses == site.losses) ≡ b → GivesNothing site local (HeardJoined from losses) (does (HeardJoined from losses) site local)
-    by true is = rw is (record { answer = refl; letters = refl; parcel = refl; fact = refl })
-    by false is = rw is (record { answer = refl; letters = refl; parcel = refl; fact = refl })
+    by true is = rw is (record { answer = refl; letters = refl; transfer = refl; fact = refl })
+    by false is = rw is (record { answer = refl; letters = refl; transfer = refl; fact = refl })
 
 -- ---- the step of a machine that has the tables
 
@@ -577,7 +577,7 @@ leads_took old new x f told leads silent = record {
     no_text u local =
         let site : Site = site_of old.plan old.here u in
         let s = silent site local in
-        let no : doing_text old.plan old.here u x (does x site local) ≡ [] = rw (s.answer, s.letters, s.parcel) refl in
+        let no : doing_text old.plan old.here u x (does x site local) ≡ [] = rw (s.answer, s.letters, s.transfer) refl in
         append-nil (outside_text old.plan old.here u local x)
         ∙ ap (λ xs. steps_text old.plan old.here u local xs ++ lines_of_letters old.plan old.here u (left site local x)) (sym (append-nil (within site local x)) ∙ alone site local)
         ∙ ap (λ z. (z ++ []) ++ lines_of_letters old.plan old.here u (left site local x)) no

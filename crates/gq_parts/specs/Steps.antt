@@ -8,7 +8,7 @@ use Rattle.gq_text.specs.Canonical.{IsPlan}
 use Rattle.gq_journal.specs.Batches.{lines_text}
 use Rattle.gq_node.specs.declared.output.Fact.{Fact}
 use Rattle.gq_node.specs.declared.output.Output.{Output}
-use Rattle.gq_node.specs.declared.output.Parcel.{Parcel}
+use Rattle.gq_node.specs.declared.output.Transfer.{Transfer}
 use Rattle.gq_model.specs.declared.events.Line.{Line}
 use Rattle.std.specs.Option.{option_to_list}
 use Rattle.gq_node.specs.Inputs.{Input, after_all, doings}
@@ -18,7 +18,7 @@ use Rattle.gq_desk.specs.Volumes.{account_at}
 use Rattle.gq_node.specs.Joining.{lacked_files}
 use Rattle.gq_node.specs.Tables.{Tables, Agrees, AllStand, lacks_at, fact_of}
 use Rattle.gq_facts.specs.Facts.{fact_line}
-use Rattle.gq_wire.specs.Texts.{parcel_file}
+use Rattle.gq_wire.specs.Texts.{transfer_file}
 use Rattle.gq_wire.specs.declared.incoming.Incoming.{Incoming}
 use Rattle.gq_wire.specs.declared.incoming.Incoming.TheVariants.{Tick}
 use Rattle.gq_facts.specs.Laws.{FitsFact}
@@ -58,13 +58,13 @@ pub record StepsTo (old : Tables) (line : List ℕ) (lines : List (List ℕ)) (t
 
 -- ---- as the code goes
 
--- the letter is of a tenant of the plan; and so is the file of the parcel
+-- the letter is of a tenant of the plan; and so is the file of the transfer
 abbrev pub HasAddress : CheckedPlan → Message → Type 0
 HasAddress plan m = m.tenant < length plan.rows
 
-abbrev pub IsOfPlan : CheckedPlan → Option Parcel → Type 0
+abbrev pub IsOfPlan : CheckedPlan → Option Transfer → Type 0
 IsOfPlan plan None = Unit {0}
-IsOfPlan plan (Some parcel) = (parcel_file parcel).tenant < length plan.rows
+IsOfPlan plan (Some transfer) = (transfer_file transfer).tenant < length plan.rows
 
 -- whether the server lacks a file of some tenant
 abbrev pub some_lacks : Tables → Bool
@@ -163,7 +163,7 @@ pub record TookOwn (many : ℕ) (old : Tables) (t : ℕ) (letters : List OwnMess
 pub record PutAll (w : Tables) (t : ℕ) (asked : Line) (out : Output) (facts_before facts_after told_before told_after : List ℕ) (new : Tables) : Type 0 where
   pub facts_between : List ℕ
   pub told_between : List ℕ
-  pub step : Appended w.plan (option_to_list out.fact) (step_text w.plan w.here t asked out.answer (going_by_lines w.plan w.here out.letters.items) out.parcel) facts_before facts_between told_before told_between
+  pub step : Appended w.plan (option_to_list out.fact) (step_text w.plan w.here t asked out.answer (going_by_lines w.plan w.here out.letters.items) out.transfer) facts_before facts_between told_before told_between
   pub fit : All (FitsFact w.plan) (option_to_list out.fact)
   pub own : TookOwn MOST_HOPS w t (map own_message (going_home w.plan w.here out.letters.items)) facts_between facts_after told_between told_after new
 

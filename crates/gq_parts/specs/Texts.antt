@@ -11,14 +11,14 @@ use Rattle.gq_node.specs.declared.output.Answer.{Answer}
 use Rattle.gq_node.specs.declared.output.Fact.{Fact}
 use Rattle.gq_node.specs.Inputs.{Input, does, after_all, doings}
 use Rattle.gq_node.specs.Local.{Local, Doing}
-use Rattle.gq_node.specs.declared.output.Parcel.{Parcel}
+use Rattle.gq_node.specs.declared.output.Transfer.{Transfer}
 use Rattle.gq_node.specs.Joining.{tells_joined, awaited, lacked_files}
 use Rattle.gq_node.specs.Sites.{Here, Site, site_of, address_of}
-use Rattle.gq_node.specs.Tables.{fact_of, parcel_of}
+use Rattle.gq_node.specs.Tables.{fact_of, transfer_of}
 use Rattle.gq_wire.specs.declared.incoming.Incoming.{Incoming}
 use Rattle.gq_wire.specs.declared.incoming.Incoming.TheVariants.{Joins, Tick}
 use Rattle.gq_wire.specs.Incoming.{incoming_of}
-use Rattle.gq_wire.specs.Texts.{told_line, letter_line, parcel_line, joins_line, joined_line}
+use Rattle.gq_wire.specs.Texts.{told_line, letter_line, transfer_line, joins_line, joined_line}
 use Rattle.gq_parts.specs.Inputs.{asked_in}
 use Rattle.gq_parts.specs.Within.{others_of, within, left, taken, after_taken}
 
@@ -33,19 +33,19 @@ answer_text plan here t asked (Some answer) = told_line plan here.node t asked a
 abbrev pub sent_line : CheckedPlan → Here → Message → List ℕ
 sent_line plan here m = letter_line plan (address_of plan here m) here.node m
 
--- the line of a parcel, if there is one
-abbrev pub parcel_text : CheckedPlan → Here → Option Parcel → List ℕ
-parcel_text plan here None = []
-parcel_text plan here (Some parcel) = parcel_line plan here.node parcel
+-- the line of a transfer, if there is one
+abbrev pub transfer_text : CheckedPlan → Here → Option Transfer → List ℕ
+transfer_text plan here None = []
+transfer_text plan here (Some transfer) = transfer_line plan here.node transfer
 
--- the line to the tenant first, then the letters and the parcel
-abbrev pub step_text : CheckedPlan → Here → (t : ℕ) → Line → Option Answer → List Message → Option Parcel → List ℕ
-step_text plan here t asked answer letters parcel = answer_text plan here t asked answer ++ (flat_map (sent_line plan here) letters ++ parcel_text plan here parcel)
+-- the line to the tenant first, then the letters and the transfer
+abbrev pub step_text : CheckedPlan → Here → (t : ℕ) → Line → Option Answer → List Message → Option Transfer → List ℕ
+step_text plan here t asked answer letters transfer = answer_text plan here t asked answer ++ (flat_map (sent_line plan here) letters ++ transfer_text plan here transfer)
 
 -- of a step, the letters that go by lines: the others are taken within
 abbrev pub doing_text : CheckedPlan → Here → (t : ℕ) → Input → Doing → List ℕ
 doing_text plan here t input doing =
-    step_text plan here t (asked_in input) doing.answer (map (message_of t) (others_of (site_of plan here t) doing.letters)) (option_map (parcel_of t) doing.parcel)
+    step_text plan here t (asked_in input) doing.answer (map (message_of t) (others_of (site_of plan here t) doing.letters)) (option_map (transfer_of t) doing.transfer)
 
 -- of several steps, one behind the other
 abbrev pub steps_text : CheckedPlan → Here → (t : ℕ) → Local → List Input → List ℕ

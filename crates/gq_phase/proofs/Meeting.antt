@@ -6,8 +6,8 @@ use Rattle.gq_grid.proofs.Agreeing.{least_row_agree, least_column_agree}
 use Rattle.gq_grid.proofs.Meeting.{rows_meet_columns, row_up_is_row, column_up_is_column, has_row-none, has_column-none, has_row_more, has_column_more}
 use Rattle.gq_grid.proofs.Inside.{chosen_row_up, chosen_column_up}
 use Rattle.gq_grid.proofs.Columns as columns
-use Rattle.gq_phase.specs.Quorums.{collect_quorum, store_quorum, ends_collect, ends_store, are_mates}
-use Rattle.gq_phase.specs.Laws.{RoundsMeet, CollectQuorumsEnd, StoreQuorumsEnd, QuorumsAreUp, NobodyEnds, MoreStillEnd, QuorumsInGrid, StoresHaveMates, MatesOfMates}
+use Rattle.gq_phase.specs.Quorums.{collect_quorum, store_quorum, ends_collect, ends_store, are_peers}
+use Rattle.gq_phase.specs.Laws.{RoundsMeet, CollectQuorumsEnd, StoreQuorumsEnd, QuorumsAreUp, NobodyEnds, MoreStillEnd, QuorumsInGrid, StoresHavePeers, PeersOfPeers}
 
 pub rounds_meet : RoundsMeet
 unfolding ends_collect ends_store
@@ -50,10 +50,10 @@ unfolding collect_quorum store_quorum
 quorums_in_grid grid up also same =
     (ap (option_map (row_servers grid)) (least_row_agree grid up also same), ap (option_map (column_servers grid)) (least_column_agree grid up also same))
 
-pub stores_have_mates : StoresHaveMates
-unfolding ends_store are_mates
-stores_have_mates grid stored ends = columns.columns_have_mates grid stored ends
+pub stores_have_peers : StoresHavePeers
+unfolding ends_store are_peers
+stores_have_peers grid stored ends = columns.columns_have_peers grid stored ends
 
-pub mates_of_mates : MatesOfMates
-unfolding are_mates
-mates_of_mates grid server mate other first second = columns.mates_of_mates grid server mate other first second
+pub peers_of_peers : PeersOfPeers
+unfolding are_peers
+peers_of_peers grid server peer other first second = columns.peers_of_peers grid server peer other first second

@@ -1,7 +1,7 @@
 -- What the five words on quorums have to be like.
 use Rattle.std.specs.Prelude.{◌≡◌, ℕ, ◌*◌, ◌<◌, true, false, Some}
 use Rattle.gq_grid.specs.Grid.{Grid, Servers, no_servers}
-use Rattle.gq_phase.specs.Quorums.{collect_quorum, store_quorum, ends_collect, ends_store, are_mates}
+use Rattle.gq_phase.specs.Quorums.{collect_quorum, store_quorum, ends_collect, ends_store, are_peers}
 
 -- a set that ends a collect round and a set that ends a store round share a server of the grid
 abbrev pub RoundsMeet : Type 0
@@ -35,15 +35,15 @@ MoreStillEnd =
     (grid : Grid) (fewer more : Servers) → ((server : ℕ) → server < grid.rows * grid.cols → fewer server ≡ true → more server ≡ true) →
     (ends_collect grid fewer ≡ true → ends_collect grid more ≡ true) × (ends_store grid fewer ≡ true → ends_store grid more ≡ true)
 
--- among the servers of a set that ends a store round are some that end it, too, with each of which all its mates are among them
-abbrev pub StoresHaveMates : Type 0
-StoresHaveMates =
+-- among the servers of a set that ends a store round are some that end it, too, with each of which all its peers are among them
+abbrev pub StoresHavePeers : Type 0
+StoresHavePeers =
     (grid : Grid) (stored : Servers) → ends_store grid stored ≡ true →
-    (some : Servers) × (ends_store grid some ≡ true) × ((server : ℕ) → some server ≡ true → stored server ≡ true) × ((server mate : ℕ) → some server ≡ true → are_mates grid server mate ≡ true → some mate ≡ true)
+    (some : Servers) × (ends_store grid some ≡ true) × ((server : ℕ) → some server ≡ true → stored server ≡ true) × ((server peer : ℕ) → some server ≡ true → are_peers grid server peer ≡ true → some peer ≡ true)
 
--- a mate of a mate is a mate
-abbrev pub MatesOfMates : Type 0
-MatesOfMates = (grid : Grid) (server mate other : ℕ) → are_mates grid server mate ≡ true → are_mates grid mate other ≡ true → are_mates grid server other ≡ true
+-- a peer of a peer is a peer
+abbrev pub PeersOfPeers : Type 0
+PeersOfPeers = (grid : Grid) (server peer other : ℕ) → are_peers grid server peer ≡ true → are_peers grid peer other ≡ true → are_peers grid server other ≡ true
 
 -- on the grid the two sets have the same quorums
 abbrev pub SameQuorums : Grid → Servers → Servers → Type 0

@@ -20,5 +20,5 @@ unfoldable pub ends_store : Grid → Servers → Bool
 ends_store grid heard = has_column grid heard
 
 -- whether a server that has lost its copies can be given them by the other
-unfoldable pub are_mates : Grid → ℕ → ℕ → Bool
-are_mates grid server mate = share_column grid server mate
+unfoldable pub are_peers : Grid → ℕ → ℕ → Bool
+are_peers grid server peer = share_column grid server peer

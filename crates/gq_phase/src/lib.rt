@@ -18,7 +18,7 @@ use gq_memory::{GrowCopies, OutOfMemory};
 pub use gq_round::{Messages, Who};
 use gq_tag::{StoredCopy, Tag};
 pub use operation::Operation;
-pub use quorums::are_mates;
+pub use quorums::are_peers;
 use std::marker::Model;
 use thiserror::Error;
 

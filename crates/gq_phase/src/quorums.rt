@@ -3,7 +3,7 @@
 
 ghost use Rattle.std.specs.Prelude.{◌≡◌, ◌<◌, ◌*◌, option_map};
 ghost use Rattle.gq_grid.specs.Sets.{servers};
-ghost use Rattle.gq_phase.specs.Quorums.{collect_quorum, store_quorum, ends_collect, ends_store, are_mates};
+ghost use Rattle.gq_phase.specs.Quorums.{collect_quorum, store_quorum, ends_collect, ends_store, are_peers};
 
 use gq_grid::{Grid, ServerSet};
 
@@ -41,11 +41,11 @@ pub fn ends_store(grid: &Grid, heard: ServerSet) -> bool
 }
 
 /// Whether a server that has lost its copies can be given them by the other.
-#[tactic(auto, using(crate::proofs::Columns::mates_by_place))]
-pub fn are_mates(grid: &Grid, server: usize, mate: usize) -> bool
+#[tactic(auto, using(crate::proofs::Columns::peers_by_place))]
+pub fn are_peers(grid: &Grid, server: usize, peer: usize) -> bool
     requires server { server < grid.now.rows * grid.now.cols }
-    requires mate { mate < grid.now.rows * grid.now.cols }
-    ensures { result ≡ are_mates grid.now server mate }
+    requires peer { peer < grid.now.rows * grid.now.cols }
+    ensures { result ≡ are_peers grid.now server peer }
 {
-    server % grid.cols() == mate % grid.cols()
+    server % grid.cols() == peer % grid.cols()
 }

@@ -13,10 +13,10 @@ use Rattle.gq_post.proofs.Reading.{once, uses_first, uses_in_first}
 -- ---- uses
 
 -- envelopes of the tenant at place t are sent
-pub uses_sent : (place : ℕ) (lanes : List (List Envelope)) (t : ℕ) (more : List Envelope) → t < length lanes → uses_in place (set lanes t (envelopes_at lanes t ++ more)) ≡ uses_in place lanes + uses place more
-uses_sent place lanes t more within =
-    let whole : uses_in place (set lanes t (envelopes_at lanes t ++ more)) + uses place (envelopes_at lanes t) ≡ uses_in place lanes + uses place (envelopes_at lanes t ++ more) = sum_by-set (uses place) lanes t (envelopes_at lanes t ++ more) [] within in
-    let parts : uses place (envelopes_at lanes t ++ more) ≡ uses place (envelopes_at lanes t) + uses place more = sum_by-append (λ l. once (names place l)) (envelopes_at lanes t) more in
+pub uses_sent : (place : ℕ) (channels : List (List Envelope)) (t : ℕ) (more : List Envelope) → t < length channels → uses_in place (set channels t (envelopes_at channels t ++ more)) ≡ uses_in place channels + uses place more
+uses_sent place channels t more within =
+    let whole : uses_in place (set channels t (envelopes_at channels t ++ more)) + uses place (envelopes_at channels t) ≡ uses_in place channels + uses place (envelopes_at channels t ++ more) = sum_by-set (uses place) channels t (envelopes_at channels t ++ more) [] within in
+    let parts : uses place (envelopes_at channels t ++ more) ≡ uses place (envelopes_at channels t) + uses place more = sum_by-append (λ l. once (names place l)) (envelopes_at channels t) more in
     omega (arith, whole, parts)
 
 -- the same envelope to some servers
@@ -33,10 +33,10 @@ uses_round place envelope (server ∷ servers) = more (names place envelope) (us
     more true first rest = omega (arith, first, rest)
     more false first rest = omega (arith, first, rest)
 
--- envelope n of a lane is lost
-uses_lost_lane : (place : ℕ) (envelopes : List Envelope) (n : ℕ) (envelope : Envelope) → slice_get envelopes n ≡ Some envelope → uses place (set envelopes n (lost envelope)) + once (names place envelope) ≡ uses place envelopes
-uses_lost_lane place [] n envelope is = absurd (cc)
-uses_lost_lane place (x ∷ envelopes) zero envelope is =
+-- envelope n of a channel is lost
+uses_lost_channel : (place : ℕ) (envelopes : List Envelope) (n : ℕ) (envelope : Envelope) → slice_get envelopes n ≡ Some envelope → uses place (set envelopes n (lost envelope)) + once (names place envelope) ≡ uses place envelopes
+uses_lost_channel place [] n envelope is = absurd (cc)
+uses_lost_channel place (x ∷ envelopes) zero envelope is =
     let same : x ≡ envelope = some_is is in
     let one : once (names place x) ≡ once (names place envelope) = ap (λ l. once (names place l)) same in
     let gone : uses place (lost envelope ∷ envelopes) ≡ 0 + uses place envelopes = uses_first place (lost envelope) envelopes in
@@ -45,19 +45,19 @@ uses_lost_lane place (x ∷ envelopes) zero envelope is =
   where
     some_is : Some x ≡ Some envelope → x ≡ envelope
     some_is e = cc
-uses_lost_lane place (x ∷ envelopes) (suc n) envelope is =
-    let rest : uses place (set envelopes n (lost envelope)) + once (names place envelope) ≡ uses place envelopes = uses_lost_lane place envelopes n envelope is in
+uses_lost_channel place (x ∷ envelopes) (suc n) envelope is =
+    let rest : uses place (set envelopes n (lost envelope)) + once (names place envelope) ≡ uses place envelopes = uses_lost_channel place envelopes n envelope is in
     let now : uses place (x ∷ set envelopes n (lost envelope)) ≡ once (names place x) + uses place (set envelopes n (lost envelope)) = uses_first place x (set envelopes n (lost envelope)) in
     let had : uses place (x ∷ envelopes) ≡ once (names place x) + uses place envelopes = uses_first place x envelopes in
     omega (arith, rest, now, had)
 
-pub uses_lost : (place : ℕ) (lanes : List (List Envelope)) (t n : ℕ) (envelope : Envelope) → t < length lanes → slice_get (envelopes_at lanes t) n ≡ Some envelope →
-    uses_in place (set lanes t (set (envelopes_at lanes t) n (lost envelope))) + once (names place envelope) ≡ uses_in place lanes
-uses_lost place lanes t n envelope within is =
-    let whole : uses_in place (set lanes t (set (envelopes_at lanes t) n (lost envelope))) + uses place (envelopes_at lanes t) ≡ uses_in place lanes + uses place (set (envelopes_at lanes t) n (lost envelope)) =
-    sum_by-set (uses place) lanes t (set (envelopes_at lanes t) n (lost envelope)) [] within in
-    let lane : uses place (set (envelopes_at lanes t) n (lost envelope)) + once (names place envelope) ≡ uses place (envelopes_at lanes t) = uses_lost_lane place (envelopes_at lanes t) n envelope is in
-    omega (arith, whole, lane)
+pub uses_lost : (place : ℕ) (channels : List (List Envelope)) (t n : ℕ) (envelope : Envelope) → t < length channels → slice_get (envelopes_at channels t) n ≡ Some envelope →
+    uses_in place (set channels t (set (envelopes_at channels t) n (lost envelope))) + once (names place envelope) ≡ uses_in place channels
+uses_lost place channels t n envelope within is =
+    let whole : uses_in place (set channels t (set (envelopes_at channels t) n (lost envelope))) + uses place (envelopes_at channels t) ≡ uses_in place channels + uses place (set (envelopes_at channels t) n (lost envelope)) =
+    sum_by-set (uses place) channels t (set (envelopes_at channels t) n (lost envelope)) [] within in
+    let channel : uses place (set (envelopes_at channels t) n (lost envelope)) + once (names place envelope) ≡ uses place (envelopes_at channels t) = uses_lost_channel place (envelopes_at channels t) n envelope is in
+    omega (arith, whole, channel)
 
 -- no envelope, no use
 pub uses_empty : (place count : ℕ) → uses_in place (replicate count []) ≡ 0
@@ -68,15 +68,15 @@ uses_empty place (suc count) =
 
 -- ---- counted slots
 
--- slots that find the same, and lanes that use as much
-pub counted_same : (old new : Slots) (lanes more : List (List Envelope)) → ((place : ℕ) → slot_at new place ≡ slot_at old place) → ((place : ℕ) → uses_in place more ≡ uses_in place lanes) → Counted old lanes → Counted new more
-counted_same old new lanes more slots uses counted = λ place.
+-- slots that find the same, and channels that use as much
+pub counted_same : (old new : Slots) (channels more : List (List Envelope)) → ((place : ℕ) → slot_at new place ≡ slot_at old place) → ((place : ℕ) → uses_in place more ≡ uses_in place channels) → Counted old channels → Counted new more
+counted_same old new channels more slots uses counted = λ place.
     subst (λ slot. IsUsed slot (uses_in place more)) (sym (slots place)) (subst (IsUsed (slot_at old place)) (sym (uses place)) (counted place))
 
 -- one slot changes, and its uses with it
-pub counted_change : (old new : Slots) (lanes more : List (List Envelope)) (key : ℕ) → ((place : ℕ) → place ≢ key → slot_at new place ≡ slot_at old place) → ((place : ℕ) → place ≢ key → uses_in place more ≡ uses_in place lanes) →
-    IsUsed (slot_at new key) (uses_in key more) → Counted old lanes → Counted new more
-counted_change old new lanes more key slots uses here counted = λ place. (elim (cases_eq place key) [
+pub counted_change : (old new : Slots) (channels more : List (List Envelope)) (key : ℕ) → ((place : ℕ) → place ≢ key → slot_at new place ≡ slot_at old place) → ((place : ℕ) → place ≢ key → uses_in place more ≡ uses_in place channels) →
+    IsUsed (slot_at new key) (uses_in key more) → Counted old channels → Counted new more
+counted_change old new channels more key slots uses here counted = λ place. (elim (cases_eq place key) [
   | inl same ↦ subst (λ k. IsUsed (slot_at new k) (uses_in k more)) (sym same) here
   | inr other ↦ subst (λ slot. IsUsed slot (uses_in place more)) (sym (slots place other)) (subst (IsUsed (slot_at old place)) (sym (uses place other)) (counted place))
 ])

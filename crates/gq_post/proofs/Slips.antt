@@ -19,7 +19,7 @@ use Rattle.gq_post.specs.Slips.{heading_of, slip_of, slip_to, under, no_heading,
 pub opened_more : (headings more : List Heading) (slips : List Slip) → HaveHeadings headings slips → map (opened (headings ++ more)) slips ≡ map (opened headings) slips
 opened_more headings more [] have = refl
 opened_more headings more (slip ∷ slips) have =
-    ap₂ (λ envelope lane. envelope ∷ lane)
+    ap₂ (λ envelope channel. envelope ∷ channel)
     (ap (λ heading. under heading slip) (get_or-append headings more no_heading slip.heading (All-head (λ s. s.heading < length headings) slip slips have)))
     (opened_more headings more slips (All-tail (λ s. s.heading < length headings) slip slips have))
 
@@ -40,18 +40,18 @@ pub pushed : (headings : List Heading) (slips : List Slip) (envelope : Envelope)
     map (opened (headings ++ heading_of envelope ∷ [])) (slips ++ slip_of envelope (length headings) ∷ []) ≡ map (opened headings) slips ++ envelope ∷ []
 pushed headings slips envelope have =
     map-append (opened (headings ++ heading_of envelope ∷ [])) slips (slip_of envelope (length headings) ∷ [])
-    ∙ ap₂ (λ lane own. lane ++ own ∷ []) (opened_more headings (heading_of envelope ∷ []) slips have) (last_heading headings envelope (slip_of envelope (length headings)) refl)
+    ∙ ap₂ (λ channel own. channel ++ own ∷ []) (opened_more headings (heading_of envelope ∷ []) slips have) (last_heading headings envelope (slip_of envelope (length headings)) refl)
 
 to_servers : (headings : List Heading) (envelope : Envelope) (servers : List ℕ) → map (opened (headings ++ heading_of envelope ∷ [])) (map (slip_to (slip_of envelope (length headings))) servers) ≡ map (to_other envelope) servers
 to_servers headings envelope [] = refl
 to_servers headings envelope (server ∷ servers) =
-    ap₂ (λ own lane. own ∷ lane) (last_heading headings envelope (slip_to (slip_of envelope (length headings)) server) refl) (to_servers headings envelope servers)
+    ap₂ (λ own channel. own ∷ channel) (last_heading headings envelope (slip_to (slip_of envelope (length headings)) server) refl) (to_servers headings envelope servers)
 
 pub pushed_round : (headings : List Heading) (slips : List Slip) (envelope : Envelope) (servers : List ℕ) → HaveHeadings headings slips →
     map (opened (headings ++ heading_of envelope ∷ [])) (slips ++ map (slip_to (slip_of envelope (length headings))) servers) ≡ map (opened headings) slips ++ map (to_other envelope) servers
 pushed_round headings slips envelope servers have =
     map-append (opened (headings ++ heading_of envelope ∷ [])) slips (map (slip_to (slip_of envelope (length headings))) servers)
-    ∙ ap₂ (λ lane own. lane ++ own) (opened_more headings (heading_of envelope ∷ []) slips have) (to_servers headings envelope servers)
+    ∙ ap₂ (λ channel own. channel ++ own) (opened_more headings (heading_of envelope ∷ []) slips have) (to_servers headings envelope servers)
 
 -- ---- an envelope that is there
 

@@ -5,7 +5,7 @@ use Rattle.gq_tag.specs.declared.StoredCopy.{StoredCopy}
 use Rattle.gq_tag.specs.declared.Message.{Message}
 use Rattle.gq_post.specs.declared.copies.SharedCopy.{SharedCopy}
 use Rattle.gq_post.specs.declared.envelopes.Envelope.{Envelope}
-use Rattle.gq_post.specs.Lanes.{Lane}
+use Rattle.gq_post.specs.Channels.{Channel}
 use Rattle.gq_post.specs.Envelopes.{said_body, names_copy, with_body}
 
 -- the slots of a slab: a copy with the number of its users, or nothing
@@ -23,16 +23,16 @@ slot_copy slots place = copy_of (slot_at slots place)
 
 -- ---- messages
 
--- the message that the envelope is, and the lane that the envelopes are
+-- the message that the envelope is, and the channel that the envelopes are
 abbrev pub envelope_message : Slots → Envelope → Option Message
 envelope_message slots envelope = option_map (with_body envelope) (said_body envelope.says (slot_copy slots envelope.place))
 
-abbrev pub lane_of : Slots → List Envelope → Lane
-lane_of slots envelopes = map (envelope_message slots) envelopes
+abbrev pub channel_of : Slots → List Envelope → Channel
+channel_of slots envelopes = map (envelope_message slots) envelopes
 
 -- ---- users
 
--- whether the envelope names the place; how many envelopes of a lane do, and of all lanes
+-- whether the envelope names the place; how many envelopes of a channel do, and of all channels
 abbrev pub names : ℕ → Envelope → Bool
 names place envelope = names_copy envelope.says && envelope.place == place
 
@@ -40,7 +40,7 @@ abbrev pub uses : ℕ → List Envelope → ℕ
 uses place envelopes = count_by (names place) envelopes
 
 abbrev pub uses_in : ℕ → List (List Envelope) → ℕ
-uses_in place lanes = sum_by (uses place) lanes
+uses_in place channels = sum_by (uses place) channels
 
 -- the slot has as many users as that, and something only where it has a user
 abbrev pub IsUsed : Option SharedCopy → ℕ → Type 0
@@ -50,7 +50,7 @@ IsUsed (Some shared) uses = (shared.users ≡ uses) × (0 < uses)
 -- each copy has as many users as envelopes name its place. So each place that an envelope names has a copy, and each copy
 -- is named by an envelope
 abbrev pub Counted : Slots → List (List Envelope) → Type 0
-Counted slots lanes = (place : ℕ) → IsUsed (slot_at slots place) (uses_in place lanes)
+Counted slots channels = (place : ℕ) → IsUsed (slot_at slots place) (uses_in place channels)
 
 -- ---- a slot that changes
 

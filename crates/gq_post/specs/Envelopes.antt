@@ -1,4 +1,4 @@
--- Envelopes: how a message lies in its tenant's lane, its copy apart.
+-- Envelopes: how a message lies in its tenant's channel, its copy apart.
 use Rattle.std.specs.Prelude.{ℕ, List, [], Bool, true, false, Option, Some, None, cond, slice_get, slice_index_or}
 use Rattle.gq_tag.specs.declared.StoredCopy.{StoredCopy}
 use Rattle.gq_tag.specs.declared.Body.{Body}
@@ -69,9 +69,9 @@ answering envelope says place = record envelope { place = place; says = says }
 
 -- the envelopes of the tenant at place t
 abbrev pub envelopes_at : List (List Envelope) → ℕ → List Envelope
-envelopes_at lanes t = slice_index_or lanes t []
+envelopes_at channels t = slice_index_or channels t []
 
--- envelope n of a lane, none where it was never sent or is lost
+-- envelope n of a channel, none where it was never sent or is lost
 abbrev pub unless_lost : Option Envelope → Option Envelope
 unless_lost None = None
 unless_lost (Some envelope) = cond (says_lost envelope.says) None (Some envelope)

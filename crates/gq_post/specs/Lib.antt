@@ -1,4 +1,4 @@
 pub mod Copies
-pub mod Lanes
+pub mod Channels
 pub mod Envelopes
 pub mod Slips

@@ -1,4 +1,4 @@
--- Slips: an envelope as it lies in its lane, under a heading that it has in common with others.
+-- Slips: an envelope as it lies in its channel, under a heading that it has in common with others.
 use Rattle.std.specs.Prelude.{ℕ, ◌<◌, List, All, length, slice_index_or}
 use Rattle.gq_post.specs.declared.envelopes.Envelope.{Envelope}
 use Rattle.gq_post.specs.declared.envelopes.Heading.{Heading}

@@ -1,4 +1,4 @@
-//! Envelopes: messages as they lie in lanes, their copies apart. What those of a round have in common lies once.
+//! Envelopes: messages as they lie in channels, their copies apart. What those of a round have in common lies once.
 
 ghost use Rattle.std.specs.Prelude.{◌≡◌, ◌<◌, ◌≤◌, ◌+◌, ◌*◌, ◌++◌, ◌∷◌, [], Some, length, map, slice_get, slice_set, vec_len, vec_capacity, IfSome, IfNone, IfOk, OnOk, OnErr, IsSome};
 ghost use Rattle.gq_grid.specs.Grid.{rising};
@@ -135,7 +135,7 @@ impl Heading {
     }
 }
 
-// An envelope as it lies in its lane: what is its own, and the place of its heading. It takes 12 bytes.
+// An envelope as it lies in its channel: what is its own, and the place of its heading. It takes 12 bytes.
 #[derive(Clone, Copy)]
 pub(crate) struct Slip {
     pub(crate) heading: u32,
@@ -319,67 +319,67 @@ impl Envelopes {
 
 // Sends the tenant's envelope, and answers its number.
 pub(crate) fn push(
-    lanes: &mut Vec<Envelopes>,
+    channels: &mut Vec<Envelopes>,
     tenant: u8,
     envelope: Envelope,
 ) -> Result<u64, OutOfMemory>
-    requires { tenant < length lanes.old.items }
-    ensures number { IfOk result (λ number. number ≡ length (envelopes_at lanes.old.items tenant)) }
-    ensures ok { OnOk result (lanes.new.items ≡ slice_set lanes.old.items tenant (envelopes_at lanes.old.items tenant ++ envelope ∷ [])) }
-    ensures err { OnErr result (lanes.new.items ≡ lanes.old.items) }
+    requires { tenant < length channels.old.items }
+    ensures number { IfOk result (λ number. number ≡ length (envelopes_at channels.old.items tenant)) }
+    ensures ok { OnOk result (channels.new.items ≡ slice_set channels.old.items tenant (envelopes_at channels.old.items tenant ++ envelope ∷ [])) }
+    ensures err { OnErr result (channels.new.items ≡ channels.old.items) }
 {
-    let lane = &mut lanes[tenant as usize];
-    let number = lane.count();
-    lane.push(envelope)?;
+    let channel = &mut channels[tenant as usize];
+    let number = channel.count();
+    channel.push(envelope)?;
     Ok(number as u64)
 }
 
 // Sends the tenant's envelope to each server of the grid that is in the one set and not in the other; answers to how many.
 pub(crate) fn push_round(
-    lanes: &mut Vec<Envelopes>,
+    channels: &mut Vec<Envelopes>,
     tenant: u8,
     envelope: Envelope,
     grid: &Grid,
     to: ServerSet,
     except: ServerSet,
 ) -> Result<usize, OutOfMemory>
-    requires { tenant < length lanes.old.items }
+    requires { tenant < length channels.old.items }
     ensures count { IfOk result (λ count. count ≡ length (rising grid.now (apart (servers to) (servers except)))) }
     ensures few { IfOk result (λ count. count ≤ MOST_SERVERS) }
-    ensures ok { OnOk result (lanes.new.items ≡ slice_set lanes.old.items tenant (envelopes_at lanes.old.items tenant ++ map (to_other envelope) (rising grid.now (apart (servers to) (servers except))))) }
-    ensures err { OnErr result (lanes.new.items ≡ lanes.old.items) }
+    ensures ok { OnOk result (channels.new.items ≡ slice_set channels.old.items tenant (envelopes_at channels.old.items tenant ++ map (to_other envelope) (rising grid.now (apart (servers to) (servers except))))) }
+    ensures err { OnErr result (channels.new.items ≡ channels.old.items) }
 {
-    lanes[tenant as usize].push_round(envelope, grid, to, except)
+    channels[tenant as usize].push_round(envelope, grid, to, except)
 }
 
 // Sends an answer to the tenant's envelope of this number, and answers the number of the answer.
 #[inline(always)]
 pub(crate) fn push_answer(
-    lanes: &mut Vec<Envelopes>,
+    channels: &mut Vec<Envelopes>,
     tenant: u8,
     number: u64,
     says: Says,
     place: u32,
 ) -> Result<u64, OutOfMemory>
-    requires tenant { tenant < length lanes.old.items }
-    requires there { IsSome (envelope_at (envelopes_at lanes.old.items tenant) number) }
-    ensures number { IfOk result (λ number. number ≡ length (envelopes_at lanes.old.items tenant)) }
-    ensures ok { OnOk result ((asked : Envelope) → envelope_at (envelopes_at lanes.old.items tenant) number ≡ Some asked →
-        lanes.new.items ≡ slice_set lanes.old.items tenant (envelopes_at lanes.old.items tenant ++ answering asked says place ∷ [])) }
-    ensures err { OnErr result (lanes.new.items ≡ lanes.old.items) }
+    requires tenant { tenant < length channels.old.items }
+    requires there { IsSome (envelope_at (envelopes_at channels.old.items tenant) number) }
+    ensures number { IfOk result (λ number. number ≡ length (envelopes_at channels.old.items tenant)) }
+    ensures ok { OnOk result ((asked : Envelope) → envelope_at (envelopes_at channels.old.items tenant) number ≡ Some asked →
+        channels.new.items ≡ slice_set channels.old.items tenant (envelopes_at channels.old.items tenant ++ answering asked says place ∷ [])) }
+    ensures err { OnErr result (channels.new.items ≡ channels.old.items) }
 {
-    let lane = &mut lanes[tenant as usize];
-    let count = lane.count();
-    lane.push_answer(number, says, place)?;
+    let channel = &mut channels[tenant as usize];
+    let count = channel.count();
+    channel.push_answer(number, says, place)?;
     Ok(count as u64)
 }
 
 // Loses the tenant's envelope of this number; none where it was never sent or is lost already.
-pub(crate) fn lose(lanes: &mut Vec<Envelopes>, tenant: u8, number: u64) -> Option<Envelope>
-    requires { tenant < length lanes.old.items }
-    ensures envelope { result ≡ envelope_at (envelopes_at lanes.old.items tenant) number }
-    ensures some { IfSome result (λ envelope. lanes.new.items ≡ slice_set lanes.old.items tenant (slice_set (envelopes_at lanes.old.items tenant) number (lost envelope))) }
-    ensures none { IfNone result (lanes.new.items ≡ lanes.old.items) }
+pub(crate) fn lose(channels: &mut Vec<Envelopes>, tenant: u8, number: u64) -> Option<Envelope>
+    requires { tenant < length channels.old.items }
+    ensures envelope { result ≡ envelope_at (envelopes_at channels.old.items tenant) number }
+    ensures some { IfSome result (λ envelope. channels.new.items ≡ slice_set channels.old.items tenant (slice_set (envelopes_at channels.old.items tenant) number (lost envelope))) }
+    ensures none { IfNone result (channels.new.items ≡ channels.old.items) }
 {
-    lanes[tenant as usize].lose(number)
+    channels[tenant as usize].lose(number)
 }

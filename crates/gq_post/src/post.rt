@@ -1,9 +1,9 @@
-//! Messages in lanes, one lane for each tenant, and their copies in one slab for all.
+//! Messages in channels, one channel for each tenant, and their copies in one slab for all.
 
 ghost use Rattle.std.specs.Prelude.{◌≡◌, ◌<◌, ◌++◌, ◌∷◌, [], Some, None, false, is_some, length, map, replicate, slice_set, slice_index_or, IsSome, IfOk, IfErr, OnOk, OnErr};
 ghost use Rattle.gq_tag.specs.declared.Message.{Message};
 ghost use Rattle.gq_tag.specs.declared.Body.TheVariants as Body;
-ghost use Rattle.gq_post.specs.Lanes.{lane_at, message_at};
+ghost use Rattle.gq_post.specs.Channels.{channel_at, message_at};
 
 use crate::copies::{self, SharedCopy};
 use crate::envelopes::{self, Envelope, Envelopes, Says};
@@ -38,41 +38,41 @@ pub struct RoundSent {
     pub count: u32,
 }
 
-/// The messages of all tenants: for each tenant a lane of its messages in order of sending, numbered from 0. A message stays
+/// The messages of all tenants: for each tenant a channel of its messages in order of sending, numbered from 0. A message stays
 /// until it is lost; its number is then nobody's. Messages may share a copy, whose place serves the next message of any
 /// tenant once the last of them is lost.
 #[derive(Drop)]
 pub struct Post {
     copies: Slab<SharedCopy>,
-    lanes: Vec<Envelopes>,
+    channels: Vec<Envelopes>,
     alloc: Global,
 }
 
 impl Model for Post {
     ghost use Rattle.std.specs.Prelude.{List, map};
-    ghost use Rattle.gq_post.specs.Lanes.{Lane};
-    ghost use Rattle.gq_post.specs.Copies.{Counted, lane_of};
+    ghost use Rattle.gq_post.specs.Channels.{Channel};
+    ghost use Rattle.gq_post.specs.Copies.{Counted, channel_of};
 
-    ghost Value = { List Lane };
+    ghost Value = { List Channel };
 
-    ghost view = { λ p. map (lane_of p.copies.slots) p.lanes.items };
+    ghost view = { λ p. map (channel_of p.copies.slots) p.channels.items };
 
-    ghost invariant = { λ p. Counted p.copies.slots p.lanes.items };
+    ghost invariant = { λ p. Counted p.copies.slots p.channels.items };
 }
 
 impl Post {
-    /// The post of so many tenants, each with an empty lane.
+    /// The post of so many tenants, each with an empty channel.
     pub fn new(alloc: Global, tenants: usize) -> Result<Post, OutOfMemory>
         ensures { IfOk result (λ post. post ≡ replicate tenants []) }
     {
         let copies = Slab::new(alloc);
-        let mut lanes = Vec::new(alloc);
+        let mut channels = Vec::new(alloc);
         for _tenant in 0..tenants {
-            lanes.grow(Envelopes::new(alloc))?;
+            channels.grow(Envelopes::new(alloc))?;
         }
         Ok(Post {
             copies,
-            lanes,
+            channels,
             alloc,
         })
     }
@@ -81,8 +81,8 @@ impl Post {
     /// wanting nothing changes.
     pub fn send(&mut self, tenant: u8, message: Message) -> Result<u64, Unsent>
         requires { tenant < length self.old }
-        ensures number { IfOk result (λ number. number ≡ length (lane_at self.old tenant)) }
-        ensures sent { OnOk result (self.new ≡ slice_set self.old tenant (lane_at self.old tenant ++ Some message ∷ [])) }
+        ensures number { IfOk result (λ number. number ≡ length (channel_at self.old tenant)) }
+        ensures sent { OnOk result (self.new ≡ slice_set self.old tenant (channel_at self.old tenant ++ Some message ∷ [])) }
         ensures back { IfErr result (λ unsent. unsent.message ≡ message) }
         ensures same { OnErr result (self.new ≡ self.old) }
     {
@@ -91,7 +91,7 @@ impl Post {
             Err(refused) => return Err(Unsent { message, refused }),
         };
         let envelope = Envelope::of(&message, place);
-        let number = match envelopes::push(&mut self.lanes, tenant, envelope) {
+        let number = match envelopes::push(&mut self.channels, tenant, envelope) {
             Ok(number) => number,
             Err(refused) => return Err(Unsent { message, refused }),
         };
@@ -103,9 +103,9 @@ impl Post {
     /// copy is there once. Where memory is wanting nothing changes.
     pub fn send_all(&mut self, tenant: u8, messages: Messages) -> Result<RoundSent, OutOfMemory>
         requires { tenant < length self.old }
-        ensures first { IfOk result (λ sent. sent.first ≡ length (lane_at self.old tenant)) }
+        ensures first { IfOk result (λ sent. sent.first ≡ length (channel_at self.old tenant)) }
         ensures count { IfOk result (λ sent. sent.count ≡ length messages) }
-        ensures sent { OnOk result (self.new ≡ slice_set self.old tenant (lane_at self.old tenant ++ map Some messages)) }
+        ensures sent { OnOk result (self.new ≡ slice_set self.old tenant (channel_at self.old tenant ++ map Some messages)) }
         ensures same { OnErr result (self.new ≡ self.old) }
     {
         let Messages {
@@ -133,8 +133,8 @@ impl Post {
             server: 0,
             says: Says::of(&body),
         };
-        let first = self.lanes[tenant as usize].count();
-        let users = envelopes::push_round(&mut self.lanes, tenant, envelope, &grid, to, except)?;
+        let first = self.channels[tenant as usize].count();
+        let users = envelopes::push_round(&mut self.channels, tenant, envelope, &grid, to, except)?;
         copies::keep(&mut self.copies, body, users);
         Ok(RoundSent {
             first: first as u64,
@@ -147,12 +147,12 @@ impl Post {
     #[inline(always)]
     pub fn reply_stored(&mut self, tenant: u8, number: u64) -> Result<u64, OutOfMemory>
         requires tenant { tenant < length self.old }
-        requires there { IsSome (message_at (lane_at self.old tenant) number) }
-        ensures number { IfOk result (λ sent. sent ≡ length (lane_at self.old tenant)) }
-        ensures sent { OnOk result ((message : Message) → message_at (lane_at self.old tenant) number ≡ Some message → self.new ≡ slice_set self.old tenant (lane_at self.old tenant ++ Some (record message { body = Body.Stored }) ∷ [])) }
+        requires there { IsSome (message_at (channel_at self.old tenant) number) }
+        ensures number { IfOk result (λ sent. sent ≡ length (channel_at self.old tenant)) }
+        ensures sent { OnOk result ((message : Message) → message_at (channel_at self.old tenant) number ≡ Some message → self.new ≡ slice_set self.old tenant (channel_at self.old tenant ++ Some (record message { body = Body.Stored }) ∷ [])) }
         ensures same { OnErr result (self.new ≡ self.old) }
     {
-        let number = envelopes::push_answer(&mut self.lanes, tenant, number, Says::Stored, 0)?;
+        let number = envelopes::push_answer(&mut self.channels, tenant, number, Says::Stored, 0)?;
         Ok(number)
     }
 
@@ -169,13 +169,19 @@ impl Post {
         hint: u32,
     ) -> Result<CopySent, OutOfMemory>
         requires tenant { tenant < length self.old }
-        requires there { IsSome (message_at (lane_at self.old tenant) number) }
-        ensures number { IfOk result (λ sent. sent.number ≡ length (lane_at self.old tenant)) }
-        ensures sent { OnOk result ((message : Message) → message_at (lane_at self.old tenant) number ≡ Some message → self.new ≡ slice_set self.old tenant (lane_at self.old tenant ++ Some (record message { body = Body.Copy (record { tag = tag; bytes = bytes.now }) }) ∷ [])) }
+        requires there { IsSome (message_at (channel_at self.old tenant) number) }
+        ensures number { IfOk result (λ sent. sent.number ≡ length (channel_at self.old tenant)) }
+        ensures sent { OnOk result ((message : Message) → message_at (channel_at self.old tenant) number ≡ Some message → self.new ≡ slice_set self.old tenant (channel_at self.old tenant ++ Some (record message { body = Body.Copy (record { tag = tag; bytes = bytes.now }) }) ∷ [])) }
         ensures same { OnErr result (self.new ≡ self.old) }
     {
         if copies::can_share(&self.copies, hint, tag, bytes) {
-            let number = envelopes::push_answer(&mut self.lanes, tenant, number, Says::Copy, hint)?;
+            let number = envelopes::push_answer(
+                &mut self.channels,
+                tenant,
+                number,
+                Says::Copy,
+                hint,
+            )?;
             copies::add_user(&mut self.copies, hint);
             return Ok(CopySent { number, hint });
         }
@@ -191,14 +197,14 @@ impl Post {
         bytes: &[u8],
     ) -> Result<CopySent, OutOfMemory>
         requires tenant { tenant < length self.old }
-        requires there { IsSome (message_at (lane_at self.old tenant) number) }
-        ensures number { IfOk result (λ sent. sent.number ≡ length (lane_at self.old tenant)) }
-        ensures sent { OnOk result ((message : Message) → message_at (lane_at self.old tenant) number ≡ Some message → self.new ≡ slice_set self.old tenant (lane_at self.old tenant ++ Some (record message { body = Body.Copy (record { tag = tag; bytes = bytes.now }) }) ∷ [])) }
+        requires there { IsSome (message_at (channel_at self.old tenant) number) }
+        ensures number { IfOk result (λ sent. sent.number ≡ length (channel_at self.old tenant)) }
+        ensures sent { OnOk result ((message : Message) → message_at (channel_at self.old tenant) number ≡ Some message → self.new ≡ slice_set self.old tenant (channel_at self.old tenant ++ Some (record message { body = Body.Copy (record { tag = tag; bytes = bytes.now }) }) ∷ [])) }
         ensures same { OnErr result (self.new ≡ self.old) }
     {
         let bytes = copied_bytes(self.alloc, bytes)?;
         let hint = self.copies.make_place()?;
-        let number = envelopes::push_answer(&mut self.lanes, tenant, number, Says::Copy, hint)?;
+        let number = envelopes::push_answer(&mut self.channels, tenant, number, Says::Copy, hint)?;
         copies::keep(&mut self.copies, Body::Copy(StoredCopy { tag, bytes }), 1);
         Ok(CopySent { number, hint })
     }
@@ -207,9 +213,9 @@ impl Post {
     #[inline(always)]
     pub fn get(&self, tenant: u8, number: u64) -> Option<MessageView<'_>>
         requires { tenant < length self.now }
-        ensures { result ≡ message_at (lane_at self.now tenant) number }
+        ensures { result ≡ message_at (channel_at self.now tenant) number }
     {
-        let envelope = self.lanes[tenant as usize].envelope(number)?;
+        let envelope = self.channels[tenant as usize].envelope(number)?;
         let body = copies::body_said(&self.copies, envelope)?;
         Some(envelope.with_body(body))
     }
@@ -218,7 +224,7 @@ impl Post {
     pub fn hint(&self, tenant: u8, number: u64) -> u32
         requires { tenant < length self.now }
     {
-        match self.lanes[tenant as usize].envelope(number) {
+        match self.channels[tenant as usize].envelope(number) {
             Some(envelope) => envelope.place,
             None => 0,
         }
@@ -227,11 +233,11 @@ impl Post {
     /// Loses the tenant's message of this number, and answers whether there was one to lose.
     pub fn lose(&mut self, tenant: u8, number: u64) -> bool
         requires { tenant < length self.old }
-        ensures was { result ≡ is_some (message_at (lane_at self.old tenant) number) }
-        ensures lost { self.new ≡ slice_set self.old tenant (slice_set (lane_at self.old tenant) number None) }
+        ensures was { result ≡ is_some (message_at (channel_at self.old tenant) number) }
+        ensures lost { self.new ≡ slice_set self.old tenant (slice_set (channel_at self.old tenant) number None) }
         ensures none { result ≡ false → self.new ≡ self.old }
     {
-        let Some(envelope) = envelopes::lose(&mut self.lanes, tenant, number) else {
+        let Some(envelope) = envelopes::lose(&mut self.channels, tenant, number) else {
             return false;
         };
         if envelope.says.names_copy() {
@@ -243,8 +249,8 @@ impl Post {
     /// How many messages the tenant sent, lost ones included: the number of its next one.
     pub fn sent(&self, tenant: u8) -> u64
         requires { tenant < length self.now }
-        ensures { result ≡ length (lane_at self.now tenant) }
+        ensures { result ≡ length (channel_at self.now tenant) }
     {
-        self.lanes[tenant as usize].count() as u64
+        self.channels[tenant as usize].count() as u64
     }
 }

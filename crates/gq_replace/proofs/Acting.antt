@@ -30,30 +30,30 @@ act_here s c act n same = rw (eq-eqb n (node_of s.home act) same) refl
 abbrev offered_then : Setting → Cluster → Act → Bool → ℕ → File → ℕ → List StoredCopy
 offered_then s c act refused = if refused then c.offered else with_held (parts_after s c act) c.offered
 
-pub act_offers : (s : Setting) (c : Cluster) (act : Act) (server : ℕ) (file : File) (mate : ℕ) (copy : StoredCopy) → Contains (c.offered server file mate) copy → Contains ((after_act s c act).offered server file mate) copy
-act_offers s c act server file mate copy within = by (is_refusal (step_in s c act).told)
+pub act_offers : (s : Setting) (c : Cluster) (act : Act) (server : ℕ) (file : File) (peer : ℕ) (copy : StoredCopy) → Contains (c.offered server file peer) copy → Contains ((after_act s c act).offered server file peer) copy
+act_offers s c act server file peer copy within = by (is_refusal (step_in s c act).told)
   where
-    by : (b : Bool) → Contains (offered_then s c act b server file mate) copy
+    by : (b : Bool) → Contains (offered_then s c act b server file peer) copy
     by true = within
-    by false = Contains-append_left (c.offered server file mate) _ copy within
+    by false = Contains-append_left (c.offered server file peer) _ copy within
 
 -- a server that lacks a file can be given what each other that has it holds
 abbrev pub Offers : Cluster → Type 0
-Offers c = (server : ℕ) (file : File) (mate : ℕ) → (c.part server).lacks file ≡ true → (c.part mate).lacks file ≡ false → Contains (c.offered server file mate) (copy_in (c.part mate) file)
+Offers c = (server : ℕ) (file : File) (peer : ℕ) → (c.part server).lacks file ≡ true → (c.part peer).lacks file ≡ false → Contains (c.offered server file peer) (copy_in (c.part peer) file)
 
 pub held_offered : (before : List StoredCopy) (lacks : Bool) (copy : StoredCopy) → lacks ≡ false → Contains (before ++ (if lacks then [] else copy ∷ [])) copy
 held_offered before true copy has = absurd (true≢false has)
 held_offered before false copy has = Contains-append_right before (copy ∷ []) copy (0, omega arith, refl)
 
 pub act_offering : (s : Setting) (c : Cluster) (act : Act) → Offers c → Offers (after_act s c act)
-act_offering s c act offers server file mate lacks has = by (is_refusal (step_in s c act).told) refl
+act_offering s c act offers server file peer lacks has = by (is_refusal (step_in s c act).told) refl
   where
-    by : (b : Bool) → is_refusal (step_in s c act).told ≡ b → Contains (offered_then s c act b server file mate) (copy_in (parts_after s c act mate) file)
-    by false e = held_offered (c.offered server file mate) ((parts_after s c act mate).lacks file) (copy_in (parts_after s c act mate) file) has
+    by : (b : Bool) → is_refusal (step_in s c act).told ≡ b → Contains (offered_then s c act b server file peer) (copy_in (parts_after s c act peer) file)
+    by false e = held_offered (c.offered server file peer) ((parts_after s c act peer).lacks file) (copy_in (parts_after s c act peer) file) has
     by true e =
-        let P : Part → Type 0 = λ z. Contains (c.offered server file mate) (copy_in z file) in
-        subst P (sym (refused_part s c act e mate))
-        (offers server file mate (ap (λ z. z.lacks file) (sym (refused_part s c act e server)) ∙ lacks) (ap (λ z. z.lacks file) (sym (refused_part s c act e mate)) ∙ has))
+        let P : Part → Type 0 = λ z. Contains (c.offered server file peer) (copy_in z file) in
+        subst P (sym (refused_part s c act e peer))
+        (offers server file peer (ap (λ z. z.lacks file) (sym (refused_part s c act e server)) ∙ lacks) (ap (λ z. z.lacks file) (sym (refused_part s c act e peer)) ∙ has))
 
 -- ---- what is told and sent
 

@@ -15,9 +15,9 @@ use Rattle.gq_replace.proofs.Reached.{Reached, reached_more, used}
 
 -- ---- what could be given to servers
 
-acts_offer : (s : Setting) (c : Cluster) (acts : List Act) (server : ℕ) (file : File) (mate : ℕ) (copy : StoredCopy) → Contains (c.offered server file mate) copy → Contains ((after_acts s c acts).offered server file mate) copy
-acts_offer s c [] server file mate copy within = within
-acts_offer s c (act ∷ acts) server file mate copy within = acts_offer s (after_act s c act) acts server file mate copy (act_offers s c act server file mate copy within)
+acts_offer : (s : Setting) (c : Cluster) (acts : List Act) (server : ℕ) (file : File) (peer : ℕ) (copy : StoredCopy) → Contains (c.offered server file peer) copy → Contains ((after_acts s c acts).offered server file peer) copy
+acts_offer s c [] server file peer copy within = within
+acts_offer s c (act ∷ acts) server file peer copy within = acts_offer s (after_act s c act) acts server file peer copy (act_offers s c act server file peer copy within)
 
 acts_offering : (s : Setting) (c : Cluster) (acts : List Act) → Offers c → Offers (after_acts s c acts)
 acts_offering s c [] offers = offers
@@ -37,11 +37,11 @@ leapt_brought s node c n file = by (eqb n node)
     by true = refl
     by false = refl
 
-pub restart_offers : (s : Setting) (c : Cluster) (node server : ℕ) (file : File) (mate : ℕ) (copy : StoredCopy) → Contains (c.offered server file mate) copy → Contains ((after_step s c (Restarts node)).offered server file mate) copy
-restart_offers s c node server file mate copy within = acts_offer s c (map gives_up (going_at s c node)) server file mate copy within
+pub restart_offers : (s : Setting) (c : Cluster) (node server : ℕ) (file : File) (peer : ℕ) (copy : StoredCopy) → Contains (c.offered server file peer) copy → Contains ((after_step s c (Restarts node)).offered server file peer) copy
+restart_offers s c node server file peer copy within = acts_offer s c (map gives_up (going_at s c node)) server file peer copy within
 
 pub restart_offering : (s : Setting) (c : Cluster) (node : ℕ) → Offers c → Offers (after_step s c (Restarts node))
-restart_offering s c node offers server file mate lacks has = subst P (sym (leapt_brought s node mid mate file)) (old server file mate (sym (leapt_lacks s node mid server file) ∙ lacks) (sym (leapt_lacks s node mid mate file) ∙ has))
+restart_offering s c node offers server file peer lacks has = subst P (sym (leapt_brought s node mid peer file)) (old server file peer (sym (leapt_lacks s node mid server file) ∙ lacks) (sym (leapt_lacks s node mid peer file) ∙ has))
   where
     mid : Cluster
     mid = after_acts s c (map gives_up (going_at s c node))
@@ -50,7 +50,7 @@ restart_offering s c node offers server file mate lacks has = subst P (sym (leap
     old = acts_offering s c (map gives_up (going_at s c node)) offers
 
     P : List StoredCopy → Type 0
-    P z = Contains (mid.offered server file mate) (greatest (first_copy ∷ z))
+    P z = Contains (mid.offered server file peer) (greatest (first_copy ∷ z))
 
 -- ---- numbers are reserved
 
@@ -69,10 +69,10 @@ numbers_bring s c node number n file = by (eqb n node)
     by false = refl
 
 pub numbers_offering : (s : Setting) (c : Cluster) (node number : ℕ) → Offers c → Offers (after_step s c (Reserves node number))
-numbers_offering s c node number offers server file mate lacks has =
-    let P : List StoredCopy → Type 0 = λ z. Contains (c.offered server file mate) (greatest (first_copy ∷ z)) in
-    subst P (sym (numbers_bring s c node number mate file))
-    (offers server file mate (sym (numbers_lack s c node number server file) ∙ lacks) (sym (numbers_lack s c node number mate file) ∙ has))
+numbers_offering s c node number offers server file peer lacks has =
+    let P : List StoredCopy → Type 0 = λ z. Contains (c.offered server file peer) (greatest (first_copy ∷ z)) in
+    subst P (sym (numbers_bring s c node number peer file))
+    (offers server file peer (sym (numbers_lack s c node number server file) ∙ lacks) (sym (numbers_lack s c node number peer file) ∙ has))
 
 -- ---- one restart
 
@@ -97,7 +97,7 @@ pub record Ended (s : Setting) (nodes : List ℕ) (c d : Cluster) : Type 0 where
   pub lacks : (n : ℕ) (file : File) → (d.part n).lacks file ≡ (c.part n).lacks file
   pub brought : (n : ℕ) (file : File) → (d.part n).brought file ≡ (c.part n).brought file
   pub written : d.written ≡ c.written
-  pub offered : (server : ℕ) (file : File) (mate : ℕ) (copy : StoredCopy) → Contains (c.offered server file mate) copy → Contains (d.offered server file mate) copy
+  pub offered : (server : ℕ) (file : File) (peer : ℕ) (copy : StoredCopy) → Contains (c.offered server file peer) copy → Contains (d.offered server file peer) copy
 
 -- one node more, in front
 ended_more : (s : Setting) (node : ℕ) (nodes : List ℕ) (c last : Cluster) → Reached s c → Ended s nodes (after_step s c (Restarts node)) last → Ended s (node ∷ nodes) c last
@@ -109,7 +109,7 @@ ended_more s node nodes c last reached rest = record {
   lacks = λ n file. rest.lacks n file ∙ one.lacks n file;
   brought = λ n file. rest.brought n file ∙ one.copies n file;
   written = rest.written ∙ one.written;
-  offered = λ server file mate copy within. rest.offered server file mate copy (restart_offers s c node server file mate copy within);
+  offered = λ server file peer copy within. rest.offered server file peer copy (restart_offers s c node server file peer copy within);
 }
   where
     mid : Cluster
@@ -161,7 +161,7 @@ ended s [] c reached = record {
   lacks = λ n file. refl;
   brought = λ n file. refl;
   written = refl;
-  offered = λ server file mate copy within. within;
+  offered = λ server file peer copy within. within;
 }
 ended s (node ∷ nodes) c reached =
     let mid : Cluster = after_step s c (Restarts node) in

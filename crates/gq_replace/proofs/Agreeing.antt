@@ -5,7 +5,7 @@ use Rattle.std.proofs.lemmas.Bool.{cases_eq, true≢false}
 use Rattle.gq_tag.specs.declared.StoredCopy.{StoredCopy}
 use Rattle.gq_tag.specs.Tag.{File}
 use Rattle.gq_desk.specs.Plans.{is_in}
-use Rattle.gq_phase.specs.Quorums.{are_mates}
+use Rattle.gq_phase.specs.Quorums.{are_peers}
 use Rattle.gq_cluster.specs.Cluster.{Cluster, Part, NodeStep, new_cluster, after_step, CanFollow}
 use Rattle.gq_replace.specs.Plans.{place_of, IsChain}
 use Rattle.gq_replace.specs.Fleet.{World, Fleet, Fetched, new_fleet}
@@ -20,11 +20,11 @@ pub record Holds (p q : Part) (file : File) : Type 0 where
   pub has : q.lacks file ≡ false
   pub brought : q.brought file ≡ p.brought file
 
--- what a mate told its copy of can be given to the node, while this lacks the file
+-- what a peer told its copy of can be given to the node, while this lacks the file
 pub record IsGiven (w : World) (u : Fleet) (c : Cluster) (x : Fetched) : Type 0 where
-  pub mates : are_mates w.setting.grid (place_of x.node) (place_of x.mate) ≡ true
+  pub peers : are_peers w.setting.grid (place_of x.node) (place_of x.peer) ≡ true
   pub ready : u.ready x.node ≡ true
-  pub offered : u.gone x.node ≡ false → (u.part x.node).lacks x.file ≡ true → Contains (c.offered (place_of x.node) x.file (place_of x.mate)) x.copy
+  pub offered : u.gone x.node ≡ false → (u.part x.node).lacks x.file ≡ true → Contains (c.offered (place_of x.node) x.file (place_of x.peer)) x.copy
 
 pub record Agrees (w : World) (u : Fleet) (c : Cluster) : Type 0 where
   pub written : c.written ≡ map (λ posted. posted.letter) u.posted
@@ -66,7 +66,7 @@ pub record FollowsAt (w : World) (n : ℕ) (u v : Fleet) (c d : Cluster) : Type 
   pub brought : (place : ℕ) (file : File) → ((d.part place).brought file ≡ (c.part place).brought file) ⊎ ((place_of n ≡ place) × HasIt w u n file)
   pub holds : (file : File) → HasIt w v n file → Holds (v.part n) (d.part (place_of n)) file
   pub lost : (file : File) → v.ready n ≡ true → (v.part n).lacks file ≡ true → (u.part n).lacks file ≡ true
-  pub offered : (server : ℕ) (file : File) (mate : ℕ) (copy : StoredCopy) → Contains (c.offered server file mate) copy → Contains (d.offered server file mate) copy
+  pub offered : (server : ℕ) (file : File) (peer : ℕ) (copy : StoredCopy) → Contains (c.offered server file peer) copy → Contains (d.offered server file peer) copy
   pub offers : Offers d
 
 pub agrees_on : (w : World) (n : ℕ) (u v : Fleet) (c d : Cluster) → IsChain w.plans → Sound w u → Agrees w u c → GoesOnAt w n u v → FollowsAt w n u v c d → Agrees w v d
@@ -134,9 +134,9 @@ agrees_on w n u v c d chain sound agrees on follows = record {
         let P : List Fetched → Type 0 = λ z. Contains z x in
         let old : IsGiven w u c x = agrees.given x (subst P follows.fetched within) in
         record {
-          mates = old.mates;
+          peers = old.peers;
           ready = on.ready x.node ∙ old.ready;
-          offered = λ still lacks. follows.offered (place_of x.node) x.file (place_of x.mate) x.copy (old.offered (sym (on.gone x.node) ∙ still) (lacked x.node x.file (on.ready x.node ∙ old.ready) lacks));
+          offered = λ still lacks. follows.offered (place_of x.node) x.file (place_of x.peer) x.copy (old.offered (sym (on.gone x.node) ∙ still) (lacked x.node x.file (on.ready x.node ∙ old.ready) lacks));
         }
 
     untouched : (place : ℕ) (file : File) → ((m : ℕ) → place_of m ≡ place → HasIt w v m file → ⊥) → (d.part place).brought file ≡ []
@@ -162,7 +162,7 @@ new_agrees w = record {
   given = λ x within. absurd (omega (arith, within.1));
   untouched = λ place file none. refl;
   kept = λ place file low. refl;
-  offers = λ server file mate lacks has. absurd (true≢false (sym lacks));
+  offers = λ server file peer lacks has. absurd (true≢false (sym lacks));
 }
 
 -- ---- lists

@@ -32,8 +32,8 @@ moves w u c (Begins node plan) known stand may = (begins_moves w u c node plan k
 moves w u c (StartsAgain node plan) known stand may = (again_moves w u c node plan known may.0 may.1 may.2, tt)
 moves w u c (Does node act) known stand may = does_moves w u c node act known may.0 may.1
 moves w u c (Answers node new) known stand may = (answers_moves w u c node new known may.0 may.1, tt)
-moves w u c (Gives mate node file) known stand may = (gives_moves w u c mate node file known may.0 may.1 may.2 may.3, tt)
-moves w u c (Takes node mate file copy) known stand may = (takes_moves w u c node mate file copy known may.0 may.1 may.2, tt)
+moves w u c (Gives peer node file) known stand may = (gives_moves w u c peer node file known may.0 may.1 may.2 may.3, tt)
+moves w u c (Takes node peer file copy) known stand may = (takes_moves w u c node peer file copy known may.0 may.1 may.2, tt)
 moves w u c (Hears node other) known stand may = (by (is_ready_by w node other u) refl, tt)
   where
     heard : Fleet

@@ -117,8 +117,8 @@ step_keeps w u n (Hears node other) begun may = by (is_ready_by w node other u) 
     by : (b : Bool) → is_ready_by w node other u ≡ b → files_of_part ((after_fleet_step w u (Hears node other)).part n) ≡ files_of_part (u.part n)
     by true e = rw e refl
     by false e = rw e refl
-step_keeps w u n (Gives mate node file) begun may = refl
-step_keeps w u n (Takes node mate file copy) begun may = by (cases_eq n node)
+step_keeps w u n (Gives peer node file) begun may = refl
+step_keeps w u n (Takes node peer file copy) begun may = by (cases_eq n node)
   where
     held : (b : Bool) (before : List StoredCopy) → greatest (first_copy ∷ (if b then copy ∷ [] else before)) ≡ (if b then newer_of first_copy copy else greatest (first_copy ∷ before))
     held true before = greatest-push first_copy copy []
@@ -130,13 +130,13 @@ step_keeps w u n (Takes node mate file copy) begun may = by (cases_eq n node)
       lacks = λ f. (u.part node).lacks f && not (is_file file f);
     }
 
-    there : (after_fleet_step w u (Takes node mate file copy)).part node ≡ given_part file copy (u.part node)
+    there : (after_fleet_step w u (Takes node peer file copy)).part node ≡ given_part file copy (u.part node)
     there = rw (eq-eqb node node refl) refl
 
-    by : (n ≡ node) ⊎ (n ≢ node) → files_of_part ((after_fleet_step w u (Takes node mate file copy)).part n) ≡ with_fleet_fact (files_of_part (u.part n)) (fleet_fact w u n (Takes node mate file copy))
+    by : (n ≡ node) ⊎ (n ≢ node) → files_of_part ((after_fleet_step w u (Takes node peer file copy)).part n) ≡ with_fleet_fact (files_of_part (u.part n)) (fleet_fact w u n (Takes node peer file copy))
     by (inl same) =
-        let P : ℕ → Type 0 = λ z. files_of_part ((after_fleet_step w u (Takes node mate file copy)).part z) ≡ with_fleet_fact (files_of_part (u.part z)) (fleet_fact w u z (Takes node mate file copy)) in
-        let its : fleet_fact w u node (Takes node mate file copy) ≡ Some (Had file copy) = rw (eq-eqb node node refl) refl in
+        let P : ℕ → Type 0 = λ z. files_of_part ((after_fleet_step w u (Takes node peer file copy)).part z) ≡ with_fleet_fact (files_of_part (u.part z)) (fleet_fact w u z (Takes node peer file copy)) in
+        let its : fleet_fact w u node (Takes node peer file copy) ≡ Some (Had file copy) = rw (eq-eqb node node refl) refl in
         subst P (sym same) (ap files_of_part there ∙ here ∙ ap (with_fleet_fact (files_of_part (u.part node))) (sym its))
     by (inr ne) = rw (ne_eqb n node ne) refl
 
@@ -165,8 +165,8 @@ stays_begun w u n (Hears node other) begun may = by (is_ready_by w node other u)
     by : (b : Bool) → is_ready_by w node other u ≡ b → StaysBegun w u (after_fleet_step w u (Hears node other)) n
     by true e = record { begun = rw e begun; first = rw e refl }
     by false e = record { begun = rw e begun; first = rw e refl }
-stays_begun w u n (Gives mate node file) begun may = record { begun = begun; first = refl }
-stays_begun w u n (Takes node mate file copy) begun may = record { begun = begun; first = refl }
+stays_begun w u n (Gives peer node file) begun may = record { begun = begun; first = refl }
+stays_begun w u n (Takes node peer file copy) begun may = record { begun = begun; first = refl }
 
 -- from a fleet on in which the node was started
 since : (w : World) (steps : List FleetStep) (u : Fleet) (n : ℕ) → u.begun n ≡ true → AllMayHappen w u steps →
@@ -207,10 +207,10 @@ before w u n (Hears node other) not_yet may = by (is_ready_by w node other u) re
     by : (b : Bool) → is_ready_by w node other u ≡ b → Before w u (after_fleet_step w u (Hears node other)) n (Hears node other)
     by true e = IsNot (rw e not_yet) refl
     by false e = IsNot (rw e not_yet) refl
-before w u n (Gives mate node file) not_yet may = IsNot not_yet refl
-before w u n (Takes node mate file copy) not_yet may = by (cases_eq n node)
+before w u n (Gives peer node file) not_yet may = IsNot not_yet refl
+before w u n (Takes node peer file copy) not_yet may = by (cases_eq n node)
   where
-    by : (n ≡ node) ⊎ (n ≢ node) → Before w u (after_fleet_step w u (Takes node mate file copy)) n (Takes node mate file copy)
+    by : (n ≡ node) ⊎ (n ≢ node) → Before w u (after_fleet_step w u (Takes node peer file copy)) n (Takes node peer file copy)
     by (inl same) = absurd (true≢false (sym may.0.0 ∙ ap u.begun (sym same) ∙ not_yet))
     by (inr ne) = IsNot not_yet (rw (ne_eqb n node ne) refl)
 

@@ -141,7 +141,7 @@ module _ (w : World) (u : Fleet) (c : Cluster) (n j : ℕ) (known : Known w u c)
     brought = λ place file. inl (begun_brings place file);
     holds = holds;
     lost = λ file ready lacks. absurd (true≢false (sym (known.sound.ready n ready) ∙ not_yet));
-    offered = λ server file mate copy within. restart_offers w.setting numbers_cluster n server file mate copy within;
+    offered = λ server file peer copy within. restart_offers w.setting numbers_cluster n server file peer copy within;
     offers = restart_offering w.setting numbers_cluster n (numbers_offering w.setting c n number known.agrees.offers);
   }
     where
@@ -318,7 +318,7 @@ module _ (w : World) (u : Fleet) (c : Cluster) (n j : ℕ) (known : Known w u c)
     brought = λ place file. inl (given.copies place file);
     holds = holds;
     lost = λ file ready lacks. ap (λ z. z.lacks file) (sym again_part) ∙ lacks;
-    offered = λ server file mate copy within. restart_offers w.setting c n server file mate copy within;
+    offered = λ server file peer copy within. restart_offers w.setting c n server file peer copy within;
     offers = restart_offering w.setting c n known.agrees.offers;
   }
     where
@@ -557,7 +557,7 @@ module _ (w : World) (u : Fleet) (c : Cluster) (n : ℕ) (act : Act) (known : Kn
     brought = λ place file. inl (brought place file);
     holds = holds;
     lost = λ file ready is. sym (mine file) ∙ is;
-    offered = λ server file mate copy within. act_offers w.setting c act server file mate copy within;
+    offered = λ server file peer copy within. act_offers w.setting c act server file peer copy within;
     offers = act_offering w.setting c act known.agrees.offers;
   }
     where
@@ -731,7 +731,7 @@ module _ (w : World) (u : Fleet) (c : Cluster) (from n : ℕ) (letter : OwnMessa
     brought = brought;
     holds = holds;
     lost = λ file ready is. sym (mine file) ∙ is;
-    offered = λ server file mate copy inside. act_offers w.setting c (Comes letter aim) server file mate copy inside;
+    offered = λ server file peer copy inside. act_offers w.setting c (Comes letter aim) server file peer copy inside;
     offers = act_offering w.setting c (Comes letter aim) known.agrees.offers;
   }
     where

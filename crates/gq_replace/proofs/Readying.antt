@@ -329,7 +329,7 @@ module _ (w : World) (u : Fleet) (c : Cluster) (n : ℕ) (known : Known w u c) (
     given = given;
     untouched = untouched;
     kept = kept;
-    offers = λ server file mate lacks has. held_offered (forgetting (place_of n) volumes mid.offered server file mate) ((lost_cluster.part mate).lacks file) (copy_in (lost_cluster.part mate) file) has;
+    offers = λ server file peer lacks has. held_offered (forgetting (place_of n) volumes mid.offered server file peer) ((lost_cluster.part peer).lacks file) (copy_in (lost_cluster.part peer) file) has;
   }
     where
       same : (k : ℕ) → ready_fleet.gone (w.setting.home k) ≡ false → Same (u.part (w.setting.home k)) (lost_cluster.part (w.setting.home k)) k
@@ -363,19 +363,19 @@ module _ (w : World) (u : Fleet) (c : Cluster) (n : ℕ) (known : Known w u c) (
       ]
 
       given : (x : Fetched) → Contains u.fetched x → IsGiven w ready_fleet lost_cluster x
-      given x inside = record { mates = old.mates; ready = or_right (eqb x.node n) (u.ready x.node) old.ready; offered = offered }
+      given x inside = record { peers = old.peers; ready = or_right (eqb x.node n) (u.ready x.node) old.ready; offered = offered }
         where
           old : IsGiven w u c x
           old = known.agrees.given x inside
 
-          offered : ready_fleet.gone x.node ≡ false → (u.part x.node).lacks x.file ≡ true → Contains (lost_cluster.offered (place_of x.node) x.file (place_of x.mate)) x.copy
-          offered still lacks = Contains-append_left (forgetting (place_of n) volumes mid.offered (place_of x.node) x.file (place_of x.mate)) _ x.copy
+          offered : ready_fleet.gone x.node ≡ false → (u.part x.node).lacks x.file ≡ true → Contains (lost_cluster.offered (place_of x.node) x.file (place_of x.peer)) x.copy
+          offered still lacks = Contains-append_left (forgetting (place_of n) volumes mid.offered (place_of x.node) x.file (place_of x.peer)) _ x.copy
               (remembered (is_lost (place_of x.node) x.file) (rw (ne_eqb (place_of n) (place_of x.node) (ready_elsewhere x.node still old.ready)) refl))
             where
-              before : Contains (mid.offered (place_of x.node) x.file (place_of x.mate)) x.copy
-              before = over.offered (place_of x.node) x.file (place_of x.mate) x.copy (old.offered (gone_then x.node still).1 lacks)
+              before : Contains (mid.offered (place_of x.node) x.file (place_of x.peer)) x.copy
+              before = over.offered (place_of x.node) x.file (place_of x.peer) x.copy (old.offered (gone_then x.node still).1 lacks)
 
-              remembered : (b : Bool) → b ≡ false → Contains (if b then [] else mid.offered (place_of x.node) x.file (place_of x.mate)) x.copy
+              remembered : (b : Bool) → b ≡ false → Contains (if b then [] else mid.offered (place_of x.node) x.file (place_of x.peer)) x.copy
               remembered true none = absurd (true≢false none)
               remembered false none = before
 

@@ -5,7 +5,7 @@ use Rattle.std.proofs.lemmas.Bool.{cases_eq, cases_Bool, cases_lt, eq-eqb, ne_eq
 use Rattle.std.proofs.lemmas.List.Elements.{Contains-append_left, Contains-push_cases}
 use Rattle.gq_tag.specs.declared.StoredCopy.{StoredCopy}
 use Rattle.gq_tag.specs.Tag.{File, is_file, first_copy, greatest}
-use Rattle.gq_phase.specs.Quorums.{are_mates}
+use Rattle.gq_phase.specs.Quorums.{are_peers}
 use Rattle.gq_cluster.specs.Cluster.{Cluster, Part, Returns, copy_in, given_part, with_return}
 use Rattle.gq_replace.specs.Plans.{place_of, generation, has_node}
 use Rattle.gq_replace.specs.Fleet.{World, Fleet, Joined, Fetched, plan_of, IsActing, has_file, with_heard, gives, takes}
@@ -40,7 +40,7 @@ lists_known w u c heard joined fetched known all_heard all_joined all_fetched = 
     idle = agrees.idle;
     holds = λ n file still it. agrees.holds n file still (record { begun = it.begun; within = it.within; has = it.has });
     lost = agrees.lost;
-    given = λ x within. let g = all_fetched x within in record { mates = g.mates; ready = g.ready; offered = g.offered };
+    given = λ x within. let g = all_fetched x within in record { peers = g.peers; ready = g.ready; offered = g.offered };
     untouched = λ place file none. agrees.untouched place file (λ n at it. none n at (record { begun = it.begun; within = it.within; has = it.has }));
     kept = agrees.kept;
     offers = agrees.offers;
@@ -90,31 +90,31 @@ heard_known w u c n other known within = lists_known w u c (with_heard n other u
             subst P from (subst Q node (known.sound.joined (record { from = other; to = n }) within))
         by (inr old) = known.sound.heard m o (rw old at is)
 
--- ---- a mate tells its copy
+-- ---- a peer tells its copy
 
-pub gives_moves : (w : World) (u : Fleet) (c : Cluster) (mate n : ℕ) (file : File) → Known w u c → IsActing u mate → has_file w u mate file ≡ true → are_mates w.setting.grid (place_of n) (place_of mate) ≡ true → u.ready n ≡ true → Moved w c (gives mate n file u) []
-gives_moves w u c mate n file known acting has mates ready =
-    still_moved w (gives mate n file u) c (lists_known w u c u.heard u.joined (gives mate n file u).fetched known known.sound.heard known.sound.joined given)
+pub gives_moves : (w : World) (u : Fleet) (c : Cluster) (peer n : ℕ) (file : File) → Known w u c → IsActing u peer → has_file w u peer file ≡ true → are_peers w.setting.grid (place_of n) (place_of peer) ≡ true → u.ready n ≡ true → Moved w c (gives peer n file u) []
+gives_moves w u c peer n file known acting has peers ready =
+    still_moved w (gives peer n file u) c (lists_known w u c u.heard u.joined (gives peer n file u).fetched known known.sound.heard known.sound.joined given)
   where
     told : Fetched
-    told = record { mate = mate; node = n; file = file; copy = copy_in (u.part mate) file }
+    told = record { peer = peer; node = n; file = file; copy = copy_in (u.part peer) file }
 
-    held : Holds (u.part mate) (c.part (place_of mate)) file
-    held = known.agrees.holds mate file acting.1 (has_it w u mate file has)
+    held : Holds (u.part peer) (c.part (place_of peer)) file
+    held = known.agrees.holds peer file acting.1 (has_it w u peer file has)
 
-    copies : copy_in (c.part (place_of mate)) file ≡ copy_in (u.part mate) file
+    copies : copy_in (c.part (place_of peer)) file ≡ copy_in (u.part peer) file
     copies = ap (λ z. greatest (first_copy ∷ z)) held.brought
 
     its : IsGiven w u c told
     its = record {
-      mates = mates;
+      peers = peers;
       ready = ready;
       offered = λ still lacks.
-          let P : StoredCopy → Type 0 = λ z. Contains (c.offered (place_of n) file (place_of mate)) z in
-          subst P copies (known.agrees.offers (place_of n) file (place_of mate) (known.agrees.lost n file still ready lacks) held.has);
+          let P : StoredCopy → Type 0 = λ z. Contains (c.offered (place_of n) file (place_of peer)) z in
+          subst P copies (known.agrees.offers (place_of n) file (place_of peer) (known.agrees.lost n file still ready lacks) held.has);
     }
 
-    given : (x : Fetched) → Contains (gives mate n file u).fetched x → IsGiven w u c x
+    given : (x : Fetched) → Contains (gives peer n file u).fetched x → IsGiven w u c x
     given x within = elim (Contains-push_cases u.fetched told x within) [
       | inl old ↦ (known.agrees.given x old)
       | inr is ↦ (let P : Fetched → Type 0 = λ z. IsGiven w u c z in subst P is its)
@@ -122,16 +122,16 @@ gives_moves w u c mate n file known acting has mates ready =
 
 -- ---- the node takes it
 
-module _ (w : World) (u : Fleet) (c : Cluster) (n mate : ℕ) (file : File) (copy : StoredCopy) (known : Known w u c) (acting : IsActing u n) (lacks : (u.part n).lacks file ≡ true)
-    (within : Contains u.fetched (record { mate = mate; node = n; file = file; copy = copy })) where
+module _ (w : World) (u : Fleet) (c : Cluster) (n peer : ℕ) (file : File) (copy : StoredCopy) (known : Known w u c) (acting : IsActing u n) (lacks : (u.part n).lacks file ≡ true)
+    (within : Contains u.fetched (record { peer = peer; node = n; file = file; copy = copy })) where
   abbrev given_fleet : Fleet
   given_fleet = takes n file copy u
 
   abbrev given_cluster : Cluster
   given_cluster = with_return (place_of n) file copy c
 
-  its_given : IsGiven w u c (record { mate = mate; node = n; file = file; copy = copy })
-  its_given = known.agrees.given (record { mate = mate; node = n; file = file; copy = copy }) within
+  its_given : IsGiven w u c (record { peer = peer; node = n; file = file; copy = copy })
+  its_given = known.agrees.given (record { peer = peer; node = n; file = file; copy = copy }) within
 
   here : given_fleet.part n ≡ given_part file copy (u.part n)
   here = rw (eq-eqb n n refl) refl
@@ -324,7 +324,7 @@ module _ (w : World) (u : Fleet) (c : Cluster) (n mate : ℕ) (file : File) (cop
               (base_same (place_of m) f (inl away)).0 ∙ known.agrees.lost m f still ready (ap (λ z. z.lacks f) (sym (given_on.away_part m ne)) ∙ is)
 
       given : (x : Fetched) → Contains u.fetched x → IsGiven w given_fleet given_cluster x
-      given x inside = record { mates = old.mates; ready = old.ready; offered = offered }
+      given x inside = record { peers = old.peers; ready = old.ready; offered = offered }
         where
           old : IsGiven w u c x
           old = known.agrees.given x inside
@@ -335,8 +335,8 @@ module _ (w : World) (u : Fleet) (c : Cluster) (n mate : ℕ) (file : File) (cop
             | inr ne ↦ (ap (λ z. z.lacks x.file) (sym (given_on.away_part x.node ne)) ∙ is)
           ]
 
-          offered : u.gone x.node ≡ false → (given_fleet.part x.node).lacks x.file ≡ true → Contains (given_cluster.offered (place_of x.node) x.file (place_of x.mate)) x.copy
-          offered still is = Contains-append_left (c.offered (place_of x.node) x.file (place_of x.mate)) _ x.copy (old.offered still (lacked_by is))
+          offered : u.gone x.node ≡ false → (given_fleet.part x.node).lacks x.file ≡ true → Contains (given_cluster.offered (place_of x.node) x.file (place_of x.peer)) x.copy
+          offered still is = Contains-append_left (c.offered (place_of x.node) x.file (place_of x.peer)) _ x.copy (old.offered still (lacked_by is))
 
       untouched : (place : ℕ) (f : File) → ((m : ℕ) → place_of m ≡ place → HasIt w given_fleet m f → ⊥) → (given_cluster.part place).brought f ≡ []
       untouched place f none = by (which place f)
@@ -352,9 +352,9 @@ module _ (w : World) (u : Fleet) (c : Cluster) (n mate : ℕ) (file : File) (cop
           by (inl away) = (base_same place f away).0 ∙ known.agrees.kept place f low
           by (inr this) = ap (λ z. z.lacks f) (base_here place this.0) ∙ has_this (c.part place) f this.1
 
-  pub takes_moves : Moved w c given_fleet (Returns (place_of n) file (place_of mate) copy ∷ [])
+  pub takes_moves : Moved w c given_fleet (Returns (place_of n) file (place_of peer) copy ∷ [])
   takes_moves = record {
-    can = ((known.agrees.lost n file acting.1 its_given.ready lacks, its_given.mates, its_given.offered acting.1 lacks), tt);
+    can = ((known.agrees.lost n file acting.1 its_given.ready lacks, its_given.peers, its_given.offered acting.1 lacks), tt);
     sound = given_sound;
     agrees = given_agrees;
   }

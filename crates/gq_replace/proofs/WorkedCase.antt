@@ -10,7 +10,7 @@ use Rattle.gq_tag.specs.Tag.{File, OwnMessage, first_copy}
 use Rattle.gq_desk.specs.declared.plans.TenantRow.{TenantRow}
 use Rattle.gq_desk.specs.declared.volumes.VolumeRow.{VolumeRow}
 use Rattle.gq_phase.specs.declared.Outcome.TheVariants.{Wrote, Gave}
-use Rattle.gq_phase.specs.Quorums.{collect_quorum, store_quorum, ends_collect, ends_store, are_mates}
+use Rattle.gq_phase.specs.Quorums.{collect_quorum, store_quorum, ends_collect, ends_store, are_peers}
 use Rattle.gq_model.specs.declared.events.Line.TheVariants.{Write, Read}
 use Rattle.gq_model.specs.declared.said.Said.TheVariants.{Began, Noted, Round, Done, Abandoned}
 use Rattle.gq_cluster.specs.Cluster.{NodeStep, Acts, Restarts, Reserves, Loses, Returns, Asks, Comes, everyone, new_cluster, exchanges}
@@ -120,7 +120,7 @@ infixr 4 ◌and◌
 p and q = (p, q)
 
 pub may_happen : AllMayHappen two new_fleet steps
-unfolding collect_quorum store_quorum ends_collect ends_store are_mates
+unfolding collect_quorum store_quorum ends_collect ends_store are_peers
 may_happen =
     (refl, refl, refl)
     and (refl, refl, refl)
@@ -193,7 +193,7 @@ done_steps =
     ∷ []
 
 pub done : all_node_steps two new_fleet steps ≡ done_steps
-unfolding collect_quorum store_quorum ends_collect ends_store are_mates
+unfolding collect_quorum store_quorum ends_collect ends_store are_peers
 done = refl
 
 pub said : map (λ e. e.said) (exchanges two.setting new_cluster done_steps) ≡

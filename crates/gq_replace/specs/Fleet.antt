@@ -12,7 +12,7 @@ use Rattle.std.specs.List.{range_with_len, list_all}
 use Rattle.gq_tag.specs.declared.StoredCopy.{StoredCopy}
 use Rattle.gq_tag.specs.Tag.{File, OwnMessage, to_server}
 use Rattle.gq_desk.specs.Plans.{is_in}
-use Rattle.gq_phase.specs.Quorums.{are_mates}
+use Rattle.gq_phase.specs.Quorums.{are_peers}
 use Rattle.gq_model.specs.Trace.{Session, new_session}
 use Rattle.gq_cluster.specs.Facts.{Reserved}
 use Rattle.gq_cluster.specs.Restarts.{begun_anew}
@@ -37,9 +37,9 @@ pub record Joined : Type 0 where
   pub from : ℕ
   pub to : ℕ
 
--- an answer to a fetch: the mate's copy of the file
+-- an answer to a fetch: the peer's copy of the file
 pub record Fetched : Type 0 where
-  pub mate : ℕ
+  pub peer : ℕ
   pub node : ℕ
   pub file : File
   pub copy : StoredCopy
@@ -99,10 +99,10 @@ pub data FleetStep : Type 0 where
   Answers : (node new : ℕ) → FleetStep
   -- that comes to the new one
   Hears : (node other : ℕ) → FleetStep
-  -- the mate tells the new node its copy of the file
-  Gives : (mate node : ℕ) (file : File) → FleetStep
+  -- the peer tells the new node its copy of the file
+  Gives : (peer node : ℕ) (file : File) → FleetStep
   -- that comes to the new one
-  Takes : (node mate : ℕ) (file : File) (copy : StoredCopy) → FleetStep
+  Takes : (node peer : ℕ) (file : File) (copy : StoredCopy) → FleetStep
 
 -- ---- starts
 
@@ -186,8 +186,8 @@ hears w node other u = if is_ready_by w node other u then with_ready w node (wit
 
 -- ---- and is given
 
-abbrev pub gives : (mate node : ℕ) → File → Fleet → Fleet
-gives mate node file u = record u { fetched = u.fetched ++ record { mate = mate; node = node; file = file; copy = copy_in (u.part mate) file } ∷ [] }
+abbrev pub gives : (peer node : ℕ) → File → Fleet → Fleet
+gives peer node file u = record u { fetched = u.fetched ++ record { peer = peer; node = node; file = file; copy = copy_in (u.part peer) file } ∷ [] }
 
 abbrev pub takes : (node : ℕ) → File → StoredCopy → Fleet → Fleet
 takes node file copy u = record u { part = λ n. if n == node then given_part file copy (u.part node) else u.part n }
@@ -200,8 +200,8 @@ after_fleet_step w u (StartsAgain node plan) = starts_again w node plan u
 after_fleet_step w u (Does node act) = does w node act u
 after_fleet_step w u (Answers node new) = record u { joined = u.joined ++ record { from = node; to = new } ∷ [] }
 after_fleet_step w u (Hears node other) = hears w node other u
-after_fleet_step w u (Gives mate node file) = gives mate node file u
-after_fleet_step w u (Takes node mate file copy) = takes node file copy u
+after_fleet_step w u (Gives peer node file) = gives peer node file u
+after_fleet_step w u (Takes node peer file copy) = takes node file copy u
 
 abbrev pub fleet_after : World → List FleetStep → Fleet
 fleet_after w steps = fold (after_fleet_step w) new_fleet steps
@@ -235,8 +235,8 @@ MayHappen w u (StartsAgain node plan) = IsActing u node × (u.last_plan node ≤
 MayHappen w u (Does node act) = IsActing u node × MayDo w u node act
 MayHappen w u (Answers node new) = IsActing u node × (has_node (plan_of w u node) new ≡ true)
 MayHappen w u (Hears node other) = IsActing u node × (0 < generation node) × Contains u.joined (record { from = other; to = node })
-MayHappen w u (Gives mate node file) = IsActing u mate × (has_file w u mate file ≡ true) × (are_mates w.setting.grid (place_of node) (place_of mate) ≡ true) × (u.ready node ≡ true)
-MayHappen w u (Takes node mate file copy) = IsActing u node × ((u.part node).lacks file ≡ true) × Contains u.fetched (record { mate = mate; node = node; file = file; copy = copy })
+MayHappen w u (Gives peer node file) = IsActing u peer × (has_file w u peer file ≡ true) × (are_peers w.setting.grid (place_of node) (place_of peer) ≡ true) × (u.ready node ≡ true)
+MayHappen w u (Takes node peer file copy) = IsActing u node × ((u.part node).lacks file ≡ true) × Contains u.fetched (record { peer = peer; node = node; file = file; copy = copy })
 
 abbrev pub AllMayHappen : World → Fleet → List FleetStep → Type 0
 AllMayHappen w u [] = ⊤
@@ -257,8 +257,8 @@ node_steps w u (StartsAgain node plan) = Restarts node ∷ []
 node_steps w u (Does node act) = Acts act ∷ []
 node_steps w u (Answers node new) = []
 node_steps w u (Hears node other) = if is_ready_by w node other u then ends_of_gone w (plan_of w u node) ++ Loses (place_of node) (w.plans (u.first_plan node)).volumes ∷ [] else []
-node_steps w u (Gives mate node file) = []
-node_steps w u (Takes node mate file copy) = Returns (place_of node) file (place_of mate) copy ∷ []
+node_steps w u (Gives peer node file) = []
+node_steps w u (Takes node peer file copy) = Returns (place_of node) file (place_of peer) copy ∷ []
 
 abbrev pub all_node_steps : World → Fleet → List FleetStep → List NodeStep
 all_node_steps w u [] = []

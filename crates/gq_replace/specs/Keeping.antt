@@ -25,7 +25,7 @@ with_fleet_fact files fact = record { kept = with_fact files.kept fact; lacks = 
 -- the fact of a step at node n, none where the step is another's
 abbrev pub fleet_fact : World → Fleet → (n : ℕ) → FleetStep → Option OwnFact
 fleet_fact w u n (Does node act) = if n == node then fact_of w.setting (u.part node) act else None
-fleet_fact w u n (Takes node mate file copy) = if n == node then Some (Had file copy) else None
+fleet_fact w u n (Takes node peer file copy) = if n == node then Some (Had file copy) else None
 fleet_fact w u n _ = None
 
 -- the facts of steps at node n, in order

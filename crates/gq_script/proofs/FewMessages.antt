@@ -160,8 +160,8 @@ few_after grid row p (Leaping k op number) small few =
 few_after grid row p (Losing s volumes) small few =
     let grown = sent_after p.trace (Losing s volumes) (quiet (loss_told (questions p.trace) (Losing s volumes))) in
     omega (arith, grown, few)
-few_after grid row p (Returning s f mate copy) small few =
-    let grown = sent_after p.trace (Returning s f mate copy) (quiet (return_told grid (questions p.trace) s f mate copy)) in
+few_after grid row p (Returning s f peer copy) small few =
+    let grown = sent_after p.trace (Returning s f peer copy) (quiet (return_told grid (questions p.trace) s f peer copy)) in
     omega (arith, grown, few)
 few_after grid row p (Own line) small few = by (nat_le row.steps (min row.steps p.lines)) refl
   where

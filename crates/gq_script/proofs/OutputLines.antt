@@ -21,7 +21,7 @@ use Rattle.gq_model.specs.declared.events.Event.TheVariants.{Tenant, Server, Str
 use Rattle.gq_model.specs.declared.events.Refusal.{Refusal}
 use Rattle.gq_model.specs.declared.events.Refusal.TheVariants.{Spent, Bad, NoSession, Busy, Idle, NoVolume, NoFile, TooLong, NoQuorum, NoMessage, Size, Volumes, Share}
 use Rattle.gq_model.specs.declared.events.ServerRefusal.{ServerRefusal}
-use Rattle.gq_model.specs.declared.events.ServerRefusal.TheVariants.{Bad as ServerBad, NoServer, Lost as IsGone, Same, Last, NoMate}
+use Rattle.gq_model.specs.declared.events.ServerRefusal.TheVariants.{Bad as ServerBad, NoServer, Lost as IsGone, Same, Last, NoPeer}
 use Rattle.gq_model.specs.Told.{Told, Chosen, Opened, VolumesAre, Began, Replied, IsDown, Stale, Noted, Round, Done, Lost, Resent, Abandoned, Refused, ServerOk, Repaired, ServerRefused, StrayBad}
 use Rattle.gq_laws.specs.Tenants.{answers}
 use Rattle.gq_text.specs.Words.{Word, words_of}
@@ -150,7 +150,7 @@ server_refusal_line NoServer = refl
 server_refusal_line IsGone = refl
 server_refusal_line Same = refl
 server_refusal_line Last = refl
-server_refusal_line NoMate = refl
+server_refusal_line NoPeer = refl
 
 told_lines : (grid : Grid) (told : Told) → are_lines (told_words grid told) ≡ true
 unfolding told_words
@@ -169,7 +169,7 @@ told_lines grid (Resent first count) = range_lines first count
 told_lines grid Abandoned = refl
 told_lines grid (Refused refusal) = refusal_lines refusal
 told_lines grid ServerOk = refl
-told_lines grid (Repaired mate) = refl
+told_lines grid (Repaired peer) = refl
 told_lines grid (ServerRefused refusal) = rw (server_refusal_line refusal) refl
 told_lines grid StrayBad = refl
 

@@ -33,7 +33,7 @@ not_refused grid name (Resent first count) fine own h = let bad : 115 ≡ 102 = 
 not_refused grid name Abandoned fine own h = let bad : 97 ≡ 114 = byte_is name (told_words grid Abandoned) h.0 h.1 1 in omega (arith, bad)
 not_refused grid name (Refused word) fine own h = let bad : true ≡ false = fine in cc
 not_refused grid name ServerOk fine own h = let bad : 111 ≡ 114 = byte_is name (told_words grid ServerOk) h.0 h.1 1 in omega (arith, bad)
-not_refused grid name (Repaired mate) fine own h = let bad : 111 ≡ 114 = byte_is name (told_words grid (Repaired mate)) h.0 h.1 1 in omega (arith, bad)
+not_refused grid name (Repaired peer) fine own h = let bad : 111 ≡ 114 = byte_is name (told_words grid (Repaired peer)) h.0 h.1 1 in omega (arith, bad)
 not_refused grid name (ServerRefused word) fine own h = let bad : true ≡ false = fine in cc
 not_refused grid name StrayBad fine own h = let bad : true ≡ false = own in cc
 

@@ -60,7 +60,7 @@ own_text grid name (Own line ∷ turns) (told ∷ more) = told_text grid name to
 own_text grid name (Serving line ∷ turns) (told ∷ more) = own_text grid name turns more
 own_text grid name (Leaping k op number ∷ turns) (told ∷ more) = own_text grid name turns more
 own_text grid name (Losing s volumes ∷ turns) (told ∷ more) = own_text grid name turns more
-own_text grid name (Returning s f mate copy ∷ turns) (told ∷ more) = own_text grid name turns more
+own_text grid name (Returning s f peer copy ∷ turns) (told ∷ more) = own_text grid name turns more
 own_text grid name _ _ = []
 
 -- what the tenant is told in its run by itself over the lines

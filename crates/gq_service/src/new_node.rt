@@ -19,10 +19,10 @@ use std::alloc::Global;
 // The node with one volume more, which no cause refuses.
 fn with_volume(node: Node, opening: Opening) -> Result<Node, OutOfMemory>
     requires tenant { opening.tenant < length node.tables.plan.rows }
-    requires goes { node.ended ≡ false }
+    requires has_memory { node.ended ≡ false }
     requires sound { open_fault (account_at node.tables.desk opening.tenant) (volume_of opening) ≡ None }
     ensures opened { IfOk result (λ new. Opens node.tables opening.tenant (volume_of opening) new.tables) }
-    ensures goes { IfOk result (λ new. new.ended ≡ false) }
+    ensures has_memory { IfOk result (λ new. new.ended ≡ false) }
 {
     match node.open(opening.tenant, opening.files, opening.blocks) {
         Ok(node) => Ok(node),
@@ -36,7 +36,7 @@ fn with_volume(node: Node, opening: Opening) -> Result<Node, OutOfMemory>
 // The node, never started, with the volumes of its plan open, and no file lacked.
 fn open_node(alloc: Global, this: &ThisNode) -> Result<Node, OutOfMemory>
     ensures node { IfOk result (λ node. IsOpen this.now.plan.setup.plan (here_of this.now.number this.now.plan.setup) (λ t. volumes_in t this.now.plan.setup.openings) node.tables) }
-    ensures goes { IfOk result (λ node. node.ended ≡ false) }
+    ensures has_memory { IfOk result (λ node. node.ended ≡ false) }
 {
     let setup = this.plan.setup();
     let lost = setup.lost().copy(alloc)?;
@@ -76,7 +76,7 @@ fn losses_before(read: &Option<Setup>) -> u16
 // above all that lost nodes wrote.
 fn bereft_node(node: Node, this: &ThisNode, before: &Option<Setup>) -> Result<Node, OutOfMemory>
     requires open { IsOpen this.now.plan.setup.plan (here_of this.now.number this.now.plan.setup) (λ t. volumes_in t this.now.plan.setup.openings) node.tables }
-    requires goes { node.ended ≡ false }
+    requires has_memory { node.ended ≡ false }
     ensures { IfOk result (λ new. IsNewFor this.now.plan.setup this.now.number (first_of_read before.now) new.tables) }
 {
     let mut node = node;

@@ -1,7 +1,7 @@
 -- The changes of a list that were done.
 use Rattle.std.specs.Prelude.{ℕ, ◌≡◌, List, [], ◌∷◌, Bool, true, false, map}
 use Rattle.gq_cell.specs.declared.board.BoardEntry.{BoardEntry}
-use Rattle.gq_session.specs.declared.agenda.Change.{Change}
+use Rattle.gq_session.specs.declared.schedule.Change.{Change}
 use Rattle.gq_model.specs.declared.events.ServerLine.{ServerLine}
 use Rattle.gq_model.specs.declared.events.ServerLine.TheVariants.{Down, Up}
 

@@ -1,20 +1,20 @@
-//! A session: its operation and its diary, step by step at the board.
+//! A session: its operation and its event log, step by step at the board.
 ghost use Rattle.std.specs.Prelude.{◌≡◌, ◌≢◌, [], All, IfOk, IfErr, IfSome, IfNone, OnOk, OnErr, OnSome, is_some, is_none, Ok, None, true, false};
 ghost use Rattle.std.specs.List.{list_all};
 ghost use Rattle.std.specs.Option.{ForSome, ForNone};
 ghost use Rattle.gq_desk.specs.Volumes.{is_sized};
 ghost use Rattle.gq_desk.specs.declared.limits.TheConstants.{MOST_FILE_BLOCKS};
-ghost use Rattle.gq_session.specs.Agendas.{servers_up, IsStamped, IsSameAgenda, KeepsChanges, IsStampFault};
+ghost use Rattle.gq_session.specs.Agendas.{servers_up, IsStamped, IsSameSchedule, KeepsChanges, IsStampFault};
 ghost use Rattle.gq_session.specs.Asked.{asked_of};
 ghost use Rattle.gq_session.specs.Faults.{NoGate};
 ghost use Rattle.gq_session.specs.Fitting.{IsRequest};
 ghost use Rattle.gq_session.specs.Sessions.{Sitting, AsksNext, HearsLetter, Retries, with_step, is_stuck, IsAskNextFault, IsHearLetterFault};
 ghost use Rattle.gq_session.specs.Works.{no_work, is_reply_to, is_of_work, said_ending, ended_work};
 
-use crate::agenda::Agenda;
 use crate::client::{Client, Step};
-use crate::diary::Diary;
+use crate::event_log::EventLog;
 use crate::records::{Did, LiveFault, SessionEntry};
+use crate::schedule::Schedule;
 use gq_cell::Letter;
 use gq_desk::VolumeRow;
 use gq_grid::Grid;
@@ -41,7 +41,7 @@ pub struct Outbox {
 #[derive(Drop)]
 pub struct Session {
     client: Client,
-    diary: Diary,
+    event_log: EventLog,
 }
 
 impl Model for Session {
@@ -54,8 +54,8 @@ impl Model for Session {
     ghost view = { λ s. record {
       home = home_of s.client;
       work = work_of s.client;
-      left = left_in s.diary;
-      entries = s.diary.entries.items;
+      left = left_in s.event_log;
+      entries = s.event_log.entries.items;
     } };
 }
 
@@ -85,7 +85,7 @@ impl Session {
     {
         Session {
             client: Client::new(alloc, grid, tenant, number, volumes),
-            diary: Diary::new(alloc, lines),
+            event_log: EventLog::new(alloc, lines),
         }
     }
 
@@ -107,28 +107,28 @@ impl Session {
     ///
     /// The faults are `Memory`, and `Stamps` where no greater stamp, or number of an operation, is left. After a fault the
     /// session is as it was.
-    pub fn ask_next(&mut self, agenda: &mut Agenda) -> Result<Option<Outbox>, LiveFault>
-        ensures asks { IfOk result (λ o. IfSome o (λ outbox. AsksNext self.old self.new (servers_up agenda.old)
+    pub fn ask_next(&mut self, schedule: &mut Schedule) -> Result<Option<Outbox>, LiveFault>
+        ensures asks { IfOk result (λ o. IfSome o (λ outbox. AsksNext self.old self.new (servers_up schedule.old)
             outbox.stamp outbox.messages)) }
-        ensures stamp { IfOk result (λ o. ForSome o (λ outbox. IsStamped agenda.old agenda.new 0 outbox.stamp)) }
+        ensures stamp { IfOk result (λ o. ForSome o (λ outbox. IsStamped schedule.old schedule.new 0 outbox.stamp)) }
         ensures goes_on { IfOk result (λ o. ForSome o (λ outbox. outbox.stuck ≡ false)) }
         ensures none { self.old.left ≡ [] → result ≡ Ok None }
-        ensures quiet { IfOk result (λ o. ForNone o (IsSameAgenda agenda.old agenda.new)) }
+        ensures quiet { IfOk result (λ o. ForNone o (IsSameSchedule schedule.old schedule.new)) }
         ensures idle { IfOk result (λ o. ForNone o (self.new ≡ self.old)) }
         ensures ended { IfOk result (λ o. ForNone o (self.old.left ≡ [])) }
-        ensures fault { IfErr result (λ fault. IsAskNextFault self.old agenda.old.board.last fault) }
+        ensures fault { IfErr result (λ fault. IsAskNextFault self.old schedule.old.board.last fault) }
         ensures same { OnErr result (self.new ≡ self.old) }
-        ensures keeps { KeepsChanges agenda.old agenda.new }
+        ensures keeps { KeepsChanges schedule.old schedule.new }
         ensures gate { NoGate result }
     {
-        let Some(next) = self.diary.next() else {
+        let Some(next) = self.event_log.next() else {
             return Ok(None);
         };
         let line = next.share()?;
-        self.diary.reserve()?;
-        let stamp = agenda.stamp(0)?;
-        let Step { said, messages } = self.client.ask(&line, agenda.up())?;
-        self.diary.ask(stamp, line, said);
+        self.event_log.reserve()?;
+        let stamp = schedule.stamp(0)?;
+        let Step { said, messages } = self.client.ask(&line, schedule.up())?;
+        self.event_log.ask(stamp, line, said);
         Ok(Some(Outbox {
             stamp,
             messages,
@@ -140,21 +140,21 @@ impl Session {
     ///
     /// The faults are `Memory`, `Stamps` where no greater stamp, or number of a tag, is left, and `Letter` where the letter
     /// is no reply to this session. After a fault the session is as it was.
-    pub fn hear(&mut self, agenda: &mut Agenda, letter: Letter) -> Result<Outbox, LiveFault>
-        ensures hears { IfOk result (λ outbox. HearsLetter self.old self.new (servers_up agenda.old) letter
+    pub fn hear(&mut self, schedule: &mut Schedule, letter: Letter) -> Result<Outbox, LiveFault>
+        ensures hears { IfOk result (λ outbox. HearsLetter self.old self.new (servers_up schedule.old) letter
             outbox.stamp outbox.messages outbox.stuck) }
-        ensures stamp { IfOk result (λ outbox. IsStamped agenda.old agenda.new letter.stamp outbox.stamp) }
+        ensures stamp { IfOk result (λ outbox. IsStamped schedule.old schedule.new letter.stamp outbox.stamp) }
         ensures reply { OnOk result (is_reply_to self.old.home letter.message ≡ true) }
-        ensures fault { IfErr result (λ fault. IsHearLetterFault self.old letter agenda.old.board.last fault) }
+        ensures fault { IfErr result (λ fault. IsHearLetterFault self.old letter schedule.old.board.last fault) }
         ensures same { OnErr result (self.new ≡ self.old) }
-        ensures keeps { KeepsChanges agenda.old agenda.new }
+        ensures keeps { KeepsChanges schedule.old schedule.new }
         ensures gate { NoGate result }
     {
-        self.diary.reserve()?;
-        let stamp = agenda.stamp(letter.stamp)?;
-        let Step { said, messages } = self.client.hear(&letter.message, agenda.up())?;
+        self.event_log.reserve()?;
+        let stamp = schedule.stamp(letter.stamp)?;
+        let Step { said, messages } = self.client.hear(&letter.message, schedule.up())?;
         let stuck = is_stuck(&said);
-        self.diary.note(stamp, Did::Heard(letter), said);
+        self.event_log.note(stamp, Did::Heard(letter), said);
         Ok(Outbox {
             stamp,
             messages,
@@ -165,20 +165,20 @@ impl Session {
     /// Sends the round's message once more, at the board's next stamp.
     ///
     /// The faults are `Memory`, and `Stamps` where no greater stamp is left. After a fault the session is as it was.
-    pub fn retry(&mut self, agenda: &mut Agenda) -> Result<Outbox, LiveFault>
-        ensures retries { IfOk result (λ outbox. Retries self.old self.new (servers_up agenda.old)
+    pub fn retry(&mut self, schedule: &mut Schedule) -> Result<Outbox, LiveFault>
+        ensures retries { IfOk result (λ outbox. Retries self.old self.new (servers_up schedule.old)
             outbox.stamp outbox.messages outbox.stuck) }
-        ensures stamp { IfOk result (λ outbox. IsStamped agenda.old agenda.new 0 outbox.stamp) }
-        ensures fault { IfErr result (λ fault. IsStampFault agenda.old 0 fault) }
+        ensures stamp { IfOk result (λ outbox. IsStamped schedule.old schedule.new 0 outbox.stamp) }
+        ensures fault { IfErr result (λ fault. IsStampFault schedule.old 0 fault) }
         ensures same { OnErr result (self.new ≡ self.old) }
-        ensures keeps { KeepsChanges agenda.old agenda.new }
+        ensures keeps { KeepsChanges schedule.old schedule.new }
         ensures gate { NoGate result }
     {
-        self.diary.reserve()?;
-        let stamp = agenda.stamp(0)?;
-        let Step { said, messages } = self.client.retry(agenda.up())?;
+        self.event_log.reserve()?;
+        let stamp = schedule.stamp(0)?;
+        let Step { said, messages } = self.client.retry(schedule.up())?;
         let stuck = is_stuck(&said);
-        self.diary.note(stamp, Did::Retried, said);
+        self.event_log.note(stamp, Did::Retried, said);
         Ok(Outbox {
             stamp,
             messages,
@@ -189,22 +189,22 @@ impl Session {
     /// Gives the operation up, at the board's next stamp: none is left.
     ///
     /// The faults are `Memory`, and `Stamps` where no greater stamp is left. After a fault the session is as it was.
-    pub fn give_up(&mut self, agenda: &mut Agenda) -> Result<Outbox, LiveFault>
+    pub fn give_up(&mut self, schedule: &mut Schedule) -> Result<Outbox, LiveFault>
         ensures ends { IfOk result (λ outbox. self.new
             ≡ with_step self.old outbox.stamp Did.GaveUp (said_ending self.old.work.operation) (ended_work self.old.work)) }
         ensures quiet { IfOk result (λ outbox. outbox.messages ≡ []) }
         ensures waits { IfOk result (λ outbox. outbox.stuck ≡ is_none self.old.work.operation) }
-        ensures stamp { IfOk result (λ outbox. IsStamped agenda.old agenda.new 0 outbox.stamp) }
-        ensures fault { IfErr result (λ fault. IsStampFault agenda.old 0 fault) }
+        ensures stamp { IfOk result (λ outbox. IsStamped schedule.old schedule.new 0 outbox.stamp) }
+        ensures fault { IfErr result (λ fault. IsStampFault schedule.old 0 fault) }
         ensures same { OnErr result (self.new ≡ self.old) }
-        ensures keeps { KeepsChanges agenda.old agenda.new }
+        ensures keeps { KeepsChanges schedule.old schedule.new }
         ensures gate { NoGate result }
     {
-        self.diary.reserve()?;
-        let stamp = agenda.stamp(0)?;
+        self.event_log.reserve()?;
+        let stamp = schedule.stamp(0)?;
         let Step { said, messages } = self.client.give_up();
         let stuck = is_stuck(&said);
-        self.diary.note(stamp, Did::GaveUp, said);
+        self.event_log.note(stamp, Did::GaveUp, said);
         Ok(Outbox {
             stamp,
             messages,
@@ -219,7 +219,7 @@ impl Session {
         ensures whole { OnSome result (self.left ≡ []) }
         ensures none { IfNone result (self.left ≡ [] → asked_of self.entries ≢ program.now) }
     {
-        let Session { diary, .. } = self;
-        diary.close(program)
+        let Session { event_log, .. } = self;
+        event_log.close(program)
     }
 }

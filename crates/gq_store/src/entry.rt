@@ -101,14 +101,14 @@ impl Entry {
         old.spend(pool);
     }
 
-    // Puts the mate's copy, with no hint, in this one's place: takes blocks for it, and gives those of the old one back.
-    pub(crate) fn take_from(&mut self, pool: &mut Pool, mate: &Entry)
+    // Puts the peer's copy, with no hint, in this one's place: takes blocks for it, and gives those of the old one back.
+    pub(crate) fn take_from(&mut self, pool: &mut Pool, peer: &Entry)
         requires fits { pool.old + taken self.old < 2 ^ 64 }
-        requires room { taken mate.now ≤ pool.old }
-        ensures copy { self.new ≡ mate.now }
-        ensures free { pool.new + taken mate.now ≡ pool.old + taken self.old }
+        requires room { taken peer.now ≤ pool.old }
+        ensures copy { self.new ≡ peer.now }
+        ensures free { pool.new + taken peer.now ≡ pool.old + taken self.old }
     {
-        let new = mate.copied(pool);
+        let new = peer.copied(pool);
         let old = mem::replace(self, new);
         old.spend(pool);
     }

@@ -98,16 +98,16 @@ fn lose_copies(pool: &mut Pool, tenants: &mut [Tenant])
     }
 }
 
-// Takes the copies of all tenants from the mates', which have the same accounts.
-fn take_copies(pool: &mut Pool, tenants: &mut [Tenant], mates: &[Tenant])
-    requires accounts { map copies_account tenants.old ≡ map copies_account mates.now }
+// Takes the copies of all tenants from the peers', which have the same accounts.
+fn take_copies(pool: &mut Pool, tenants: &mut [Tenant], peers: &[Tenant])
+    requires accounts { map copies_account tenants.old ≡ map copies_account peers.now }
     requires fits { pool.old + sum_by tenant_taken tenants.old < 2 ^ 64 }
-    requires room { sum_by tenant_taken mates.now ≤ pool.old }
-    ensures copies { tenants.new ≡ mates.now }
-    ensures free { pool.new + sum_by tenant_taken mates.now ≡ pool.old + sum_by tenant_taken tenants.old }
+    requires room { sum_by tenant_taken peers.now ≤ pool.old }
+    ensures copies { tenants.new ≡ peers.now }
+    ensures free { pool.new + sum_by tenant_taken peers.now ≡ pool.old + sum_by tenant_taken tenants.old }
 {
     for (place, tenant) in tenants.iter_mut().enumerate() {
-        tenant.take_from(pool, &mates[place]);
+        tenant.take_from(pool, &peers[place]);
     }
 }
 
@@ -383,20 +383,20 @@ impl ServerStore {
         lose_copies(&mut self.pool, self.tenants.as_mut_slice());
     }
 
-    /// Takes the copies of all files from a mate, another server of the same column, in place of what was there: this store
-    /// is then equal to the mate's, and the mate's is as it was. Both have the same accounts, and as many blocks. Each hint
+    /// Takes the copies of all files from a peer, another server of the same column, in place of what was there: this store
+    /// is then equal to the peer's, and the peer's is as it was. Both have the same accounts, and as many blocks. Each hint
     /// is 0 then. It takes no memory, and always finds the blocks.
-    pub fn take_from(&mut self, mate: &ServerStore)
-        requires accounts { store_accounts self.old ≡ store_accounts mate.now }
-        requires blocks { self.old.blocks ≡ mate.now.blocks }
-        ensures { self.new ≡ mate.now }
+    pub fn take_from(&mut self, peer: &ServerStore)
+        requires accounts { store_accounts self.old ≡ store_accounts peer.now }
+        requires blocks { self.old.blocks ≡ peer.now.blocks }
+        ensures { self.new ≡ peer.now }
     {
         self.lose();
         let _blocks = self.blocks;
         take_copies(
             &mut self.pool,
             self.tenants.as_mut_slice(),
-            mate.tenants.as_slice(),
+            peer.tenants.as_slice(),
         );
     }
 

@@ -109,16 +109,16 @@ impl Volume {
         }
     }
 
-    // Takes the copies of all files from the mate's volume of the same size.
-    fn take_from(&mut self, pool: &mut Pool, mate: &Volume)
-        requires size { volume_size self.old ≡ volume_size mate.now }
+    // Takes the copies of all files from the peer's volume of the same size.
+    fn take_from(&mut self, pool: &mut Pool, peer: &Volume)
+        requires size { volume_size self.old ≡ volume_size peer.now }
         requires fits { pool.old + volume_taken self.old < 2 ^ 64 }
-        requires room { volume_taken mate.now ≤ pool.old }
-        ensures copies { self.new ≡ mate.now }
-        ensures free { pool.new + volume_taken mate.now ≡ pool.old + volume_taken self.old }
+        requires room { volume_taken peer.now ≤ pool.old }
+        ensures copies { self.new ≡ peer.now }
+        ensures free { pool.new + volume_taken peer.now ≡ pool.old + volume_taken self.old }
     {
         for (file, entry) in self.files.iter_mut().enumerate() {
-            entry.take_from(pool, &mate.files[file]);
+            entry.take_from(pool, &peer.files[file]);
         }
     }
 
@@ -211,16 +211,16 @@ impl Tenant {
         }
     }
 
-    // Takes the copies of all volumes from the mate's tenant of the same account.
-    pub(crate) fn take_from(&mut self, pool: &mut Pool, mate: &Tenant)
-        requires account { copies_account self.old ≡ copies_account mate.now }
+    // Takes the copies of all volumes from the peer's tenant of the same account.
+    pub(crate) fn take_from(&mut self, pool: &mut Pool, peer: &Tenant)
+        requires account { copies_account self.old ≡ copies_account peer.now }
         requires fits { pool.old + tenant_taken self.old < 2 ^ 64 }
-        requires room { tenant_taken mate.now ≤ pool.old }
-        ensures copies { self.new ≡ mate.now }
-        ensures free { pool.new + tenant_taken mate.now ≡ pool.old + tenant_taken self.old }
+        requires room { tenant_taken peer.now ≤ pool.old }
+        ensures copies { self.new ≡ peer.now }
+        ensures free { pool.new + tenant_taken peer.now ≡ pool.old + tenant_taken self.old }
     {
         for (number, volume) in self.volumes.iter_mut().enumerate() {
-            volume.take_from(pool, &mate.volumes[number]);
+            volume.take_from(pool, &peer.volumes[number]);
         }
     }
 

@@ -1,4 +1,4 @@
-//! Lanes side by side.
+//! Channels side by side.
 ghost use Rattle.std.specs.Prelude.{◌≡◌, ◌<◌, length};
 
 use bytes::Bytes;

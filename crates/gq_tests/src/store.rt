@@ -177,19 +177,19 @@ const TEXT: &[u8] =
     b"The first block of this text ends within it, and the second block has the rest.";
 
 #[test]
-fn takes_all_copies_from_a_mate(rt: HostRuntime) -> Result<(), Fail> {
+fn takes_all_copies_from_a_peer(rt: HostRuntime) -> Result<(), Fail> {
     let mut store = store_of_two_files(&rt, rt.alloc());
-    let mut mate = store_of_two_files(&rt, rt.alloc());
+    let mut peer = store_of_two_files(&rt, rt.alloc());
     let mut out = Vec::new(rt.alloc());
     store.put(FIRST, tag(9, 1), &[7; 128]);
     store.put(SECOND, tag(9, 1), &[8; 128]);
-    mate.put(FIRST, tag(1, 0), b"abc");
-    mate.put(SECOND, tag(2, 1), TEXT);
-    store.take_from(&mate);
-    assert!(rt; (store.free(), mate.free()) == (1, 1));
-    reads(&rt, &mate, FIRST, &mut out, tag(1, 0), b"abc");
-    reads(&rt, &mate, SECOND, &mut out, tag(2, 1), TEXT);
-    mate.close();
+    peer.put(FIRST, tag(1, 0), b"abc");
+    peer.put(SECOND, tag(2, 1), TEXT);
+    store.take_from(&peer);
+    assert!(rt; (store.free(), peer.free()) == (1, 1));
+    reads(&rt, &peer, FIRST, &mut out, tag(1, 0), b"abc");
+    reads(&rt, &peer, SECOND, &mut out, tag(2, 1), TEXT);
+    peer.close();
     reads(&rt, &store, FIRST, &mut out, tag(1, 0), b"abc");
     reads(&rt, &store, SECOND, &mut out, tag(2, 1), TEXT);
     assert!(rt; store.put(FIRST, tag(3, 0), &[9; 128]) == Put::Kept);

@@ -15,7 +15,7 @@ use Rattle.gq_model.specs.declared.events.Event.TheVariants.{Tenant, Server, Str
 use Rattle.gq_model.specs.declared.events.Refusal.{Refusal}
 use Rattle.gq_model.specs.declared.events.Refusal.TheVariants.{Spent, Bad, NoSession, Busy, Idle, NoVolume, NoFile, TooLong, NoQuorum, NoMessage, Size, Volumes, Share}
 use Rattle.gq_model.specs.declared.events.ServerRefusal.{ServerRefusal}
-use Rattle.gq_model.specs.declared.events.ServerRefusal.TheVariants.{Bad as ServerBad, NoServer, Lost as IsGone, Same, Last, NoMate}
+use Rattle.gq_model.specs.declared.events.ServerRefusal.TheVariants.{Bad as ServerBad, NoServer, Lost as IsGone, Same, Last, NoPeer}
 use Rattle.gq_model.specs.Told.{Told, Chosen, Opened, VolumesAre, Began, Replied, IsDown, Stale, Noted, Round, Done, Lost, Resent, Abandoned, Refused, ServerOk, Repaired, ServerRefused, StrayBad}
 use Rattle.gq_text.specs.Words.{Word}
 
@@ -77,7 +77,7 @@ server_refusal_word NoServer = codes "noserver"
 server_refusal_word IsGone = codes "lost"
 server_refusal_word Same = codes "same"
 server_refusal_word Last = codes "last"
-server_refusal_word NoMate = codes "nomate"
+server_refusal_word NoPeer = codes "nomate"
 
 -- the words of what is told, after the one that says to whom; servers of the grid are told in rising number
 unfoldable pub told_words : Grid → Told → List Word
@@ -96,7 +96,7 @@ told_words grid (Resent first count) = codes "resent" ∷ range_words first coun
 told_words grid Abandoned = codes "abandoned" ∷ []
 told_words grid (Refused refusal) = codes "refused" ∷ refusal_words refusal
 told_words grid ServerOk = codes "ok" ∷ []
-told_words grid (Repaired mate) = codes "ok" ∷ []
+told_words grid (Repaired peer) = codes "ok" ∷ []
 told_words grid (ServerRefused refusal) = codes "refused" ∷ server_refusal_word refusal ∷ []
 told_words grid StrayBad = codes "refused" ∷ codes "bad" ∷ []
 

@@ -57,7 +57,7 @@ fn put_server_refusal(out: &mut Vec<u8>, refusal: ServerRefusal) -> Result<(), O
         ServerRefusal::Lost => out.grow_by(b" refused lost\n"),
         ServerRefusal::Same => out.grow_by(b" refused same\n"),
         ServerRefusal::Last => out.grow_by(b" refused last\n"),
-        ServerRefusal::NoMate => out.grow_by(b" refused nomate\n"),
+        ServerRefusal::NoPeer => out.grow_by(b" refused nomate\n"),
     }
 }
 

@@ -1,7 +1,7 @@
 pub mod ValuesBack
 pub mod Lengths
 pub mod LettersBack
-pub mod ParcelsBack
+pub mod TransfersBack
 pub mod Torn
 pub mod RequestsBack
 pub mod Arriving

@@ -12,8 +12,8 @@ use Rattle.gq_desk.specs.CheckedPlan.{CheckedPlan, row_at}
 use Rattle.gq_model.specs.declared.events.Line.{Line}
 use Rattle.gq_model.specs.declared.events.Line.TheVariants.{Write, Read, List as ListFiles, Abandon}
 use Rattle.gq_node.specs.declared.lost.TheConstants.{NODE_NUMBERS}
-use Rattle.gq_node.specs.declared.output.Parcel.{Parcel}
-use Rattle.gq_node.specs.declared.output.Parcel.TheVariants.{Wants, Brings}
+use Rattle.gq_node.specs.declared.output.Transfer.{Transfer}
+use Rattle.gq_node.specs.declared.output.Transfer.TheVariants.{Wants, Brings}
 use Rattle.gq_replace.specs.Plans.{place_of}
 use Rattle.gq_text.specs.Words.{Word}
 use Rattle.gq_text.specs.AnswerText.{bytes_word, content_word, spaced}
@@ -24,7 +24,7 @@ use Rattle.gq_wire.specs.Values.{copy_of}
 use Rattle.gq_wire.specs.Requests.{request_words}
 use Rattle.gq_wire.specs.Letters.{is_of_round}
 use Rattle.gq_wire.specs.Incoming.{incoming_of}
-use Rattle.gq_wire.specs.Texts.{first_text, letter_words, letter_line, parcel_file, parcel_to, parcel_words, parcel_line}
+use Rattle.gq_wire.specs.Texts.{first_text, letter_words, letter_line, transfer_file, transfer_to, transfer_words, transfer_line}
 
 -- the numbers of a copy fit in the words of a line
 abbrev pub FitsCopy : StoredCopy → Type 0
@@ -82,31 +82,31 @@ CopiesInDigitsReadBack = (copy : StoredCopy) → FitsCopy copy → copy_of (deci
 abbrev pub FitsCopyOf : (blocks : ℕ) → StoredCopy → Type 0
 FitsCopyOf blocks copy = FitsCopy copy × (length copy.bytes ≤ BLOCK_BYTES * blocks)
 
-abbrev pub FitsGiven : (blocks : ℕ) → Parcel → Type 0
+abbrev pub FitsGiven : (blocks : ℕ) → Transfer → Type 0
 FitsGiven blocks (Wants to file) = Unit {0}
 FitsGiven blocks (Brings to file copy) = FitsCopyOf blocks copy
 
-pub record FitsParcel (plan : CheckedPlan) (from : ℕ) (parcel : Parcel) : Type 0 where
-  pub tenant : (parcel_file parcel).tenant < length plan.rows
-  pub to_fits : parcel_to parcel < 2 ^ 32
+pub record FitsTransfer (plan : CheckedPlan) (from : ℕ) (transfer : Transfer) : Type 0 where
+  pub tenant : (transfer_file transfer).tenant < length plan.rows
+  pub to_fits : transfer_to transfer < 2 ^ 32
   pub from_fits : from < NODE_NUMBERS
-  pub volume : (parcel_file parcel).volume < 2 ^ 32
-  pub file : (parcel_file parcel).file < 2 ^ 32
-  pub given : FitsGiven (row_at plan (parcel_file parcel).tenant).most_blocks parcel
+  pub volume : (transfer_file transfer).volume < 2 ^ 32
+  pub file : (transfer_file transfer).file < 2 ^ 32
+  pub given : FitsGiven (row_at plan (transfer_file transfer).tenant).most_blocks transfer
 
-abbrev pub parcel_text : CheckedPlan → (from : ℕ) → Parcel → List ℕ
-parcel_text plan from parcel = decimal (parcel_to parcel) ++ spaced (decimal from ∷ (row_at plan (parcel_file parcel).tenant).name ∷ parcel_words parcel)
+abbrev pub transfer_text : CheckedPlan → (from : ℕ) → Transfer → List ℕ
+transfer_text plan from transfer = decimal (transfer_to transfer) ++ spaced (decimal from ∷ (row_at plan (transfer_file transfer).tenant).name ∷ transfer_words transfer)
 
 -- what it is to the node that it is for
-abbrev pub parcel_incoming : (from : ℕ) → Parcel → Incoming
-parcel_incoming from (Wants to file) = Fetch from file
-parcel_incoming from (Brings to file copy) = Fetched from file copy
+abbrev pub transfer_incoming : (from : ℕ) → Transfer → Incoming
+transfer_incoming from (Wants to file) = Fetch from file
+transfer_incoming from (Brings to file copy) = Fetched from file copy
 
 -- the line that one node writes about a file is read so by the other
-abbrev pub ParcelsReadBack : Type 0
-ParcelsReadBack =
-    (plan : CheckedPlan) (from : ℕ) (parcel : Parcel) → IsPlan plan → FitsParcel plan from parcel →
-    (parcel_line plan from parcel ≡ parcel_text plan from parcel ++ 10 ∷ []) × (is_one_line (parcel_text plan from parcel) ≡ true) × (incoming_of plan (parcel_to parcel) (parcel_text plan from parcel) ≡ parcel_incoming from parcel)
+abbrev pub TransfersReadBack : Type 0
+TransfersReadBack =
+    (plan : CheckedPlan) (from : ℕ) (transfer : Transfer) → IsPlan plan → FitsTransfer plan from transfer →
+    (transfer_line plan from transfer ≡ transfer_text plan from transfer ++ 10 ∷ []) × (is_one_line (transfer_text plan from transfer) ≡ true) × (incoming_of plan (transfer_to transfer) (transfer_text plan from transfer) ≡ transfer_incoming from transfer)
 
 -- so are the question whether a plan has a node, and its answer
 pub record JoinsReadBack (plan : CheckedPlan) (to from losses : ℕ) : Type 0 where

@@ -15,8 +15,8 @@ use Rattle.gq_text.specs.Words.{Word}
 use Rattle.gq_text.specs.AnswerText.{bytes_word, outcome_words, refusal_words, line_text}
 use Rattle.gq_node.specs.declared.output.Answer.{Answer}
 use Rattle.gq_node.specs.declared.output.Holding.{Holding}
-use Rattle.gq_node.specs.declared.output.Parcel.{Parcel}
-use Rattle.gq_node.specs.declared.output.Parcel.TheVariants.{Wants, Brings}
+use Rattle.gq_node.specs.declared.output.Transfer.{Transfer}
+use Rattle.gq_node.specs.declared.output.Transfer.TheVariants.{Wants, Brings}
 use Rattle.gq_node.specs.declared.output.Answer.TheVariants.{Done, Gone, Refused, Old, Early, Busy, Away, Has, Bad}
 
 -- the first line that a node writes
@@ -48,20 +48,20 @@ letter_line plan to from m = line_text (decimal to) (decimal from ∷ letter_wor
 -- ---- between a new node and others
 
 -- a line about the tenant's file, of which these are the words behind the verb
-abbrev pub parcel_file : Parcel → FileId
-parcel_file (Wants to file) = file
-parcel_file (Brings to file copy) = file
+abbrev pub transfer_file : Transfer → FileId
+transfer_file (Wants to file) = file
+transfer_file (Brings to file copy) = file
 
-abbrev pub parcel_to : Parcel → ℕ
-parcel_to (Wants to file) = to
-parcel_to (Brings to file copy) = to
+abbrev pub transfer_to : Transfer → ℕ
+transfer_to (Wants to file) = to
+transfer_to (Brings to file copy) = to
 
-abbrev pub parcel_words : Parcel → List Word
-parcel_words (Wants to file) = codes "fetch" ∷ decimal file.volume ∷ decimal file.file ∷ []
-parcel_words (Brings to file copy) = codes "fetched" ∷ decimal file.volume ∷ decimal file.file ∷ copy_words copy
+abbrev pub transfer_words : Transfer → List Word
+transfer_words (Wants to file) = codes "fetch" ∷ decimal file.volume ∷ decimal file.file ∷ []
+transfer_words (Brings to file copy) = codes "fetched" ∷ decimal file.volume ∷ decimal file.file ∷ copy_words copy
 
-abbrev pub parcel_line : CheckedPlan → (from : ℕ) → Parcel → List ℕ
-parcel_line plan from parcel = line_text (decimal (parcel_to parcel)) (decimal from ∷ (row_at plan (parcel_file parcel).tenant).name ∷ parcel_words parcel)
+abbrev pub transfer_line : CheckedPlan → (from : ℕ) → Transfer → List ℕ
+transfer_line plan from transfer = line_text (decimal (transfer_to transfer)) (decimal from ∷ (row_at plan (transfer_file transfer).tenant).name ∷ transfer_words transfer)
 
 -- a new node asks whether the plan of another has it, and so many losses or more; and that node answers that it has
 abbrev pub joins_line : (to from losses : ℕ) → List ℕ

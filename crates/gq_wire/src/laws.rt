@@ -1,6 +1,6 @@
 //! What is read of the lines that are written.
 
-ghost use Rattle.gq_wire.specs.Laws.{AllJoinsReadBack, CopiesInDigitsReadBack, LettersReadBack, ParcelsReadBack, PassesOver, PlansReadBack, RequestsReadBack, TornLinesHaveNoForm, WritesReadBack};
+ghost use Rattle.gq_wire.specs.Laws.{AllJoinsReadBack, CopiesInDigitsReadBack, LettersReadBack, TransfersReadBack, PassesOver, PlansReadBack, RequestsReadBack, TornLinesHaveNoForm, WritesReadBack};
 
 /// The line of a letter, up to its newline, is read by the node that it is to as that letter.
 pub fn letters_read_back()
@@ -14,8 +14,8 @@ pub fn copies_in_digits_read_back()
 
 /// The lines between a new node and others are read so by the node that they are to: a line about a file, the question whether a plan has
 /// the node, and its answer.
-pub fn parcels_read_back()
-    ensures parcels { ParcelsReadBack }
+pub fn transfers_read_back()
+    ensures transfers { TransfersReadBack }
     ensures joins { AllJoinsReadBack }
 {}
 

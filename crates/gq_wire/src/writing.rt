@@ -4,12 +4,12 @@ ghost use Rattle.std.specs.Prelude.{◌≡◌, [], ◌∷◌, ◌++◌, ◌<◌,
 ghost use Rattle.std.specs.List.{flat_map};
 ghost use Rattle.gq_text.specs.AnswerText.{line_text};
 ghost use Rattle.gq_text.specs.Pieces.{words_in, Extends};
-ghost use Rattle.gq_node.specs.declared.output.Parcel.TheVariants.{Wants, Brings};
-ghost use Rattle.gq_wire.specs.Texts.{copy_words, headed, letter_line, parcel_file, parcel_line, joins_line, joined_line, first_text};
+ghost use Rattle.gq_node.specs.declared.output.Transfer.TheVariants.{Wants, Brings};
+ghost use Rattle.gq_wire.specs.Texts.{copy_words, headed, letter_line, transfer_file, transfer_line, joins_line, joined_line, first_text};
 
 use gq_desk::Plan;
 use gq_memory::{GrowCopies, OutOfMemory};
-use gq_node::Parcel;
+use gq_node::Transfer;
 use gq_tag::{Body, FileId, Message, StoredCopy};
 use gq_text::{Piece, put_number, put_words};
 
@@ -121,7 +121,7 @@ fn put_fetch<'x>(
     file: FileId,
 ) -> Result<(), OutOfMemory>
     requires { file.tenant < length plan.now.rows }
-    ensures ok { OnOk result (out.new.items ≡ out.old.items ++ parcel_line plan.now from (Wants to file)) }
+    ensures ok { OnOk result (out.new.items ≡ out.old.items ++ transfer_line plan.now from (Wants to file)) }
     ensures err { OnErr result (Extends out.old.items out.new.items) }
 {
     put_line(
@@ -147,7 +147,7 @@ fn put_fetched<'x>(
     copy: &'x StoredCopy,
 ) -> Result<(), OutOfMemory>
     requires { file.tenant < length plan.now.rows }
-    ensures ok { OnOk result (out.new.items ≡ out.old.items ++ parcel_line plan.now from (Brings to file copy.now)) }
+    ensures ok { OnOk result (out.new.items ≡ out.old.items ++ transfer_line plan.now from (Brings to file copy.now)) }
     ensures err { OnErr result (Extends out.old.items out.new.items) }
 {
     put_line(
@@ -166,20 +166,20 @@ fn put_fetched<'x>(
     )
 }
 
-/// Appends the line of a parcel from this node to the one that it is for, or a part of it where memory is refused.
-pub fn put_parcel(
+/// Appends the line of a transfer from this node to the one that it is for, or a part of it where memory is refused.
+pub fn put_transfer(
     out: &mut Vec<u8>,
     plan: &Plan,
     from: u16,
-    parcel: &Parcel,
+    transfer: &Transfer,
 ) -> Result<(), OutOfMemory>
-    requires { (parcel_file parcel.now).tenant < length plan.now.rows }
-    ensures ok { OnOk result (out.new.items ≡ out.old.items ++ parcel_line plan.now from parcel.now) }
+    requires { (transfer_file transfer.now).tenant < length plan.now.rows }
+    ensures ok { OnOk result (out.new.items ≡ out.old.items ++ transfer_line plan.now from transfer.now) }
     ensures err { OnErr result (Extends out.old.items out.new.items) }
 {
-    match parcel {
-        Parcel::Wants { to, file } => put_fetch(out, plan, *to, from, *file),
-        Parcel::Brings { to, file, copy } => put_fetched(out, plan, *to, from, *file, copy),
+    match transfer {
+        Transfer::Wants { to, file } => put_fetch(out, plan, *to, from, *file),
+        Transfer::Brings { to, file, copy } => put_fetched(out, plan, *to, from, *file, copy),
     }
 }
 

@@ -4,11 +4,11 @@ use bytes::Bytes;
 use gq_desk::{Name, Plan, TenantRow, VolumeRow, VolumeRows};
 use gq_grid::Grid;
 use gq_memory::{GrowCopies, GrowVec};
-use gq_node::{Answer, Holding, Line, NodeNumbers, Parcel, Refusal};
+use gq_node::{Answer, Holding, Line, NodeNumbers, Refusal, Transfer};
 use gq_phase::{Outcome, Row, Rows};
 use gq_tag::{Body, FileId, Message, StoredCopy, Tag};
 use gq_wire::{
-    Incoming, MOST_LINE, put_first, put_joined, put_joins, put_letter, put_parcel, put_told,
+    Incoming, MOST_LINE, put_first, put_joined, put_joins, put_letter, put_told, put_transfer,
     read_incoming,
 };
 use std::alloc::Global;
@@ -264,13 +264,13 @@ fn put_lines_of_a_new_node(rt: &impl Abort, plan: &Plan, given: StoredCopy, out:
     put_joins(out, 1, 64, 1).expect(rt, "memory");
     put_joined(out, 64, 1, 1).expect(rt, "memory");
     assert!(rt; 0 < plan.tenants());
-    put_parcel(out, plan, 64, &Parcel::Wants { to: 2, file: FILE }).expect(rt, "memory");
-    let brings = Parcel::Brings {
+    put_transfer(out, plan, 64, &Transfer::Wants { to: 2, file: FILE }).expect(rt, "memory");
+    let brings = Transfer::Brings {
         to: 64,
         file: FILE,
         copy: given,
     };
-    put_parcel(out, plan, 2, &brings).expect(rt, "memory");
+    put_transfer(out, plan, 2, &brings).expect(rt, "memory");
 }
 
 #[test]

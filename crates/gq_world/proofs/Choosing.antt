@@ -8,7 +8,7 @@ use Rattle.gq_model.specs.declared.events.Refusal.TheVariants.{NoQuorum}
 use Rattle.gq_model.specs.Told.{Chosen, Refused}
 use Rattle.gq_model.specs.Lone.{choice_told}
 use Rattle.gq_world.specs.Tables.{up_in}
-use Rattle.gq_world.proofs.Lanes.{choose_in}
+use Rattle.gq_world.proofs.Channels.{choose_in}
 
 pub chosen_told : (grid : Grid) (set : ServerSet) (choice : Choice) → Some (shown_choice choice) ≡ choose grid (servers set) → servers choice.servers ≡ choice_servers grid (shown_choice choice) → Chosen (shown_choice choice) (servers choice.servers) ≡ choice_told grid (choose grid (up_in grid set))
 chosen_told grid set choice place members =

@@ -36,7 +36,7 @@ taken_own w t known within agrees = record {
   copies = agrees.copies;
   lacking = agrees.lacking;
   down = agrees.down;
-  seats = agrees.seats;
+  session_states = agrees.session_states;
 }
 
 taken_other : (w : Tables) (t u : ℕ) (known : Known) → u ≢ t → Agrees w u known → Agrees (taken w t) u known
@@ -52,7 +52,7 @@ taken_other w t u known other agrees = record {
   copies = agrees.copies;
   lacking = agrees.lacking;
   down = agrees.down;
-  seats = agrees.seats;
+  session_states = agrees.session_states;
 }
 
 -- the tenant whose step is taken is ready

@@ -15,7 +15,7 @@ use Rattle.gq_tag.specs.Tag.{File, OwnMessage, own_message, message_of, to_serve
 use Rattle.gq_desk.specs.CheckedPlan.{row_at}
 use Rattle.gq_desk.specs.declared.plans.TenantRow.{TenantRow}
 use Rattle.gq_desk.specs.declared.volumes.VolumeRow.{VolumeRow}
-use Rattle.gq_post.specs.Lanes.{lane_at, message_at}
+use Rattle.gq_post.specs.Channels.{channel_at, message_at}
 use Rattle.gq_phase.specs.declared.Heard.{Heard}
 use Rattle.gq_phase.specs.declared.operation.Operation.{Operation as Code}
 use Rattle.gq_phase.specs.Phase.{Task, Reply, Operation, Heard as Saying, HeardStale, HeardNoted, HeardNext, HeardDone, hear, with_reply, with_decided, in_round, begin_store, begin_collect}
@@ -25,16 +25,16 @@ use Rattle.gq_model.specs.Told.{Told}
 use Rattle.gq_model.specs.Trace.{Own, Entry, State, Session, Known, changed, own_message_at, held, operation, operation_with, session_by, heard_deed, serves, stored_by, floor_by, counts_on}
 use Rattle.gq_model.specs.Lone.{Step, heard_step, hear_step, line_step}
 use Rattle.gq_phase.specs.Laws.{SameQuorums}
-use Rattle.gq_world.specs.declared.sessions.Seat.{Seat}
-use Rattle.gq_world.specs.Tables.{Tables, Agrees, SeatAgrees, Sits, seats_at, seat_in}
-use Rattle.gq_world.specs.Seats.{SeatHears, said_by, operation_after, last_of, answered_after}
+use Rattle.gq_world.specs.declared.sessions.SessionState.{SessionState}
+use Rattle.gq_world.specs.Tables.{Tables, Agrees, SessionStateAgrees, Sits, session_states_at, session_state_in}
+use Rattle.gq_world.specs.SessionStates.{SessionStateHears, said_by, operation_after, last_of, answered_after}
 use Rattle.gq_world.specs.Saying.{with_sent, heard_told}
 use Rattle.gq_world.specs.Machine.{Acts, TellsLine, acted, state_after_turn}
 use Rattle.gq_world.specs.Bounds.{BodyFits, room, MessageFits, IsOfSession, IsBounded}
 use Rattle.gq_world.proofs.Bounding.{HeardFits, hear_fits}
 use Rattle.gq_world.proofs.Counting.{none_in, counted, more_counted, round_uncounted, next_uncounted, same_counted}
 use Rattle.gq_world.proofs.Hearing.{said_by_up, hear_cases}
-use Rattle.gq_world.proofs.Lanes.{sent_count, sent_messages, new_not_lost, lane_there, quorums_in}
+use Rattle.gq_world.proofs.Channels.{sent_count, sent_messages, new_not_lost, channel_there, quorums_in}
 use Rattle.gq_world.proofs.Ready.{found, all_at, sent_at}
 
 -- ---- what the model says
@@ -208,11 +208,11 @@ answered_by t state k message first server (HeardNext round tag messages) old ne
     ap (λ set. servers set server) is ∙ none_in server ∙ sym (next_uncounted state k after server owners refl rises)
 answered_by t state k message first server (HeardDone outcome) old new owners rises before is busy = absurd (cc)
 
-pub seat_after : (grid : Grid) (t n : ℕ) (state : State) (message : OwnMessage) (old new : Seat) (s : Saying) → All (λ m. IsOfSession (state.session m.session) m) state.sent → RisesTo s (state.session message.session).round → to_server message.body ≡ false → said_by grid state.up (operation state message.session) message ≡ s →
-    SeatAgrees grid t message.session old state → new.op ≡ old.op → new.answered ≡ answered_after (heard_as t s) old.answered →
+pub session_state_after : (grid : Grid) (t n : ℕ) (state : State) (message : OwnMessage) (old new : SessionState) (s : Saying) → All (λ m. IsOfSession (state.session m.session) m) state.sent → RisesTo s (state.session message.session).round → to_server message.body ≡ false → said_by grid state.up (operation state message.session) message ≡ s →
+    SessionStateAgrees grid t message.session old state → new.op ≡ old.op → new.answered ≡ answered_after (heard_as t s) old.answered →
     Sits grid t new.floor new.operation (last_of (state.session message.session).floor (operation state message.session)) (operation_after (operation state message.session) message s) →
-    SeatAgrees grid t message.session new (changed (delivery n message (length state.sent) s) state)
-seat_after grid t n state message old new s owners later goes says agrees op answered sits =
+    SessionStateAgrees grid t message.session new (changed (delivery n message (length state.sent) s) state)
+session_state_after grid t n state message old new s owners later goes says agrees op answered sits =
     let k : ℕ = message.session in
     let session : Session = state.session k in
     let first : ℕ = length state.sent in
@@ -233,7 +233,7 @@ seat_after grid t n state message old new s owners later goes says agrees op ans
     let now : P ((changed (delivery n message first s) state).session k) = subst P (sym (own_session state n first message s goes)) both in
     record { op = now.0; answered = now.1; sits = now.2 }
   where
-    -- a seat with an operation stands for one
+    -- a session state with an operation stands for one
     works_still : (grid : Grid) (t own last : ℕ) (code : Option Code) (k : ℕ) (s : Session) (current : Option Task) → Sits grid t own code last (option_map (operation_with k s) current) → IsSome code → IsSome current
     works_still grid t own last None k s current sits busy = absurd (cc)
     works_still grid t own last (Some code) k s None sits busy = absurd sits
@@ -250,13 +250,13 @@ seat_after grid t n state message old new s owners later goes says agrees op ans
     worked grid t k volumes message first op (Some task) round heard collected floor s own last None sits busy = absurd sits
     worked grid t k volumes message first op (Some task) round heard collected floor s own last (Some code) sits busy = refl
 
-pub seat_stays : (grid : Grid) (t n k : ℕ) (state : State) (message : OwnMessage) (seat : Seat) (s : Saying) → said_by grid state.up (operation state message.session) message ≡ s → to_server message.body ≡ false → message.session ≢ k → SeatAgrees grid t k seat state →
-    SeatAgrees grid t k seat (changed (delivery n message (length state.sent) s) state)
-seat_stays grid t n k state message seat s says goes other agrees =
+pub session_state_stays : (grid : Grid) (t n k : ℕ) (state : State) (message : OwnMessage) (session_state : SessionState) (s : Saying) → said_by grid state.up (operation state message.session) message ≡ s → to_server message.body ≡ false → message.session ≢ k → SessionStateAgrees grid t k session_state state →
+    SessionStateAgrees grid t k session_state (changed (delivery n message (length state.sent) s) state)
+session_state_stays grid t n k state message session_state s says goes other agrees =
     let first : ℕ = length state.sent in
     let sent : List OwnMessage = state.sent ++ (heard_step first s).new in
-    let P : Session → Type 0 = λ after. (seat.op ≡ after.op) × (IsSome seat.operation → (server : ℕ) → servers seat.answered server ≡ counts_on sent k after server) × Sits grid t seat.floor seat.operation after.floor (option_map (operation_with k after) after.current) in
-    let still : IsSome seat.operation → (server : ℕ) → servers seat.answered server ≡ counts_on sent k (state.session k) server = λ busy server.
+    let P : Session → Type 0 = λ after. (session_state.op ≡ after.op) × (IsSome session_state.operation → (server : ℕ) → servers session_state.answered server ≡ counts_on sent k after server) × Sits grid t session_state.floor session_state.operation after.floor (option_map (operation_with k after) after.current) in
+    let still : IsSome session_state.operation → (server : ℕ) → servers session_state.answered server ≡ counts_on sent k (state.session k) server = λ busy server.
     agrees.answered busy server ∙ sym (more_counted state.sent (heard_step first s).new k (state.session k) server (new_uncounted grid state.up message.session (state.session message.session) first k (state.session k) message s server says)) in
     let now : P ((changed (delivery n message first s) state).session k) = subst P (sym (other_session state n first k message s goes other)) (agrees.op, still, agrees.sits) in
     record { op = now.0; answered = now.1; sits = now.2 }
@@ -264,127 +264,127 @@ seat_stays grid t n k state message seat s says goes other agrees =
 -- ---- the tables
 
 -- what the message's delivery to its session changed
-pub record HearsAt (w : Tables) (t n : ℕ) (m : Message) (seats : List Seat) (heard : Heard) : Type 0 where
-  pub there : message_at (lane_at w.lanes t) n ≡ Some m
+pub record HearsAt (w : Tables) (t n : ℕ) (m : Message) (session_states : List SessionState) (heard : Heard) : Type 0 where
+  pub there : message_at (channel_at w.channels t) n ≡ Some m
   pub goes : to_server m.body ≡ false
   pub within : t < length w.plan.rows
-  pub lanes : t < length w.lanes
-  pub tenants : t < length w.seats
+  pub channels : t < length w.channels
+  pub tenants : t < length w.session_states
   pub first : 1 ≤ m.session
   pub last : m.session ≤ (row_at w.plan t).sessions
-  pub hears : SeatHears (seat_in (seats_at w.seats t) (m.session - 1)) (seat_in seats (m.session - 1)) (servers w.up) m heard
-  pub others : (place : ℕ) → place ≢ m.session - 1 → seat_in seats place ≡ seat_in (seats_at w.seats t) place
+  pub hears : SessionStateHears (session_state_in (session_states_at w.session_states t) (m.session - 1)) (session_state_in session_states (m.session - 1)) (servers w.up) m heard
+  pub others : (place : ℕ) → place ≢ m.session - 1 → session_state_in session_states place ≡ session_state_in (session_states_at w.session_states t) place
 
 -- the tables after it
-abbrev pub heard_tables : Tables → ℕ → List Seat → Heard → Tables
-heard_tables w t seats heard = record w { lanes = with_sent w.lanes t (messages_of heard); seats = slice_set w.seats t seats }
+abbrev pub heard_tables : Tables → ℕ → List SessionState → Heard → Tables
+heard_tables w t session_states heard = record w { channels = with_sent w.channels t (messages_of heard); session_states = slice_set w.session_states t session_states }
 
 -- what the operation that is known of the session says
-says : (w : Tables) (t n : ℕ) (m : Message) (seats : List Seat) (heard : Heard) (known : Known) (message : OwnMessage) → HearsAt w t n m seats heard → Agrees w t known → m ≡ message_of t message →
+says : (w : Tables) (t n : ℕ) (m : Message) (session_states : List SessionState) (heard : Heard) (known : Known) (message : OwnMessage) → HearsAt w t n m session_states heard → Agrees w t known → m ≡ message_of t message →
     heard ≡ heard_as t (said_by w.plan.grid known.state.up (operation known.state message.session) message)
-says w t n m seats heard known message h agrees is =
+says w t n m session_states heard known message h agrees is =
     let first = h.first in
     let last = h.last in
     let within : m.session - 1 < (row_at w.plan t).sessions = omega arith in
     let session : m.session - 1 + 1 ≡ message.session = omega (arith, ap (λ (x : Message). x.session) is) in
-    let P : ℕ → Type 0 = λ k. SeatAgrees w.plan.grid t k (seat_in (seats_at w.seats t) (m.session - 1)) known.state in
-    let seat : P message.session = subst P session (agrees.seats (m.session - 1) within) in
+    let P : ℕ → Type 0 = λ k. SessionStateAgrees w.plan.grid t k (session_state_in (session_states_at w.session_states t) (m.session - 1)) known.state in
+    let session_state : P message.session = subst P session (agrees.session_states (m.session - 1) within) in
     let up : SameQuorums w.plan.grid (servers w.up) known.state.up = quorums_in w.plan.grid w.up known.state.up agrees.up in
-    h.hears.says w.plan.grid t _ (operation known.state message.session) seat.sits
+    h.hears.says w.plan.grid t _ (operation known.state message.session) session_state.sits
     ∙ ap (λ l. heard_as t (said_by w.plan.grid (servers w.up) (operation known.state message.session) l)) (ap own_message is)
     ∙ ap (heard_as t) (said_by_up w.plan.grid (servers w.up) known.state.up (operation known.state message.session) message up)
 
-pub heard_tells : (w : Tables) (t n : ℕ) (m : Message) (seats : List Seat) (heard : Heard) → HearsAt w t n m seats heard → TellsLine w t (Deliver n) (heard_told (length (lane_at w.lanes t)) heard)
-heard_tells w t n m seats heard h known agrees =
+pub heard_tells : (w : Tables) (t n : ℕ) (m : Message) (session_states : List SessionState) (heard : Heard) → HearsAt w t n m session_states heard → TellsLine w t (Deliver n) (heard_told (length (channel_at w.channels t)) heard)
+heard_tells w t n m session_states heard h known agrees =
     let f = found w t n m known agrees h.there in
     let message : OwnMessage = f.0 in
     let goes : to_server message.body ≡ false = ap (λ (x : Message). to_server x.body) (sym f.2) ∙ h.goes in
     let s : Saying = said_by w.plan.grid known.state.up (operation known.state message.session) message in
-    ap (heard_told (length (lane_at w.lanes t))) (says w t n m seats heard known message h agrees f.2)
+    ap (heard_told (length (channel_at w.channels t))) (says w t n m session_states heard known message h agrees f.2)
     ∙ ap (λ first. heard_told first (heard_as t s)) agrees.sent
     ∙ told_as (length known.state.sent) t s
     ∙ sym (ap (λ (step : Step). step.told) (step_is w.plan.grid (row_at w.plan t) known.state n message s f.1 goes refl))
 
-heard_own : (w : Tables) (t n : ℕ) (m : Message) (seats : List Seat) (heard : Heard) (known : Known) (message : OwnMessage) (s : Saying) → All (λ m. IsOfSession (known.state.session m.session) m) known.state.sent → RisesTo s (known.state.session message.session).round → HearsAt w t n m seats heard → Agrees w t known → m ≡ message_of t message →
+heard_own : (w : Tables) (t n : ℕ) (m : Message) (session_states : List SessionState) (heard : Heard) (known : Known) (message : OwnMessage) (s : Saying) → All (λ m. IsOfSession (known.state.session m.session) m) known.state.sent → RisesTo s (known.state.session message.session).round → HearsAt w t n m session_states heard → Agrees w t known → m ≡ message_of t message →
     said_by w.plan.grid known.state.up (operation known.state message.session) message ≡ s → heard ≡ heard_as t s →
-    Agrees (heard_tables w t seats heard) t (record known { state = changed (delivery n message (length known.state.sent) s) known.state })
-heard_own w t n m seats heard known message s owners later h agrees is said heard_is =
+    Agrees (heard_tables w t session_states heard) t (record known { state = changed (delivery n message (length known.state.sent) s) known.state })
+heard_own w t n m session_states heard known message s owners later h agrees is said heard_is =
     let state : State = known.state in
     let new : List OwnMessage = (heard_step (length state.sent) s).new in
     let goes : to_server message.body ≡ false = ap (λ (x : Message). to_server x.body) (sym is) ∙ h.goes in
-    let lanes_is : with_sent w.lanes t (messages_of heard) ≡ with_sent w.lanes t (map (message_of t) new) = ap (with_sent w.lanes t) (ap messages_of heard_is ∙ sent_as (length state.sent) t s) in
-    let here : seats_at (slice_set w.seats t seats) t ≡ seats = get_or-set_same w.seats t seats [] h.tenants in
+    let channels_is : with_sent w.channels t (messages_of heard) ≡ with_sent w.channels t (map (message_of t) new) = ap (with_sent w.channels t) (ap messages_of heard_is ∙ sent_as (length state.sent) t s) in
+    let here : session_states_at (slice_set w.session_states t session_states) t ≡ session_states = get_or-set_same w.session_states t session_states [] h.tenants in
     record {
       lines = agrees.lines;
       up = agrees.up;
       gone = agrees.gone;
       account = agrees.account;
-      sent = ap (λ lanes. length (lane_at lanes t)) lanes_is ∙ sent_count w.lanes t state new h.lanes agrees.sent;
+      sent = ap (λ channels. length (channel_at channels t)) channels_is ∙ sent_count w.channels t state new h.channels agrees.sent;
       lost = new_not_lost state new agrees.lost;
-      messages = λ k. ap (λ lanes. message_at (lane_at lanes t) k) lanes_is ∙ sent_messages w.lanes t state new h.lanes agrees.sent agrees.messages agrees.lost k;
+      messages = λ k. ap (λ channels. message_at (channel_at channels t) k) channels_is ∙ sent_messages w.channels t state new h.channels agrees.sent agrees.messages agrees.lost k;
       accounts = agrees.accounts;
       copies = λ server within file. agrees.copies server within file ∙ sym (same_held state n (length state.sent) message s server file goes);
       lacking = agrees.lacking;
       down = agrees.down;
-      seats = λ place within.
+      session_states = λ place within.
           let first = h.first in
           let last = h.last in
           let k : m.session ≡ message.session = ap (λ (x : Message). x.session) is in
-          let Q : List Seat → Type 0 = λ all. SeatAgrees w.plan.grid t (place + 1) (seat_in all place) (changed (delivery n message (length state.sent) s) state) in
+          let Q : List SessionState → Type 0 = λ all. SessionStateAgrees w.plan.grid t (place + 1) (session_state_in all place) (changed (delivery n message (length state.sent) s) state) in
           subst Q (sym here) (elim (cases_eq place (m.session - 1)) [
             | inl same ↦ (
                 let at : place + 1 ≡ message.session = omega arith in
-                let old : Seat = seat_in (seats_at w.seats t) (m.session - 1) in
-                let now : Seat = seat_in seats (m.session - 1) in
-                let P : ℕ → Type 0 = λ j. SeatAgrees w.plan.grid t j old state in
-                let R : ℕ → Type 0 = λ j. SeatAgrees w.plan.grid t j (seat_in seats place) (changed (delivery n message (length state.sent) s) state) in
-                let before : P message.session = subst P at (subst (λ q. SeatAgrees w.plan.grid t (place + 1) (seat_in (seats_at w.seats t) q) state) same (agrees.seats place within)) in
+                let old : SessionState = session_state_in (session_states_at w.session_states t) (m.session - 1) in
+                let now : SessionState = session_state_in session_states (m.session - 1) in
+                let P : ℕ → Type 0 = λ j. SessionStateAgrees w.plan.grid t j old state in
+                let R : ℕ → Type 0 = λ j. SessionStateAgrees w.plan.grid t j (session_state_in session_states place) (changed (delivery n message (length state.sent) s) state) in
+                let before : P message.session = subst P at (subst (λ q. SessionStateAgrees w.plan.grid t (place + 1) (session_state_in (session_states_at w.session_states t) q) state) same (agrees.session_states place within)) in
                 let up : SameQuorums w.plan.grid (servers w.up) state.up = quorums_in w.plan.grid w.up state.up agrees.up in
                 let S : Saying → Type 0 = λ x. Sits w.plan.grid t now.floor now.operation (last_of (state.session message.session).floor (operation state message.session)) (operation_after (operation state message.session) message x) in
                 let T : OwnMessage → Type 0 = λ l. Sits w.plan.grid t now.floor now.operation (last_of (state.session message.session).floor (operation state message.session)) (operation_after (operation state message.session) l (said_by w.plan.grid (servers w.up) (operation state message.session) l)) in
                 let sits : S s = subst S (said_by_up w.plan.grid (servers w.up) state.up (operation state message.session) message up ∙ said)
                 (subst T (ap own_message is) (h.hears.sits w.plan.grid t _ (operation state message.session) before.sits)) in
-                subst R (sym at) (subst (λ q. SeatAgrees w.plan.grid t message.session (seat_in seats q) (changed (delivery n message (length state.sent) s) state)) (sym same)
-                (seat_after w.plan.grid t n state message old now s owners later goes said before h.hears.op (h.hears.answered ∙ ap (λ x. answered_after x old.answered) heard_is) sits)))
+                subst R (sym at) (subst (λ q. SessionStateAgrees w.plan.grid t message.session (session_state_in session_states q) (changed (delivery n message (length state.sent) s) state)) (sym same)
+                (session_state_after w.plan.grid t n state message old now s owners later goes said before h.hears.op (h.hears.answered ∙ ap (λ x. answered_after x old.answered) heard_is) sits)))
             | inr other ↦ (
                 let apart : message.session ≢ place + 1 = λ e. other (omega arith) in
-                subst (λ (seat : Seat). SeatAgrees w.plan.grid t (place + 1) seat (changed (delivery n message (length state.sent) s) state)) (sym (h.others place other))
-                (seat_stays w.plan.grid t n (place + 1) state message (seat_in (seats_at w.seats t) place) s said goes apart (agrees.seats place within)))
+                subst (λ (session_state : SessionState). SessionStateAgrees w.plan.grid t (place + 1) session_state (changed (delivery n message (length state.sent) s) state)) (sym (h.others place other))
+                (session_state_stays w.plan.grid t n (place + 1) state message (session_state_in (session_states_at w.session_states t) place) s said goes apart (agrees.session_states place within)))
           ]);
     }
 
-heard_other : (w : Tables) (t u : ℕ) (seats : List Seat) (heard : Heard) (known : Known) → u ≢ t → Agrees w u known → Agrees (heard_tables w t seats heard) u known
-heard_other w t u seats heard known other agrees =
-    let lane : lane_at (with_sent w.lanes t (messages_of heard)) u ≡ lane_at w.lanes u = lane_there w.lanes t u (messages_of heard) other in
-    let there : seats_at (slice_set w.seats t seats) u ≡ seats_at w.seats u = get_or-set_other w.seats t u seats [] other in
+heard_other : (w : Tables) (t u : ℕ) (session_states : List SessionState) (heard : Heard) (known : Known) → u ≢ t → Agrees w u known → Agrees (heard_tables w t session_states heard) u known
+heard_other w t u session_states heard known other agrees =
+    let channel : channel_at (with_sent w.channels t (messages_of heard)) u ≡ channel_at w.channels u = channel_there w.channels t u (messages_of heard) other in
+    let there : session_states_at (slice_set w.session_states t session_states) u ≡ session_states_at w.session_states u = get_or-set_other w.session_states t u session_states [] other in
     record {
       lines = agrees.lines;
       up = agrees.up;
       gone = agrees.gone;
       account = agrees.account;
-      sent = ap length lane ∙ agrees.sent;
+      sent = ap length channel ∙ agrees.sent;
       lost = agrees.lost;
-      messages = λ k. ap (λ l. message_at l k) lane ∙ agrees.messages k;
+      messages = λ k. ap (λ l. message_at l k) channel ∙ agrees.messages k;
       accounts = agrees.accounts;
       copies = agrees.copies;
       lacking = agrees.lacking;
       down = agrees.down;
-      seats = λ place within. subst (λ all. SeatAgrees w.plan.grid u (place + 1) (seat_in all place) known.state) (sym there) (agrees.seats place within);
+      session_states = λ place within. subst (λ all. SessionStateAgrees w.plan.grid u (place + 1) (session_state_in all place) known.state) (sym there) (agrees.session_states place within);
     }
 
-pub heard_acts : (w : Tables) (t n : ℕ) (m : Message) (seats : List Seat) (heard : Heard) → HearsAt w t n m seats heard → Acts w t (Deliver n) (heard_tables w t seats heard)
-heard_acts w t n m seats heard h = record {
+pub heard_acts : (w : Tables) (t n : ℕ) (m : Message) (session_states : List SessionState) (heard : Heard) → HearsAt w t n m session_states heard → Acts w t (Deliver n) (heard_tables w t session_states heard)
+heard_acts w t n m session_states heard h = record {
   plan = refl;
   own = λ known most bounded agrees.
       let f = found w t n m known agrees h.there in
       let message : OwnMessage = f.0 in
       let goes : to_server message.body ≡ false = ap (λ (x : Message). to_server x.body) (sym f.2) ∙ h.goes in
       let s : Saying = said_by w.plan.grid known.state.up (operation known.state message.session) message in
-      subst (Agrees (heard_tables w t seats heard) t) (sym (heard_known w.plan.grid (row_at w.plan t) known n message s f.1 goes refl))
-      (heard_own w t n m seats heard known message s bounded.owners
+      subst (Agrees (heard_tables w t session_states heard) t) (sym (heard_known w.plan.grid (row_at w.plan t) known n message s f.1 goes refl))
+      (heard_own w t n m session_states heard known message s bounded.owners
       (rises w.plan.grid most known.state.volumes message.session message (known.state.session message.session) s (says_stale w.plan.grid known.state.up message.session (known.state.session message.session) message s refl) (saying_fits w.plan.grid (row_at w.plan t) most known.state n message bounded f.1))
-      h agrees f.2 refl (says w t n m seats heard known message h agrees f.2));
-  others = λ u other known agrees. heard_other w t u seats heard known other agrees;
+      h agrees f.2 refl (says w t n m session_states heard known message h agrees f.2));
+  others = λ u other known agrees. heard_other w t u session_states heard known other agrees;
   servers = refl;
   gone = refl;
 }

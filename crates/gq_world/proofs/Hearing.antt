@@ -13,7 +13,7 @@ use Rattle.gq_phase.specs.Phase.{Task, Writing, Reading, Listing, Operation, Hea
 use Rattle.gq_phase.specs.Laws.{SameQuorums}
 use Rattle.gq_phase.proofs.ByQuorums.{hear_up}
 use Rattle.gq_phase.proofs.Saying.{hear_noted, hear_collected, hear_skipped, hear_stored}
-use Rattle.gq_world.specs.Seats.{said_by}
+use Rattle.gq_world.specs.SessionStates.{said_by}
 
 -- ---- by cases
 

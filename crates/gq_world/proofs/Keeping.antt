@@ -13,7 +13,7 @@ use Rattle.gq_phase.specs.Phase.{Task, Reply, Operation, Heard as Saying, HeardS
 use Rattle.gq_model.specs.Trace.{State, Session, changed, serves, own_message_at, operation, operation_with, session_by, heard_deed, files_of}
 use Rattle.gq_model.specs.Lone.{heard_step}
 use Rattle.gq_world.specs.Bounds.{CopyFits, BodyFits, room, volume_of, TaskFits, OperationFits, SessionFits, MessageFits, IsOfSession, IsBounded}
-use Rattle.gq_world.specs.Seats.{said_by}
+use Rattle.gq_world.specs.SessionStates.{said_by}
 use Rattle.gq_world.proofs.Ready.{all_at, sent_at}
 use Rattle.gq_world.proofs.Bounding.{fits_more, IsOfRound, HeardFits, round_fits}
 use Rattle.gq_world.proofs.Delivering.{delivery, own_session, other_session, same_brought, session_of, says_stale, RisesTo, rises, saying_fits}

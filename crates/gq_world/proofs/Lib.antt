@@ -7,7 +7,7 @@ pub mod Counting
 pub mod Delivering
 pub mod Hearing
 pub mod Keeping
-pub mod Lanes
+pub mod Channels
 pub mod Listing
 pub mod Losing
 pub mod LossWords

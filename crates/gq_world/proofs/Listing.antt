@@ -9,7 +9,7 @@ use Rattle.gq_desk.specs.Volumes.{Account, account_at}
 use Rattle.gq_model.specs.declared.events.Refusal.TheVariants.{NoSession, Busy, NoVolume}
 use Rattle.gq_model.specs.Trace.{files_of}
 use Rattle.gq_model.specs.Lone.{Cause, first_cause}
-use Rattle.gq_world.specs.Tables.{Tables, IsReady, seats_at, seat_in}
+use Rattle.gq_world.specs.Tables.{Tables, IsReady, session_states_at, session_state_in}
 use Rattle.gq_world.specs.Asking.{volume_causes}
 use Rattle.gq_world.proofs.AllLines.{sized_files, volume_there}
 use Rattle.gq_world.proofs.Requests.{first_none}
@@ -19,9 +19,9 @@ listed_there : (w : Tables) (t k v : ℕ) → first_cause (volume_causes w t k v
 listed_there w t k v is =
     let volumes : List VolumeRow = (account_at w.desk t).volumes in
     let c2 : List Cause = (not (nat_lt v (length volumes)), NoVolume) ∷ [] in
-    let c1 : List Cause = (is_some (seat_in (seats_at w.seats t) (k - 1)).operation, Busy) ∷ c2 in
+    let c1 : List Cause = (is_some (session_state_in (session_states_at w.session_states t) (k - 1)).operation, Busy) ∷ c2 in
     let a = first_none (not (is_in 1 (row_at w.plan t).sessions k), NoSession) c1 is in
-    let b = first_none (is_some (seat_in (seats_at w.seats t) (k - 1)).operation, Busy) c2 a.1 in
+    let b = first_none (is_some (session_state_in (session_states_at w.session_states t) (k - 1)).operation, Busy) c2 a.1 in
     let c = first_none (not (nat_lt v (length volumes)), NoVolume) [] b.1 in
     volume_there volumes v c.0
 

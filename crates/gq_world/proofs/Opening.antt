@@ -72,7 +72,7 @@ opened_own w t files blocks stores known h agrees =
           (h.added s inside).copies (file_of t file) ∙ agrees.copies s within file;
       lacking = agrees.lacking;
       down = agrees.down;
-      seats = λ place within. let before = agrees.seats place within in record { op = before.op; answered = λ busy server. before.answered busy server ∙ ap (λ l. counts_on l (place + 1) (known.state.session (place + 1)) server) (sym nothing); sits = before.sits };
+      session_states = λ place within. let before = agrees.session_states place within in record { op = before.op; answered = λ busy server. before.answered busy server ∙ ap (λ l. counts_on l (place + 1) (known.state.session (place + 1)) server) (sym nothing); sits = before.sits };
     }
 
 opened_other : (w : Tables) (t u files blocks : ℕ) (stores : List StoreCopies) (known : Known) → u ≢ t → Opens w t files blocks stores → Agrees w u known → Agrees (opened_tables w t files blocks stores) u known
@@ -97,7 +97,7 @@ opened_other w t u files blocks stores known other h agrees =
           (h.added s inside).copies (file_of u file) ∙ agrees.copies s within file;
       lacking = agrees.lacking;
       down = agrees.down;
-      seats = agrees.seats;
+      session_states = agrees.session_states;
     }
 
 pub opened_acts : (w : Tables) (t files blocks : ℕ) (stores : List StoreCopies) → Opens w t files blocks stores → Acts w t (NewVolume files blocks) (opened_tables w t files blocks stores)
@@ -161,7 +161,7 @@ pub opened_shaped : (old : Tables) (desk : List Account) (stores : List StoreCop
 opened_shaped old desk stores h same count kept = record {
   lines = h.lines;
   desk = same ∙ h.desk;
-  lanes = h.lanes;
+  channels = h.channels;
   servers = count ∙ h.servers;
   stores = λ k d inside.
       let before : k < length old.stores = omega arith in
@@ -169,7 +169,7 @@ opened_shaped old desk stores h same count kept = record {
       let now : IsOfPlan old.plan (store_at stores k) = record { blocks = (kept k).blocks ∙ was.blocks; tenants = (kept k).tenants ∙ was.tenants } in
       subst (IsOfPlan old.plan) (All-default stores k d inside) now;
   tenants = h.tenants;
-  seats = h.seats;
+  session_states = h.session_states;
   sessions = h.sessions;
   grid = h.grid;
 }

@@ -17,7 +17,7 @@ use Rattle.gq_world.specs.Machine.{state_after_turn, Acts, TellsLine}
 
 -- what servers could be given after a turn that brings none a copy
 abbrev pub offered_on : State → ℕ → File → ℕ → List StoredCopy
-offered_on state = λ server file mate. state.offered server file mate ++ (if state.lacks mate file then [] else copy_of (state.brought mate file) ∷ [])
+offered_on state = λ server file peer. state.offered server file peer ++ (if state.lacks peer file then [] else copy_of (state.brought peer file) ∷ [])
 
 -- whatever could be given, the tables know nothing of it
 abbrev pub with_offered : State → (ℕ → File → ℕ → List StoredCopy) → State
@@ -36,7 +36,7 @@ agrees_offered w t known offered agrees = record {
   copies = agrees.copies;
   lacking = agrees.lacking;
   down = agrees.down;
-  seats = λ place within. let seat = agrees.seats place within in record { op = seat.op; answered = seat.answered; sits = seat.sits };
+  session_states = λ place within. let session_state = agrees.session_states place within in record { op = session_state.op; answered = session_state.answered; sits = session_state.sits };
 }
 
 -- nothing more was sent

@@ -9,21 +9,21 @@ use Rattle.gq_tag.specs.declared.Body.TheVariants.{Ask, Copy, Store, Stored}
 use Rattle.gq_tag.specs.declared.Message.{Message}
 use Rattle.gq_tag.specs.Tag.{OwnMessage, own_message, message_of}
 use Rattle.gq_desk.specs.CheckedPlan.{row_at}
-use Rattle.gq_post.specs.Lanes.{lane_at, message_at}
+use Rattle.gq_post.specs.Channels.{channel_at, message_at}
 use Rattle.gq_phase.specs.Best.{copied_number}
 use Rattle.gq_phase.specs.declared.operation.Operation.{Operation as Code}
 use Rattle.gq_phase.specs.Phase.{Task, Operation}
 use Rattle.gq_model.specs.Trace.{State, Session, Known, own_message_at, operation, operation_with}
 use Rattle.gq_world.specs.Bounds.{BodyFits, MessageFits}
-use Rattle.gq_world.specs.Tables.{Tables, Agrees, IsReady, IsShaped, Sits, seats_at, seat_in}
-use Rattle.gq_world.specs.Seats.{FloorIsBelow}
+use Rattle.gq_world.specs.Tables.{Tables, Agrees, IsReady, IsShaped, Sits, session_states_at, session_state_in}
+use Rattle.gq_world.specs.SessionStates.{FloorIsBelow}
 
 pub all_at : {X : Type 0} (P : X → Type 0) (xs : List X) (n : ℕ) (x : X) → All P xs → slice_get xs n ≡ Some x → P x
 all_at P xs n x all is = subst P (get_or_from_slice_get xs n x x is) (all n x (slice_get_within xs n x is))
 
--- ---- a message of a lane is a message of the tenant's run
+-- ---- a message of a channel is a message of the tenant's run
 
-pub found : (w : Tables) (t n : ℕ) (m : Message) (known : Known) → Agrees w t known → message_at (lane_at w.lanes t) n ≡ Some m → (message : OwnMessage) × (own_message_at known.state n ≡ Some message) × (m ≡ message_of t message)
+pub found : (w : Tables) (t n : ℕ) (m : Message) (known : Known) → Agrees w t known → message_at (channel_at w.channels t) n ≡ Some m → (message : OwnMessage) × (own_message_at known.state n ≡ Some message) × (m ≡ message_of t message)
 found w t n m known agrees is = by (own_message_at known.state n) refl (sym is ∙ agrees.messages n)
   where
     by : (o : Option OwnMessage) → own_message_at known.state n ≡ o → Some m ≡ option_map (message_of t) o → (message : OwnMessage) × (own_message_at known.state n ≡ Some message) × (m ≡ message_of t message)
@@ -37,7 +37,7 @@ sent_at state n message is = by (state.is_lost n) is
     by true h = absurd (cc)
     by false h = h
 
-pub message_fits : (w : Tables) (t n : ℕ) (m : Message) (r : IsReady w t) → message_at (lane_at w.lanes t) n ≡ Some m → MessageFits w.plan.grid (row_at w.plan t) r.before r.known.state.volumes (own_message m)
+pub message_fits : (w : Tables) (t n : ℕ) (m : Message) (r : IsReady w t) → message_at (channel_at w.channels t) n ≡ Some m → MessageFits w.plan.grid (row_at w.plan t) r.before r.known.state.volumes (own_message m)
 message_fits w t n m r is =
     let f = found w t n m r.known r.agrees is in
     let P : OwnMessage → Type 0 = MessageFits w.plan.grid (row_at w.plan t) r.before r.known.state.volumes in
@@ -51,7 +51,7 @@ number_within n size (Copy copy) h = h.number
 number_within n size (Store copy) h = omega arith
 number_within n size Stored h = omega arith
 
-pub number_below : (w : Tables) (t n : ℕ) (m : Message) → IsReady w t → message_at (lane_at w.lanes t) n ≡ Some m → copied_number m.body < 18446744073709551615
+pub number_below : (w : Tables) (t n : ℕ) (m : Message) → IsReady w t → message_at (channel_at w.channels t) n ≡ Some m → copied_number m.body < 18446744073709551615
 number_below w t n m r is =
     let fits = message_fits w t n m r is in
     let h = number_within r.before _ m.body fits.body in
@@ -59,7 +59,7 @@ number_below w t n m r is =
     let few = r.few in
     omega arith
 
-pub server_below : (w : Tables) (t n : ℕ) (m : Message) → IsReady w t → IsShaped w → message_at (lane_at w.lanes t) n ≡ Some m → m.server < MOST_SERVERS
+pub server_below : (w : Tables) (t n : ℕ) (m : Message) → IsReady w t → IsShaped w → message_at (channel_at w.channels t) n ≡ Some m → m.server < MOST_SERVERS
 server_below w t n m r shaped is =
     let h = (message_fits w t n m r is).server in
     let grid = shaped.grid in
@@ -67,12 +67,12 @@ server_below w t n m r shaped is =
 
 -- ---- its session
 
-pub session_within : (w : Tables) (t n : ℕ) (m : Message) → t < length w.plan.rows → IsReady w t → IsShaped w → message_at (lane_at w.lanes t) n ≡ Some m → (1 ≤ m.session) × (m.session ≤ length (seats_at w.seats t))
+pub session_within : (w : Tables) (t n : ℕ) (m : Message) → t < length w.plan.rows → IsReady w t → IsShaped w → message_at (channel_at w.channels t) n ≡ Some m → (1 ≤ m.session) × (m.session ≤ length (session_states_at w.session_states t))
 session_within w t n m within r shaped is =
     let fits = message_fits w t n m r is in
     let first : 1 ≤ m.session = fits.first in
     let last : m.session ≤ (row_at w.plan t).sessions = fits.last in
-    let count = shaped.seats t within in
+    let count = shaped.session_states t within in
     (first, rw count last)
 
 own_floor : (k : ℕ) (s : Session) (o : Operation) → option_map (operation_with k s) s.current ≡ Some o → o.floor ≡ s.floor
@@ -90,15 +90,15 @@ floor_below grid t floor last n (Some code) (Some p) sits below few =
     let same = sits.floor in
     omega arith
 
-pub seat_floor_below : (w : Tables) (t n : ℕ) (m : Message) → IsReady w t → message_at (lane_at w.lanes t) n ≡ Some m → FloorIsBelow (seat_in (seats_at w.seats t) (m.session - 1)).operation
-seat_floor_below w t n m r is =
+pub session_state_floor_below : (w : Tables) (t n : ℕ) (m : Message) → IsReady w t → message_at (channel_at w.channels t) n ≡ Some m → FloorIsBelow (session_state_in (session_states_at w.session_states t) (m.session - 1)).operation
+session_state_floor_below w t n m r is =
     let fits = message_fits w t n m r is in
     let first : 1 ≤ m.session = fits.first in
     let last : m.session ≤ (row_at w.plan t).sessions = fits.last in
     let within : m.session - 1 < (row_at w.plan t).sessions = omega arith in
     let k : ℕ = m.session - 1 + 1 in
-    let seat = r.agrees.seats (m.session - 1) within in
+    let session_state = r.agrees.session_states (m.session - 1) within in
     let session = r.bounded.sessions k in
     let few : r.before < 18446744073709551615 = let taken = r.taken in let few = r.few in omega arith in
-    floor_below w.plan.grid t (seat_in (seats_at w.seats t) (m.session - 1)).floor _ r.before (seat_in (seats_at w.seats t) (m.session - 1)).operation (operation r.known.state k) seat.sits
+    floor_below w.plan.grid t (session_state_in (session_states_at w.session_states t) (m.session - 1)).floor _ r.before (session_state_in (session_states_at w.session_states t) (m.session - 1)).operation (operation r.known.state k) session_state.sits
     (λ p is'. let same = own_floor k (r.known.state.session k) p is' in let low = session.floor in omega arith) few

@@ -15,7 +15,7 @@ use Rattle.gq_desk.specs.CheckedPlan.{row_at}
 use Rattle.gq_desk.specs.declared.plans.TenantRow.{TenantRow}
 use Rattle.gq_desk.specs.Plans.{is_in}
 use Rattle.gq_desk.specs.Volumes.{Account, account_at, limit_in}
-use Rattle.gq_post.specs.Lanes.{lane_at, message_at}
+use Rattle.gq_post.specs.Channels.{channel_at, message_at}
 use Rattle.gq_phase.specs.Quorums.{collect_quorum}
 use Rattle.gq_phase.specs.declared.operation.Operation.{Operation as Code}
 use Rattle.gq_phase.specs.Phase.{Task, Writing, Reading, Listing, Operation, begun, round_messages, round_quorum}
@@ -29,14 +29,14 @@ use Rattle.gq_model.specs.Trace.{Own, Elsewhere, Begins as BeginsDeed, State, Se
 use Rattle.gq_model.specs.Lone.{Step, Cause, first_cause, session_causes, no_session, busy, no_quorum, quiet, unless, begin_step, line_step, entry_of, first_operation}
 use Rattle.gq_phase.specs.Laws.{SameQuorums}
 use Rattle.gq_phase.proofs.ByQuorums.{round_messages_up}
-use Rattle.gq_world.specs.declared.sessions.Seat.{Seat}
-use Rattle.gq_world.specs.Tables.{Tables, Agrees, SeatAgrees, Sits, IsReady, IsShaped, seats_at, seat_in, no_seat}
-use Rattle.gq_world.specs.Asking.{volume_causes, file_causes, write_causes, busy_seat, begun_tables}
+use Rattle.gq_world.specs.declared.sessions.SessionState.{SessionState}
+use Rattle.gq_world.specs.Tables.{Tables, Agrees, SessionStateAgrees, Sits, IsReady, IsShaped, session_states_at, session_state_in, no_session_state}
+use Rattle.gq_world.specs.Asking.{volume_causes, file_causes, write_causes, busy_session_state, begun_tables}
 use Rattle.gq_world.specs.Machine.{Acts, TellsLine, acted, state_after_turn}
 use Rattle.gq_world.specs.Bounds.{IsOfSession}
 use Rattle.gq_world.proofs.Counting.{none_in, more_counted, round_uncounted, begun_uncounted}
 use Rattle.gq_world.proofs.Quiet.{offered_on}
-use Rattle.gq_world.proofs.Lanes.{sent_count, sent_messages, new_not_lost, lane_there, quorums_in}
+use Rattle.gq_world.proofs.Channels.{sent_count, sent_messages, new_not_lost, channel_there, quorums_in}
 
 -- ---- a session of the tables
 
@@ -55,12 +55,12 @@ high_end n k e = grind (arith, nat_tests)
 pub in_range : (n k : ℕ) → is_in 1 n k ≡ true → (1 ≤ k) × (k ≤ n)
 in_range n k is = let parts = and_parts (nat_le 1 k) (nat_le k n) is in (low_end k parts.0, high_end n k parts.1)
 
--- the seat of a session that there is
-pub seat_of : (w : Tables) (t k : ℕ) (known : Known) → Agrees w t known → 1 ≤ k → k ≤ (row_at w.plan t).sessions → SeatAgrees w.plan.grid t k (seat_in (seats_at w.seats t) (k - 1)) known.state
-seat_of w t k known agrees low high =
+-- the session state of a session that there is
+pub session_state_of : (w : Tables) (t k : ℕ) (known : Known) → Agrees w t known → 1 ≤ k → k ≤ (row_at w.plan t).sessions → SessionStateAgrees w.plan.grid t k (session_state_in (session_states_at w.session_states t) (k - 1)) known.state
+session_state_of w t k known agrees low high =
     let within : k - 1 < (row_at w.plan t).sessions = omega arith in
     let at : k - 1 + 1 ≡ k = omega arith in
-    subst (λ j. SeatAgrees w.plan.grid t j (seat_in (seats_at w.seats t) (k - 1)) known.state) at (agrees.seats (k - 1) within)
+    subst (λ j. SessionStateAgrees w.plan.grid t j (session_state_in (session_states_at w.session_states t) (k - 1)) known.state) at (agrees.session_states (k - 1) within)
 
 -- what is so where no cause holds
 pub first_none : (cause : Cause) (causes : List Cause) → first_cause (cause ∷ causes) ≡ None → (cause.0 ≡ false) × (first_cause causes ≡ None)
@@ -95,7 +95,7 @@ chain (cause ∷ causes) last = by cause.0 (chain causes last)
 
 -- the session's part of the causes
 abbrev busy_at : Tables → ℕ → ℕ → Cause
-busy_at w t k = (is_some (seat_in (seats_at w.seats t) (k - 1)).operation, Busy)
+busy_at w t k = (is_some (session_state_in (session_states_at w.session_states t) (k - 1)).operation, Busy)
 
 -- the rest is asked of the tenant's account, which is that of the model
 causes_are : (w : Tables) (t k : ℕ) (rest : Account → List Cause) (known : Known) → Agrees w t known →
@@ -106,10 +106,10 @@ causes_are w t k rest known agrees = elim (cases_Bool (is_in 1 (row_at w.plan t)
   | inl inside ↦ (
       let row : TenantRow = row_at w.plan t in
       let range = in_range row.sessions k inside in
-      let seat = seat_of w t k known agrees range.0 range.1 in
-      let old : Seat = seat_in (seats_at w.seats t) (k - 1) in
+      let session_state = session_state_of w t k known agrees range.0 range.1 in
+      let old : SessionState = session_state_in (session_states_at w.session_states t) (k - 1) in
       let same : is_some (known.state.session k).current ≡ is_some old.operation =
-      is_busy w.plan.grid t old.floor (known.state.session k).floor old.operation k (known.state.session k) (known.state.session k).current seat.sits in
+      is_busy w.plan.grid t old.floor (known.state.session k).floor old.operation k (known.state.session k) (known.state.session k).current session_state.sits in
       let last : Cause = no_quorum w.plan.grid known.state 1 in
       let C : Bool → Account → Option Refusal = λ b a. first_cause (no_session row k ∷ (b, Busy) ∷ rest a ++ last ∷ []) in
       ap (λ b. C b (account_of row known.state)) same
@@ -119,12 +119,12 @@ causes_are w t k rest known agrees = elim (cases_Bool (is_in 1 (row_at w.plan t)
 
 -- where no cause holds there is such a session, which has no operation
 there_at_rest : (w : Tables) (t k : ℕ) (rest : List Cause) → first_cause (no_session (row_at w.plan t) k ∷ busy_at w t k ∷ rest) ≡ None →
-    (1 ≤ k) × (k ≤ (row_at w.plan t).sessions) × ((seat_in (seats_at w.seats t) (k - 1)).operation ≡ None)
+    (1 ≤ k) × (k ≤ (row_at w.plan t).sessions) × ((session_state_in (session_states_at w.session_states t) (k - 1)).operation ≡ None)
 there_at_rest w t k rest is =
     let a = first_none (no_session (row_at w.plan t) k) (busy_at w t k ∷ rest) is in
     let b = first_none (busy_at w t k) rest a.1 in
     let range = in_range (row_at w.plan t).sessions k (not_false (is_in 1 (row_at w.plan t).sessions k) a.0) in
-    (range.0, range.1, none_is (seat_in (seats_at w.seats t) (k - 1)).operation b.0)
+    (range.0, range.1, none_is (session_state_in (session_states_at w.session_states t) (k - 1)).operation b.0)
 
 -- ---- what is known after it
 
@@ -181,7 +181,7 @@ lists state k v files s is = ap (with_sessions state s.new) (sessions_begin stat
 
 -- the line asks session k to do the task, unless one of these causes holds in the tables or there is no quorum
 pub record IsRequest (w : Tables) (t k : ℕ) (task : Task) (line : Line) (causes : List Cause) : Type 0 where
-  pub session : first_cause causes ≡ None → (1 ≤ k) × (k ≤ (row_at w.plan t).sessions) × ((seat_in (seats_at w.seats t) (k - 1)).operation ≡ None)
+  pub session : first_cause causes ≡ None → (1 ≤ k) × (k ≤ (row_at w.plan t).sessions) × ((session_state_in (session_states_at w.session_states t) (k - 1)).operation ≡ None)
   pub same : (known : Known) → Agrees w t known → first_cause (session_causes w.plan.grid (row_at w.plan t) known.state line) ≡ else_cause (first_cause causes) (no_quorum w.plan.grid known.state 1)
   pub asks : (known : Known) → Agrees w t known → line_step w.plan.grid (row_at w.plan t) known.state line ≡ unless (first_cause (session_causes w.plan.grid (row_at w.plan t) known.state line)) (begin_step w.plan.grid known.state k (Some task))
   pub begins : (known : Known) → Agrees w t known → (s : Step) → changed (entry_of known.state (Own line) s) known.state ≡ begun_state known.state k task s.new
@@ -255,19 +255,19 @@ without_quorum w t k task line causes r is none known agrees =
 
 -- ---- it begins
 
--- the seat of the session, before
-abbrev pub seat_before : Tables → ℕ → ℕ → Seat
-seat_before w t k = seat_in (seats_at w.seats t) (k - 1)
+-- the session state of the session, before
+abbrev pub session_state_before : Tables → ℕ → ℕ → SessionState
+session_state_before w t k = session_state_in (session_states_at w.session_states t) (k - 1)
 
 -- the operation that begins there
 abbrev pub first_at : Tables → ℕ → ℕ → Task → Operation
-first_at w t k task = begun k ((seat_before w t k).op + 1) task (seat_before w t k).floor
+first_at w t k task = begun k ((session_state_before w t k).op + 1) task (session_state_before w t k).floor
 
 -- what the session's operation and its first messages are
 pub record IsBegun (w : Tables) (t k : ℕ) (task : Task) (causes : List Cause) (code : Code) (messages : List Message) : Type 0 where
-  pub lanes : t < length w.lanes
-  pub tenants : t < length w.seats
-  pub places : k - 1 < length (seats_at w.seats t)
+  pub channels : t < length w.channels
+  pub tenants : t < length w.session_states
+  pub places : k - 1 < length (session_states_at w.session_states t)
   pub asked : first_cause causes ≡ None
   pub quorum : collect_quorum w.plan.grid (servers w.up) ≢ None
   pub stands : StandsFor w.plan.grid t code (first_at w t k task)
@@ -297,12 +297,12 @@ floor_is grid t own last None k s None is sits = sits
 floor_is grid t own last None k s (Some task) is sits = absurd sits
 floor_is grid t own last (Some code) k s current is sits = absurd (cc)
 
-first_is : (w : Tables) (t k : ℕ) (task : Task) (known : Known) → Agrees w t known → (1 ≤ k) × (k ≤ (row_at w.plan t).sessions) × ((seat_before w t k).operation ≡ None) → first_at w t k task ≡ first_operation known.state k task
+first_is : (w : Tables) (t k : ℕ) (task : Task) (known : Known) → Agrees w t known → (1 ≤ k) × (k ≤ (row_at w.plan t).sessions) × ((session_state_before w t k).operation ≡ None) → first_at w t k task ≡ first_operation known.state k task
 first_is w t k task known agrees s =
-    let old : Seat = seat_before w t k in
-    let seat = seat_of w t k known agrees s.0 s.1 in
-    let floor = floor_is w.plan.grid t old.floor (known.state.session k).floor old.operation k (known.state.session k) (known.state.session k).current s.2 seat.sits in
-    ap (λ op. begun k (op + 1) task old.floor) seat.op ∙ ap (begun k ((known.state.session k).op + 1) task) floor
+    let old : SessionState = session_state_before w t k in
+    let session_state = session_state_of w t k known agrees s.0 s.1 in
+    let floor = floor_is w.plan.grid t old.floor (known.state.session k).floor old.operation k (known.state.session k) (known.state.session k).current s.2 session_state.sits in
+    ap (λ op. begun k (op + 1) task old.floor) session_state.op ∙ ap (begun k ((known.state.session k).op + 1) task) floor
 
 sends_as : (w : Tables) (t k : ℕ) (task : Task) (line : Line) (causes : List Cause) (code : Code) (messages : List Message) (known : Known) → IsRequest w t k task line causes → IsBegun w t k task causes code messages → Agrees w t known →
     messages ≡ map (message_of t) (first_messages w.plan.grid known.state k task)
@@ -313,13 +313,13 @@ sends_as w t k task line causes code messages known r h agrees =
     ∙ ap (map (message_of t)) (round_messages_up w.plan.grid (servers w.up) known.state.up (first_operation known.state k task) up)
 
 pub begun_tells : (w : Tables) (t k : ℕ) (task : Task) (line : Line) (causes : List Cause) (code : Code) (messages : List Message) → IsRequest w t k task line causes → IsBegun w t k task causes code messages →
-    TellsLine w t line (Began ((seat_before w t k).op + 1) (length (lane_at w.lanes t)) (length messages))
+    TellsLine w t line (Began ((session_state_before w t k).op + 1) (length (channel_at w.channels t)) (length messages))
 begun_tells w t k task line causes code messages r h known agrees =
     let s = r.session h.asked in
-    let seat = seat_of w t k known agrees s.0 s.1 in
+    let session_state = session_state_of w t k known agrees s.0 s.1 in
     let new : List OwnMessage = first_messages w.plan.grid known.state k task in
     let count : length messages ≡ length new = ap length (sends_as w t k task line causes code messages known r h agrees) ∙ length-map new (message_of t) in
-    ap (λ op. Began (op + 1) (length (lane_at w.lanes t)) (length messages)) seat.op
+    ap (λ op. Began (op + 1) (length (channel_at w.channels t)) (length messages)) session_state.op
     ∙ ap (λ first. Began ((known.state.session k).op + 1) first (length messages)) agrees.sent
     ∙ ap (Began ((known.state.session k).op + 1) (length known.state.sent)) count
     ∙ sym (ap (λ (step : Step). step.told) (begins_so w t k task line causes known r agrees h.asked h.quorum))
@@ -331,52 +331,52 @@ begun_own w t k task line causes code messages known owners r h agrees =
     let new : List OwnMessage = first_messages w.plan.grid state k task in
     let after : State = begun_state state k task new in
     let s = r.session h.asked in
-    let seat = seat_of w t k known agrees s.0 s.1 in
-    let old : Seat = seat_before w t k in
-    let seats : List Seat = slice_set (seats_at w.seats t) (k - 1) (busy_seat old code) in
-    let here = get_or-set_same w.seats t seats [] h.tenants in
-    let lanes_is = ap (λ ms. Rattle.gq_world.specs.Saying.with_sent w.lanes t ms) (sends_as w t k task line causes code messages known r h agrees) in
+    let session_state = session_state_of w t k known agrees s.0 s.1 in
+    let old : SessionState = session_state_before w t k in
+    let session_states : List SessionState = slice_set (session_states_at w.session_states t) (k - 1) (busy_session_state old code) in
+    let here = get_or-set_same w.session_states t session_states [] h.tenants in
+    let channels_is = ap (λ ms. Rattle.gq_world.specs.Saying.with_sent w.channels t ms) (sends_as w t k task line causes code messages known r h agrees) in
     record {
       lines = agrees.lines;
       up = agrees.up;
       gone = agrees.gone;
       account = agrees.account;
-      sent = ap (λ lanes. length (lane_at lanes t)) lanes_is ∙ sent_count w.lanes t state new h.lanes agrees.sent;
+      sent = ap (λ channels. length (channel_at channels t)) channels_is ∙ sent_count w.channels t state new h.channels agrees.sent;
       lost = new_not_lost state new agrees.lost;
-      messages = λ m. ap (λ lanes. message_at (lane_at lanes t) m) lanes_is ∙ sent_messages w.lanes t state new h.lanes agrees.sent agrees.messages agrees.lost m;
+      messages = λ m. ap (λ channels. message_at (channel_at channels t) m) channels_is ∙ sent_messages w.channels t state new h.channels agrees.sent agrees.messages agrees.lost m;
       accounts = agrees.accounts;
       copies = agrees.copies;
       lacking = agrees.lacking;
       down = agrees.down;
-      seats = λ place within.
-          let Q : List Seat → Type 0 = λ all. SeatAgrees w.plan.grid t (place + 1) (seat_in all place) after in
+      session_states = λ place within.
+          let Q : List SessionState → Type 0 = λ all. SessionStateAgrees w.plan.grid t (place + 1) (session_state_in all place) after in
           let low = s.0 in
           subst Q (sym here) (elim (cases_eq place (k - 1)) [
             | inl same ↦ (
                 let at : k ≡ place + 1 = omega arith in
                 let P : Session → Type 0 = λ x. (old.op + 1 ≡ x.op) × Sits w.plan.grid t old.floor (Some code) x.floor (option_map (operation_with k x) x.current) in
                 let now : P (after.session k) = subst P (sym (own_begins state k task new))
-                (ap (λ op. op + 1) seat.op, subst (StandsFor w.plan.grid t code) (first_is w t k task known agrees s) h.stands) in
+                (ap (λ op. op + 1) session_state.op, subst (StandsFor w.plan.grid t code) (first_is w t k task known agrees s) h.stands) in
                 let begins : Session = begun_session (state.session k) task in
                 let counts : (server : ℕ) → servers no_set server ≡ counts_on after.sent k (after.session k) server = λ server.
                 none_in server
                 ∙ sym (begun_uncounted state k begins server owners refl)
                 ∙ sym (more_counted state.sent new k begins server (round_uncounted w.plan.grid state.up (first_operation state k task) k begins server))
                 ∙ ap (λ x. counts_on after.sent k x server) (sym (own_begins state k task new)) in
-                let agreed : SeatAgrees w.plan.grid t k (busy_seat old code) after = record { op = now.0; answered = λ busy server. counts server; sits = now.1 } in
-                let put : seat_in seats (k - 1) ≡ busy_seat old code = get_or-set_same (seats_at w.seats t) (k - 1) (busy_seat old code) _ h.places in
-                subst (λ j. SeatAgrees w.plan.grid t j (seat_in seats place) after) at
-                (subst (λ q. SeatAgrees w.plan.grid t k (seat_in seats q) after) (sym same)
-                (subst (λ (x : Seat). SeatAgrees w.plan.grid t k x after) (sym put) agreed)))
+                let agreed : SessionStateAgrees w.plan.grid t k (busy_session_state old code) after = record { op = now.0; answered = λ busy server. counts server; sits = now.1 } in
+                let put : session_state_in session_states (k - 1) ≡ busy_session_state old code = get_or-set_same (session_states_at w.session_states t) (k - 1) (busy_session_state old code) _ h.places in
+                subst (λ j. SessionStateAgrees w.plan.grid t j (session_state_in session_states place) after) at
+                (subst (λ q. SessionStateAgrees w.plan.grid t k (session_state_in session_states q) after) (sym same)
+                (subst (λ (x : SessionState). SessionStateAgrees w.plan.grid t k x after) (sym put) agreed)))
             | inr other ↦ (
                 let apart : k ≢ place + 1 = λ x. other (omega arith) in
-                let kept : seat_in seats place ≡ seat_in (seats_at w.seats t) place = get_or-set_other (seats_at w.seats t) (k - 1) place (busy_seat old code) _ other in
-                let before = agrees.seats place within in
-                let there : Seat = seat_in (seats_at w.seats t) place in
+                let kept : session_state_in session_states place ≡ session_state_in (session_states_at w.session_states t) place = get_or-set_other (session_states_at w.session_states t) (k - 1) place (busy_session_state old code) _ other in
+                let before = agrees.session_states place within in
+                let there : SessionState = session_state_in (session_states_at w.session_states t) place in
                 let P : Session → Type 0 = λ x. (there.op ≡ x.op) × Sits w.plan.grid t there.floor there.operation x.floor (option_map (operation_with (place + 1) x) x.current) in
                 let now : P (after.session (place + 1)) = subst P (sym (other_stays state k (place + 1) task new apart)) (before.op, before.sits) in
                 let stays = other_stays state k (place + 1) task new apart in
-                let agreed : SeatAgrees w.plan.grid t (place + 1) there after = record {
+                let agreed : SessionStateAgrees w.plan.grid t (place + 1) there after = record {
                   op = now.0;
                   answered = λ busy server.
                       before.answered busy server
@@ -384,27 +384,27 @@ begun_own w t k task line causes code messages known owners r h agrees =
                       ∙ ap (λ x. counts_on after.sent (place + 1) x server) (sym stays);
                   sits = now.1;
                 } in
-                subst (λ (x : Seat). SeatAgrees w.plan.grid t (place + 1) x after) (sym kept) agreed)
+                subst (λ (x : SessionState). SessionStateAgrees w.plan.grid t (place + 1) x after) (sym kept) agreed)
           ]);
     }
 
 begun_other : (w : Tables) (t u place : ℕ) (code : Code) (messages : List Message) (known : Known) → u ≢ t → Agrees w u known → Agrees (begun_tables w t place code messages) u known
 begun_other w t u place code messages known other agrees =
-    let lane = lane_there w.lanes t u messages other in
-    let there : seats_at (begun_tables w t place code messages).seats u ≡ seats_at w.seats u = get_or-set_other w.seats t u _ [] other in
+    let channel = channel_there w.channels t u messages other in
+    let there : session_states_at (begun_tables w t place code messages).session_states u ≡ session_states_at w.session_states u = get_or-set_other w.session_states t u _ [] other in
     record {
       lines = agrees.lines;
       up = agrees.up;
       gone = agrees.gone;
       account = agrees.account;
-      sent = ap length lane ∙ agrees.sent;
+      sent = ap length channel ∙ agrees.sent;
       lost = agrees.lost;
-      messages = λ m. ap (λ l. message_at l m) lane ∙ agrees.messages m;
+      messages = λ m. ap (λ l. message_at l m) channel ∙ agrees.messages m;
       accounts = agrees.accounts;
       copies = agrees.copies;
       lacking = agrees.lacking;
       down = agrees.down;
-      seats = λ p within. subst (λ all. SeatAgrees w.plan.grid u (p + 1) (seat_in all p) known.state) (sym there) (agrees.seats p within);
+      session_states = λ p within. subst (λ all. SessionStateAgrees w.plan.grid u (p + 1) (session_state_in all p) known.state) (sym there) (agrees.session_states p within);
     }
 
 pub begun_acts : (w : Tables) (t k : ℕ) (task : Task) (line : Line) (causes : List Cause) (code : Code) (messages : List Message) → IsRequest w t k task line causes → IsBegun w t k task causes code messages → Acts w t line (begun_tables w t (k - 1) code messages)
@@ -418,15 +418,15 @@ begun_acts w t k task line causes code messages r h = record {
 
 -- ---- the conditions
 
--- the session has a seat in tables that are shaped
-pub place_there : (w : Tables) (t k : ℕ) → IsShaped w → t < length w.plan.rows → 1 ≤ k → k ≤ (row_at w.plan t).sessions → k - 1 < length (seats_at w.seats t)
-place_there w t k shaped within low high = let count = shaped.seats t within in omega arith
+-- the session has a session state in tables that are shaped
+pub place_there : (w : Tables) (t k : ℕ) → IsShaped w → t < length w.plan.rows → 1 ≤ k → k ≤ (row_at w.plan t).sessions → k - 1 < length (session_states_at w.session_states t)
+place_there w t k shaped within low high = let count = shaped.session_states t within in omega arith
 
 -- the number of the session's next operation is a u32
-pub number_left : (w : Tables) (t k : ℕ) (task : Task) (line : Line) (causes : List Cause) → IsRequest w t k task line causes → IsReady w t → first_cause causes ≡ None → (seat_before w t k).op < 4294967295
+pub number_left : (w : Tables) (t k : ℕ) (task : Task) (line : Line) (causes : List Cause) → IsRequest w t k task line causes → IsReady w t → first_cause causes ≡ None → (session_state_before w t k).op < 4294967295
 number_left w t k task line causes r ready asked =
     let s = r.session asked in
-    let seat = (seat_of w t k ready.known ready.agrees s.0 s.1).op in
+    let session_state = (session_state_of w t k ready.known ready.agrees s.0 s.1).op in
     let low = (ready.bounded.sessions k).op in
     let taken = ready.taken in
     let few = ready.few in
@@ -434,11 +434,11 @@ number_left w t k task line causes r ready asked =
 
 -- an operation that began for the session begins in the tables
 pub is_begun : (w : Tables) (t k : ℕ) (task : Task) (line : Line) (causes : List Cause) (code : Code) (messages : List Message) → IsRequest w t k task line causes → IsShaped w → t < length w.plan.rows → first_cause causes ≡ None → collect_quorum w.plan.grid (servers w.up) ≢ None →
-    Begins w.plan.grid (record { tenant = t; session = k; op = (seat_before w t k).op + 1 }) task (seat_before w t k).floor (servers w.up) code messages → IsBegun w t k task causes code messages
+    Begins w.plan.grid (record { tenant = t; session = k; op = (session_state_before w t k).op + 1 }) task (session_state_before w t k).floor (servers w.up) code messages → IsBegun w t k task causes code messages
 is_begun w t k task line causes code messages r shaped within asked quorum begins =
     let s = r.session asked in
     record {
-      lanes = rw shaped.lanes within;
+      channels = rw shaped.channels within;
       tenants = rw shaped.tenants within;
       places = place_there w t k shaped within s.0 s.1;
       asked = asked;
@@ -449,21 +449,21 @@ is_begun w t k task line causes code messages r shaped within asked quorum begin
 
 -- ---- what the code reads of the tables
 
--- the session's seat, among the tenant's, among all
-pub seat_read : (w : Tables) (t k : ℕ) (all : List (List Seat)) (seats items : List Seat) (seat none : Seat) (empty : List Seat) → all ≡ w.seats → t < length w.seats → k - 1 < length (seats_at w.seats t) →
-    seats ≡ slice_index_or all t empty → items ≡ seats → seat ≡ slice_index_or items (k - 1) none → seat ≡ seat_before w t k
-seat_read w t k all seats items seat none empty all_is tenants places seats_is items_is seat_is =
-    let there : seats ≡ seats_at w.seats t = seats_is ∙ ap (λ x. slice_index_or x t empty) all_is ∙ get_or_default w.seats t empty [] tenants in
-    let here : items ≡ seats_at w.seats t = items_is ∙ there in
-    seat_is ∙ ap (λ x. slice_index_or x (k - 1) none) here ∙ get_or_default (seats_at w.seats t) (k - 1) none no_seat places
+-- the session's state, among the tenant's, among all
+pub session_state_read : (w : Tables) (t k : ℕ) (all : List (List SessionState)) (session_states items : List SessionState) (session_state none : SessionState) (empty : List SessionState) → all ≡ w.session_states → t < length w.session_states → k - 1 < length (session_states_at w.session_states t) →
+    session_states ≡ slice_index_or all t empty → items ≡ session_states → session_state ≡ slice_index_or items (k - 1) none → session_state ≡ session_state_before w t k
+session_state_read w t k all session_states items session_state none empty all_is tenants places session_states_is items_is session_state_is =
+    let there : session_states ≡ session_states_at w.session_states t = session_states_is ∙ ap (λ x. slice_index_or x t empty) all_is ∙ get_or_default w.session_states t empty [] tenants in
+    let here : items ≡ session_states_at w.session_states t = items_is ∙ there in
+    session_state_is ∙ ap (λ x. slice_index_or x (k - 1) none) here ∙ get_or_default (session_states_at w.session_states t) (k - 1) none no_session_state places
 
--- what began with this grid, these servers and this seat, which are those of the tables
-pub began_with : (w : Tables) (t k : ℕ) (task : Task) (grid : Grid) (set : ServerSet) (seat : Seat) (code : Code) (messages : List Message) → grid ≡ w.plan.grid → set ≡ w.up → seat ≡ seat_before w t k →
-    Begins grid (record { tenant = t; session = k; op = seat.op + 1 }) task seat.floor (servers set) code messages →
-    Begins w.plan.grid (record { tenant = t; session = k; op = (seat_before w t k).op + 1 }) task (seat_before w t k).floor (servers w.up) code messages
-began_with w t k task grid set seat code messages grid_is set_is seat_is begins =
-    let B : Grid → ServerSet → Seat → Type 0 = λ g x y. Begins g (record { tenant = t; session = k; op = y.op + 1 }) task y.floor (servers x) code messages in
-    subst (λ g. B g w.up (seat_before w t k)) grid_is (subst (λ x. B grid x (seat_before w t k)) set_is (subst (λ y. B grid set y) seat_is begins))
+-- what began with this grid, these servers and this session state, which are those of the tables
+pub began_with : (w : Tables) (t k : ℕ) (task : Task) (grid : Grid) (set : ServerSet) (session_state : SessionState) (code : Code) (messages : List Message) → grid ≡ w.plan.grid → set ≡ w.up → session_state ≡ session_state_before w t k →
+    Begins grid (record { tenant = t; session = k; op = session_state.op + 1 }) task session_state.floor (servers set) code messages →
+    Begins w.plan.grid (record { tenant = t; session = k; op = (session_state_before w t k).op + 1 }) task (session_state_before w t k).floor (servers w.up) code messages
+began_with w t k task grid set session_state code messages grid_is set_is session_state_is begins =
+    let B : Grid → ServerSet → SessionState → Type 0 = λ g x y. Begins g (record { tenant = t; session = k; op = y.op + 1 }) task y.floor (servers x) code messages in
+    subst (λ g. B g w.up (session_state_before w t k)) grid_is (subst (λ x. B grid x (session_state_before w t k)) set_is (subst (λ y. B grid set y) session_state_is begins))
 
 -- the quorum of this grid and these servers
 pub quorum_with : (w : Tables) (grid : Grid) (set : ServerSet) → grid ≡ w.plan.grid → set ≡ w.up → collect_quorum grid (servers set) ≡ collect_quorum w.plan.grid (servers w.up)

@@ -20,7 +20,7 @@ use Rattle.gq_desk.specs.CheckedPlan.{row_at}
 use Rattle.gq_desk.specs.declared.plans.TenantRow.{TenantRow}
 use Rattle.gq_desk.specs.declared.volumes.VolumeRow.{VolumeRow}
 use Rattle.gq_desk.specs.Volumes.{Account, account_at, limit_in}
-use Rattle.gq_post.specs.Lanes.{lane_at, message_at}
+use Rattle.gq_post.specs.Channels.{channel_at, message_at}
 use Rattle.gq_store.specs.Copies.{StoreCopies, store_accounts, copy_at, file_limit}
 use Rattle.gq_store.specs.Serving.{server_reply, held_after, serve_fault, fault_in}
 use Rattle.gq_model.specs.declared.events.Line.TheVariants.{Deliver}
@@ -28,18 +28,18 @@ use Rattle.gq_model.specs.Told.{Replied, IsDown}
 use Rattle.gq_model.specs.Trace.{Own, Entry, State, Session, Known, changed, own_message_at, held, operation_with, serves, stored_by, account_of, operation, counts_on, is_awaited}
 use Rattle.gq_model.specs.Lone.{Step, quiet, reply_to, line_step}
 use Rattle.gq_laws.proofs.OperationMoments.{same_file}
-use Rattle.gq_world.specs.declared.sessions.Seat.{Seat}
+use Rattle.gq_world.specs.declared.sessions.SessionState.{SessionState}
 use Rattle.gq_world.specs.Bounds.{room, BodyFits, IsThere}
-use Rattle.gq_world.specs.Tables.{Tables, Agrees, SeatAgrees, Sits, IsReady, store_at, no_store, seats_at, seat_in, up_in}
+use Rattle.gq_world.specs.Tables.{Tables, Agrees, SessionStateAgrees, Sits, IsReady, store_at, no_store, session_states_at, session_state_in, up_in}
 use Rattle.gq_phase.specs.declared.operation.Operation.{Operation as Code}
 use Rattle.gq_phase.specs.Standing.{is_current_as}
 use Rattle.gq_phase.specs.Course.{round_of}
 use Rattle.gq_world.specs.Saying.{with_sent}
-use Rattle.gq_world.specs.Seats.{SeatAnswers, is_of}
+use Rattle.gq_world.specs.SessionStates.{SessionStateAnswers, is_of}
 use Rattle.gq_world.proofs.Counting.{counted, one_counted, not_own}
 use Rattle.gq_world.proofs.RetriesAndAbandons.{its_operation}
 use Rattle.gq_world.specs.Machine.{Acts, TellsLine, acted, state_after_turn}
-use Rattle.gq_world.proofs.Lanes.{sent_count, sent_messages, new_not_lost, lane_there}
+use Rattle.gq_world.proofs.Channels.{sent_count, sent_messages, new_not_lost, channel_there}
 use Rattle.gq_world.proofs.Ready.{found, message_fits}
 
 -- ---- the server is up or not
@@ -117,25 +117,25 @@ held_there takes session op round server file (Store copy) before s f other = rw
 
 -- ---- what the store did
 
-pub record Serves (w : Tables) (t n : ℕ) (m reply : Message) (store : StoreCopies) (seats : List Seat) : Type 0 where
-  pub there : message_at (lane_at w.lanes t) n ≡ Some m
+pub record Serves (w : Tables) (t n : ℕ) (m reply : Message) (store : StoreCopies) (session_states : List SessionState) : Type 0 where
+  pub there : message_at (channel_at w.channels t) n ≡ Some m
   pub goes : to_server m.body ≡ true
   pub up : servers w.up m.server ≡ true
-  pub lanes : t < length w.lanes
+  pub channels : t < length w.channels
   pub server : m.server < w.plan.grid.rows * w.plan.grid.cols
   pub stores : m.server < length w.stores
   pub reply_is : reply ≡ server_reply (copy_at (store_at w.stores m.server) m.file) m
   pub held : copy_at store m.file ≡ held_after (copy_at (store_at w.stores m.server) m.file) m.body
   pub others : (other : FileId) → other ≢ m.file → copy_at store other ≡ copy_at (store_at w.stores m.server) other
   pub accounts : store_accounts store ≡ store_accounts (store_at w.stores m.server)
-  pub tenants : t < length w.seats
+  pub tenants : t < length w.session_states
   pub first : 1 ≤ m.session
   pub last : m.session ≤ (row_at w.plan t).sessions
-  pub answers : SeatAnswers (seat_in (seats_at w.seats t) (m.session - 1)) (seat_in seats (m.session - 1)) m
-  pub stays : (place : ℕ) → place ≢ m.session - 1 → seat_in seats place ≡ seat_in (seats_at w.seats t) place
+  pub answers : SessionStateAnswers (session_state_in (session_states_at w.session_states t) (m.session - 1)) (session_state_in session_states (m.session - 1)) m
+  pub stays : (place : ℕ) → place ≢ m.session - 1 → session_state_in session_states place ≡ session_state_in (session_states_at w.session_states t) place
 
-abbrev pub served_tables : Tables → ℕ → Message → Message → StoreCopies → List Seat → Tables
-served_tables w t m reply store seats = record w { stores = slice_set w.stores m.server store; lanes = with_sent w.lanes t (reply ∷ []); seats = slice_set w.seats t seats }
+abbrev pub served_tables : Tables → ℕ → Message → Message → StoreCopies → List SessionState → Tables
+served_tables w t m reply store session_states = record w { stores = slice_set w.stores m.server store; channels = with_sent w.channels t (reply ∷ []); session_states = slice_set w.session_states t session_states }
 
 reply_as : (t : ℕ) (copy : StoredCopy) (message : OwnMessage) → to_server message.body ≡ true → server_reply copy (message_of t message) ≡ message_of t (reply_to copy message)
 reply_as t copy message goes = refl
@@ -159,10 +159,10 @@ other_file t a b differs same =
     let e = sym is ∙ differs in
     cc
 
-copies_here : (w : Tables) (t n : ℕ) (m reply : Message) (store : StoreCopies) (seats : List Seat) (known : Known) (message : OwnMessage) → Serves w t n m reply store seats → Agrees w t known → m ≡ message_of t message → serves known.state.up known.state.lacks message.server message.file ≡ true →
+copies_here : (w : Tables) (t n : ℕ) (m reply : Message) (store : StoreCopies) (session_states : List SessionState) (known : Known) (message : OwnMessage) → Serves w t n m reply store session_states → Agrees w t known → m ≡ message_of t message → serves known.state.up known.state.lacks message.server message.file ≡ true →
     (s : ℕ) → s < w.plan.grid.rows * w.plan.grid.cols → (file : File) →
     copy_at (store_at (slice_set w.stores m.server store) s) (file_of t file) ≡ held (changed (serving n message (length known.state.sent) (held known.state message.server message.file)) known.state) s file
-copies_here w t n m reply store seats known message h agrees is up s within file =
+copies_here w t n m reply store session_states known message h agrees is up s within file =
     let server : m.server ≡ message.server = ap (λ (x : Message). x.server) is in
     let file_is : m.file ≡ file_of t message.file = ap (λ (x : Message). x.file) is in
     let body : m.body ≡ message.body = ap (λ (x : Message). x.body) is in
@@ -206,35 +206,35 @@ copies_here w t n m reply store seats known message h agrees is up s within file
 pub no_deed : (state : State) (n first k : ℕ) (message : OwnMessage) (copy : StoredCopy) → to_server message.body ≡ true → (changed (serving n message first copy) state).session k ≡ state.session k
 no_deed state n first k message copy goes = rw goes refl
 
-pub seat_same : (grid : Grid) (t k : ℕ) (seat : Seat) (old new : State) → new.session k ≡ old.session k → ((server : ℕ) → counts_on new.sent k (old.session k) server ≡ counts_on old.sent k (old.session k) server) → SeatAgrees grid t k seat old → SeatAgrees grid t k seat new
-seat_same grid t k seat old new same counts agrees =
-    let P : Session → Type 0 = λ after. (seat.op ≡ after.op) × (IsSome seat.operation → (server : ℕ) → servers seat.answered server ≡ counts_on new.sent k after server) × Sits grid t seat.floor seat.operation after.floor (option_map (operation_with k after) after.current) in
+pub session_state_same : (grid : Grid) (t k : ℕ) (session_state : SessionState) (old new : State) → new.session k ≡ old.session k → ((server : ℕ) → counts_on new.sent k (old.session k) server ≡ counts_on old.sent k (old.session k) server) → SessionStateAgrees grid t k session_state old → SessionStateAgrees grid t k session_state new
+session_state_same grid t k session_state old new same counts agrees =
+    let P : Session → Type 0 = λ after. (session_state.op ≡ after.op) × (IsSome session_state.operation → (server : ℕ) → servers session_state.answered server ≡ counts_on new.sent k after server) × Sits grid t session_state.floor session_state.operation after.floor (option_map (operation_with k after) after.current) in
     let now : P (new.session k) = subst P (sym same) (agrees.op, (λ busy server. agrees.answered busy server ∙ sym (counts server)), agrees.sits) in
     record { op = now.0; answered = now.1; sits = now.2 }
 
--- the seat of the message's session, from which a server sends a reply; and another one
-seat_answers : (grid : Grid) (t : ℕ) (seat now : Seat) (m : Message) (old new : State) (message : OwnMessage) (copy : StoredCopy) → to_server message.body ≡ true → m ≡ message_of t message → SeatAnswers seat now m →
-    new.sent ≡ old.sent ++ reply_to copy message ∷ [] → new.session message.session ≡ old.session message.session → SeatAgrees grid t message.session seat old → SeatAgrees grid t message.session now new
-seat_answers grid t seat now m old new message copy goes is answers sent same agrees =
+-- the session state of the message's session, from which a server sends a reply; and another one
+session_state_answers : (grid : Grid) (t : ℕ) (session_state now : SessionState) (m : Message) (old new : State) (message : OwnMessage) (copy : StoredCopy) → to_server message.body ≡ true → m ≡ message_of t message → SessionStateAnswers session_state now m →
+    new.sent ≡ old.sent ++ reply_to copy message ∷ [] → new.session message.session ≡ old.session message.session → SessionStateAgrees grid t message.session session_state old → SessionStateAgrees grid t message.session now new
+session_state_answers grid t session_state now m old new message copy goes is answers sent same agrees =
     let k : ℕ = message.session in
     let s : Session = old.session k in
-    let C : Option Code → Type 0 = λ code. Sits grid t seat.floor code s.floor (option_map (operation_with k s) s.current) in
-    let one : (code : Code) → seat.operation ≡ Some code → (server : ℕ) → servers now.answered server ≡ counts_on new.sent k s server = λ code here server.
-    let o = its_operation grid t seat.floor s.floor code k s s.current (subst C here agrees.sits) in
+    let C : Option Code → Type 0 = λ code. Sits grid t session_state.floor code s.floor (option_map (operation_with k s) s.current) in
+    let one : (code : Code) → session_state.operation ≡ Some code → (server : ℕ) → servers now.answered server ≡ counts_on new.sent k s server = λ code here server.
+    let o = its_operation grid t session_state.floor s.floor code k s s.current (subst C here agrees.sits) in
     answers.answered server
-    ∙ ap (λ b. b || (is_of seat.operation m && (m.server == server))) (agrees.answered (rw here refl) server)
+    ∙ ap (λ b. b || (is_of session_state.operation m && (m.server == server))) (agrees.answered (rw here refl) server)
     ∙ ap (λ b. counts_on old.sent k s server || b) (
     ap (λ code. is_of code m && (m.server == server)) here
     ∙ ap (λ (l : Message). is_current_as code l && (l.server == server)) is
     ∙ counted_so code s message copy server goes o.2.going o.2.op o.2.round (ap is_some o.1))
     ∙ sym (one_counted old.sent (reply_to copy message) k s server)
     ∙ ap (λ l. counts_on l k s server) (sym sent) in
-    let P : Session → Type 0 = λ after. (seat.op ≡ after.op) × (IsSome seat.operation → (server : ℕ) → servers now.answered server ≡ counts_on new.sent k after server) × Sits grid t seat.floor seat.operation after.floor (option_map (operation_with k after) after.current) in
-    let all : P (new.session k) = subst P (sym same) (agrees.op, (λ busy server. let c = some_of seat.operation busy in one c.0 c.1 server), agrees.sits) in
+    let P : Session → Type 0 = λ after. (session_state.op ≡ after.op) × (IsSome session_state.operation → (server : ℕ) → servers now.answered server ≡ counts_on new.sent k after server) × Sits grid t session_state.floor session_state.operation after.floor (option_map (operation_with k after) after.current) in
+    let all : P (new.session k) = subst P (sym same) (agrees.op, (λ busy server. let c = some_of session_state.operation busy in one c.0 c.1 server), agrees.sits) in
     record {
       op = answers.op ∙ all.0;
       answered = λ busy server. all.1 (subst (λ o. IsSome o) answers.operation busy) server;
-      sits = subst (λ floor. Sits grid t floor now.operation (new.session k).floor (operation new k)) (sym answers.floor) (subst (λ code. Sits grid t seat.floor code (new.session k).floor (operation new k)) (sym answers.operation) all.2);
+      sits = subst (λ floor. Sits grid t floor now.operation (new.session k).floor (operation new k)) (sym answers.floor) (subst (λ code. Sits grid t session_state.floor code (new.session k).floor (operation new k)) (sym answers.operation) all.2);
     }
   where
     some_of : (o : Option Code) → IsSome o → (code : Code) × (o ≡ Some code)
@@ -270,16 +270,16 @@ seat_answers grid t seat now m old new message copy goes is answers sent same ag
     counted_so code s message copy server goes going op round busy =
         rw (going, op, round, busy, reply_body copy message.body goes, eq-eqb message.session message.session refl) (turned (message.op == s.op) (message.round == s.round) (message.server == server) (server == message.server) (turn_eq message.server server))
 
-seat_apart : (grid : Grid) (t k : ℕ) (seat : Seat) (old new : State) (message : OwnMessage) (copy : StoredCopy) → new.sent ≡ old.sent ++ reply_to copy message ∷ [] → new.session k ≡ old.session k → message.session ≢ k → SeatAgrees grid t k seat old → SeatAgrees grid t k seat new
-seat_apart grid t k seat old new message copy sent same other agrees = seat_same grid t k seat old new same (λ server.
+session_state_apart : (grid : Grid) (t k : ℕ) (session_state : SessionState) (old new : State) (message : OwnMessage) (copy : StoredCopy) → new.sent ≡ old.sent ++ reply_to copy message ∷ [] → new.session k ≡ old.session k → message.session ≢ k → SessionStateAgrees grid t k session_state old → SessionStateAgrees grid t k session_state new
+session_state_apart grid t k session_state old new message copy sent same other agrees = session_state_same grid t k session_state old new same (λ server.
     ap (λ l. counts_on l k (old.session k) server) sent
     ∙ one_counted old.sent (reply_to copy message) k (old.session k) server
     ∙ ap (λ b. counts_on old.sent k (old.session k) server || b) (not_own (not (to_server (reply_to copy message).body)) (message.session == k) ((server == message.server) && is_awaited (old.session k) (reply_to copy message)) (ne_eqb message.session k other))
     ∙ or-false (counts_on old.sent k (old.session k) server)) agrees
 
-served_own : (w : Tables) (t n : ℕ) (m reply : Message) (store : StoreCopies) (seats : List Seat) (known : Known) (message : OwnMessage) → Serves w t n m reply store seats → Agrees w t known → m ≡ message_of t message → serves known.state.up known.state.lacks message.server message.file ≡ true →
-    Agrees (served_tables w t m reply store seats) t (record known { state = changed (serving n message (length known.state.sent) (held known.state message.server message.file)) known.state })
-served_own w t n m reply store seats known message h agrees is up =
+served_own : (w : Tables) (t n : ℕ) (m reply : Message) (store : StoreCopies) (session_states : List SessionState) (known : Known) (message : OwnMessage) → Serves w t n m reply store session_states → Agrees w t known → m ≡ message_of t message → serves known.state.up known.state.lacks message.server message.file ≡ true →
+    Agrees (served_tables w t m reply store session_states) t (record known { state = changed (serving n message (length known.state.sent) (held known.state message.server message.file)) known.state })
+served_own w t n m reply store session_states known message h agrees is up =
     let state : State = known.state in
     let copy : StoredCopy = held state message.server message.file in
     let new : List OwnMessage = reply_to copy message ∷ [] in
@@ -288,52 +288,52 @@ served_own w t n m reply store seats known message h agrees is up =
     let held_is : copy_at (store_at w.stores m.server) m.file ≡ copy =
     ap (λ (x : Message). copy_at (store_at w.stores m.server) x.file) is ∙ agrees.copies m.server h.server message.file ∙ ap (λ x. held state x message.file) server in
     let reply_is : reply ≡ message_of t (reply_to copy message) = h.reply_is ∙ ap (λ c. server_reply c m) held_is ∙ ap (server_reply copy) is ∙ reply_as t copy message goes in
-    let lanes_is : with_sent w.lanes t (reply ∷ []) ≡ with_sent w.lanes t (map (message_of t) new) = ap (λ r. with_sent w.lanes t (r ∷ [])) reply_is in
+    let channels_is : with_sent w.channels t (reply ∷ []) ≡ with_sent w.channels t (map (message_of t) new) = ap (λ r. with_sent w.channels t (r ∷ [])) reply_is in
     record {
       lines = agrees.lines;
       up = agrees.up;
       gone = agrees.gone;
       account = agrees.account;
-      sent = ap (λ lanes. length (lane_at lanes t)) lanes_is ∙ sent_count w.lanes t state new h.lanes agrees.sent;
+      sent = ap (λ channels. length (channel_at channels t)) channels_is ∙ sent_count w.channels t state new h.channels agrees.sent;
       lost = new_not_lost state new agrees.lost;
-      messages = λ k. ap (λ lanes. message_at (lane_at lanes t) k) lanes_is ∙ sent_messages w.lanes t state new h.lanes agrees.sent agrees.messages agrees.lost k;
+      messages = λ k. ap (λ channels. message_at (channel_at channels t) k) channels_is ∙ sent_messages w.channels t state new h.channels agrees.sent agrees.messages agrees.lost k;
       accounts = λ s within. account_stays w t m store s h.stores h.accounts (agrees.accounts s within);
-      copies = copies_here w t n m reply store seats known message h agrees is up;
+      copies = copies_here w t n m reply store session_states known message h agrees is up;
       lacking = agrees.lacking;
       down = agrees.down;
-      seats = λ place within.
+      session_states = λ place within.
           let after : State = changed (serving n message (length state.sent) copy) state in
           let first = h.first in
           let session : m.session ≡ message.session = ap (λ (x : Message). x.session) is in
           let same : (k : ℕ) → after.session k ≡ state.session k = λ k. no_deed state n (length state.sent) k message copy goes in
-          let here : seats_at (slice_set w.seats t seats) t ≡ seats = get_or-set_same w.seats t seats [] h.tenants in
-          subst (λ all. SeatAgrees w.plan.grid t (place + 1) (seat_in all place) after) (sym here) (elim (cases_eq place (m.session - 1)) [
+          let here : session_states_at (slice_set w.session_states t session_states) t ≡ session_states = get_or-set_same w.session_states t session_states [] h.tenants in
+          subst (λ all. SessionStateAgrees w.plan.grid t (place + 1) (session_state_in all place) after) (sym here) (elim (cases_eq place (m.session - 1)) [
             | inl at ↦ (
                 let k : place + 1 ≡ message.session = omega arith in
-                let old : Seat = seat_in (seats_at w.seats t) (m.session - 1) in
-                let before : SeatAgrees w.plan.grid t message.session old state =
-                subst (λ j. SeatAgrees w.plan.grid t j old state) k (subst (λ q. SeatAgrees w.plan.grid t (place + 1) (seat_in (seats_at w.seats t) q) state) at (agrees.seats place within)) in
-                subst (λ j. SeatAgrees w.plan.grid t j (seat_in seats place) after) (sym k)
-                (subst (λ q. SeatAgrees w.plan.grid t message.session (seat_in seats q) after) (sym at)
-                (seat_answers w.plan.grid t old (seat_in seats (m.session - 1)) m state after message copy goes is h.answers refl (same message.session) before)))
+                let old : SessionState = session_state_in (session_states_at w.session_states t) (m.session - 1) in
+                let before : SessionStateAgrees w.plan.grid t message.session old state =
+                subst (λ j. SessionStateAgrees w.plan.grid t j old state) k (subst (λ q. SessionStateAgrees w.plan.grid t (place + 1) (session_state_in (session_states_at w.session_states t) q) state) at (agrees.session_states place within)) in
+                subst (λ j. SessionStateAgrees w.plan.grid t j (session_state_in session_states place) after) (sym k)
+                (subst (λ q. SessionStateAgrees w.plan.grid t message.session (session_state_in session_states q) after) (sym at)
+                (session_state_answers w.plan.grid t old (session_state_in session_states (m.session - 1)) m state after message copy goes is h.answers refl (same message.session) before)))
             | inr other ↦ (
                 let apart : message.session ≢ place + 1 = λ e. other (omega arith) in
-                subst (λ (seat : Seat). SeatAgrees w.plan.grid t (place + 1) seat after) (sym (h.stays place other))
-                (seat_apart w.plan.grid t (place + 1) (seat_in (seats_at w.seats t) place) state after message copy refl (same (place + 1)) apart (agrees.seats place within)))
+                subst (λ (session_state : SessionState). SessionStateAgrees w.plan.grid t (place + 1) session_state after) (sym (h.stays place other))
+                (session_state_apart w.plan.grid t (place + 1) (session_state_in (session_states_at w.session_states t) place) state after message copy refl (same (place + 1)) apart (agrees.session_states place within)))
           ]);
     }
 
-served_other : (w : Tables) (t u n : ℕ) (m reply : Message) (store : StoreCopies) (seats : List Seat) (known : Known) → u ≢ t → m.file.tenant ≡ t → Serves w t n m reply store seats → Agrees w u known → Agrees (served_tables w t m reply store seats) u known
-served_other w t u n m reply store seats known other tenant h agrees =
-    let lane : lane_at (with_sent w.lanes t (reply ∷ [])) u ≡ lane_at w.lanes u = lane_there w.lanes t u (reply ∷ []) other in
+served_other : (w : Tables) (t u n : ℕ) (m reply : Message) (store : StoreCopies) (session_states : List SessionState) (known : Known) → u ≢ t → m.file.tenant ≡ t → Serves w t n m reply store session_states → Agrees w u known → Agrees (served_tables w t m reply store session_states) u known
+served_other w t u n m reply store session_states known other tenant h agrees =
+    let channel : channel_at (with_sent w.channels t (reply ∷ [])) u ≡ channel_at w.channels u = channel_there w.channels t u (reply ∷ []) other in
     record {
       lines = agrees.lines;
       up = agrees.up;
       gone = agrees.gone;
       account = agrees.account;
-      sent = ap length lane ∙ agrees.sent;
+      sent = ap length channel ∙ agrees.sent;
       lost = agrees.lost;
-      messages = λ k. ap (λ l. message_at l k) lane ∙ agrees.messages k;
+      messages = λ k. ap (λ l. message_at l k) channel ∙ agrees.messages k;
       accounts = λ s within. account_stays w u m store s h.stores h.accounts (agrees.accounts s within);
       copies = λ s within file. elim (cases_eq s m.server) [
         | inr apart ↦ (ap (λ (x : StoreCopies). copy_at x (file_of u file)) (get_or-set_other w.stores m.server s store no_store apart) ∙ agrees.copies s within file)
@@ -344,11 +344,11 @@ served_other w t u n m reply store seats known other tenant h agrees =
       ];
       lacking = agrees.lacking;
       down = agrees.down;
-      seats = λ place within. subst (λ all. SeatAgrees w.plan.grid u (place + 1) (seat_in all place) known.state) (sym (get_or-set_other w.seats t u seats [] other)) (agrees.seats place within);
+      session_states = λ place within. subst (λ all. SessionStateAgrees w.plan.grid u (place + 1) (session_state_in all place) known.state) (sym (get_or-set_other w.session_states t u session_states [] other)) (agrees.session_states place within);
     }
 
-pub served_tells : (w : Tables) (t n : ℕ) (m reply : Message) (store : StoreCopies) (seats : List Seat) → Serves w t n m reply store seats → TellsLine w t (Deliver n) (Replied (length (lane_at w.lanes t)))
-served_tells w t n m reply store seats h known agrees =
+pub served_tells : (w : Tables) (t n : ℕ) (m reply : Message) (store : StoreCopies) (session_states : List SessionState) → Serves w t n m reply store session_states → TellsLine w t (Deliver n) (Replied (length (channel_at w.channels t)))
+served_tells w t n m reply store session_states h known agrees =
     let f = found w t n m known agrees h.there in
     let message : OwnMessage = f.0 in
     let goes : to_server message.body ≡ true = ap (λ (x : Message). to_server x.body) (sym f.2) ∙ h.goes in
@@ -356,8 +356,8 @@ served_tells w t n m reply store seats h known agrees =
     let up : serves known.state.up known.state.lacks message.server message.file ≡ true = serves_up w t m.server true known message agrees server h.server h.up in
     ap Replied agrees.sent ∙ sym (ap (λ (step : Step). step.told) (serve_is w.plan.grid (row_at w.plan t) known.state n message f.1 goes up))
 
-pub served_acts : (w : Tables) (t n : ℕ) (m reply : Message) (store : StoreCopies) (seats : List Seat) → IsReady w t → Serves w t n m reply store seats → Acts w t (Deliver n) (served_tables w t m reply store seats)
-served_acts w t n m reply store seats ready h = record {
+pub served_acts : (w : Tables) (t n : ℕ) (m reply : Message) (store : StoreCopies) (session_states : List SessionState) → IsReady w t → Serves w t n m reply store session_states → Acts w t (Deliver n) (served_tables w t m reply store session_states)
+served_acts w t n m reply store session_states ready h = record {
   plan = refl;
   own = λ known most bounded agrees.
       let f = found w t n m known agrees h.there in
@@ -365,12 +365,12 @@ served_acts w t n m reply store seats ready h = record {
       let goes : to_server message.body ≡ true = ap (λ (x : Message). to_server x.body) (sym f.2) ∙ h.goes in
       let server : m.server ≡ message.server = ap (λ (x : Message). x.server) f.2 in
       let up : serves known.state.up known.state.lacks message.server message.file ≡ true = serves_up w t m.server true known message agrees server h.server h.up in
-      subst (Agrees (served_tables w t m reply store seats) t) (sym (served_known w.plan.grid (row_at w.plan t) known n message f.1 goes up))
-      (served_own w t n m reply store seats known message h agrees f.2 up);
+      subst (Agrees (served_tables w t m reply store session_states) t) (sym (served_known w.plan.grid (row_at w.plan t) known n message f.1 goes up))
+      (served_own w t n m reply store session_states known message h agrees f.2 up);
   others = λ u other known agrees.
       let f = found w t n m ready.known ready.agrees h.there in
       let tenant : m.file.tenant ≡ t = ap (λ (x : Message). x.file.tenant) f.2 in
-      served_other w t u n m reply store seats known other tenant h agrees;
+      served_other w t u n m reply store session_states known other tenant h agrees;
   servers = refl;
   gone = refl;
 }
@@ -378,7 +378,7 @@ served_acts w t n m reply store seats ready h = record {
 -- ---- the server is down
 
 pub record IsDownAt (w : Tables) (t n : ℕ) (m : Message) : Type 0 where
-  pub there : message_at (lane_at w.lanes t) n ≡ Some m
+  pub there : message_at (channel_at w.channels t) n ≡ Some m
   pub goes : to_server m.body ≡ true
   pub down : servers w.up m.server ≡ false
   pub server : m.server < w.plan.grid.rows * w.plan.grid.cols
@@ -425,8 +425,8 @@ down_own w t n known message agrees goes down =
           ∙ sym (ap (λ copies. greatest (first_copy ∷ copies)) (nothing_brought (serves state.up state.lacks) message.session message.op message.round message.server message.file message.body state.brought s file down));
       lacking = agrees.lacking;
       down = agrees.down;
-      seats = λ place within. seat_same w.plan.grid t (place + 1) (seat_in (seats_at w.seats t) place) state (changed (record { turn = Own (Deliver n); message = Some message; told = IsDown; new = [] }) state)
-          (down_deed state n (place + 1) message goes) (λ server. ap (λ l. counts_on l (place + 1) (state.session (place + 1)) server) nothing) (agrees.seats place within);
+      session_states = λ place within. session_state_same w.plan.grid t (place + 1) (session_state_in (session_states_at w.session_states t) place) state (changed (record { turn = Own (Deliver n); message = Some message; told = IsDown; new = [] }) state)
+          (down_deed state n (place + 1) message goes) (λ server. ap (λ l. counts_on l (place + 1) (state.session (place + 1)) server) nothing) (agrees.session_states place within);
     }
   where
     down_deed : (state : State) (n k : ℕ) (message : OwnMessage) → to_server message.body ≡ true → (changed (record { turn = Own (Deliver n); message = Some message; told = IsDown; new = [] }) state).session k ≡ state.session k
@@ -470,7 +470,7 @@ pub file_there : (limit : Option ℕ) (body : Body) → fault_in limit body ≡ 
 file_there None body served = absurd (cc)
 file_there (Some limit) body served = refl
 
-pub never_refused : (w : Tables) (t n : ℕ) (m : Message) (r : IsReady w t) → message_at (lane_at w.lanes t) n ≡ Some m → serve_fault (store_at w.stores m.server) m ≡ None
+pub never_refused : (w : Tables) (t n : ℕ) (m : Message) (r : IsReady w t) → message_at (channel_at w.channels t) n ≡ Some m → serve_fault (store_at w.stores m.server) m ≡ None
 never_refused w t n m r there =
     let f = found w t n m r.known r.agrees there in
     let message : OwnMessage = f.0 in

@@ -17,7 +17,7 @@ use Rattle.gq_model.specs.Told.{Told, ServerOk, Repaired}
 use Rattle.gq_model.specs.Trace.{Serving, State, Session, Known, Elsewhere, Ends, changed, session_by, counts_on, left_by, is_given, copy_of}
 use Rattle.gq_model.specs.Lone.{entry_of, quiet, server_told, is_refusal}
 use Rattle.gq_model.specs.Events.{turn_of}
-use Rattle.gq_model.proofs.Mates.{Repair, repair}
+use Rattle.gq_model.proofs.Peers.{Repair, repair}
 use Rattle.gq_world.specs.Bounds.{CopyFits, room, SessionFits, IsOfSession, IsBounded}
 use Rattle.gq_world.specs.Tables.{Tables, IsKnown}
 use Rattle.gq_world.specs.Whole.{AllSound}
@@ -31,9 +31,9 @@ abbrev pub Bounded : Grid → TenantRow → Known → Type 0
 Bounded grid row known = IsBounded grid row known.lines known.state
 
 -- what a loss or a repair leaves of the copies that came to a server fits
-left_fits : (n m mate : ℕ) (volumes : List VolumeRow) (lacking : ℕ → File → Bool) (before : ℕ → File → List StoredCopy) → ((s : ℕ) (f : File) → All (CopyFits n (room volumes f.volume)) (before s f)) → (s : ℕ) (f : File) →
-    All (CopyFits n (room volumes f.volume)) (left_by lacking (Serving (ServerLost m)) ServerOk before s f) × All (CopyFits n (room volumes f.volume)) (left_by lacking (Serving (ServerRepaired m)) (Repaired mate) before s f)
-left_fits n m mate volumes lacking before all s f = (by (m == s), given (is_given (Repaired mate) m lacking s f))
+left_fits : (n m peer : ℕ) (volumes : List VolumeRow) (lacking : ℕ → File → Bool) (before : ℕ → File → List StoredCopy) → ((s : ℕ) (f : File) → All (CopyFits n (room volumes f.volume)) (before s f)) → (s : ℕ) (f : File) →
+    All (CopyFits n (room volumes f.volume)) (left_by lacking (Serving (ServerLost m)) ServerOk before s f) × All (CopyFits n (room volumes f.volume)) (left_by lacking (Serving (ServerRepaired m)) (Repaired peer) before s f)
+left_fits n m peer volumes lacking before all s f = (by (m == s), given (is_given (Repaired peer) m lacking s f))
   where
     F : StoredCopy → Type 0
     F = CopyFits n (room volumes f.volume)
@@ -42,8 +42,8 @@ left_fits n m mate volumes lacking before all s f = (by (m == s), given (is_give
     by true = All-nil (CopyFits n (room volumes f.volume))
     by false = all s f
 
-    given : (b : Bool) → All (CopyFits n (room volumes f.volume)) (if b then copy_of (before mate f) ∷ [] else before s f)
-    given true = All-cons (CopyFits n (room volumes f.volume)) (copy_of (before mate f)) [] (held_fits n (room volumes f.volume) (before mate f) (all mate f)) (All-nil (CopyFits n (room volumes f.volume)))
+    given : (b : Bool) → All (CopyFits n (room volumes f.volume)) (if b then copy_of (before peer f) ∷ [] else before s f)
+    given true = All-cons (CopyFits n (room volumes f.volume)) (copy_of (before peer f)) [] (held_fits n (room volumes f.volume) (before peer f) (all peer f)) (All-nil (CopyFits n (room volumes f.volume)))
     given false = all s f
 
 -- a session that may have been given up
@@ -68,8 +68,8 @@ accepted_bounded grid row n state (ServerLost m) h fine = kept_bounded grid row 
 accepted_bounded grid row n state (ServerRepaired m) h fine =
     let r : Repair grid state.up state.gone m = repair grid state.up state.gone m fine in
     let P : Told → Type 0 = λ told. IsBounded grid row n (changed (entry_of state (Serving (ServerRepaired m)) (quiet told)) state) in
-    subst P (sym r.told) (kept_bounded grid row n state (changed (entry_of state (Serving (ServerRepaired m)) (quiet (Repaired r.mate))) state) h refl (append-nil state.sent)
-    (λ server file. (left_fits n m r.mate state.volumes state.lacks state.brought h.brought server file).1)
+    subst P (sym r.told) (kept_bounded grid row n state (changed (entry_of state (Serving (ServerRepaired m)) (quiet (Repaired r.peer))) state) h refl (append-nil state.sent)
+    (λ server file. (left_fits n m r.peer state.volumes state.lacks state.brought h.brought server file).1)
     (λ k. h.sessions k)
     (λ k l is. is))
 

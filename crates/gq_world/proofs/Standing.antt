@@ -29,7 +29,7 @@ counted_on row lines (Own line) = lines_on row.steps lines
 counted_on row lines (Serving line) = refl
 counted_on row lines (Leaping k op number) = refl
 counted_on row lines (Losing s volumes) = refl
-counted_on row lines (Returning s f mate copy) = refl
+counted_on row lines (Returning s f peer copy) = refl
 
 state_on : (t : Trace) (turn : Turn) (s : Step) → questions (trace_after t turn s) ≡ state_after_turn (questions t) turn s
 state_on t turn s = by (is_refusal s.told)

@@ -16,11 +16,11 @@ use Rattle.gq_desk.specs.declared.limits.TheConstants.{MOST_SESSIONS}
 use Rattle.gq_desk.specs.declared.plans.TenantRow.{TenantRow}
 use Rattle.gq_desk.specs.CheckedPlan.{CheckedPlan, nobody, row_at}
 use Rattle.gq_desk.specs.Volumes.{no_account, account_at, new_account}
-use Rattle.gq_post.specs.Lanes.{lane_at, message_at}
+use Rattle.gq_post.specs.Channels.{channel_at, message_at}
 use Rattle.gq_store.specs.Copies.{StoreCopies, VolumeCopies, copies_account, store_accounts, new_tenant, empty_store, tenant_in, volume_copy, copy_at, empty_volume}
 use Rattle.gq_model.specs.Trace.{questions}
-use Rattle.gq_world.specs.declared.sessions.Seat.{Seat}
-use Rattle.gq_world.specs.Tables.{Tables, Agrees, Stands, SeatAgrees, IsOfPlan, IsShaped, up_in, gone_in, store_at, no_store, seats_at, seat_in, no_seat}
+use Rattle.gq_world.specs.declared.sessions.SessionState.{SessionState}
+use Rattle.gq_world.specs.Tables.{Tables, Agrees, Stands, SessionStateAgrees, IsOfPlan, IsShaped, up_in, gone_in, store_at, no_store, session_states_at, session_state_in, no_session_state}
 use Rattle.gq_world.specs.Whole.{AllSound, FewSessions, IsFirst}
 use Rattle.gq_world.proofs.Steps.{start_bounded}
 
@@ -45,20 +45,20 @@ fresh_at rows t = rw (slice_get-map new_account rows t) (by (slice_get rows t))
     by None = refl
     by (Some row) = refl
 
-no_lane : (count t : ℕ) → lane_at (replicate count []) t ≡ []
-no_lane zero t = refl
-no_lane (suc count) zero = refl
-no_lane (suc count) (suc t) = no_lane count t
+no_channel : (count t : ℕ) → channel_at (replicate count []) t ≡ []
+no_channel zero t = refl
+no_channel (suc count) zero = refl
+no_channel (suc count) (suc t) = no_channel count t
 
 -- ---- the sessions
 
-abbrev new_seats : TenantRow → List Seat
-new_seats row = replicate row.sessions no_seat
+abbrev new_session_states : TenantRow → List SessionState
+new_session_states row = replicate row.sessions no_session_state
 
-seats_are : (rows : List TenantRow) (t : ℕ) → t < length rows → seats_at (map new_seats rows) t ≡ replicate (unwrap_or (slice_get rows t) nobody).sessions no_seat
-seats_are [] t within = absurd (omega arith)
-seats_are (row ∷ rows) zero within = refl
-seats_are (row ∷ rows) (suc t) within = seats_are rows t (omega arith)
+session_states_are : (rows : List TenantRow) (t : ℕ) → t < length rows → session_states_at (map new_session_states rows) t ≡ replicate (unwrap_or (slice_get rows t) nobody).sessions no_session_state
+session_states_are [] t within = absurd (omega arith)
+session_states_are (row ∷ rows) zero within = refl
+session_states_are (row ∷ rows) (suc t) within = session_states_are rows t (omega arith)
 
 -- ---- the stores
 
@@ -84,21 +84,21 @@ of_plan plan = record { blocks = refl; tenants = length-map (map new_tenant plan
 
 pub first_shaped : (plan : CheckedPlan) (w : Tables) → w.plan ≡ plan → IsFirst plan w → FewSessions plan → plan.grid.rows * plan.grid.cols ≤ MOST_SERVERS → IsShaped w
 first_shaped plan w is first few small =
-    let S : CheckedPlan → Type 0 = λ p. (length w.lines ≡ length p.rows) × (length w.desk ≡ length p.rows) × (length w.lanes ≡ length p.rows) × (length w.stores ≡ p.grid.rows * p.grid.cols) × All (IsOfPlan p) w.stores × (length w.seats ≡ length p.rows)
-    × ((t : ℕ) → t < length p.rows → length (seats_at w.seats t) ≡ (row_at p t).sessions) × ((t : ℕ) → t < length p.rows → (row_at p t).sessions ≤ MOST_SESSIONS) × (p.grid.rows * p.grid.cols ≤ MOST_SERVERS) in
+    let S : CheckedPlan → Type 0 = λ p. (length w.lines ≡ length p.rows) × (length w.desk ≡ length p.rows) × (length w.channels ≡ length p.rows) × (length w.stores ≡ p.grid.rows * p.grid.cols) × All (IsOfPlan p) w.stores × (length w.session_states ≡ length p.rows)
+    × ((t : ℕ) → t < length p.rows → length (session_states_at w.session_states t) ≡ (row_at p t).sessions) × ((t : ℕ) → t < length p.rows → (row_at p t).sessions ≤ MOST_SESSIONS) × (p.grid.rows * p.grid.cols ≤ MOST_SERVERS) in
     let all : S plan = (
       ap length first.lines ∙ length-replicate (length plan.rows) 0,
       ap length first.desk ∙ length-map plan.rows new_account,
-      ap length first.lanes ∙ length-replicate (length plan.rows) [],
+      ap length first.channels ∙ length-replicate (length plan.rows) [],
       ap length first.stores ∙ length-replicate (plan.grid.rows * plan.grid.cols) (empty_store plan),
       subst (All (IsOfPlan plan)) (sym first.stores) (All-replicate (IsOfPlan plan) (plan.grid.rows * plan.grid.cols) (empty_store plan) (of_plan plan)),
-      ap length first.seats ∙ length-map plan.rows new_seats,
-      (λ t within. ap (λ all. length (seats_at all t)) first.seats ∙ ap length (seats_are plan.rows t within) ∙ length-replicate (row_at plan t).sessions no_seat),
+      ap length first.session_states ∙ length-map plan.rows new_session_states,
+      (λ t within. ap (λ all. length (session_states_at all t)) first.session_states ∙ ap length (session_states_are plan.rows t within) ∙ length-replicate (row_at plan t).sessions no_session_state),
       few,
       small,
     ) in
     let h : S w.plan = subst S (sym is) all in
-    record { lines = h.0; desk = h.1; lanes = h.2; servers = h.3; stores = h.4; tenants = h.5; seats = h.6; sessions = h.7; grid = h.8 }
+    record { lines = h.0; desk = h.1; channels = h.2; servers = h.3; stores = h.4; tenants = h.5; session_states = h.6; sessions = h.7; grid = h.8 }
 
 agrees_first : (w : Tables) (t : ℕ) → IsFirst w.plan w → t < length w.plan.rows → Agrees w t (record { lines = 0; state = questions [] })
 agrees_first w t first within = record {
@@ -106,17 +106,17 @@ agrees_first w t first within = record {
   up = all_up w.plan.grid w.up first.up;
   gone = none_gone w.plan.grid w.kept first.kept;
   account = ap (λ desk. account_at desk t) first.desk ∙ fresh_at w.plan.rows t;
-  sent = ap (λ lanes. length (lane_at lanes t)) first.lanes ∙ ap length (no_lane (length w.plan.rows) t);
+  sent = ap (λ channels. length (channel_at channels t)) first.channels ∙ ap length (no_channel (length w.plan.rows) t);
   lost = λ n past. refl;
-  messages = λ n. ap (λ lanes. message_at (lane_at lanes t) n) first.lanes ∙ ap (λ lane. message_at lane n) (no_lane (length w.plan.rows) t);
+  messages = λ n. ap (λ channels. message_at (channel_at channels t) n) first.channels ∙ ap (λ channel. message_at channel n) (no_channel (length w.plan.rows) t);
   accounts = λ s inside. ap (λ (store : StoreCopies). account_at (store_accounts store) t) (store_first w.plan w s first inside) ∙ ap (λ accounts. account_at accounts t) (accounts_first w.plan.rows ∙ sym first.desk);
   copies = λ s inside file. ap (λ (store : StoreCopies). copy_at store (file_of t file)) (store_first w.plan w s first inside) ∙ copy_first w.plan t file;
   lacking = λ s file. refl;
   down = λ s is. absurd (true≢false (sym is));
-  seats = λ place inside.
-      let are : seats_at w.seats t ≡ replicate (row_at w.plan t).sessions no_seat = ap (λ all. seats_at all t) first.seats ∙ seats_are w.plan.rows t within in
-      let is : seat_in (seats_at w.seats t) place ≡ no_seat = ap (λ (seats : List Seat). seat_in seats place) are ∙ get_or-replicate (row_at w.plan t).sessions place no_seat no_seat inside in
-      subst (λ (seat : Seat). SeatAgrees w.plan.grid t (place + 1) seat (questions [])) (sym is) (record { op = refl; answered = λ busy. absurd (cc); sits = refl });
+  session_states = λ place inside.
+      let are : session_states_at w.session_states t ≡ replicate (row_at w.plan t).sessions no_session_state = ap (λ all. session_states_at all t) first.session_states ∙ session_states_are w.plan.rows t within in
+      let is : session_state_in (session_states_at w.session_states t) place ≡ no_session_state = ap (λ (session_states : List SessionState). session_state_in session_states place) are ∙ get_or-replicate (row_at w.plan t).sessions place no_session_state no_session_state inside in
+      subst (λ (session_state : SessionState). SessionStateAgrees w.plan.grid t (place + 1) session_state (questions [])) (sym is) (record { op = refl; answered = λ busy. absurd (cc); sits = refl });
 }
 
 pub first_sound : (plan : CheckedPlan) (w : Tables) → IsFirst plan w → AllSound w

@@ -10,8 +10,8 @@ use Rattle.gq_phase.specs.declared.operation.Operation.{Operation as Code}
 use Rattle.gq_phase.specs.Standing.{last_number}
 use Rattle.gq_model.specs.declared.events.Refusal.TheVariants.{NoSession, Busy, Idle, NoVolume, NoFile, TooLong}
 use Rattle.gq_model.specs.Lone.{Cause}
-use Rattle.gq_world.specs.declared.sessions.Seat.{Seat}
-use Rattle.gq_world.specs.Tables.{Tables, seats_at, seat_in}
+use Rattle.gq_world.specs.declared.sessions.SessionState.{SessionState}
+use Rattle.gq_world.specs.Tables.{Tables, session_states_at, session_state_in}
 use Rattle.gq_world.specs.Saying.{with_sent}
 
 -- the causes why a line of session k is refused, the choice of a quorum apart, in their order: one that wants no operation
@@ -19,7 +19,7 @@ use Rattle.gq_world.specs.Saying.{with_sent}
 abbrev pub volume_causes : Tables → ℕ → ℕ → ℕ → List Cause
 volume_causes w t k v =
     (not (is_in 1 (row_at w.plan t).sessions k), NoSession)
-    ∷ (is_some (seat_in (seats_at w.seats t) (k - 1)).operation, Busy)
+    ∷ (is_some (session_state_in (session_states_at w.session_states t) (k - 1)).operation, Busy)
     ∷ (not (nat_lt v (length (account_at w.desk t).volumes)), NoVolume)
     ∷ []
 
@@ -35,24 +35,24 @@ write_causes w t k v f bytes = file_causes w t k v f ++ (nat_lt (unwrap_or (tabl
 abbrev pub idle_causes : Tables → ℕ → ℕ → List Cause
 idle_causes w t k =
     (not (is_in 1 (row_at w.plan t).sessions k), NoSession)
-    ∷ (is_none (seat_in (seats_at w.seats t) (k - 1)).operation, Idle)
+    ∷ (is_none (session_state_in (session_states_at w.session_states t) (k - 1)).operation, Idle)
     ∷ []
 
--- the seat with one operation more
-abbrev pub busy_seat : Seat → Code → Seat
-busy_seat seat code = record { op = seat.op + 1; floor = seat.floor; operation = Some code; answered = no_set }
+-- the session state with one operation more
+abbrev pub busy_session_state : SessionState → Code → SessionState
+busy_session_state session_state code = record { op = session_state.op + 1; floor = session_state.floor; operation = Some code; answered = no_set }
 
--- the seat without its operation, whose last number it keeps
-abbrev pub rested_seat : Seat → Seat
-rested_seat seat = record { op = seat.op; floor = last_number seat.floor seat.operation; operation = None; answered = seat.answered }
+-- the session state without its operation, whose last number it keeps
+abbrev pub rested_session_state : SessionState → SessionState
+rested_session_state session_state = record { op = session_state.op; floor = last_number session_state.floor session_state.operation; operation = None; answered = session_state.answered }
 
 -- the tables in which the session at the place has given its operation up
 abbrev pub rested_tables : Tables → ℕ → ℕ → Tables
-rested_tables w t place = record w { seats = slice_set w.seats t (slice_set (seats_at w.seats t) place (rested_seat (seat_in (seats_at w.seats t) place))) }
+rested_tables w t place = record w { session_states = slice_set w.session_states t (slice_set (session_states_at w.session_states t) place (rested_session_state (session_state_in (session_states_at w.session_states t) place))) }
 
 -- the tables in which the session at the place has begun the operation, with these messages
 abbrev pub begun_tables : Tables → ℕ → ℕ → Code → List Message → Tables
 begun_tables w t place code messages = record w {
-  lanes = with_sent w.lanes t messages;
-  seats = slice_set w.seats t (slice_set (seats_at w.seats t) place (busy_seat (seat_in (seats_at w.seats t) place) code));
+  channels = with_sent w.channels t messages;
+  session_states = slice_set w.session_states t (slice_set (session_states_at w.session_states t) place (busy_session_state (session_state_in (session_states_at w.session_states t) place) code));
 }

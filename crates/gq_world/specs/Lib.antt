@@ -6,6 +6,6 @@ pub mod Machine
 pub mod Response
 pub mod Running
 pub mod Saying
-pub mod Seats
+pub mod SessionStates
 pub mod Tables
 pub mod Whole

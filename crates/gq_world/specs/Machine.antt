@@ -19,7 +19,7 @@ counted row lines (Own line) = if nat_le row.steps lines then lines else lines +
 counted row lines (Serving line) = lines
 counted row lines (Leaping k op number) = lines
 counted row lines (Losing s volumes) = lines
-counted row lines (Returning s f mate copy) = lines
+counted row lines (Returning s f peer copy) = lines
 
 -- the answers to the questions after a turn at which this was told and sent
 abbrev pub state_after_turn : State → Turn → Step → State

@@ -8,7 +8,7 @@ use Rattle.gq_tag.specs.Tag.{File, file_of, message_of}
 use Rattle.gq_desk.specs.CheckedPlan.{CheckedPlan, row_at}
 use Rattle.gq_desk.specs.Volumes.{Account, account_at}
 use Rattle.gq_desk.specs.declared.limits.TheConstants.{MOST_SESSIONS}
-use Rattle.gq_post.specs.Lanes.{Lane, lane_at, message_at}
+use Rattle.gq_post.specs.Channels.{Channel, channel_at, message_at}
 use Rattle.gq_phase.specs.Phase.{Operation}
 use Rattle.gq_phase.specs.Standing.{StandsFor}
 use Rattle.gq_phase.specs.declared.operation.Operation.{Operation as Code}
@@ -16,7 +16,7 @@ use Rattle.gq_store.specs.Copies.{StoreCopies, store_accounts, copy_at}
 use Rattle.gq_model.specs.declared.events.Event.{Event}
 use Rattle.gq_model.specs.Trace.{State, Known, asked, account_of, own_message_at, held, operation, counts_on, up as up_of, gone as gone_of}
 use Rattle.gq_model.specs.Events.{past_at, server_past}
-use Rattle.gq_world.specs.declared.sessions.Seat.{Seat}
+use Rattle.gq_world.specs.declared.sessions.SessionState.{SessionState}
 use Rattle.gq_world.specs.Bounds.{IsBounded}
 
 -- the plan, the servers that are up, those that are not lost, how many steps of each tenant are taken, the tenants' volumes and messages, the
@@ -27,9 +27,9 @@ pub record Tables : Type 0 where
   pub kept : ServerSet
   pub lines : List ℕ
   pub desk : List Account
-  pub lanes : List Lane
+  pub channels : List Channel
   pub stores : List StoreCopies
-  pub seats : List (List Seat)
+  pub session_states : List (List SessionState)
 
 -- the servers of the grid that are in the set, and every number that is no server
 abbrev pub up_in : Grid → ServerSet → Servers
@@ -50,15 +50,15 @@ no_store = record { blocks = 0; tenants = [] }
 abbrev pub store_at : List StoreCopies → ℕ → StoreCopies
 store_at stores server = slice_index_or stores server no_store
 
-abbrev pub no_seat : Seat
-no_seat = record { op = 0; floor = 0; operation = None; answered = no_set }
+abbrev pub no_session_state : SessionState
+no_session_state = record { op = 0; floor = 0; operation = None; answered = no_set }
 
 -- the sessions of the tenant at place t, and the one at a place of them, which is the session of one more
-abbrev pub seats_at : List (List Seat) → ℕ → List Seat
-seats_at seats t = slice_index_or seats t []
+abbrev pub session_states_at : List (List SessionState) → ℕ → List SessionState
+session_states_at session_states t = slice_index_or session_states t []
 
-abbrev pub seat_in : List Seat → ℕ → Seat
-seat_in seats place = slice_index_or seats place no_seat
+abbrev pub session_state_in : List SessionState → ℕ → SessionState
+session_state_in session_states place = slice_index_or session_states place no_session_state
 
 -- ---- what the tables have for a tenant
 
@@ -70,10 +70,10 @@ Sits grid t floor (Some code) last None = ⊥
 Sits grid t floor (Some code) last (Some o) = StandsFor grid t code o
 
 -- and while it has one, the servers that sent a reply of its operation and round
-pub record SeatAgrees (grid : Grid) (t k : ℕ) (seat : Seat) (state : State) : Type 0 where
-  pub op : seat.op ≡ (state.session k).op
-  pub answered : IsSome seat.operation → (server : ℕ) → servers seat.answered server ≡ counts_on state.sent k (state.session k) server
-  pub sits : Sits grid t seat.floor seat.operation (state.session k).floor (operation state k)
+pub record SessionStateAgrees (grid : Grid) (t k : ℕ) (session_state : SessionState) (state : State) : Type 0 where
+  pub op : session_state.op ≡ (state.session k).op
+  pub answered : IsSome session_state.operation → (server : ℕ) → servers session_state.answered server ≡ counts_on state.sent k (state.session k) server
+  pub sits : Sits grid t session_state.floor session_state.operation (state.session k).floor (operation state k)
 
 -- the tables have for the tenant at place t what is known of its run; a server lacks a file exactly where it is lost, and is down then
 pub record Agrees (w : Tables) (t : ℕ) (known : Known) : Type 0 where
@@ -81,14 +81,14 @@ pub record Agrees (w : Tables) (t : ℕ) (known : Known) : Type 0 where
   pub up : up_in w.plan.grid w.up ≡ known.state.up
   pub gone : gone_in w.plan.grid w.kept ≡ known.state.gone
   pub account : account_at w.desk t ≡ account_of (row_at w.plan t) known.state
-  pub sent : length (lane_at w.lanes t) ≡ length known.state.sent
+  pub sent : length (channel_at w.channels t) ≡ length known.state.sent
   pub lost : (n : ℕ) → length known.state.sent ≤ n → known.state.is_lost n ≡ false
-  pub messages : (n : ℕ) → message_at (lane_at w.lanes t) n ≡ option_map (message_of t) (own_message_at known.state n)
+  pub messages : (n : ℕ) → message_at (channel_at w.channels t) n ≡ option_map (message_of t) (own_message_at known.state n)
   pub accounts : (s : ℕ) → s < w.plan.grid.rows * w.plan.grid.cols → account_at (store_accounts (store_at w.stores s)) t ≡ account_at w.desk t
   pub copies : (s : ℕ) → s < w.plan.grid.rows * w.plan.grid.cols → (file : File) → copy_at (store_at w.stores s) (file_of t file) ≡ held known.state s file
   pub lacking : (s : ℕ) (file : File) → known.state.lacks s file ≡ known.state.gone s
   pub down : (s : ℕ) → known.state.gone s ≡ true → known.state.up s ≡ false
-  pub seats : (place : ℕ) → place < (row_at w.plan t).sessions → SeatAgrees w.plan.grid t (place + 1) (seat_in (seats_at w.seats t) place) known.state
+  pub session_states : (place : ℕ) → place < (row_at w.plan t).sessions → SessionStateAgrees w.plan.grid t (place + 1) (session_state_in (session_states_at w.session_states t) place) known.state
 
 -- the tables have what the events leave: for each tenant those that it sees, and for the servers the server lines
 pub record Stands (w : Tables) (events : List Event) : Type 0 where
@@ -107,11 +107,11 @@ pub record IsOfPlan (plan : CheckedPlan) (store : StoreCopies) : Type 0 where
 pub record IsShaped (w : Tables) : Type 0 where
   pub lines : length w.lines ≡ length w.plan.rows
   pub desk : length w.desk ≡ length w.plan.rows
-  pub lanes : length w.lanes ≡ length w.plan.rows
+  pub channels : length w.channels ≡ length w.plan.rows
   pub servers : length w.stores ≡ w.plan.grid.rows * w.plan.grid.cols
   pub stores : All (IsOfPlan w.plan) w.stores
-  pub tenants : length w.seats ≡ length w.plan.rows
-  pub seats : (t : ℕ) → t < length w.plan.rows → length (seats_at w.seats t) ≡ (row_at w.plan t).sessions
+  pub tenants : length w.session_states ≡ length w.plan.rows
+  pub session_states : (t : ℕ) → t < length w.plan.rows → length (session_states_at w.session_states t) ≡ (row_at w.plan t).sessions
   pub sessions : (t : ℕ) → t < length w.plan.rows → (row_at w.plan t).sessions ≤ MOST_SESSIONS
   pub grid : w.plan.grid.rows * w.plan.grid.cols ≤ MOST_SERVERS
 

@@ -6,7 +6,7 @@ use Rattle.gq_desk.specs.CheckedPlan.{CheckedPlan, row_at}
 use Rattle.gq_desk.specs.declared.limits.TheConstants.{MOST_SESSIONS}
 use Rattle.gq_desk.specs.Volumes.{new_account}
 use Rattle.gq_store.specs.Copies.{empty_store}
-use Rattle.gq_world.specs.Tables.{Tables, IsKnown, no_seat}
+use Rattle.gq_world.specs.Tables.{Tables, IsKnown, no_session_state}
 
 -- the tables, and whether memory ran out
 pub record Whole : Type 0 where
@@ -28,6 +28,6 @@ pub record IsFirst (plan : CheckedPlan) (w : Tables) : Type 0 where
   pub kept : servers w.kept ≡ all_servers plan.grid
   pub lines : w.lines ≡ replicate (length plan.rows) 0
   pub desk : w.desk ≡ map new_account plan.rows
-  pub lanes : w.lanes ≡ replicate (length plan.rows) []
+  pub channels : w.channels ≡ replicate (length plan.rows) []
   pub stores : w.stores ≡ replicate (plan.grid.rows * plan.grid.cols) (empty_store plan)
-  pub seats : w.seats ≡ map (λ row. replicate row.sessions no_seat) plan.rows
+  pub session_states : w.session_states ≡ map (λ row. replicate row.sessions no_session_state) plan.rows

@@ -2,8 +2,8 @@
 #![tactic(auto)]
 
 mod chooser;
-mod mates;
 mod new_files;
+mod peers;
 mod replies;
 mod sending;
 mod sessions;

@@ -4,7 +4,7 @@ ghost use Rattle.std.specs.Prelude.{◌≡◌, ◌≢◌, ◌<◌, ◌∷◌, []
 ghost use Rattle.gq_tag.specs.declared.FileId.{FileId};
 ghost use Rattle.gq_tag.specs.declared.Message.{Message};
 ghost use Rattle.gq_tag.specs.Tag.{answer_body};
-ghost use Rattle.gq_post.specs.Lanes.{lane_at, message_at};
+ghost use Rattle.gq_post.specs.Channels.{channel_at, message_at};
 ghost use Rattle.gq_store.specs.Copies.{copy_at, file_limit, store_accounts};
 ghost use Rattle.gq_store.specs.Serving.{held_after, serve_fault};
 ghost use Rattle.gq_world.specs.Saying.{with_sent};
@@ -62,10 +62,10 @@ pub(crate) fn answer(
     response: Response,
 ) -> Result<u64, OutOfMemory>
     requires tenant { tenant < length post.old }
-    requires message { IsSome (message_at (lane_at post.old tenant) number) }
+    requires message { IsSome (message_at (channel_at post.old tenant) number) }
     requires file { IsSome (file_limit store.old file) }
-    ensures number { IfOk result (λ sent. sent ≡ length (lane_at post.old tenant)) }
-    ensures sent { OnOk result ((message : Message) → message_at (lane_at post.old tenant) number ≡ Some message → post.new ≡ with_sent post.old tenant (record message { body = body_in content.now response } ∷ [])) }
+    ensures number { IfOk result (λ sent. sent ≡ length (channel_at post.old tenant)) }
+    ensures sent { OnOk result ((message : Message) → message_at (channel_at post.old tenant) number ≡ Some message → post.new ≡ with_sent post.old tenant (record message { body = body_in content.now response } ∷ [])) }
     ensures tenants { length post.new ≡ length post.old }
     ensures store { store.new ≡ store.old }
 {

@@ -10,17 +10,17 @@ ghost use Rattle.gq_model.specs.Events.{IsIn};
 ghost use Rattle.gq_model.specs.Lone.{choice_told, change_refusal, loss_refusal, repair_refusal, first_cause};
 ghost use Rattle.gq_model.specs.Shown.{shown};
 ghost use Rattle.gq_model.specs.Told.{Began};
-ghost use Rattle.gq_post.specs.Lanes.{lane_at, message_at};
+ghost use Rattle.gq_post.specs.Channels.{channel_at, message_at};
 ghost use Rattle.gq_store.specs.Copies.{empty_store, blocks_free};
-ghost use Rattle.gq_world.specs.Tables.{no_seat};
+ghost use Rattle.gq_world.specs.Tables.{no_session_state};
 ghost use Rattle.gq_world.specs.Whole.{FewSessions};
 
 use crate::chooser::Chooser;
-use crate::mates::{mate_among, take_copies};
 use crate::new_files::add_everywhere;
+use crate::peers::{peer_among, take_copies};
 use crate::replies::{answer, serve};
 use crate::sending::answer_heard;
-use crate::sessions::{Seats, give_up_everywhere};
+use crate::sessions::{SessionStates, give_up_everywhere};
 use bytes::Bytes;
 use gq_desk::{Desk, OpenRefused, Plan, VolumeRows};
 use gq_grid::ServerSet;
@@ -49,7 +49,7 @@ pub(crate) struct Core {
     // one for each server
     stores: Vec<ServerStore>,
     // the sessions of each tenant
-    seats: Vec<Seats>,
+    session_states: Vec<SessionStates>,
     // where the content of a server's copy is read to
     content: Vec<u8>,
 }
@@ -60,9 +60,9 @@ impl Model for Core {
 
     ghost Value = { Tables };
 
-    ghost view = { λ w. record { plan = w.plan; up = w.up.up; kept = w.kept; lines = w.lines.items; desk = w.desk; lanes = w.post; stores = w.stores.items; seats = w.seats.items } };
+    ghost view = { λ w. record { plan = w.plan; up = w.up.up; kept = w.kept; lines = w.lines.items; desk = w.desk; channels = w.post; stores = w.stores.items; session_states = w.session_states.items } };
 
-    ghost invariant = { λ w. (w.up.grid ≡ w.plan.grid) × IsShaped (record { plan = w.plan; up = w.up.up; kept = w.kept; lines = w.lines.items; desk = w.desk; lanes = w.post; stores = w.stores.items; seats = w.seats.items }) };
+    ghost invariant = { λ w. (w.up.grid ≡ w.plan.grid) × IsShaped (record { plan = w.plan; up = w.up.up; kept = w.kept; lines = w.lines.items; desk = w.desk; channels = w.post; stores = w.stores.items; session_states = w.session_states.items }) };
 }
 
 // A store for each server of the plan.
@@ -79,20 +79,20 @@ fn new_stores(alloc: Global, plan: &Plan) -> Result<Vec<ServerStore>, OutOfMemor
 }
 
 // The sessions of each tenant of the plan.
-fn new_seats(alloc: Global, plan: &Plan) -> Result<Vec<Seats>, OutOfMemory>
-    ensures seats { IfOk result (λ seats. seats.items ≡ map (λ row. replicate row.sessions no_seat) plan.now.rows) }
-    ensures few { IfOk result (λ seats. FewSessions plan.now) }
+fn new_session_states(alloc: Global, plan: &Plan) -> Result<Vec<SessionStates>, OutOfMemory>
+    ensures session_states { IfOk result (λ session_states. session_states.items ≡ map (λ row. replicate row.sessions no_session_state) plan.now.rows) }
+    ensures few { IfOk result (λ session_states. FewSessions plan.now) }
 {
-    let mut seats = Vec::new(alloc);
+    let mut session_states = Vec::new(alloc);
     for row in plan.rows() {
-        seats.grow(Seats::new(alloc, row.sessions)?)?;
+        session_states.grow(SessionStates::new(alloc, row.sessions)?)?;
     }
-    Ok(seats)
+    Ok(session_states)
 }
 
 impl Core {
-    ghost use Rattle.gq_world.specs.Tables.{IsReady, seats_at, seat_in, store_at, taken_at, up_in, gone_in};
-    ghost use Rattle.gq_world.specs.Losses.{Loses, Repairs, HasMate};
+    ghost use Rattle.gq_world.specs.Tables.{IsReady, session_states_at, session_state_in, store_at, taken_at, up_in, gone_in};
+    ghost use Rattle.gq_world.specs.Losses.{Loses, Repairs, HasPeer};
     ghost use Rattle.gq_world.specs.Whole.{AllSound, IsFirst};
     ghost use Rattle.gq_world.specs.Asking.{volume_causes, file_causes, write_causes, idle_causes, begun_tables};
     ghost use Rattle.gq_world.specs.Machine.{Advances, Acts, Tells, TellsLine};
@@ -105,7 +105,7 @@ impl Core {
         let desk = Desk::new(alloc, &plan)?;
         let post = Post::new(alloc, plan.tenants())?;
         let stores = new_stores(alloc, &plan)?;
-        let seats = new_seats(alloc, &plan)?;
+        let session_states = new_session_states(alloc, &plan)?;
         let up = Chooser::new(*plan.grid());
         let kept = ServerSet::all(plan.grid());
         Ok(Core {
@@ -117,7 +117,7 @@ impl Core {
             desk,
             post,
             stores,
-            seats,
+            session_states,
             content: Vec::new(alloc),
         })
     }
@@ -133,7 +133,7 @@ impl Core {
             desk,
             post,
             mut stores,
-            seats,
+            session_states,
             content,
         } = self;
         drop(plan);
@@ -141,7 +141,7 @@ impl Core {
         drop(lines);
         drop(desk);
         drop(post);
-        drop(seats);
+        drop(session_states);
         drop(content);
         for server in 0..stores.len() {
             stores[server].clear();
@@ -175,7 +175,7 @@ impl Core {
     // The tenant's message of this number.
     pub(crate) fn message(&self, tenant: u8, number: u64) -> Option<MessageView<'_>>
         requires { tenant < length self.now.plan.rows }
-        ensures { result ≡ message_at (lane_at self.now.lanes tenant) number }
+        ensures { result ≡ message_at (channel_at self.now.channels tenant) number }
     {
         self.post.get(tenant, number)
     }
@@ -329,11 +329,11 @@ impl Core {
         requires { tenant < length self.now.plan.rows }
         ensures { result ≡ first_cause (volume_causes self.now tenant session volume) }
     {
-        let seats = self.seats[tenant as usize].items.as_slice();
-        if session < 1 || session as usize > seats.len() {
+        let session_states = self.session_states[tenant as usize].items.as_slice();
+        if session < 1 || session as usize > session_states.len() {
             return Some(Refusal::NoSession);
         }
-        if seats[session as usize - 1].operation.is_some() {
+        if session_states[session as usize - 1].operation.is_some() {
             return Some(Refusal::Busy);
         }
         if volume as usize >= self.desk.volumes(tenant).len() {
@@ -396,13 +396,13 @@ impl Core {
     ) -> Result<Answer, OutOfMemory>
         requires tenant { tenant < length self.old.plan.rows }
         requires place { place < (row_at self.old.plan tenant).sessions }
-        requires number { (seat_in (seats_at self.old.seats tenant) place).op < 4294967295 }
-        ensures answer { IfOk result (λ answer. shown answer ≡ Began ((seat_in (seats_at self.old.seats tenant) place).op + 1) (length (lane_at self.old.lanes tenant)) (length messages)) }
+        requires number { (session_state_in (session_states_at self.old.session_states tenant) place).op < 4294967295 }
+        ensures answer { IfOk result (λ answer. shown answer ≡ Began ((session_state_in (session_states_at self.old.session_states tenant) place).op + 1) (length (channel_at self.old.channels tenant)) (length messages)) }
         ensures begun { OnOk result (self.new ≡ begun_tables self.old tenant place operation messages) }
         ensures plan { self.new.plan ≡ self.old.plan }
     {
         let sent = self.post.send_all(tenant, messages)?;
-        let op = self.seats[tenant as usize].begin(place, operation);
+        let op = self.session_states[tenant as usize].begin(place, operation);
         Ok(Answer::Began {
             op,
             first: sent.first,
@@ -430,11 +430,11 @@ impl Core {
             return Ok(Answer::Refused(word));
         }
         let place = session as usize - 1;
-        let seat = &self.seats[tenant as usize].items[place];
+        let session_state = &self.session_states[tenant as usize].items[place];
         let who = Who {
             tenant,
             session: session as u8,
-            op: seat.op + 1,
+            op: session_state.op + 1,
         };
         let id = FileId {
             tenant,
@@ -445,7 +445,7 @@ impl Core {
             self.alloc,
             self.plan.grid(),
             who,
-            seat.floor,
+            session_state.floor,
             id,
             bytes,
             self.up.servers(),
@@ -474,11 +474,11 @@ impl Core {
             return Ok(Answer::Refused(word));
         }
         let place = session as usize - 1;
-        let seat = &self.seats[tenant as usize].items[place];
+        let session_state = &self.session_states[tenant as usize].items[place];
         let who = Who {
             tenant,
             session: session as u8,
-            op: seat.op + 1,
+            op: session_state.op + 1,
         };
         let id = FileId {
             tenant,
@@ -489,7 +489,7 @@ impl Core {
             self.alloc,
             self.plan.grid(),
             who,
-            seat.floor,
+            session_state.floor,
             id,
             self.up.servers(),
         ) {
@@ -511,18 +511,18 @@ impl Core {
             return Ok(Answer::Refused(word));
         }
         let place = session as usize - 1;
-        let seat = &self.seats[tenant as usize].items[place];
+        let session_state = &self.session_states[tenant as usize].items[place];
         let who = Who {
             tenant,
             session: session as u8,
-            op: seat.op + 1,
+            op: session_state.op + 1,
         };
         let files = self.desk.volumes(tenant)[volume as usize].files;
         match Operation::list(
             self.alloc,
             self.plan.grid(),
             who,
-            seat.floor,
+            session_state.floor,
             volume,
             files,
             self.up.servers(),
@@ -538,11 +538,11 @@ impl Core {
         requires { tenant < length self.now.plan.rows }
         ensures { result ≡ first_cause (idle_causes self.now tenant session) }
     {
-        let seats = self.seats[tenant as usize].items.as_slice();
-        if session < 1 || session as usize > seats.len() {
+        let session_states = self.session_states[tenant as usize].items.as_slice();
+        if session < 1 || session as usize > session_states.len() {
             return Some(Refusal::NoSession);
         }
-        if seats[session as usize - 1].operation.is_none() {
+        if session_states[session as usize - 1].operation.is_none() {
             return Some(Refusal::Idle);
         }
         None
@@ -559,7 +559,7 @@ impl Core {
         if let Some(word) = self.idle_refusal(tenant, session) {
             return Ok(Answer::Refused(word));
         }
-        match self.seats[tenant as usize].resend(session as usize - 1, self.up.servers()) {
+        match self.session_states[tenant as usize].resend(session as usize - 1, self.up.servers()) {
             Ok(messages) => {
                 let sent = self.post.send_all(tenant, messages)?;
                 Ok(Answer::Resent {
@@ -582,7 +582,7 @@ impl Core {
         if let Some(word) = self.idle_refusal(tenant, session) {
             return Answer::Refused(word);
         }
-        self.seats[tenant as usize].abandon(session as usize - 1);
+        self.session_states[tenant as usize].abandon(session as usize - 1);
         Answer::Abandoned
     }
 
@@ -601,13 +601,13 @@ impl Core {
             return Ok(Answer::Refused(Refusal::NoMessage));
         };
         if !message.to_server() {
-            let seats = &mut self.seats[tenant as usize];
+            let session_states = &mut self.session_states[tenant as usize];
             // (most replies end no round, and are noted with less ado)
-            let noted = seats.notes(&message)?;
+            let noted = session_states.notes(&message)?;
             if noted {
                 return Ok(Answer::Noted);
             }
-            let heard = seats.hear(&message, self.up.servers())?;
+            let heard = session_states.hear(&message, self.up.servers())?;
             return answer_heard(&mut self.post, tenant, heard);
         }
         let server = message.server as usize;
@@ -615,7 +615,7 @@ impl Core {
             return Ok(Answer::Down);
         }
         let file = message.file;
-        let answering = &mut self.seats[tenant as usize];
+        let answering = &mut self.session_states[tenant as usize];
         answering.answers(&message);
         let store = &mut self.stores[server];
         let response = serve(store, &mut self.content, &message)?;
@@ -663,17 +663,17 @@ impl Core {
         } else if !self.kept.has(server as usize) {
             Some(ServerRefusal::Same)
         } else {
-            match mate_among(grid, self.kept, server as usize) {
+            match peer_among(grid, self.kept, server as usize) {
                 None => Some(ServerRefusal::Last),
                 Some(_) => None,
             }
         }
     }
 
-    // The mate that gives a server its copies which is repaired, or why the line is refused.
-    fn mate(&self, server: u32) -> Result<usize, ServerRefusal>
+    // The peer that gives a server its copies which is repaired, or why the line is refused.
+    fn peer(&self, server: u32) -> Result<usize, ServerRefusal>
         ensures word { IfErr result (λ word. Some word ≡ repair_refusal self.now.plan.grid (up_in self.now.plan.grid self.now.up) (gone_in self.now.plan.grid self.now.kept) server) }
-        ensures mate { IfOk result (λ mate. HasMate self.now server mate) }
+        ensures peer { IfOk result (λ peer. HasPeer self.now server peer) }
         ensures bound { self.now.plan.grid.rows * self.now.plan.grid.cols ≤ MOST_SERVERS }
     {
         let grid = self.plan.grid();
@@ -682,9 +682,9 @@ impl Core {
         } else if self.kept.has(server as usize) {
             Err(ServerRefusal::Same)
         } else {
-            match mate_among(grid, self.up.servers(), server as usize) {
-                None => Err(ServerRefusal::NoMate),
-                Some(mate) => Ok(mate),
+            match peer_among(grid, self.up.servers(), server as usize) {
+                None => Err(ServerRefusal::NoPeer),
+                Some(peer) => Ok(peer),
             }
         }
     }
@@ -694,19 +694,19 @@ impl Core {
         requires { server < self.old.plan.grid.rows * self.old.plan.grid.cols }
         ensures { Loses self.old server self.new }
     {
-        give_up_everywhere(&mut self.seats, server);
+        give_up_everywhere(&mut self.session_states, server);
         self.stores[server].lose();
         self.up.remove(server);
         self.kept.remove(server);
     }
 
-    // The server is up again, and has the copies of the mate.
-    fn repair(&mut self, server: usize, mate: usize)
+    // The server is up again, and has the copies of the peer.
+    fn repair(&mut self, server: usize, peer: usize)
         requires sound { AllSound self.old }
-        requires mate { HasMate self.old server mate }
-        ensures { Repairs self.old server mate self.new }
+        requires peer { HasPeer self.old server peer }
+        ensures { Repairs self.old server peer self.new }
     {
-        take_copies(&mut self.stores, server, mate);
+        take_copies(&mut self.stores, server, peer);
         self.up.insert(server);
         self.kept.insert(server);
     }
@@ -741,11 +741,11 @@ impl Core {
                     Answer::ServerOk
                 }
             },
-            ServerLine::Repaired { server } => match self.mate(*server) {
+            ServerLine::Repaired { server } => match self.peer(*server) {
                 Err(word) => Answer::ServerRefused(word),
-                Ok(mate) => {
-                    self.repair(*server as usize, mate);
-                    Answer::Repaired { mate: mate as u32 }
+                Ok(peer) => {
+                    self.repair(*server as usize, peer);
+                    Answer::Repaired { peer: peer as u32 }
                 }
             },
         }

@@ -56,7 +56,7 @@ impl World {
     pub fn new(alloc: Global, plan: Plan) -> Result<World, OutOfMemory>
         ensures plan { IfOk result (λ w. w.tables.plan ≡ plan) }
         ensures stands { IfOk result (λ w. Stands w.tables []) }
-        ensures goes { IfOk result (λ w. w.ended ≡ false) }
+        ensures has_memory { IfOk result (λ w. w.ended ≡ false) }
     {
         let tables = Core::new(alloc, plan)?;
         Ok(World {
@@ -124,7 +124,7 @@ impl World {
         ensures ended { OnErr result (self.new.ended ≡ true) }
         ensures after { self.old.ended ≡ true → IsErr result }
         ensures still { self.old.ended ≡ true → self.new ≡ self.old }
-        ensures goes { OnOk result (self.new.ended ≡ false) }
+        ensures has_memory { OnOk result (self.new.ended ≡ false) }
     {
         if let Some(refused) = &self.ended {
             return Err(Ended(refused.again()));

@@ -12,7 +12,7 @@ use gq_grid::Grid;
 use gq_inspect::{Mismatch, inspect};
 use gq_memory::{GrowVec, copied_bytes, slice_copied};
 use gq_model::{Line, ServerLine};
-use gq_session::{Agenda, Entries, Journal, Opening, Outbox, Records, Session, change_cell};
+use gq_session::{Entries, Journal, Opening, Outbox, Records, Schedule, Session, change_cell};
 use gq_tag::Message;
 use std::alloc::Global;
 use std::marker::Brand;
@@ -87,7 +87,7 @@ fn is_for(message: &Message, server: u8) -> bool
 // The server replies to the one message of a step, and the session hears that: its next step. None where nothing was sent.
 fn go_on<L: Ledger>(
     alloc: Global,
-    agenda: &mut Agenda,
+    schedule: &mut Schedule,
     cell: &mut Cell<L>,
     share: &mut Share<L>,
     session: &mut Session,
@@ -112,7 +112,7 @@ fn go_on<L: Ledger>(
         message,
     };
     match cell.serve(share, &letter) {
-        Ok(Served::Reply(reply)) => Ok(Some(session.hear(agenda, reply)?)),
+        Ok(Served::Reply(reply)) => Ok(Some(session.hear(schedule, reply)?)),
         Err(CellRefused::Memory(_)) => Err(Fault::Memory),
         _ => Err(Fault::Other),
     }
@@ -121,7 +121,7 @@ fn go_on<L: Ledger>(
 // The session asks all its requests, one after another.
 fn ask_all<L: Ledger>(
     alloc: Global,
-    agenda: &mut Agenda,
+    schedule: &mut Schedule,
     cell: &mut Cell<L>,
     share: &mut Share<L>,
     session: &mut Session,
@@ -129,8 +129,8 @@ fn ask_all<L: Ledger>(
     let mut step = None;
     for _ in 0..MOST_STEPS {
         step = match step {
-            Some(outbox) => go_on(alloc, agenda, cell, share, session, outbox)?,
-            None => match session.ask_next(agenda)? {
+            Some(outbox) => go_on(alloc, schedule, cell, share, session, outbox)?,
+            None => match session.ask_next(schedule)? {
                 Some(outbox) => Some(outbox),
                 None => return Ok(()),
             },
@@ -142,13 +142,13 @@ fn ask_all<L: Ledger>(
 // The next change of the servers, and then all of a session's steps.
 fn attend<L: Ledger>(
     alloc: Global,
-    agenda: &mut Agenda,
+    schedule: &mut Schedule,
     cell: &mut Cell<L>,
     share: &mut Share<L>,
     number: u8,
     content: Option<&[u8]>,
 ) -> Result<Entries, Fault> {
-    change_cell(agenda, cell)?;
+    change_cell(schedule, cell)?;
     let mut volumes = Vec::new(alloc);
     volumes.grow(VolumeRow {
         files: 1,
@@ -156,7 +156,7 @@ fn attend<L: Ledger>(
     })?;
     let own = lines(alloc, u32::from(number), content)?;
     let mut session = Session::new(alloc, grid()?, 0, number, volumes, own);
-    ask_all(alloc, agenda, cell, share, &mut session)?;
+    ask_all(alloc, schedule, cell, share, &mut session)?;
     let asked = lines(alloc, u32::from(number), content)?;
     match session.close(asked.as_slice()) {
         Some(items) => Ok(Entries { items }),
@@ -167,7 +167,7 @@ fn attend<L: Ledger>(
 // The steps of a session for each of the contents.
 fn attend_all<L: Ledger>(
     alloc: Global,
-    agenda: &mut Agenda,
+    schedule: &mut Schedule,
     cell: &mut Cell<L>,
     share: &mut Share<L>,
     contents: &[Option<&[u8]>],
@@ -178,7 +178,7 @@ fn attend_all<L: Ledger>(
             return Err(Fault::Usage);
         };
         let number = before.saturating_add(1);
-        sessions.grow(attend(alloc, agenda, cell, share, number, *content)?)?;
+        sessions.grow(attend(alloc, schedule, cell, share, number, *content)?)?;
     }
     Ok(sessions)
 }
@@ -204,9 +204,9 @@ fn records<L: Ledger>(
 {
     let (mut cell, mut one, two) = Cell::<L>::new(alloc, plan, 0, blank)?;
     cell.add_files(0, 1, 1)?;
-    let mut agenda = Agenda::new(alloc, plan.grid(), slice_copied(alloc, changes)?);
-    let sessions = attend_all(alloc, &mut agenda, &mut cell, &mut one, contents)?;
-    let Some(board) = agenda.close(changes) else {
+    let mut schedule = Schedule::new(alloc, plan.grid(), slice_copied(alloc, changes)?);
+    let sessions = attend_all(alloc, &mut schedule, &mut cell, &mut one, contents)?;
+    let Some(board) = schedule.close(changes) else {
         return Err(Fault::Other);
     };
     let mut cells = Vec::new(alloc);

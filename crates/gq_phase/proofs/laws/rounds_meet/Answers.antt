@@ -1,5 +1,5 @@
 -- Each law of the five words.
-use Rattle.gq_phase.proofs.Meeting.{rounds_meet, collect_quorums_end, store_quorums_end, quorums_are_up, nobody_ends, more_still_end, quorums_in_grid, stores_have_mates, mates_of_mates}
+use Rattle.gq_phase.proofs.Meeting.{rounds_meet, collect_quorums_end, store_quorums_end, quorums_are_up, nobody_ends, more_still_end, quorums_in_grid, stores_have_peers, peers_of_peers}
 use Rattle.gq_phase.proofs.laws.rounds_meet.Goals as goal
 
 pub returns-clause-meet : goal.returns-clause-meet
@@ -23,8 +23,8 @@ returns-clause-more c = more_still_end
 pub returns-clause-grid : goal.returns-clause-grid
 returns-clause-grid c = quorums_in_grid
 
-pub returns-clause-mates : goal.returns-clause-mates
-returns-clause-mates c = stores_have_mates
+pub returns-clause-peers : goal.returns-clause-peers
+returns-clause-peers c = stores_have_peers
 
 pub returns-clause-others : goal.returns-clause-others
-returns-clause-others c = mates_of_mates
+returns-clause-others c = peers_of_peers

@@ -19,7 +19,7 @@ loop-place-preserved c =
     let many : record { volumes = c.volumes_before.result; losses = c.losses_before-losses.result } ≡ lost c.loop-place.place = λ i. record { volumes = c.volumes_before.ensures.count i; losses = c.losses_before-losses.ensures c.loop-place.place i } in
     record {
       bereft = more_bereft setup.plan here setup.openings lost c.loop-place.place (record { volumes = c.volumes_before.result; losses = c.losses_before-losses.result }) c.loop-place.node.tables c.lack.new.self.tables c.loop-place.invariant.bereft within many c.in_ok-lack.ensures.begins;
-      goes = c.in_ok-lack.ensures.goes;
+      has_memory = c.in_ok-lack.ensures.has_memory;
     }
 
 pub returns : goal.returns

@@ -10,7 +10,7 @@ pub loop-opening-init : goal.loop-opening-init
 loop-opening-init c = let lost_is : c.in_ok-lost.lost ≡ c.args.this.now.plan.setup.lost = c.in_ok-lost.ensures ∙ c.lost.ensures.lost ∙ ap (λ (s : Setup). s.lost) c.setup-setup.ensures in record {
   has = none_open c.args.this.now.plan.setup.plan c.in_ok-copy.field-0 (here_of c.args.this.now.number c.args.this.now.plan.setup) c.in_ok-node.node.tables
       (c.in_ok-copy.ensures ∙ c.plan.ensures ∙ ap (λ (s : Setup). s.plan) c.setup-setup.ensures) c.in_ok-node.ensures.plan (c.in_ok-node.ensures.here ∙ ap (λ (lost : List ℕ). record { node = c.args.this.now.number; lost = lost }) lost_is) c.in_ok-node.ensures.agrees;
-  goes = c.in_ok-node.ensures.goes;
+  has_memory = c.in_ok-node.ensures.has_memory;
 }
 
 pub with_volume-requires-clause-tenant : goal.with_volume-requires-clause-tenant
@@ -38,7 +38,7 @@ loop-opening-preserved c =
     let are : openings ≡ setup.openings = c.openings-opening-items.ensures.openings ∙ ap (λ (s : Setup). s.openings) c.setup-setup.ensures in
     record {
       has = next_open setup.plan (here_of c.args.this.now.number c.args.this.now.plan.setup) openings setup.openings c.loop-opening.opening-index _ c.loop-opening.node.tables c.in_ok-node-2.node.tables are c.loop-opening-test.true c.loop-opening.invariant.has c.in_ok-node-2.ensures.opened;
-      goes = c.in_ok-node-2.ensures.goes;
+      has_memory = c.in_ok-node-2.ensures.has_memory;
     }
 
 pub returns-clause-node : goal.returns-clause-node

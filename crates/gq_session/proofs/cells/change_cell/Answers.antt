@@ -23,7 +23,7 @@ returns-clause-done g c =
             server = search rules;
             differs = search rules;
             stamp = w.in-Some-2.stamp;
-            agenda = subst (λ (seen : ℕ). Changes c.args.agenda.now c.change.new.self c.in-Some.next seen w.in-Some-2.stamp) c.last.ensures (c.in_ok-stamp.ensures.changed w.in-Some-2.stamp w.in-Some-2.is);
+            schedule = subst (λ (seen : ℕ). Changes c.args.schedule.now c.change.new.self c.in-Some.next seen w.in-Some-2.stamp) c.last.ensures (c.in_ok-stamp.ensures.changed w.in-Some-2.stamp w.in-Some-2.is);
             cell = w.in_ok-set_up.ensures.set;
           })))
       | in_default-2 w ↦ search rules

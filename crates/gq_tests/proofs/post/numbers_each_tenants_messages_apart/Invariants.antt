@@ -1,4 +1,4 @@
--- The lanes stay two.
+-- The channels stay two.
 use Rattle.std.proofs.Common.{◌≡◌, length}
 use Rattle.gq_tests.proofs.post.numbers_each_tenants_messages_apart.Given as goal
 

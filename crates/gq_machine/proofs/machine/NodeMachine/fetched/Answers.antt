@@ -7,24 +7,24 @@ use Rattle.gq_node.specs.Inputs.{Fetched}
 use Rattle.gq_node.specs.Recalling.{tenant_of}
 use Rattle.gq_tag.specs.declared.StoredCopy.{StoredCopy}
 use Rattle.gq_parts.specs.Steps.{IsOfPlan, TookOf}
-use Rattle.gq_parts.proofs.Taking.{fact_own, letters_have, parcel_has, one_took}
+use Rattle.gq_parts.proofs.Taking.{fact_own, letters_have, transfer_has, one_took}
 use Rattle.gq_machine.proofs.machine.NodeMachine.fetched.Goals as goal
 
 pub put-requires-clause-fact : goal.put-requires-clause-fact
 put-requires-clause-fact c =
     let acts = c.in-Ok.ensures.acts in
     let P : CheckedPlan → Type 0 = λ p. IfSome c.in-Ok.out.fact (λ fact. tenant_of fact < length p.rows) in
-    subst P (sym acts.leads.plan) (fact_own c.args.self.now.node.tables c.args.file.tenant (Fetched c.args.from (file_place c.args.file) c.in_ok-shared.shared) c.in-Ok.out c.fetched.new.self.tables c.in_ok-goes.ensures c.requires acts)
+    subst P (sym acts.leads.plan) (fact_own c.args.self.now.node.tables c.args.file.tenant (Fetched c.args.from (file_place c.args.file) c.in_ok-shared.shared) c.in-Ok.out c.fetched.new.self.tables c.in_ok-has_memory.ensures c.requires acts)
 
 pub put-requires-clause-letters : goal.put-requires-clause-letters
 put-requires-clause-letters c =
-    letters_have c.args.self.now.node.tables c.args.file.tenant (Fetched c.args.from (file_place c.args.file) c.in_ok-shared.shared) c.in-Ok.out c.fetched.new.self.tables c.in_ok-goes.ensures c.requires c.in-Ok.ensures.acts
+    letters_have c.args.self.now.node.tables c.args.file.tenant (Fetched c.args.from (file_place c.args.file) c.in_ok-shared.shared) c.in-Ok.out c.fetched.new.self.tables c.in_ok-has_memory.ensures c.requires c.in-Ok.ensures.acts
 
-pub put-requires-clause-parcel : goal.put-requires-clause-parcel
-put-requires-clause-parcel c =
+pub put-requires-clause-transfer : goal.put-requires-clause-transfer
+put-requires-clause-transfer c =
     let acts = c.in-Ok.ensures.acts in
-    let P : CheckedPlan → Type 0 = λ p. IsOfPlan p c.in-Ok.out.parcel in
-    subst P (sym acts.leads.plan) (parcel_has c.args.self.now.node.tables c.args.file.tenant (Fetched c.args.from (file_place c.args.file) c.in_ok-shared.shared) c.in-Ok.out c.fetched.new.self.tables c.in_ok-goes.ensures c.requires acts)
+    let P : CheckedPlan → Type 0 = λ p. IsOfPlan p c.in-Ok.out.transfer in
+    subst P (sym acts.leads.plan) (transfer_has c.args.self.now.node.tables c.args.file.tenant (Fetched c.args.from (file_place c.args.file) c.in_ok-shared.shared) c.in-Ok.out c.fetched.new.self.tables c.in_ok-has_memory.ensures c.requires acts)
 
 pub returns-in_ok-put-in-Ok : goal.returns-in_ok-put-in-Ok
 returns-in_ok-put-in-Ok c =

@@ -39,6 +39,6 @@ returns-in_ok-put_facts-in-Ok c = λ plan of.
       facts = lines_are_facts w.plan is facts fit;
       stands = record {
         read = λ new blank. lines_read count w new.node.tables blank is facts fit needed.fit;
-        again = λ new last blank read. needed_rests count w facts is c.in_ok-goes.ensures of needed fit new.node.tables last.node.tables blank (reads (fact_lines w.plan facts) new last read);
+        again = λ new last blank read. needed_rests count w facts is c.in_ok-has_memory.ensures of needed fit new.node.tables last.node.tables blank (reads (fact_lines w.plan facts) new last read);
       };
     }

@@ -16,4 +16,4 @@ returns c =
     let incoming : c.in_ok-incoming.incoming ≡ incoming_of w.plan w.here.node c.args.line.now =
     c.in_ok-incoming.ensures.incoming ∙ ap (λ (p : CheckedPlan). incoming_of p c.number.result c.args.line.now) c.plan-2.ensures ∙ ap (λ n. incoming_of w.plan n c.args.line.now) c.number.ensures in
     let P : Incoming → Type 0 = λ i. TookIncoming w i c.args.facts.now.items c.take_incoming.new.facts.items c.args.told.now.items c.take_incoming.new.told.items c.take_incoming.new.self.node.tables in
-    on_ok c.take_incoming.result (λ all. takes_line tables_of c.args.self.now c.take_incoming.new.self c.args.line.now _ _ _ _ is c.in_ok-goes.ensures (subst P incoming all)) c.take_incoming.ensures
+    on_ok c.take_incoming.result (λ all. takes_line tables_of c.args.self.now c.take_incoming.new.self c.args.line.now _ _ _ _ is c.in_ok-has_memory.ensures (subst P incoming all)) c.take_incoming.ensures

@@ -15,7 +15,7 @@ returns-then-lacks c =
     let w : Tables = c.args.self.now in
     let m : Message = c.args.message.now in
     let lacks : lacks_at w m.tenant (file_place m.file) ≡ true = ap (λ t. lacks_at w t (file_place m.file)) (sym c.requires.own) ∙ sym c.lacks.ensures ∙ c.if-lacks.true in
-    record { acts = lacks_acts w m c.nothing.result lacks (record { answer = c.nothing.ensures.answer; letters = c.nothing.ensures.letters; parcel = c.nothing.ensures.parcel; fact = c.nothing.ensures.fact }) }
+    record { acts = lacks_acts w m c.nothing.result lacks (record { answer = c.nothing.ensures.answer; letters = c.nothing.ensures.letters; transfer = c.nothing.ensures.transfer; fact = c.nothing.ensures.fact }) }
 
 pub returns : goal.returns
 returns c =

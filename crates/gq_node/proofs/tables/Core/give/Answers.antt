@@ -6,11 +6,11 @@ use Rattle.gq_node.proofs.tables.Core.give.Goals as goal
 pub returns-then-not-gives : goal.returns-then-not-gives
 returns-then-not-gives c = record {
   acts = gives_not c.args.self.now c.args.from c.args.file c.nothing.result (sym c.gives.ensures.gives ∙ c.if-not-gives.true)
-      (record { answer = c.nothing.ensures.answer; letters = c.nothing.ensures.letters; parcel = c.nothing.ensures.parcel; fact = c.nothing.ensures.fact });
+      (record { answer = c.nothing.ensures.answer; letters = c.nothing.ensures.letters; transfer = c.nothing.ensures.transfer; fact = c.nothing.ensures.fact });
 }
 
 pub returns : goal.returns
 returns c = record {
   acts = gives_so c.args.self.now c.args.from c.args.file c.in_ok-copy.copy c.sent.result (sym c.gives.ensures.gives ∙ c.if-not-gives.false) c.in_ok-copy.ensures
-      (record { answer = c.sent.ensures.answer; letters = c.sent.ensures.letters; parcel_is = c.sent.ensures.parcel; fact = c.sent.ensures.fact });
+      (record { answer = c.sent.ensures.answer; letters = c.sent.ensures.letters; transfer_is = c.sent.ensures.transfer; fact = c.sent.ensures.fact });
 }

@@ -14,7 +14,7 @@ use Rattle.gq_node.proofs.Giving.{IsGiven, given_leads, given_shaped}
 use Rattle.gq_node.proofs.tables.Core.has_now.Goals as goal
 
 abbrev tables : goal.After-self-1 → Tables
-tables c = record { plan = c.self.inside.plan; here = record { node = c.self.inside.node; lost = c.self.inside.lost }; desk = c.self.inside.desk; store = c.self.inside.store; given = c.self.inside.lacks.items; joined = c.self.inside.joined; mates = c.self.inside.mates.items; seats = c.self.inside.seats.items }
+tables c = record { plan = c.self.inside.plan; here = record { node = c.self.inside.node; lost = c.self.inside.lost }; desk = c.self.inside.desk; store = c.self.inside.store; given = c.self.inside.lacks.items; joined = c.self.inside.joined; peers = c.self.inside.peers.items; session_states = c.self.inside.session_states.items }
 
 within : (c : goal.After-self-1) → c.args.file.tenant < length c.self.inside.lacks.items
 within c = subst (λ n. c.args.file.tenant < n) (sym c.self.invariant.given) (subst (λ (x : Tables). c.args.file.tenant < length x.plan.rows) (sym c.self.view_is) c.requires.tenant)

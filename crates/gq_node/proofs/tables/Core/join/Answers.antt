@@ -11,7 +11,7 @@ use Rattle.gq_node.proofs.tables.Core.join.Goals as goal
 pub returns-then-hears : goal.returns-then-hears
 returns-then-hears c =
     let w : Tables = c.args.self.now in
-    let v : Tables = record { plan = c.self.inside.plan; here = record { node = c.self.inside.node; lost = c.self.inside.lost }; desk = c.self.inside.desk; store = c.self.inside.store; given = c.self.inside.lacks.items; joined = c.self.inside.joined; mates = c.self.inside.mates.items; seats = c.self.inside.seats.items } in
+    let v : Tables = record { plan = c.self.inside.plan; here = record { node = c.self.inside.node; lost = c.self.inside.lost }; desk = c.self.inside.desk; store = c.self.inside.store; given = c.self.inside.lacks.items; joined = c.self.inside.joined; peers = c.self.inside.peers.items; session_states = c.self.inside.session_states.items } in
     let is : v ≡ w = c.self.view_is in
     let more : servers c.insert.new.self ≡ with_server (place_of c.args.from) (servers w.joined) =
     c.insert.ensures ∙ ap (λ n. with_server n (servers c.self.inside.joined)) (c.from.ensures ∙ c.place_of.ensures) ∙ ap (λ (x : Tables). with_server (place_of c.args.from) (servers x.joined)) is in

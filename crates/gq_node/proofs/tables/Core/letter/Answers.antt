@@ -15,7 +15,7 @@ use Rattle.gq_node.proofs.tables.Core.letter.Goals as goal
 
 pub returns-then-not-fits : goal.returns-then-not-fits
 returns-then-not-fits c =
-    record { acts = passed_acts c.args.self.now c.args.from c.args.message.now c.nothing.result c.requires.own (sym c.fits.ensures ∙ c.if-not-fits.true) (record { answer = c.nothing.ensures.answer; letters = c.nothing.ensures.letters; parcel = c.nothing.ensures.parcel; fact = c.nothing.ensures.fact }) }
+    record { acts = passed_acts c.args.self.now c.args.from c.args.message.now c.nothing.result c.requires.own (sym c.fits.ensures ∙ c.if-not-fits.true) (record { answer = c.nothing.ensures.answer; letters = c.nothing.ensures.letters; transfer = c.nothing.ensures.transfer; fact = c.nothing.ensures.fact }) }
 
 pub returns-then-to_server : goal.returns-then-to_server
 returns-then-to_server c =

@@ -11,7 +11,7 @@ pub returns-then-not-is_new : goal.returns-then-not-is_new
 returns-then-not-is_new c = record { loses = loses_not c.args.self.now c.args.tenant c.args.volumes (sym (c.is_new.ensures 0) ∙ c.if-not-is_new.true) c.requires.first }
 
 abbrev with_place : goal.After-drop-index_mut → ℕ → Tables
-with_place c n = record { plan = c.self.inside.plan; here = record { node = c.self.inside.node; lost = c.self.inside.lost }; desk = c.self.inside.desk; store = c.self.inside.store; given = slice_set c.self.inside.lacks.items n c.in_ok-self-inside.field-0; joined = c.self.inside.joined; mates = c.self.inside.mates.items; seats = c.self.inside.seats.items }
+with_place c n = record { plan = c.self.inside.plan; here = record { node = c.self.inside.node; lost = c.self.inside.lost }; desk = c.self.inside.desk; store = c.self.inside.store; given = slice_set c.self.inside.lacks.items n c.in_ok-self-inside.field-0; joined = c.self.inside.joined; peers = c.self.inside.peers.items; session_states = c.self.inside.session_states.items }
 
 within : (c : goal.After-drop-index_mut) → c.args.tenant < length c.args.self.now.given
 within c = let shaped : IsShaped c.args.self.now = subst IsShaped c.self.view_is c.self.invariant in subst (λ n. c.args.tenant < n) (sym shaped.given) c.requires.tenant

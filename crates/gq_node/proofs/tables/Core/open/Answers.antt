@@ -14,7 +14,7 @@ pub returns-in-Ok-clause-opened : goal.returns-in-Ok-clause-opened
 returns-in-Ok-clause-opened c =
     let row : VolumeRow = record { files = c.args.files; blocks = c.args.blocks } in
     let t : ℕ = c.args.tenant in
-    let V : List Account → StoreCopies → Tables = λ desk store. record { plan = c.self.inside.plan; here = record { node = c.self.inside.node; lost = c.self.inside.lost }; desk = desk; store = store; given = c.self.inside.lacks.items; joined = c.self.inside.joined; mates = c.self.inside.mates.items; seats = c.self.inside.seats.items } in
+    let V : List Account → StoreCopies → Tables = λ desk store. record { plan = c.self.inside.plan; here = record { node = c.self.inside.node; lost = c.self.inside.lost }; desk = desk; store = store; given = c.self.inside.lacks.items; joined = c.self.inside.joined; peers = c.self.inside.peers.items; session_states = c.self.inside.session_states.items } in
     let v : Tables = V c.self.inside.desk c.self.inside.store in
     let is : v ≡ c.args.self = c.self.view_is in
     let shaped : IsShaped v = c.self.invariant in
@@ -27,7 +27,7 @@ pub invariant_of-result : goal.invariant_of-result
 invariant_of-result c =
     let row : VolumeRow = record { files = c.args.files; blocks = c.args.blocks } in
     let t : ℕ = c.args.tenant in
-    let V : List Account → StoreCopies → Tables = λ desk store. record { plan = c.self.inside.plan; here = record { node = c.self.inside.node; lost = c.self.inside.lost }; desk = desk; store = store; given = c.self.inside.lacks.items; joined = c.self.inside.joined; mates = c.self.inside.mates.items; seats = c.self.inside.seats.items } in
+    let V : List Account → StoreCopies → Tables = λ desk store. record { plan = c.self.inside.plan; here = record { node = c.self.inside.node; lost = c.self.inside.lost }; desk = desk; store = store; given = c.self.inside.lacks.items; joined = c.self.inside.joined; peers = c.self.inside.peers.items; session_states = c.self.inside.session_states.items } in
     let v : Tables = V c.self.inside.desk c.self.inside.store in
     let shaped : IsShaped v = c.self.invariant in
     let within : t < length v.desk = rw shaped.desk (subst (λ (x : Tables). t < length x.plan.rows) (sym c.self.view_is) c.requires) in

@@ -17,13 +17,13 @@ use Rattle.gq_node.proofs.Recalling.{copy_leads}
 use Rattle.gq_node.proofs.tables.Core.recall_copy.Goals as goal
 
 abbrev inside : goal.After-put-put → Tables
-inside c = record { plan = c.self.inside.plan; here = record { node = c.self.inside.node; lost = c.self.inside.lost }; desk = c.self.inside.desk; store = c.self.inside.store; given = c.self.inside.lacks.items; joined = c.self.inside.joined; mates = c.self.inside.mates.items; seats = c.self.inside.seats.items }
+inside c = record { plan = c.self.inside.plan; here = record { node = c.self.inside.node; lost = c.self.inside.lost }; desk = c.self.inside.desk; store = c.self.inside.store; given = c.self.inside.lacks.items; joined = c.self.inside.joined; peers = c.self.inside.peers.items; session_states = c.self.inside.session_states.items }
 
 pub returns : goal.returns
 returns c =
     let file : FileId = c.args.file in
     let copy : StoredCopy = c.args.copy.now in
-    let V : StoreCopies → Tables = λ store. record { plan = c.self.inside.plan; here = record { node = c.self.inside.node; lost = c.self.inside.lost }; desk = c.self.inside.desk; store = store; given = c.self.inside.lacks.items; joined = c.self.inside.joined; mates = c.self.inside.mates.items; seats = c.self.inside.seats.items } in
+    let V : StoreCopies → Tables = λ store. record { plan = c.self.inside.plan; here = record { node = c.self.inside.node; lost = c.self.inside.lost }; desk = c.self.inside.desk; store = store; given = c.self.inside.lacks.items; joined = c.self.inside.joined; peers = c.self.inside.peers.items; session_states = c.self.inside.session_states.items } in
     let v : Tables = V c.self.inside.store in
     let is : v ≡ c.args.self.now = c.self.view_is in
     let there : limit_of v.desk file ≡ Some c.in-Some.limit = sym c.limit.ensures ∙ c.in-Some.is in

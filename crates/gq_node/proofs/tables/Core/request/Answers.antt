@@ -11,7 +11,7 @@ returns-in-Tells c =
     record {
       acts = told_by_number c.args.self.now c.args.tenant c.in-Some.session c.args.op c.args.line.now c.in-Tells.answer c.told-in-Tells.result (of_line c.in-Some.session c.args.line.now one.0)
           (ap (admission_at c.args.self.now c.args.tenant c.in-Some.session c.args.op) one.1 ∙ sym c.in_ok-answer.ensures ∙ c.in-Tells.is)
-          (record { answer_is = c.told-in-Tells.ensures.answer; letters = c.told-in-Tells.ensures.letters; parcel = c.told-in-Tells.ensures.parcel; fact = c.told-in-Tells.ensures.fact });
+          (record { answer_is = c.told-in-Tells.ensures.answer; letters = c.told-in-Tells.ensures.letters; transfer = c.told-in-Tells.ensures.transfer; fact = c.told-in-Tells.ensures.fact });
     }
 
 pub returns-in-Passes : goal.returns-in-Passes
@@ -20,5 +20,5 @@ returns-in-Passes c =
     record {
       acts = passed_by_number c.args.self.now c.args.tenant c.in-Some.session c.args.op c.args.line.now c.nothing.result (of_line c.in-Some.session c.args.line.now one.0)
           (ap (admission_at c.args.self.now c.args.tenant c.in-Some.session c.args.op) one.1 ∙ sym c.in_ok-answer.ensures ∙ c.in-Passes.is)
-          (record { answer = c.nothing.ensures.answer; letters = c.nothing.ensures.letters; parcel = c.nothing.ensures.parcel; fact = c.nothing.ensures.fact });
+          (record { answer = c.nothing.ensures.answer; letters = c.nothing.ensures.letters; transfer = c.nothing.ensures.transfer; fact = c.nothing.ensures.fact });
     }

@@ -4,7 +4,7 @@ use Rattle.gq_node.specs.Shape.{IsShaped}
 use Rattle.gq_node.specs.Sites.{site_of, home_place, has_session, session_at}
 use Rattle.gq_node.specs.Tables.{Tables}
 use Rattle.gq_node.proofs.Bereaving.{reserves, reserves_not}
-use Rattle.gq_node.proofs.Seating.{has_placed}
+use Rattle.gq_node.proofs.Placing.{has_placed}
 use Rattle.gq_node.proofs.tables.Core.reserve_at.Goals as goal
 
 pub returns-then-not-is_home : goal.returns-then-not-is_home

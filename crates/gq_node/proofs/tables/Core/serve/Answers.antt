@@ -17,10 +17,10 @@ pub returns : goal.returns
 returns c =
     let m : Message = c.args.message.now in
     let t : ℕ = m.tenant in
-    let V : StoreCopies → Tables = λ store. record { plan = c.self.inside.plan; here = record { node = c.self.inside.node; lost = c.self.inside.lost }; desk = c.self.inside.desk; store = store; given = c.self.inside.lacks.items; joined = c.self.inside.joined; mates = c.self.inside.mates.items; seats = c.self.inside.seats.items } in
+    let V : StoreCopies → Tables = λ store. record { plan = c.self.inside.plan; here = record { node = c.self.inside.node; lost = c.self.inside.lost }; desk = c.self.inside.desk; store = store; given = c.self.inside.lacks.items; joined = c.self.inside.joined; peers = c.self.inside.peers.items; session_states = c.self.inside.session_states.items } in
     let v : Tables = V c.self.inside.store in
     let is : v ≡ c.args.self.now = c.self.view_is in
-    let out : Output = record { answer = None; letters = c.grow.new.self; parcel = None; fact = c.in_ok-fact.fact } in
+    let out : Output = record { answer = None; letters = c.grow.new.self; transfer = None; fact = c.in_ok-fact.fact } in
     let served : Served v t m c.in-Ok.reply c.serve.new.self out = record {
       tenant = λ i. t;
       own = c.requires.own;
@@ -31,7 +31,7 @@ returns c =
       held = c.in-Ok.ensures.held;
       others = c.in-Ok.ensures.others;
       answer = λ i. None;
-      parcel = λ i. None;
+      transfer = λ i. None;
       letters = c.in_ok-grow.ensures.items ∙ ap (λ xs. xs ++ c.in-Ok.reply ∷ []) c.new-letters.ensures.items;
       fact = c.in_ok-fact.ensures ∙ ap (λ (x : Tables). option_map (fact_of m.file.tenant) (replaced_in (copy_at x.store m.file) (file_place m.file) m.body)) (sym is)
           ∙ ap (λ u. option_map (fact_of u) (replaced_in (copy_at c.self.inside.store m.file) (file_place m.file) m.body)) c.requires.own;
@@ -41,13 +41,13 @@ returns c =
 pub invariant_of-self-in_err-grow : goal.invariant_of-self-in_err-grow
 invariant_of-self-in_err-grow c =
     let m : Message = c.args.message.now in
-    let v : Tables = record { plan = c.self.inside.plan; here = record { node = c.self.inside.node; lost = c.self.inside.lost }; desk = c.self.inside.desk; store = c.self.inside.store; given = c.self.inside.lacks.items; joined = c.self.inside.joined; mates = c.self.inside.mates.items; seats = c.self.inside.seats.items } in
+    let v : Tables = record { plan = c.self.inside.plan; here = record { node = c.self.inside.node; lost = c.self.inside.lost }; desk = c.self.inside.desk; store = c.self.inside.store; given = c.self.inside.lacks.items; joined = c.self.inside.joined; peers = c.self.inside.peers.items; session_states = c.self.inside.session_states.items } in
     let has : lacks_at v m.file.tenant (file_place m.file) ≡ false = ap (λ (x : Tables). lacks_at x m.file.tenant (file_place m.file)) c.self.view_is ∙ ap (λ t. lacks_at c.args.self.now t (file_place m.file)) c.requires.own ∙ c.requires.has in
     stored_shaped v m.file c.serve.new.self c.self.invariant has c.in-Ok.ensures.others c.in-Ok.ensures.accounts
 
 pub invariant_of-self-2 : goal.invariant_of-self-2
 invariant_of-self-2 c =
     let m : Message = c.args.message.now in
-    let v : Tables = record { plan = c.self.inside.plan; here = record { node = c.self.inside.node; lost = c.self.inside.lost }; desk = c.self.inside.desk; store = c.self.inside.store; given = c.self.inside.lacks.items; joined = c.self.inside.joined; mates = c.self.inside.mates.items; seats = c.self.inside.seats.items } in
+    let v : Tables = record { plan = c.self.inside.plan; here = record { node = c.self.inside.node; lost = c.self.inside.lost }; desk = c.self.inside.desk; store = c.self.inside.store; given = c.self.inside.lacks.items; joined = c.self.inside.joined; peers = c.self.inside.peers.items; session_states = c.self.inside.session_states.items } in
     let has : lacks_at v m.file.tenant (file_place m.file) ≡ false = ap (λ (x : Tables). lacks_at x m.file.tenant (file_place m.file)) c.self.view_is ∙ ap (λ t. lacks_at c.args.self.now t (file_place m.file)) c.requires.own ∙ c.requires.has in
     stored_shaped v m.file c.serve.new.self c.self.invariant has c.in-Ok.ensures.others c.in-Ok.ensures.accounts

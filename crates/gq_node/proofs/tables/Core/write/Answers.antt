@@ -8,7 +8,7 @@ use Rattle.gq_node.specs.declared.output.Output.{Output}
 use Rattle.gq_node.specs.Local.{asks}
 use Rattle.gq_node.specs.Asking.{write_causes, Starts}
 use Rattle.gq_node.specs.Shape.{IsShaped}
-use Rattle.gq_node.specs.Tables.{Tables, Acts, seat_at}
+use Rattle.gq_node.specs.Tables.{Tables, Acts, session_state_at}
 use Rattle.gq_node.proofs.Asking.{below, IsRequest, is_write, write_task, early_acts, goes_inside, goes_number, never_refused, requested}
 use Rattle.gq_node.proofs.tables.Core.write.Goals as goal
 
@@ -19,7 +19,7 @@ returns-in-Some c =
     let r : IsRequest c.args.self.now c.args.tenant c.args.session (write_task c.args.volume c.args.file c.args.bytes.now) line causes = is_write c.args.self.now c.args.tenant c.args.session c.args.volume c.args.file c.args.bytes.now in
     record {
       acts = early_acts c.args.self.now c.args.tenant c.args.session c.args.op (write_task c.args.volume c.args.file c.args.bytes.now) line causes c.in-Some.word c.refused.result r c.requires.goes (sym c.write_refusal.ensures ∙ c.in-Some.is)
-          (record { answer_is = c.refused.ensures.answer; letters = c.refused.ensures.letters; parcel = c.refused.ensures.parcel; fact = c.refused.ensures.fact });
+          (record { answer_is = c.refused.ensures.answer; letters = c.refused.ensures.letters; transfer = c.refused.ensures.transfer; fact = c.refused.ensures.fact });
     }
 
 pub refused-requires : goal.refused-requires
@@ -27,13 +27,13 @@ refused-requires c =
     record { tenant = c.requires.tenant; has = goes_inside c.args.self.now c.args.tenant c.args.session c.args.op true c.requires.goes }
 
 pub next-next-requires-clause-number : goal.next-next-requires-clause-number
-next-next-requires-clause-number c = below c.args.op (seat_at c.args.self.now c.args.tenant c.args.session).op (goes_number c.args.self.now c.args.tenant c.args.session c.args.op c.requires.goes) c.ranges.op.fits
+next-next-requires-clause-number c = below c.args.op (session_state_at c.args.self.now c.args.tenant c.args.session).op (goes_number c.args.self.now c.args.tenant c.args.session c.args.op c.requires.goes) c.ranges.op.fits
 
 pub next-next-requires-clause-has : goal.next-next-requires-clause-has
 next-next-requires-clause-has c = goes_inside c.args.self.now c.args.tenant c.args.session c.args.op true c.requires.goes
 
 pub start-requires-clause-number : goal.start-requires-clause-number
-start-requires-clause-number c = below c.args.op (seat_at c.args.self.now c.args.tenant c.args.session).op (goes_number c.args.self.now c.args.tenant c.args.session c.args.op c.requires.goes) c.ranges.op.fits
+start-requires-clause-number c = below c.args.op (session_state_at c.args.self.now c.args.tenant c.args.session).op (goes_number c.args.self.now c.args.tenant c.args.session c.args.op c.requires.goes) c.ranges.op.fits
 
 pub start-requires-clause-quorum : goal.start-requires-clause-quorum
 start-requires-clause-quorum c =

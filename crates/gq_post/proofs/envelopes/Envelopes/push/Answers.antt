@@ -8,4 +8,4 @@ pub returns-clause-ok : goal.returns-clause-ok
 returns-clause-ok c =
     let place : vec_len c.self.inside.headings ≡ length c.self.inside.headings.items = omega arith in
     rw (c.push_reserved.ensures.items, c.in_ok-heading.ensures.items, c.of.ensures, c.of-2.ensures, c.make_room.ensures.items, c.in_ok-heading.ensures.place, place)
-    (pushed c.self.inside.headings.items c.self.inside.slips.items c.args.envelope c.self.invariant ∙ ap (λ lane. lane ++ c.args.envelope ∷ []) c.self.view_is)
+    (pushed c.self.inside.headings.items c.self.inside.slips.items c.args.envelope c.self.invariant ∙ ap (λ channel. channel ++ c.args.envelope ∷ []) c.self.view_is)

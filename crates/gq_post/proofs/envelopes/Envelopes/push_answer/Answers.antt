@@ -8,9 +8,9 @@ use Rattle.gq_post.proofs.envelopes.Envelopes.push_answer.Goals as goal
 
 pub returns-clause-ok : goal.returns-clause-ok
 returns-clause-ok c = λ asked is.
-    let lane : map (opened c.self.inside.headings.items) c.self.inside.slips.items ≡ c.args.self.now = c.self.view_is in
-    let within : c.args.number < length c.self.inside.slips.items = omega (arith, length-map c.self.inside.slips.items (opened c.self.inside.headings.items), ap length lane, c.requires) in
+    let channel : map (opened c.self.inside.headings.items) c.self.inside.slips.items ≡ c.args.self.now = c.self.view_is in
+    let within : c.args.number < length c.self.inside.slips.items = omega (arith, length-map c.self.inside.slips.items (opened c.self.inside.headings.items), ap length channel, c.requires) in
     rw (c.push_reserved.ensures.items, c.make_room.ensures.items)
     (answered c.self.inside.headings.items c.self.inside.slips.items c.index-asked.result.now asked c.args.says c.args.place
-    (opened_read c.self.inside.headings.items c.self.inside.slips.items c.args.number c.index-asked.result.now asked within (rw c.make_room.ensures.items at c.index-asked.ensures) (subst (λ l. slice_get l c.args.number ≡ Some asked) (sym lane) is))
-    ∙ ap (λ l. l ++ answering asked c.args.says c.args.place ∷ []) lane)
+    (opened_read c.self.inside.headings.items c.self.inside.slips.items c.args.number c.index-asked.result.now asked within (rw c.make_room.ensures.items at c.index-asked.ensures) (subst (λ l. slice_get l c.args.number ≡ Some asked) (sym channel) is))
+    ∙ ap (λ l. l ++ answering asked c.args.says c.args.place ∷ []) channel)

@@ -20,4 +20,4 @@ returns-clause-ok c =
     let place : vec_len c.self.inside.headings ≡ length c.self.inside.headings.items = omega arith in
     rw (c.push_slips.ensures.pushed, c.in_ok-heading.ensures.items, c.of.ensures, c.of-slip.ensures, c.make_room.ensures.items, c.in_ok-heading.ensures.place, place)
     (pushed_round c.self.inside.headings.items c.self.inside.slips.items c.args.envelope (rising c.args.grid.now (apart (servers c.args.to) (servers c.args.except))) c.self.invariant
-    ∙ ap (λ lane. lane ++ map (to_other c.args.envelope) (rising c.args.grid.now (apart (servers c.args.to) (servers c.args.except)))) c.self.view_is)
+    ∙ ap (λ channel. channel ++ map (to_other c.args.envelope) (rising c.args.grid.now (apart (servers c.args.to) (servers c.args.except)))) c.self.view_is)

@@ -8,7 +8,7 @@ use Rattle.gq_session.proofs.session.Session.retry.Goals as goal
 pub returns-clause-retries : goal.returns-clause-retries
 returns-clause-retries c =
     let same = c.in_ok-reserve.ensures.same in
-    let left : left_in c.note.new.self ≡ left_in c.self.inside.diary = c.note.ensures.left ∙ (λ i. drop (same.asked i) (same.lines i)) in
+    let left : left_in c.note.new.self ≡ left_in c.self.inside.event_log = c.note.ensures.left ∙ (λ i. drop (same.asked i) (same.lines i)) in
     let up = c.up.ensures ∙ ap (λ (b : Posted). up_of b.grid b.entries) c.in_ok-stamp.ensures.stamp.board in
     let more = c.note.ensures.entry ∙ (λ i. same.entries i ++ record { stamp = c.in_ok-stamp.stamp; did = Retried; said = c.in_ok-said.field-0.said } ∷ []) in
     retries _ _ _ _ _ _ _ c.in_ok-said.field-0.said _ c.self.view_is up c.in_ok-said.ensures.home c.in_ok-said.ensures.work left c.in_ok-said.ensures.retries more c.is_stuck-stuck.ensures

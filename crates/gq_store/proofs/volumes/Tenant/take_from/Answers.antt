@@ -7,20 +7,20 @@ use Rattle.gq_store.proofs.volumes.Tenant.take_from.Goals as goal
 
 pub take_from-requires-clause-size : goal.take_from-requires-clause-size
 take_from-requires-clause-size c =
-    let xs = c.deref_mut-volume-items.result.now in let ys = c.mate.inside.volumes.items in let items = c.loop-number.volume-items in let k = c.loop-number.number in
+    let xs = c.deref_mut-volume-items.result.now in let ys = c.peer.inside.volumes.items in let items = c.loop-number.volume-items in let k = c.loop-number.number in
     let sizes : map volume_size xs ≡ map volume_size ys =
     ap (map volume_size) c.deref_mut-volume-items.ensures.value ∙ (ap (λ (t : TenantCopies). map volume_size t.volumes) c.self.view_is
-    ∙ (ap (λ (a : Account). a.volumes) c.requires.account ∙ sym (ap (λ (t : TenantCopies). map volume_size t.volumes) c.mate.view_is))) in
+    ∙ (ap (λ (a : Account). a.volumes) c.requires.account ∙ sym (ap (λ (t : TenantCopies). map volume_size t.volumes) c.peer.view_is))) in
     alike_at volume_size xs ys items k _ _ (omega (arith, c.loop-number-test.true)) c.loop-number.auto.volume-items c.loop-number.invariant.0 sizes ∙ ap volume_size (sym c.index.ensures)
 
 pub loop-number-preserved : goal.loop-number-preserved
 loop-number-preserved c =
-    let xs = c.deref_mut-volume-items.result.now in let ys = c.mate.inside.volumes.items in let items = c.loop-number.volume-items in let k = c.loop-number.number in
+    let xs = c.deref_mut-volume-items.result.now in let ys = c.peer.inside.volumes.items in let items = c.loop-number.volume-items in let k = c.loop-number.number in
     let lt : k < length items = omega (arith, c.loop-number-test.true) in
     let long : length items ≡ length xs = c.loop-number.auto.volume-items in
     let sizes : map volume_size xs ≡ map volume_size ys =
     ap (map volume_size) c.deref_mut-volume-items.ensures.value ∙ (ap (λ (t : TenantCopies). map volume_size t.volumes) c.self.view_is
-    ∙ (ap (λ (a : Account). a.volumes) c.requires.account ∙ sym (ap (λ (t : TenantCopies). map volume_size t.volumes) c.mate.view_is))) in
+    ∙ (ap (λ (a : Account). a.volumes) c.requires.account ∙ sym (ap (λ (t : TenantCopies). map volume_size t.volumes) c.peer.view_is))) in
     let same : length xs ≡ length ys = alike_long volume_size xs ys sizes in
     let old : c.volume-item.result ≡ get_or items k empty_volume = c.volume-item.is ∙ get_or_default items k _ _ lt in
     let new : c.take_from.new.self ≡ get_or ys k empty_volume = c.take_from.ensures.copies ∙ (c.index.ensures ∙ get_or_default ys k _ _ (omega arith)) in

@@ -8,7 +8,7 @@ use Rattle.gq_store.proofs.volumes.Volume.take_from.Goals as goal
 
 pub loop-file-preserved : goal.loop-file-preserved
 loop-file-preserved c =
-    let xs = c.deref_mut-entry-items.result.now in let ys = c.mate.inside.files.items in let items = c.loop-file.entry-items in let k = c.loop-file.file in
+    let xs = c.deref_mut-entry-items.result.now in let ys = c.peer.inside.files.items in let items = c.loop-file.entry-items in let k = c.loop-file.file in
     let lt : k < length items = omega (arith, c.loop-file-test.true) in
     let long : length items ≡ length xs = c.loop-file.auto.entry-items in
     let same : length xs ≡ length ys = omega (
@@ -16,7 +16,7 @@ loop-file-preserved c =
       ap length c.deref_mut-entry-items.ensures.value,
       ap (λ (v : VolumeCopies). length v.copies) c.self.view_is,
       ap (λ (r : VolumeRow). r.files) c.requires.size,
-      ap (λ (v : VolumeCopies). length v.copies) c.mate.view_is,
+      ap (λ (v : VolumeCopies). length v.copies) c.peer.view_is,
     ) in
     let old : c.entry-item.result ≡ get_or items k first_copy = c.entry-item.is ∙ get_or_default items k _ _ lt in
     let new : c.take_from.new.self ≡ get_or ys k first_copy = c.take_from.ensures.copy ∙ (c.index.ensures ∙ get_or_default ys k _ _ (omega arith)) in

@@ -7,7 +7,7 @@ use Rattle.gq_grid.specs.Sets.{servers}
 use Rattle.gq_grid.specs.declared.TheConstants.{MOST_SERVERS}
 use Rattle.gq_tag.specs.declared.Message.{Message}
 use Rattle.gq_tag.specs.Tag.{to_server, answer_body}
-use Rattle.gq_post.specs.Lanes.{Lane, lane_at, message_at}
+use Rattle.gq_post.specs.Channels.{Channel, channel_at, message_at}
 use Rattle.gq_phase.specs.declared.Heard.{Heard}
 use Rattle.gq_phase.specs.declared.Heard.TheVariants.{Noted}
 use Rattle.gq_store.specs.Copies.{StoreCopies, copy_at, file_limit, store_accounts}
@@ -16,15 +16,15 @@ use Rattle.gq_model.specs.Told.{Replied}
 use Rattle.gq_model.specs.declared.events.Answer.{Answer}
 use Rattle.gq_model.specs.declared.events.Line.TheVariants.{Deliver}
 use Rattle.gq_model.specs.Shown.{shown}
-use Rattle.gq_world.specs.declared.sessions.Seat.{Seat}
-use Rattle.gq_world.specs.Tables.{Tables, IsReady, IsShaped, seats_at, seat_in, store_at}
+use Rattle.gq_world.specs.declared.sessions.SessionState.{SessionState}
+use Rattle.gq_world.specs.Tables.{Tables, IsReady, IsShaped, session_states_at, session_state_in, store_at}
 use Rattle.gq_phase.specs.Standing.{messages_of}
 use Rattle.gq_world.specs.Saying.{with_sent, heard_told}
 use Rattle.gq_world.specs.Response.{body_in}
 use Rattle.gq_desk.specs.Volumes.{limit_of}
-use Rattle.gq_world.specs.Seats.{SeatHears, SeatAnswers, FloorIsBelow}
+use Rattle.gq_world.specs.SessionStates.{SessionStateHears, SessionStateAnswers, FloorIsBelow}
 use Rattle.gq_world.specs.Machine.{Acts, TellsLine}
-use Rattle.gq_world.proofs.Ready.{server_below, number_below, seat_floor_below, session_within, message_fits}
+use Rattle.gq_world.proofs.Ready.{server_below, number_below, session_state_floor_below, session_within, message_fits}
 use Rattle.gq_world.proofs.Delivering.{HearsAt, heard_tells, heard_acts}
 use Rattle.gq_world.proofs.Serving.{IsDownAt, down_tells, down_acts, Serves, served_tells, served_acts, never_refused, file_there}
 use Rattle.gq_world.proofs.tables.Core.deliver.Goals as goal
@@ -37,37 +37,37 @@ returns-then-not-to_server-clause-answer c =
     let m : Message = c.in-Some.message in
     let r : IsReady w t = c.requires.ready in
     let shaped : IsShaped w = subst IsShaped c.self.view_is c.self.invariant.1 in
-    let there : message_at (lane_at w.lanes t) n ≡ Some m =
-    sym (c.in-Some.ensures ∙ ap (λ k. message_at (lane_at c.self.inside.post t) k) c.from.ensures ∙ ap (λ (x : Tables). message_at (lane_at x.lanes t) n) c.self.view_is) in
-    let lanes : t < length w.lanes = rw shaped.lanes c.requires.tenant in
-    let tenants : t < length w.seats = rw shaped.tenants c.requires.tenant in
-    let seats_now : c.self.inside.seats.items ≡ w.seats = ap (λ (x : Tables). x.seats) c.self.view_is in
-    let seats_was : c.index_mut-seats.result.now ≡ seats_at w.seats t =
-    c.index_mut-seats.ensures.value ∙ get_or_default c.self.inside.seats.items t _ _ (rw seats_now tenants) ∙ ap (λ all. seats_at all t) seats_now in
-    let seats_is : c.notes.new.self ≡ seats_at w.seats t = c.in_ok-noted.ensures.stays c.if-noted.false ∙ seats_was in
+    let there : message_at (channel_at w.channels t) n ≡ Some m =
+    sym (c.in-Some.ensures ∙ ap (λ k. message_at (channel_at c.self.inside.post t) k) c.from.ensures ∙ ap (λ (x : Tables). message_at (channel_at x.channels t) n) c.self.view_is) in
+    let channels : t < length w.channels = rw shaped.channels c.requires.tenant in
+    let tenants : t < length w.session_states = rw shaped.tenants c.requires.tenant in
+    let session_states_now : c.self.inside.session_states.items ≡ w.session_states = ap (λ (x : Tables). x.session_states) c.self.view_is in
+    let session_states_was : c.index_mut-session_states.result.now ≡ session_states_at w.session_states t =
+    c.index_mut-session_states.ensures.value ∙ get_or_default c.self.inside.session_states.items t _ _ (rw session_states_now tenants) ∙ ap (λ all. session_states_at all t) session_states_now in
+    let session_states_is : c.notes.new.self ≡ session_states_at w.session_states t = c.in_ok-noted.ensures.stays c.if-noted.false ∙ session_states_was in
     let heard : Heard = c.in_ok-heard.heard in
-    let P : List Seat → Type 0 = λ seats. SeatHears (seat_in seats (m.session - 1)) (seat_in c.hear.new.self (m.session - 1)) (servers c.servers.result) m heard in
-    let hears' : SeatHears (seat_in (seats_at w.seats t) (m.session - 1)) (seat_in c.hear.new.self (m.session - 1)) (servers c.servers.result) m heard = subst P seats_is c.in_ok-heard.ensures.hears in
-    let hears : SeatHears (seat_in (seats_at w.seats t) (m.session - 1)) (seat_in c.hear.new.self (m.session - 1)) (servers w.up) m heard =
-    subst (λ up. SeatHears (seat_in (seats_at w.seats t) (m.session - 1)) (seat_in c.hear.new.self (m.session - 1)) (servers up) m heard) (c.servers.ensures ∙ ap (λ (x : Tables). x.up) c.self.view_is) hears' in
+    let P : List SessionState → Type 0 = λ session_states. SessionStateHears (session_state_in session_states (m.session - 1)) (session_state_in c.hear.new.self (m.session - 1)) (servers c.servers.result) m heard in
+    let hears' : SessionStateHears (session_state_in (session_states_at w.session_states t) (m.session - 1)) (session_state_in c.hear.new.self (m.session - 1)) (servers c.servers.result) m heard = subst P session_states_is c.in_ok-heard.ensures.hears in
+    let hears : SessionStateHears (session_state_in (session_states_at w.session_states t) (m.session - 1)) (session_state_in c.hear.new.self (m.session - 1)) (servers w.up) m heard =
+    subst (λ up. SessionStateHears (session_state_in (session_states_at w.session_states t) (m.session - 1)) (session_state_in c.hear.new.self (m.session - 1)) (servers up) m heard) (c.servers.ensures ∙ ap (λ (x : Tables). x.up) c.self.view_is) hears' in
     let fits = message_fits w t n m r there in
     let goes : to_server m.body ≡ false = sym c.to_server.ensures ∙ c.if-not-to_server.true in
     let at : HearsAt w t n m c.hear.new.self heard = record {
       there = there;
       goes = goes;
       within = c.requires.tenant;
-      lanes = lanes;
+      channels = channels;
       tenants = tenants;
       first = fits.first;
       last = fits.last;
       hears = hears;
-      others = λ place other. c.hear.ensures.others place other ∙ ap (λ seats. seat_in seats place) seats_is;
+      others = λ place other. c.hear.ensures.others place other ∙ ap (λ session_states. session_state_in session_states place) session_states_is;
     } in
-    let lanes_now : c.self.inside.post ≡ w.lanes = ap (λ (x : Tables). x.lanes) c.self.view_is in
-    let P : Answer → Type 0 = λ answer. shown answer ≡ heard_told (length (lane_at c.self.inside.post t)) heard in
+    let channels_now : c.self.inside.post ≡ w.channels = ap (λ (x : Tables). x.channels) c.self.view_is in
+    let P : Answer → Type 0 = λ answer. shown answer ≡ heard_told (length (channel_at c.self.inside.post t)) heard in
     let Q : Answer → Type 0 = λ answer. TellsLine w t (Deliver n) (shown answer) in
     IfOk-weaker c.answer_heard.result P Q
-    (λ answer told. subst (TellsLine w t (Deliver n)) (sym (told ∙ ap (λ lanes. heard_told (length (lane_at lanes t)) heard) lanes_now)) (heard_tells w t n m c.hear.new.self heard at))
+    (λ answer told. subst (TellsLine w t (Deliver n)) (sym (told ∙ ap (λ channels. heard_told (length (channel_at channels t)) heard) channels_now)) (heard_tells w t n m c.hear.new.self heard at))
     c.answer_heard.ensures.answer
 
 pub returns-then-not-to_server-clause-acts : goal.returns-then-not-to_server-clause-acts
@@ -78,34 +78,34 @@ returns-then-not-to_server-clause-acts c =
     let m : Message = c.in-Some.message in
     let r : IsReady w t = c.requires.ready in
     let shaped : IsShaped w = subst IsShaped c.self.view_is c.self.invariant.1 in
-    let there : message_at (lane_at w.lanes t) n ≡ Some m =
-    sym (c.in-Some.ensures ∙ ap (λ k. message_at (lane_at c.self.inside.post t) k) c.from.ensures ∙ ap (λ (x : Tables). message_at (lane_at x.lanes t) n) c.self.view_is) in
-    let lanes : t < length w.lanes = rw shaped.lanes c.requires.tenant in
-    let tenants : t < length w.seats = rw shaped.tenants c.requires.tenant in
-    let seats_now : c.self.inside.seats.items ≡ w.seats = ap (λ (x : Tables). x.seats) c.self.view_is in
-    let seats_was : c.index_mut-seats.result.now ≡ seats_at w.seats t =
-    c.index_mut-seats.ensures.value ∙ get_or_default c.self.inside.seats.items t _ _ (rw seats_now tenants) ∙ ap (λ all. seats_at all t) seats_now in
-    let seats_is : c.notes.new.self ≡ seats_at w.seats t = c.in_ok-noted.ensures.stays c.if-noted.false ∙ seats_was in
+    let there : message_at (channel_at w.channels t) n ≡ Some m =
+    sym (c.in-Some.ensures ∙ ap (λ k. message_at (channel_at c.self.inside.post t) k) c.from.ensures ∙ ap (λ (x : Tables). message_at (channel_at x.channels t) n) c.self.view_is) in
+    let channels : t < length w.channels = rw shaped.channels c.requires.tenant in
+    let tenants : t < length w.session_states = rw shaped.tenants c.requires.tenant in
+    let session_states_now : c.self.inside.session_states.items ≡ w.session_states = ap (λ (x : Tables). x.session_states) c.self.view_is in
+    let session_states_was : c.index_mut-session_states.result.now ≡ session_states_at w.session_states t =
+    c.index_mut-session_states.ensures.value ∙ get_or_default c.self.inside.session_states.items t _ _ (rw session_states_now tenants) ∙ ap (λ all. session_states_at all t) session_states_now in
+    let session_states_is : c.notes.new.self ≡ session_states_at w.session_states t = c.in_ok-noted.ensures.stays c.if-noted.false ∙ session_states_was in
     let heard : Heard = c.in_ok-heard.heard in
-    let P : List Seat → Type 0 = λ seats. SeatHears (seat_in seats (m.session - 1)) (seat_in c.hear.new.self (m.session - 1)) (servers c.servers.result) m heard in
-    let hears' : SeatHears (seat_in (seats_at w.seats t) (m.session - 1)) (seat_in c.hear.new.self (m.session - 1)) (servers c.servers.result) m heard = subst P seats_is c.in_ok-heard.ensures.hears in
-    let hears : SeatHears (seat_in (seats_at w.seats t) (m.session - 1)) (seat_in c.hear.new.self (m.session - 1)) (servers w.up) m heard =
-    subst (λ up. SeatHears (seat_in (seats_at w.seats t) (m.session - 1)) (seat_in c.hear.new.self (m.session - 1)) (servers up) m heard) (c.servers.ensures ∙ ap (λ (x : Tables). x.up) c.self.view_is) hears' in
+    let P : List SessionState → Type 0 = λ session_states. SessionStateHears (session_state_in session_states (m.session - 1)) (session_state_in c.hear.new.self (m.session - 1)) (servers c.servers.result) m heard in
+    let hears' : SessionStateHears (session_state_in (session_states_at w.session_states t) (m.session - 1)) (session_state_in c.hear.new.self (m.session - 1)) (servers c.servers.result) m heard = subst P session_states_is c.in_ok-heard.ensures.hears in
+    let hears : SessionStateHears (session_state_in (session_states_at w.session_states t) (m.session - 1)) (session_state_in c.hear.new.self (m.session - 1)) (servers w.up) m heard =
+    subst (λ up. SessionStateHears (session_state_in (session_states_at w.session_states t) (m.session - 1)) (session_state_in c.hear.new.self (m.session - 1)) (servers up) m heard) (c.servers.ensures ∙ ap (λ (x : Tables). x.up) c.self.view_is) hears' in
     let fits = message_fits w t n m r there in
     let goes : to_server m.body ≡ false = sym c.to_server.ensures ∙ c.if-not-to_server.true in
     let at : HearsAt w t n m c.hear.new.self heard = record {
       there = there;
       goes = goes;
       within = c.requires.tenant;
-      lanes = lanes;
+      channels = channels;
       tenants = tenants;
       first = fits.first;
       last = fits.last;
       hears = hears;
-      others = λ place other. c.hear.ensures.others place other ∙ ap (λ seats. seat_in seats place) seats_is;
+      others = λ place other. c.hear.ensures.others place other ∙ ap (λ session_states. session_state_in session_states place) session_states_is;
     } in
-    let now = ap (λ (x : Tables). record x { lanes = with_sent x.lanes t (messages_of heard); seats = slice_set x.seats t c.hear.new.self }) (sym c.self.view_is) in
-    let V : List Lane → Tables = λ lanes. record { plan = c.self.inside.plan; up = c.self.inside.up.up; kept = c.self.inside.kept; lines = c.self.inside.lines.items; desk = c.self.inside.desk; lanes = lanes; stores = c.self.inside.stores.items; seats = slice_set c.self.inside.seats.items t c.hear.new.self } in
+    let now = ap (λ (x : Tables). record x { channels = with_sent x.channels t (messages_of heard); session_states = slice_set x.session_states t c.hear.new.self }) (sym c.self.view_is) in
+    let V : List Channel → Tables = λ channels. record { plan = c.self.inside.plan; up = c.self.inside.up.up; kept = c.self.inside.kept; lines = c.self.inside.lines.items; desk = c.self.inside.desk; channels = channels; stores = c.self.inside.stores.items; session_states = slice_set c.self.inside.session_states.items t c.hear.new.self } in
     on_ok_weaker {P = c.answer_heard.new.post ≡ with_sent c.self.inside.post t (messages_of heard)} {Q = Acts w t (Deliver n) (V c.answer_heard.new.post)} c.answer_heard.result
     (λ sent. subst (Acts w t (Deliver n)) (now ∙ ap V (sym sent)) (heard_acts w t n m c.hear.new.self heard at))
     c.answer_heard.ensures.sent
@@ -118,8 +118,8 @@ has-requires c =
     let m : Message = c.in-Some.message in
     let r : IsReady w t = c.requires.ready in
     let shaped : IsShaped w = subst IsShaped c.self.view_is c.self.invariant.1 in
-    let there : message_at (lane_at w.lanes t) n ≡ Some m =
-    sym (c.in-Some.ensures ∙ ap (λ k. message_at (lane_at c.self.inside.post t) k) c.from.ensures ∙ ap (λ (x : Tables). message_at (lane_at x.lanes t) n) c.self.view_is) in
+    let there : message_at (channel_at w.channels t) n ≡ Some m =
+    sym (c.in-Some.ensures ∙ ap (λ k. message_at (channel_at c.self.inside.post t) k) c.from.ensures ∙ ap (λ (x : Tables). message_at (channel_at x.channels t) n) c.self.view_is) in
     let server : c.message.inside.server ≡ m.server = ap (λ (x : Message). x.server) c.message.view_is in
     subst (λ k. k < MOST_SERVERS) (sym server) (server_below w t n m r shaped there)
 
@@ -131,8 +131,8 @@ returns-then-not-has-clause-answer c =
     let m : Message = c.in-Some.message in
     let r : IsReady w t = c.requires.ready in
     let shaped : IsShaped w = subst IsShaped c.self.view_is c.self.invariant.1 in
-    let there : message_at (lane_at w.lanes t) n ≡ Some m =
-    sym (c.in-Some.ensures ∙ ap (λ k. message_at (lane_at c.self.inside.post t) k) c.from.ensures ∙ ap (λ (x : Tables). message_at (lane_at x.lanes t) n) c.self.view_is) in
+    let there : message_at (channel_at w.channels t) n ≡ Some m =
+    sym (c.in-Some.ensures ∙ ap (λ k. message_at (channel_at c.self.inside.post t) k) c.from.ensures ∙ ap (λ (x : Tables). message_at (channel_at x.channels t) n) c.self.view_is) in
     let server : c.message.inside.server ≡ m.server = ap (λ (x : Message). x.server) c.message.view_is in
     let fits = message_fits w t n m r there in
     let at : IsDownAt w t n m = record {
@@ -151,8 +151,8 @@ returns-then-not-has-clause-acts c =
     let m : Message = c.in-Some.message in
     let r : IsReady w t = c.requires.ready in
     let shaped : IsShaped w = subst IsShaped c.self.view_is c.self.invariant.1 in
-    let there : message_at (lane_at w.lanes t) n ≡ Some m =
-    sym (c.in-Some.ensures ∙ ap (λ k. message_at (lane_at c.self.inside.post t) k) c.from.ensures ∙ ap (λ (x : Tables). message_at (lane_at x.lanes t) n) c.self.view_is) in
+    let there : message_at (channel_at w.channels t) n ≡ Some m =
+    sym (c.in-Some.ensures ∙ ap (λ k. message_at (channel_at c.self.inside.post t) k) c.from.ensures ∙ ap (λ (x : Tables). message_at (channel_at x.channels t) n) c.self.view_is) in
     let server : c.message.inside.server ≡ m.server = ap (λ (x : Message). x.server) c.message.view_is in
     let fits = message_fits w t n m r there in
     let at : IsDownAt w t n m = record {
@@ -171,8 +171,8 @@ index_mut-store-requires c =
     let m : Message = c.in-Some.message in
     let r : IsReady w t = c.requires.ready in
     let shaped : IsShaped w = subst IsShaped c.self.view_is c.self.invariant.1 in
-    let there : message_at (lane_at w.lanes t) n ≡ Some m =
-    sym (c.in-Some.ensures ∙ ap (λ k. message_at (lane_at c.self.inside.post t) k) c.from.ensures ∙ ap (λ (x : Tables). message_at (lane_at x.lanes t) n) c.self.view_is) in
+    let there : message_at (channel_at w.channels t) n ≡ Some m =
+    sym (c.in-Some.ensures ∙ ap (λ k. message_at (channel_at c.self.inside.post t) k) c.from.ensures ∙ ap (λ (x : Tables). message_at (channel_at x.channels t) n) c.self.view_is) in
     let server : c.message.inside.server ≡ m.server = ap (λ (x : Message). x.server) c.message.view_is in
     let below = (message_fits w t n m r there).server in
     let count : length c.self.inside.stores.items ≡ length w.stores = ap (λ (x : Tables). length x.stores) c.self.view_is in
@@ -187,8 +187,8 @@ serve-requires c =
     let m : Message = c.in-Some.message in
     let r : IsReady w t = c.requires.ready in
     let shaped : IsShaped w = subst IsShaped c.self.view_is c.self.invariant.1 in
-    let there : message_at (lane_at w.lanes t) n ≡ Some m =
-    sym (c.in-Some.ensures ∙ ap (λ k. message_at (lane_at c.self.inside.post t) k) c.from.ensures ∙ ap (λ (x : Tables). message_at (lane_at x.lanes t) n) c.self.view_is) in
+    let there : message_at (channel_at w.channels t) n ≡ Some m =
+    sym (c.in-Some.ensures ∙ ap (λ k. message_at (channel_at c.self.inside.post t) k) c.from.ensures ∙ ap (λ (x : Tables). message_at (channel_at x.channels t) n) c.self.view_is) in
     let server : c.message.inside.server ≡ m.server = ap (λ (x : Message). x.server) c.message.view_is in
     let fits = message_fits w t n m r there in
     let stores_now : c.self.inside.stores.items ≡ w.stores = ap (λ (x : Tables). x.stores) c.self.view_is in
@@ -205,8 +205,8 @@ answer-requires-clause-file c =
     let m : Message = c.in-Some.message in
     let r : IsReady w t = c.requires.ready in
     let shaped : IsShaped w = subst IsShaped c.self.view_is c.self.invariant.1 in
-    let there : message_at (lane_at w.lanes t) n ≡ Some m =
-    sym (c.in-Some.ensures ∙ ap (λ k. message_at (lane_at c.self.inside.post t) k) c.from.ensures ∙ ap (λ (x : Tables). message_at (lane_at x.lanes t) n) c.self.view_is) in
+    let there : message_at (channel_at w.channels t) n ≡ Some m =
+    sym (c.in-Some.ensures ∙ ap (λ k. message_at (channel_at c.self.inside.post t) k) c.from.ensures ∙ ap (λ (x : Tables). message_at (channel_at x.channels t) n) c.self.view_is) in
     let server : c.message.inside.server ≡ m.server = ap (λ (x : Message). x.server) c.message.view_is in
     let fits = message_fits w t n m r there in
     let stores_now : c.self.inside.stores.items ≡ w.stores = ap (λ (x : Tables). x.stores) c.self.view_is in
@@ -227,26 +227,26 @@ returns-clause-answer c =
     let m : Message = c.in-Some.message in
     let r : IsReady w t = c.requires.ready in
     let shaped : IsShaped w = subst IsShaped c.self.view_is c.self.invariant.1 in
-    let there : message_at (lane_at w.lanes t) n ≡ Some m =
-    sym (c.in-Some.ensures ∙ ap (λ k. message_at (lane_at c.self.inside.post t) k) c.from.ensures ∙ ap (λ (x : Tables). message_at (lane_at x.lanes t) n) c.self.view_is) in
+    let there : message_at (channel_at w.channels t) n ≡ Some m =
+    sym (c.in-Some.ensures ∙ ap (λ k. message_at (channel_at c.self.inside.post t) k) c.from.ensures ∙ ap (λ (x : Tables). message_at (channel_at x.channels t) n) c.self.view_is) in
     let server : c.message.inside.server ≡ m.server = ap (λ (x : Message). x.server) c.message.view_is in
     let fits = message_fits w t n m r there in
     let stores_now : c.self.inside.stores.items ≡ w.stores = ap (λ (x : Tables). x.stores) c.self.view_is in
     let stores : m.server < length w.stores = let below = fits.server in let all = shaped.servers in omega arith in
     let store_is : c.index_mut-store.result.now ≡ store_at w.stores m.server =
     c.index_mut-store.ensures.value ∙ get_or_default c.self.inside.stores.items c.message.inside.server _ _ (rw (stores_now, server) stores) ∙ ap (λ all. store_at all c.message.inside.server) stores_now ∙ ap (store_at w.stores) server in
-    let lanes : t < length w.lanes = rw shaped.lanes c.requires.tenant in
+    let channels : t < length w.channels = rw shaped.channels c.requires.tenant in
     let reply : Message = record m { body = body_in c.as_slice.result.now c.in_ok-response.response } in
-    let tenants : t < length w.seats = rw shaped.tenants c.requires.tenant in
-    let seats_now : c.self.inside.seats.items ≡ w.seats = ap (λ (x : Tables). x.seats) c.self.view_is in
-    let seats_was : c.index_mut-answering.result.now ≡ seats_at w.seats t =
-    c.index_mut-answering.ensures.value ∙ get_or_default c.self.inside.seats.items t _ _ (rw seats_now tenants) ∙ ap (λ all. seats_at all t) seats_now in
-    let A : List Seat → Type 0 = λ seats. SeatAnswers (seat_in seats (m.session - 1)) (seat_in c.answers.new.self (m.session - 1)) m in
+    let tenants : t < length w.session_states = rw shaped.tenants c.requires.tenant in
+    let session_states_now : c.self.inside.session_states.items ≡ w.session_states = ap (λ (x : Tables). x.session_states) c.self.view_is in
+    let session_states_was : c.index_mut-answering.result.now ≡ session_states_at w.session_states t =
+    c.index_mut-answering.ensures.value ∙ get_or_default c.self.inside.session_states.items t _ _ (rw session_states_now tenants) ∙ ap (λ all. session_states_at all t) session_states_now in
+    let A : List SessionState → Type 0 = λ session_states. SessionStateAnswers (session_state_in session_states (m.session - 1)) (session_state_in c.answers.new.self (m.session - 1)) m in
     let at : Serves w t n m reply c.answer.new.store c.answers.new.self = record {
       there = there;
       goes = sym c.to_server.ensures ∙ c.if-not-to_server.false;
       up = ap (λ (x : Tables). servers x.up m.server) (sym c.self.view_is) ∙ ap (servers c.self.inside.up.up) (sym server) ∙ sym c.has.ensures ∙ c.if-not-has.false;
-      lanes = lanes;
+      channels = channels;
       server = fits.server;
       stores = stores;
       reply_is = ap (λ body. record m { body = body }) (ap (λ content. body_in content c.in_ok-response.response) c.as_slice.ensures.value ∙ c.in_ok-response.ensures.response ∙ ap (λ (store : StoreCopies). answer_body (copy_at store m.file) m.body) store_is);
@@ -256,10 +256,10 @@ returns-clause-answer c =
       tenants = tenants;
       first = fits.first;
       last = fits.last;
-      answers = subst A seats_was c.answers.ensures.answers;
-      stays = λ place other. c.answers.ensures.others place other ∙ ap (λ seats. seat_in seats place) seats_was;
+      answers = subst A session_states_was c.answers.ensures.answers;
+      stays = λ place other. c.answers.ensures.others place other ∙ ap (λ session_states. session_state_in session_states place) session_states_was;
     } in
-    let number : c.in_ok-number.number ≡ length (lane_at w.lanes t) = c.in_ok-number.ensures.number ∙ ap (λ (x : Tables). length (lane_at x.lanes t)) c.self.view_is in
+    let number : c.in_ok-number.number ≡ length (channel_at w.channels t) = c.in_ok-number.ensures.number ∙ ap (λ (x : Tables). length (channel_at x.channels t)) c.self.view_is in
     subst (λ k. TellsLine w t (Deliver n) (Replied k)) (sym number) (served_tells w t n m reply c.answer.new.store c.answers.new.self at)
 
 pub returns-clause-acts : goal.returns-clause-acts
@@ -270,26 +270,26 @@ returns-clause-acts c =
     let m : Message = c.in-Some.message in
     let r : IsReady w t = c.requires.ready in
     let shaped : IsShaped w = subst IsShaped c.self.view_is c.self.invariant.1 in
-    let there : message_at (lane_at w.lanes t) n ≡ Some m =
-    sym (c.in-Some.ensures ∙ ap (λ k. message_at (lane_at c.self.inside.post t) k) c.from.ensures ∙ ap (λ (x : Tables). message_at (lane_at x.lanes t) n) c.self.view_is) in
+    let there : message_at (channel_at w.channels t) n ≡ Some m =
+    sym (c.in-Some.ensures ∙ ap (λ k. message_at (channel_at c.self.inside.post t) k) c.from.ensures ∙ ap (λ (x : Tables). message_at (channel_at x.channels t) n) c.self.view_is) in
     let server : c.message.inside.server ≡ m.server = ap (λ (x : Message). x.server) c.message.view_is in
     let fits = message_fits w t n m r there in
     let stores_now : c.self.inside.stores.items ≡ w.stores = ap (λ (x : Tables). x.stores) c.self.view_is in
     let stores : m.server < length w.stores = let below = fits.server in let all = shaped.servers in omega arith in
     let store_is : c.index_mut-store.result.now ≡ store_at w.stores m.server =
     c.index_mut-store.ensures.value ∙ get_or_default c.self.inside.stores.items c.message.inside.server _ _ (rw (stores_now, server) stores) ∙ ap (λ all. store_at all c.message.inside.server) stores_now ∙ ap (store_at w.stores) server in
-    let lanes : t < length w.lanes = rw shaped.lanes c.requires.tenant in
+    let channels : t < length w.channels = rw shaped.channels c.requires.tenant in
     let reply : Message = record m { body = body_in c.as_slice.result.now c.in_ok-response.response } in
-    let tenants : t < length w.seats = rw shaped.tenants c.requires.tenant in
-    let seats_now : c.self.inside.seats.items ≡ w.seats = ap (λ (x : Tables). x.seats) c.self.view_is in
-    let seats_was : c.index_mut-answering.result.now ≡ seats_at w.seats t =
-    c.index_mut-answering.ensures.value ∙ get_or_default c.self.inside.seats.items t _ _ (rw seats_now tenants) ∙ ap (λ all. seats_at all t) seats_now in
-    let A : List Seat → Type 0 = λ seats. SeatAnswers (seat_in seats (m.session - 1)) (seat_in c.answers.new.self (m.session - 1)) m in
+    let tenants : t < length w.session_states = rw shaped.tenants c.requires.tenant in
+    let session_states_now : c.self.inside.session_states.items ≡ w.session_states = ap (λ (x : Tables). x.session_states) c.self.view_is in
+    let session_states_was : c.index_mut-answering.result.now ≡ session_states_at w.session_states t =
+    c.index_mut-answering.ensures.value ∙ get_or_default c.self.inside.session_states.items t _ _ (rw session_states_now tenants) ∙ ap (λ all. session_states_at all t) session_states_now in
+    let A : List SessionState → Type 0 = λ session_states. SessionStateAnswers (session_state_in session_states (m.session - 1)) (session_state_in c.answers.new.self (m.session - 1)) m in
     let at : Serves w t n m reply c.answer.new.store c.answers.new.self = record {
       there = there;
       goes = sym c.to_server.ensures ∙ c.if-not-to_server.false;
       up = ap (λ (x : Tables). servers x.up m.server) (sym c.self.view_is) ∙ ap (servers c.self.inside.up.up) (sym server) ∙ sym c.has.ensures ∙ c.if-not-has.false;
-      lanes = lanes;
+      channels = channels;
       server = fits.server;
       stores = stores;
       reply_is = ap (λ body. record m { body = body }) (ap (λ content. body_in content c.in_ok-response.response) c.as_slice.ensures.value ∙ c.in_ok-response.ensures.response ∙ ap (λ (store : StoreCopies). answer_body (copy_at store m.file) m.body) store_is);
@@ -299,13 +299,13 @@ returns-clause-acts c =
       tenants = tenants;
       first = fits.first;
       last = fits.last;
-      answers = subst A seats_was c.answers.ensures.answers;
-      stays = λ place other. c.answers.ensures.others place other ∙ ap (λ seats. seat_in seats place) seats_was;
+      answers = subst A session_states_was c.answers.ensures.answers;
+      stays = λ place other. c.answers.ensures.others place other ∙ ap (λ session_states. session_state_in session_states place) session_states_was;
     } in
-    let asked : message_at (lane_at c.self.inside.post t) c.from-2.result ≡ Some m = ap (message_at (lane_at c.self.inside.post t)) (c.from-2.ensures ∙ sym c.from.ensures) ∙ sym c.in-Some.ensures in
-    let now = ap (λ (x : Tables). record x { stores = slice_set x.stores m.server c.answer.new.store; lanes = with_sent x.lanes t (reply ∷ []); seats = slice_set x.seats t c.answers.new.self }) (sym c.self.view_is) in
-    let V : List Lane → ℕ → Tables = λ lanes place. record { plan = c.self.inside.plan; up = c.self.inside.up.up; kept = c.self.inside.kept; lines = c.self.inside.lines.items; desk = c.self.inside.desk; lanes = lanes; stores = slice_set c.self.inside.stores.items place c.answer.new.store; seats = slice_set c.self.inside.seats.items t c.answers.new.self } in
-    subst (Acts w t (Deliver n)) (now ∙ ap (λ lanes. V lanes m.server) (sym (c.in_ok-number.ensures.sent m asked)) ∙ ap (V c.answer.new.post) (sym server)) (served_acts w t n m reply c.answer.new.store c.answers.new.self r at)
+    let asked : message_at (channel_at c.self.inside.post t) c.from-2.result ≡ Some m = ap (message_at (channel_at c.self.inside.post t)) (c.from-2.ensures ∙ sym c.from.ensures) ∙ sym c.in-Some.ensures in
+    let now = ap (λ (x : Tables). record x { stores = slice_set x.stores m.server c.answer.new.store; channels = with_sent x.channels t (reply ∷ []); session_states = slice_set x.session_states t c.answers.new.self }) (sym c.self.view_is) in
+    let V : List Channel → ℕ → Tables = λ channels place. record { plan = c.self.inside.plan; up = c.self.inside.up.up; kept = c.self.inside.kept; lines = c.self.inside.lines.items; desk = c.self.inside.desk; channels = channels; stores = slice_set c.self.inside.stores.items place c.answer.new.store; session_states = slice_set c.self.inside.session_states.items t c.answers.new.self } in
+    subst (Acts w t (Deliver n)) (now ∙ ap (λ channels. V channels m.server) (sym (c.in_ok-number.ensures.sent m asked)) ∙ ap (V c.answer.new.post) (sym server)) (served_acts w t n m reply c.answer.new.store c.answers.new.self r at)
 
 pub hear-requires-clause-first : goal.hear-requires-clause-first
 hear-requires-clause-first c =
@@ -315,13 +315,13 @@ hear-requires-clause-first c =
     let m : Message = c.in-Some.message in
     let r : IsReady w t = c.requires.ready in
     let shaped : IsShaped w = subst IsShaped c.self.view_is c.self.invariant.1 in
-    let there : message_at (lane_at w.lanes t) n ≡ Some m =
-    sym (c.in-Some.ensures ∙ ap (λ k. message_at (lane_at c.self.inside.post t) k) c.from.ensures ∙ ap (λ (x : Tables). message_at (lane_at x.lanes t) n) c.self.view_is) in
-    let tenants : t < length w.seats = rw shaped.tenants c.requires.tenant in
-    let seats_now : c.self.inside.seats.items ≡ w.seats = ap (λ (x : Tables). x.seats) c.self.view_is in
-    let seats_was : c.index_mut-seats.result.now ≡ seats_at w.seats t =
-    c.index_mut-seats.ensures.value ∙ get_or_default c.self.inside.seats.items t _ _ (rw seats_now tenants) ∙ ap (λ all. seats_at all t) seats_now in
-    let seats_is : c.notes.new.self ≡ seats_at w.seats t = c.in_ok-noted.ensures.stays c.if-noted.false ∙ seats_was in
+    let there : message_at (channel_at w.channels t) n ≡ Some m =
+    sym (c.in-Some.ensures ∙ ap (λ k. message_at (channel_at c.self.inside.post t) k) c.from.ensures ∙ ap (λ (x : Tables). message_at (channel_at x.channels t) n) c.self.view_is) in
+    let tenants : t < length w.session_states = rw shaped.tenants c.requires.tenant in
+    let session_states_now : c.self.inside.session_states.items ≡ w.session_states = ap (λ (x : Tables). x.session_states) c.self.view_is in
+    let session_states_was : c.index_mut-session_states.result.now ≡ session_states_at w.session_states t =
+    c.index_mut-session_states.ensures.value ∙ get_or_default c.self.inside.session_states.items t _ _ (rw session_states_now tenants) ∙ ap (λ all. session_states_at all t) session_states_now in
+    let session_states_is : c.notes.new.self ≡ session_states_at w.session_states t = c.in_ok-noted.ensures.stays c.if-noted.false ∙ session_states_was in
     (session_within w t n m c.requires.tenant r shaped there).0
 
 pub hear-requires-clause-last : goal.hear-requires-clause-last
@@ -332,14 +332,14 @@ hear-requires-clause-last c =
     let m : Message = c.in-Some.message in
     let r : IsReady w t = c.requires.ready in
     let shaped : IsShaped w = subst IsShaped c.self.view_is c.self.invariant.1 in
-    let there : message_at (lane_at w.lanes t) n ≡ Some m =
-    sym (c.in-Some.ensures ∙ ap (λ k. message_at (lane_at c.self.inside.post t) k) c.from.ensures ∙ ap (λ (x : Tables). message_at (lane_at x.lanes t) n) c.self.view_is) in
-    let tenants : t < length w.seats = rw shaped.tenants c.requires.tenant in
-    let seats_now : c.self.inside.seats.items ≡ w.seats = ap (λ (x : Tables). x.seats) c.self.view_is in
-    let seats_was : c.index_mut-seats.result.now ≡ seats_at w.seats t =
-    c.index_mut-seats.ensures.value ∙ get_or_default c.self.inside.seats.items t _ _ (rw seats_now tenants) ∙ ap (λ all. seats_at all t) seats_now in
-    let seats_is : c.notes.new.self ≡ seats_at w.seats t = c.in_ok-noted.ensures.stays c.if-noted.false ∙ seats_was in
-    subst (λ (seats : List Seat). m.session ≤ length seats) (sym seats_is) (session_within w t n m c.requires.tenant r shaped there).1
+    let there : message_at (channel_at w.channels t) n ≡ Some m =
+    sym (c.in-Some.ensures ∙ ap (λ k. message_at (channel_at c.self.inside.post t) k) c.from.ensures ∙ ap (λ (x : Tables). message_at (channel_at x.channels t) n) c.self.view_is) in
+    let tenants : t < length w.session_states = rw shaped.tenants c.requires.tenant in
+    let session_states_now : c.self.inside.session_states.items ≡ w.session_states = ap (λ (x : Tables). x.session_states) c.self.view_is in
+    let session_states_was : c.index_mut-session_states.result.now ≡ session_states_at w.session_states t =
+    c.index_mut-session_states.ensures.value ∙ get_or_default c.self.inside.session_states.items t _ _ (rw session_states_now tenants) ∙ ap (λ all. session_states_at all t) session_states_now in
+    let session_states_is : c.notes.new.self ≡ session_states_at w.session_states t = c.in_ok-noted.ensures.stays c.if-noted.false ∙ session_states_was in
+    subst (λ (session_states : List SessionState). m.session ≤ length session_states) (sym session_states_is) (session_within w t n m c.requires.tenant r shaped there).1
 
 pub hear-requires-clause-server : goal.hear-requires-clause-server
 hear-requires-clause-server c =
@@ -349,13 +349,13 @@ hear-requires-clause-server c =
     let m : Message = c.in-Some.message in
     let r : IsReady w t = c.requires.ready in
     let shaped : IsShaped w = subst IsShaped c.self.view_is c.self.invariant.1 in
-    let there : message_at (lane_at w.lanes t) n ≡ Some m =
-    sym (c.in-Some.ensures ∙ ap (λ k. message_at (lane_at c.self.inside.post t) k) c.from.ensures ∙ ap (λ (x : Tables). message_at (lane_at x.lanes t) n) c.self.view_is) in
-    let tenants : t < length w.seats = rw shaped.tenants c.requires.tenant in
-    let seats_now : c.self.inside.seats.items ≡ w.seats = ap (λ (x : Tables). x.seats) c.self.view_is in
-    let seats_was : c.index_mut-seats.result.now ≡ seats_at w.seats t =
-    c.index_mut-seats.ensures.value ∙ get_or_default c.self.inside.seats.items t _ _ (rw seats_now tenants) ∙ ap (λ all. seats_at all t) seats_now in
-    let seats_is : c.notes.new.self ≡ seats_at w.seats t = c.in_ok-noted.ensures.stays c.if-noted.false ∙ seats_was in
+    let there : message_at (channel_at w.channels t) n ≡ Some m =
+    sym (c.in-Some.ensures ∙ ap (λ k. message_at (channel_at c.self.inside.post t) k) c.from.ensures ∙ ap (λ (x : Tables). message_at (channel_at x.channels t) n) c.self.view_is) in
+    let tenants : t < length w.session_states = rw shaped.tenants c.requires.tenant in
+    let session_states_now : c.self.inside.session_states.items ≡ w.session_states = ap (λ (x : Tables). x.session_states) c.self.view_is in
+    let session_states_was : c.index_mut-session_states.result.now ≡ session_states_at w.session_states t =
+    c.index_mut-session_states.ensures.value ∙ get_or_default c.self.inside.session_states.items t _ _ (rw session_states_now tenants) ∙ ap (λ all. session_states_at all t) session_states_now in
+    let session_states_is : c.notes.new.self ≡ session_states_at w.session_states t = c.in_ok-noted.ensures.stays c.if-noted.false ∙ session_states_was in
     server_below w t n m r shaped there
 
 pub hear-requires-clause-number : goal.hear-requires-clause-number
@@ -366,13 +366,13 @@ hear-requires-clause-number c =
     let m : Message = c.in-Some.message in
     let r : IsReady w t = c.requires.ready in
     let shaped : IsShaped w = subst IsShaped c.self.view_is c.self.invariant.1 in
-    let there : message_at (lane_at w.lanes t) n ≡ Some m =
-    sym (c.in-Some.ensures ∙ ap (λ k. message_at (lane_at c.self.inside.post t) k) c.from.ensures ∙ ap (λ (x : Tables). message_at (lane_at x.lanes t) n) c.self.view_is) in
-    let tenants : t < length w.seats = rw shaped.tenants c.requires.tenant in
-    let seats_now : c.self.inside.seats.items ≡ w.seats = ap (λ (x : Tables). x.seats) c.self.view_is in
-    let seats_was : c.index_mut-seats.result.now ≡ seats_at w.seats t =
-    c.index_mut-seats.ensures.value ∙ get_or_default c.self.inside.seats.items t _ _ (rw seats_now tenants) ∙ ap (λ all. seats_at all t) seats_now in
-    let seats_is : c.notes.new.self ≡ seats_at w.seats t = c.in_ok-noted.ensures.stays c.if-noted.false ∙ seats_was in
+    let there : message_at (channel_at w.channels t) n ≡ Some m =
+    sym (c.in-Some.ensures ∙ ap (λ k. message_at (channel_at c.self.inside.post t) k) c.from.ensures ∙ ap (λ (x : Tables). message_at (channel_at x.channels t) n) c.self.view_is) in
+    let tenants : t < length w.session_states = rw shaped.tenants c.requires.tenant in
+    let session_states_now : c.self.inside.session_states.items ≡ w.session_states = ap (λ (x : Tables). x.session_states) c.self.view_is in
+    let session_states_was : c.index_mut-session_states.result.now ≡ session_states_at w.session_states t =
+    c.index_mut-session_states.ensures.value ∙ get_or_default c.self.inside.session_states.items t _ _ (rw session_states_now tenants) ∙ ap (λ all. session_states_at all t) session_states_now in
+    let session_states_is : c.notes.new.self ≡ session_states_at w.session_states t = c.in_ok-noted.ensures.stays c.if-noted.false ∙ session_states_was in
     number_below w t n m r there
 
 pub hear-requires-clause-floor : goal.hear-requires-clause-floor
@@ -383,14 +383,14 @@ hear-requires-clause-floor c =
     let m : Message = c.in-Some.message in
     let r : IsReady w t = c.requires.ready in
     let shaped : IsShaped w = subst IsShaped c.self.view_is c.self.invariant.1 in
-    let there : message_at (lane_at w.lanes t) n ≡ Some m =
-    sym (c.in-Some.ensures ∙ ap (λ k. message_at (lane_at c.self.inside.post t) k) c.from.ensures ∙ ap (λ (x : Tables). message_at (lane_at x.lanes t) n) c.self.view_is) in
-    let tenants : t < length w.seats = rw shaped.tenants c.requires.tenant in
-    let seats_now : c.self.inside.seats.items ≡ w.seats = ap (λ (x : Tables). x.seats) c.self.view_is in
-    let seats_was : c.index_mut-seats.result.now ≡ seats_at w.seats t =
-    c.index_mut-seats.ensures.value ∙ get_or_default c.self.inside.seats.items t _ _ (rw seats_now tenants) ∙ ap (λ all. seats_at all t) seats_now in
-    let seats_is : c.notes.new.self ≡ seats_at w.seats t = c.in_ok-noted.ensures.stays c.if-noted.false ∙ seats_was in
-    subst (λ (seats : List Seat). FloorIsBelow (seat_in seats (m.session - 1)).operation) (sym seats_is) (seat_floor_below w t n m r there)
+    let there : message_at (channel_at w.channels t) n ≡ Some m =
+    sym (c.in-Some.ensures ∙ ap (λ k. message_at (channel_at c.self.inside.post t) k) c.from.ensures ∙ ap (λ (x : Tables). message_at (channel_at x.channels t) n) c.self.view_is) in
+    let tenants : t < length w.session_states = rw shaped.tenants c.requires.tenant in
+    let session_states_now : c.self.inside.session_states.items ≡ w.session_states = ap (λ (x : Tables). x.session_states) c.self.view_is in
+    let session_states_was : c.index_mut-session_states.result.now ≡ session_states_at w.session_states t =
+    c.index_mut-session_states.ensures.value ∙ get_or_default c.self.inside.session_states.items t _ _ (rw session_states_now tenants) ∙ ap (λ all. session_states_at all t) session_states_now in
+    let session_states_is : c.notes.new.self ≡ session_states_at w.session_states t = c.in_ok-noted.ensures.stays c.if-noted.false ∙ session_states_was in
+    subst (λ (session_states : List SessionState). FloorIsBelow (session_state_in session_states (m.session - 1)).operation) (sym session_states_is) (session_state_floor_below w t n m r there)
 
 pub notes-requires-clause-first : goal.notes-requires-clause-first
 notes-requires-clause-first c =
@@ -400,12 +400,12 @@ notes-requires-clause-first c =
     let m : Message = c.in-Some.message in
     let r : IsReady w t = c.requires.ready in
     let shaped : IsShaped w = subst IsShaped c.self.view_is c.self.invariant.1 in
-    let there : message_at (lane_at w.lanes t) n ≡ Some m =
-    sym (c.in-Some.ensures ∙ ap (λ k. message_at (lane_at c.self.inside.post t) k) c.from.ensures ∙ ap (λ (x : Tables). message_at (lane_at x.lanes t) n) c.self.view_is) in
-    let tenants : t < length w.seats = rw shaped.tenants c.requires.tenant in
-    let seats_now : c.self.inside.seats.items ≡ w.seats = ap (λ (x : Tables). x.seats) c.self.view_is in
-    let seats_was : c.index_mut-seats.result.now ≡ seats_at w.seats t =
-    c.index_mut-seats.ensures.value ∙ get_or_default c.self.inside.seats.items t _ _ (rw seats_now tenants) ∙ ap (λ all. seats_at all t) seats_now in
+    let there : message_at (channel_at w.channels t) n ≡ Some m =
+    sym (c.in-Some.ensures ∙ ap (λ k. message_at (channel_at c.self.inside.post t) k) c.from.ensures ∙ ap (λ (x : Tables). message_at (channel_at x.channels t) n) c.self.view_is) in
+    let tenants : t < length w.session_states = rw shaped.tenants c.requires.tenant in
+    let session_states_now : c.self.inside.session_states.items ≡ w.session_states = ap (λ (x : Tables). x.session_states) c.self.view_is in
+    let session_states_was : c.index_mut-session_states.result.now ≡ session_states_at w.session_states t =
+    c.index_mut-session_states.ensures.value ∙ get_or_default c.self.inside.session_states.items t _ _ (rw session_states_now tenants) ∙ ap (λ all. session_states_at all t) session_states_now in
     (session_within w t n m c.requires.tenant r shaped there).0
 
 pub notes-requires-clause-last : goal.notes-requires-clause-last
@@ -416,13 +416,13 @@ notes-requires-clause-last c =
     let m : Message = c.in-Some.message in
     let r : IsReady w t = c.requires.ready in
     let shaped : IsShaped w = subst IsShaped c.self.view_is c.self.invariant.1 in
-    let there : message_at (lane_at w.lanes t) n ≡ Some m =
-    sym (c.in-Some.ensures ∙ ap (λ k. message_at (lane_at c.self.inside.post t) k) c.from.ensures ∙ ap (λ (x : Tables). message_at (lane_at x.lanes t) n) c.self.view_is) in
-    let tenants : t < length w.seats = rw shaped.tenants c.requires.tenant in
-    let seats_now : c.self.inside.seats.items ≡ w.seats = ap (λ (x : Tables). x.seats) c.self.view_is in
-    let seats_was : c.index_mut-seats.result.now ≡ seats_at w.seats t =
-    c.index_mut-seats.ensures.value ∙ get_or_default c.self.inside.seats.items t _ _ (rw seats_now tenants) ∙ ap (λ all. seats_at all t) seats_now in
-    subst (λ (seats : List Seat). m.session ≤ length seats) (sym seats_was) (session_within w t n m c.requires.tenant r shaped there).1
+    let there : message_at (channel_at w.channels t) n ≡ Some m =
+    sym (c.in-Some.ensures ∙ ap (λ k. message_at (channel_at c.self.inside.post t) k) c.from.ensures ∙ ap (λ (x : Tables). message_at (channel_at x.channels t) n) c.self.view_is) in
+    let tenants : t < length w.session_states = rw shaped.tenants c.requires.tenant in
+    let session_states_now : c.self.inside.session_states.items ≡ w.session_states = ap (λ (x : Tables). x.session_states) c.self.view_is in
+    let session_states_was : c.index_mut-session_states.result.now ≡ session_states_at w.session_states t =
+    c.index_mut-session_states.ensures.value ∙ get_or_default c.self.inside.session_states.items t _ _ (rw session_states_now tenants) ∙ ap (λ all. session_states_at all t) session_states_now in
+    subst (λ (session_states : List SessionState). m.session ≤ length session_states) (sym session_states_was) (session_within w t n m c.requires.tenant r shaped there).1
 
 pub notes-requires-clause-server : goal.notes-requires-clause-server
 notes-requires-clause-server c =
@@ -432,12 +432,12 @@ notes-requires-clause-server c =
     let m : Message = c.in-Some.message in
     let r : IsReady w t = c.requires.ready in
     let shaped : IsShaped w = subst IsShaped c.self.view_is c.self.invariant.1 in
-    let there : message_at (lane_at w.lanes t) n ≡ Some m =
-    sym (c.in-Some.ensures ∙ ap (λ k. message_at (lane_at c.self.inside.post t) k) c.from.ensures ∙ ap (λ (x : Tables). message_at (lane_at x.lanes t) n) c.self.view_is) in
-    let tenants : t < length w.seats = rw shaped.tenants c.requires.tenant in
-    let seats_now : c.self.inside.seats.items ≡ w.seats = ap (λ (x : Tables). x.seats) c.self.view_is in
-    let seats_was : c.index_mut-seats.result.now ≡ seats_at w.seats t =
-    c.index_mut-seats.ensures.value ∙ get_or_default c.self.inside.seats.items t _ _ (rw seats_now tenants) ∙ ap (λ all. seats_at all t) seats_now in
+    let there : message_at (channel_at w.channels t) n ≡ Some m =
+    sym (c.in-Some.ensures ∙ ap (λ k. message_at (channel_at c.self.inside.post t) k) c.from.ensures ∙ ap (λ (x : Tables). message_at (channel_at x.channels t) n) c.self.view_is) in
+    let tenants : t < length w.session_states = rw shaped.tenants c.requires.tenant in
+    let session_states_now : c.self.inside.session_states.items ≡ w.session_states = ap (λ (x : Tables). x.session_states) c.self.view_is in
+    let session_states_was : c.index_mut-session_states.result.now ≡ session_states_at w.session_states t =
+    c.index_mut-session_states.ensures.value ∙ get_or_default c.self.inside.session_states.items t _ _ (rw session_states_now tenants) ∙ ap (λ all. session_states_at all t) session_states_now in
     server_below w t n m r shaped there
 
 pub notes-requires-clause-number : goal.notes-requires-clause-number
@@ -448,12 +448,12 @@ notes-requires-clause-number c =
     let m : Message = c.in-Some.message in
     let r : IsReady w t = c.requires.ready in
     let shaped : IsShaped w = subst IsShaped c.self.view_is c.self.invariant.1 in
-    let there : message_at (lane_at w.lanes t) n ≡ Some m =
-    sym (c.in-Some.ensures ∙ ap (λ k. message_at (lane_at c.self.inside.post t) k) c.from.ensures ∙ ap (λ (x : Tables). message_at (lane_at x.lanes t) n) c.self.view_is) in
-    let tenants : t < length w.seats = rw shaped.tenants c.requires.tenant in
-    let seats_now : c.self.inside.seats.items ≡ w.seats = ap (λ (x : Tables). x.seats) c.self.view_is in
-    let seats_was : c.index_mut-seats.result.now ≡ seats_at w.seats t =
-    c.index_mut-seats.ensures.value ∙ get_or_default c.self.inside.seats.items t _ _ (rw seats_now tenants) ∙ ap (λ all. seats_at all t) seats_now in
+    let there : message_at (channel_at w.channels t) n ≡ Some m =
+    sym (c.in-Some.ensures ∙ ap (λ k. message_at (channel_at c.self.inside.post t) k) c.from.ensures ∙ ap (λ (x : Tables). message_at (channel_at x.channels t) n) c.self.view_is) in
+    let tenants : t < length w.session_states = rw shaped.tenants c.requires.tenant in
+    let session_states_now : c.self.inside.session_states.items ≡ w.session_states = ap (λ (x : Tables). x.session_states) c.self.view_is in
+    let session_states_was : c.index_mut-session_states.result.now ≡ session_states_at w.session_states t =
+    c.index_mut-session_states.ensures.value ∙ get_or_default c.self.inside.session_states.items t _ _ (rw session_states_now tenants) ∙ ap (λ all. session_states_at all t) session_states_now in
     number_below w t n m r there
 
 pub returns-then-noted-clause-answer : goal.returns-then-noted-clause-answer
@@ -464,27 +464,27 @@ returns-then-noted-clause-answer c =
     let m : Message = c.in-Some.message in
     let r : IsReady w t = c.requires.ready in
     let shaped : IsShaped w = subst IsShaped c.self.view_is c.self.invariant.1 in
-    let there : message_at (lane_at w.lanes t) n ≡ Some m =
-    sym (c.in-Some.ensures ∙ ap (λ k. message_at (lane_at c.self.inside.post t) k) c.from.ensures ∙ ap (λ (x : Tables). message_at (lane_at x.lanes t) n) c.self.view_is) in
-    let lanes : t < length w.lanes = rw shaped.lanes c.requires.tenant in
-    let tenants : t < length w.seats = rw shaped.tenants c.requires.tenant in
-    let seats_now : c.self.inside.seats.items ≡ w.seats = ap (λ (x : Tables). x.seats) c.self.view_is in
-    let seats_was : c.index_mut-seats.result.now ≡ seats_at w.seats t =
-    c.index_mut-seats.ensures.value ∙ get_or_default c.self.inside.seats.items t _ _ (rw seats_now tenants) ∙ ap (λ all. seats_at all t) seats_now in
-    let P : List Seat → Type 0 = λ seats. SeatHears (seat_in seats (m.session - 1)) (seat_in c.notes.new.self (m.session - 1)) (servers w.up) m Noted in
-    let hears : SeatHears (seat_in (seats_at w.seats t) (m.session - 1)) (seat_in c.notes.new.self (m.session - 1)) (servers w.up) m Noted = subst P seats_was (c.in_ok-noted.ensures.hears c.if-noted.true (servers w.up)) in
+    let there : message_at (channel_at w.channels t) n ≡ Some m =
+    sym (c.in-Some.ensures ∙ ap (λ k. message_at (channel_at c.self.inside.post t) k) c.from.ensures ∙ ap (λ (x : Tables). message_at (channel_at x.channels t) n) c.self.view_is) in
+    let channels : t < length w.channels = rw shaped.channels c.requires.tenant in
+    let tenants : t < length w.session_states = rw shaped.tenants c.requires.tenant in
+    let session_states_now : c.self.inside.session_states.items ≡ w.session_states = ap (λ (x : Tables). x.session_states) c.self.view_is in
+    let session_states_was : c.index_mut-session_states.result.now ≡ session_states_at w.session_states t =
+    c.index_mut-session_states.ensures.value ∙ get_or_default c.self.inside.session_states.items t _ _ (rw session_states_now tenants) ∙ ap (λ all. session_states_at all t) session_states_now in
+    let P : List SessionState → Type 0 = λ session_states. SessionStateHears (session_state_in session_states (m.session - 1)) (session_state_in c.notes.new.self (m.session - 1)) (servers w.up) m Noted in
+    let hears : SessionStateHears (session_state_in (session_states_at w.session_states t) (m.session - 1)) (session_state_in c.notes.new.self (m.session - 1)) (servers w.up) m Noted = subst P session_states_was (c.in_ok-noted.ensures.hears c.if-noted.true (servers w.up)) in
     let fits = message_fits w t n m r there in
     let goes : to_server m.body ≡ false = sym c.to_server.ensures ∙ c.if-not-to_server.true in
     let at : HearsAt w t n m c.notes.new.self Noted = record {
       there = there;
       goes = goes;
       within = c.requires.tenant;
-      lanes = lanes;
+      channels = channels;
       tenants = tenants;
       first = fits.first;
       last = fits.last;
       hears = hears;
-      others = λ place other. c.notes.ensures.others place other ∙ ap (λ seats. seat_in seats place) seats_was;
+      others = λ place other. c.notes.ensures.others place other ∙ ap (λ session_states. session_state_in session_states place) session_states_was;
     } in
     heard_tells w t n m c.notes.new.self Noted at
 
@@ -496,31 +496,31 @@ returns-then-noted-clause-acts c =
     let m : Message = c.in-Some.message in
     let r : IsReady w t = c.requires.ready in
     let shaped : IsShaped w = subst IsShaped c.self.view_is c.self.invariant.1 in
-    let there : message_at (lane_at w.lanes t) n ≡ Some m =
-    sym (c.in-Some.ensures ∙ ap (λ k. message_at (lane_at c.self.inside.post t) k) c.from.ensures ∙ ap (λ (x : Tables). message_at (lane_at x.lanes t) n) c.self.view_is) in
-    let lanes : t < length w.lanes = rw shaped.lanes c.requires.tenant in
-    let tenants : t < length w.seats = rw shaped.tenants c.requires.tenant in
-    let seats_now : c.self.inside.seats.items ≡ w.seats = ap (λ (x : Tables). x.seats) c.self.view_is in
-    let seats_was : c.index_mut-seats.result.now ≡ seats_at w.seats t =
-    c.index_mut-seats.ensures.value ∙ get_or_default c.self.inside.seats.items t _ _ (rw seats_now tenants) ∙ ap (λ all. seats_at all t) seats_now in
-    let P : List Seat → Type 0 = λ seats. SeatHears (seat_in seats (m.session - 1)) (seat_in c.notes.new.self (m.session - 1)) (servers w.up) m Noted in
-    let hears : SeatHears (seat_in (seats_at w.seats t) (m.session - 1)) (seat_in c.notes.new.self (m.session - 1)) (servers w.up) m Noted = subst P seats_was (c.in_ok-noted.ensures.hears c.if-noted.true (servers w.up)) in
+    let there : message_at (channel_at w.channels t) n ≡ Some m =
+    sym (c.in-Some.ensures ∙ ap (λ k. message_at (channel_at c.self.inside.post t) k) c.from.ensures ∙ ap (λ (x : Tables). message_at (channel_at x.channels t) n) c.self.view_is) in
+    let channels : t < length w.channels = rw shaped.channels c.requires.tenant in
+    let tenants : t < length w.session_states = rw shaped.tenants c.requires.tenant in
+    let session_states_now : c.self.inside.session_states.items ≡ w.session_states = ap (λ (x : Tables). x.session_states) c.self.view_is in
+    let session_states_was : c.index_mut-session_states.result.now ≡ session_states_at w.session_states t =
+    c.index_mut-session_states.ensures.value ∙ get_or_default c.self.inside.session_states.items t _ _ (rw session_states_now tenants) ∙ ap (λ all. session_states_at all t) session_states_now in
+    let P : List SessionState → Type 0 = λ session_states. SessionStateHears (session_state_in session_states (m.session - 1)) (session_state_in c.notes.new.self (m.session - 1)) (servers w.up) m Noted in
+    let hears : SessionStateHears (session_state_in (session_states_at w.session_states t) (m.session - 1)) (session_state_in c.notes.new.self (m.session - 1)) (servers w.up) m Noted = subst P session_states_was (c.in_ok-noted.ensures.hears c.if-noted.true (servers w.up)) in
     let fits = message_fits w t n m r there in
     let goes : to_server m.body ≡ false = sym c.to_server.ensures ∙ c.if-not-to_server.true in
     let at : HearsAt w t n m c.notes.new.self Noted = record {
       there = there;
       goes = goes;
       within = c.requires.tenant;
-      lanes = lanes;
+      channels = channels;
       tenants = tenants;
       first = fits.first;
       last = fits.last;
       hears = hears;
-      others = λ place other. c.notes.ensures.others place other ∙ ap (λ seats. seat_in seats place) seats_was;
+      others = λ place other. c.notes.ensures.others place other ∙ ap (λ session_states. session_state_in session_states place) session_states_was;
     } in
-    let V : List Lane → Tables = λ lanes. record { plan = c.self.inside.plan; up = c.self.inside.up.up; kept = c.self.inside.kept; lines = c.self.inside.lines.items; desk = c.self.inside.desk; lanes = lanes; stores = c.self.inside.stores.items; seats = slice_set c.self.inside.seats.items t c.notes.new.self } in
-    let now = ap (λ (x : Tables). record x { lanes = with_sent x.lanes t []; seats = slice_set x.seats t c.notes.new.self }) (sym c.self.view_is) in
-    let none : with_sent c.self.inside.post t [] ≡ c.self.inside.post = ap (slice_set c.self.inside.post t) (append-nil (lane_at c.self.inside.post t)) ∙ set-get_or c.self.inside.post t [] in
+    let V : List Channel → Tables = λ channels. record { plan = c.self.inside.plan; up = c.self.inside.up.up; kept = c.self.inside.kept; lines = c.self.inside.lines.items; desk = c.self.inside.desk; channels = channels; stores = c.self.inside.stores.items; session_states = slice_set c.self.inside.session_states.items t c.notes.new.self } in
+    let now = ap (λ (x : Tables). record x { channels = with_sent x.channels t []; session_states = slice_set x.session_states t c.notes.new.self }) (sym c.self.view_is) in
+    let none : with_sent c.self.inside.post t [] ≡ c.self.inside.post = ap (slice_set c.self.inside.post t) (append-nil (channel_at c.self.inside.post t)) ∙ set-get_or c.self.inside.post t [] in
     subst (Acts w t (Deliver n)) (now ∙ ap V none) (heard_acts w t n m c.notes.new.self Noted at)
 
 pub answers-requires-clause-first : goal.answers-requires-clause-first
@@ -531,12 +531,12 @@ answers-requires-clause-first c =
     let m : Message = c.in-Some.message in
     let r : IsReady w t = c.requires.ready in
     let shaped : IsShaped w = subst IsShaped c.self.view_is c.self.invariant.1 in
-    let there : message_at (lane_at w.lanes t) n ≡ Some m =
-    sym (c.in-Some.ensures ∙ ap (λ k. message_at (lane_at c.self.inside.post t) k) c.from.ensures ∙ ap (λ (x : Tables). message_at (lane_at x.lanes t) n) c.self.view_is) in
-    let tenants : t < length w.seats = rw shaped.tenants c.requires.tenant in
-    let seats_now : c.self.inside.seats.items ≡ w.seats = ap (λ (x : Tables). x.seats) c.self.view_is in
-    let seats_was : c.index_mut-answering.result.now ≡ seats_at w.seats t =
-    c.index_mut-answering.ensures.value ∙ get_or_default c.self.inside.seats.items t _ _ (rw seats_now tenants) ∙ ap (λ all. seats_at all t) seats_now in
+    let there : message_at (channel_at w.channels t) n ≡ Some m =
+    sym (c.in-Some.ensures ∙ ap (λ k. message_at (channel_at c.self.inside.post t) k) c.from.ensures ∙ ap (λ (x : Tables). message_at (channel_at x.channels t) n) c.self.view_is) in
+    let tenants : t < length w.session_states = rw shaped.tenants c.requires.tenant in
+    let session_states_now : c.self.inside.session_states.items ≡ w.session_states = ap (λ (x : Tables). x.session_states) c.self.view_is in
+    let session_states_was : c.index_mut-answering.result.now ≡ session_states_at w.session_states t =
+    c.index_mut-answering.ensures.value ∙ get_or_default c.self.inside.session_states.items t _ _ (rw session_states_now tenants) ∙ ap (λ all. session_states_at all t) session_states_now in
     (session_within w t n m c.requires.tenant r shaped there).0
 
 pub answers-requires-clause-last : goal.answers-requires-clause-last
@@ -547,13 +547,13 @@ answers-requires-clause-last c =
     let m : Message = c.in-Some.message in
     let r : IsReady w t = c.requires.ready in
     let shaped : IsShaped w = subst IsShaped c.self.view_is c.self.invariant.1 in
-    let there : message_at (lane_at w.lanes t) n ≡ Some m =
-    sym (c.in-Some.ensures ∙ ap (λ k. message_at (lane_at c.self.inside.post t) k) c.from.ensures ∙ ap (λ (x : Tables). message_at (lane_at x.lanes t) n) c.self.view_is) in
-    let tenants : t < length w.seats = rw shaped.tenants c.requires.tenant in
-    let seats_now : c.self.inside.seats.items ≡ w.seats = ap (λ (x : Tables). x.seats) c.self.view_is in
-    let seats_was : c.index_mut-answering.result.now ≡ seats_at w.seats t =
-    c.index_mut-answering.ensures.value ∙ get_or_default c.self.inside.seats.items t _ _ (rw seats_now tenants) ∙ ap (λ all. seats_at all t) seats_now in
-    subst (λ (seats : List Seat). m.session ≤ length seats) (sym seats_was) (session_within w t n m c.requires.tenant r shaped there).1
+    let there : message_at (channel_at w.channels t) n ≡ Some m =
+    sym (c.in-Some.ensures ∙ ap (λ k. message_at (channel_at c.self.inside.post t) k) c.from.ensures ∙ ap (λ (x : Tables). message_at (channel_at x.channels t) n) c.self.view_is) in
+    let tenants : t < length w.session_states = rw shaped.tenants c.requires.tenant in
+    let session_states_now : c.self.inside.session_states.items ≡ w.session_states = ap (λ (x : Tables). x.session_states) c.self.view_is in
+    let session_states_was : c.index_mut-answering.result.now ≡ session_states_at w.session_states t =
+    c.index_mut-answering.ensures.value ∙ get_or_default c.self.inside.session_states.items t _ _ (rw session_states_now tenants) ∙ ap (λ all. session_states_at all t) session_states_now in
+    subst (λ (session_states : List SessionState). m.session ≤ length session_states) (sym session_states_was) (session_within w t n m c.requires.tenant r shaped there).1
 
 pub answers-requires-clause-server : goal.answers-requires-clause-server
 answers-requires-clause-server c =
@@ -563,10 +563,10 @@ answers-requires-clause-server c =
     let m : Message = c.in-Some.message in
     let r : IsReady w t = c.requires.ready in
     let shaped : IsShaped w = subst IsShaped c.self.view_is c.self.invariant.1 in
-    let there : message_at (lane_at w.lanes t) n ≡ Some m =
-    sym (c.in-Some.ensures ∙ ap (λ k. message_at (lane_at c.self.inside.post t) k) c.from.ensures ∙ ap (λ (x : Tables). message_at (lane_at x.lanes t) n) c.self.view_is) in
-    let tenants : t < length w.seats = rw shaped.tenants c.requires.tenant in
-    let seats_now : c.self.inside.seats.items ≡ w.seats = ap (λ (x : Tables). x.seats) c.self.view_is in
-    let seats_was : c.index_mut-answering.result.now ≡ seats_at w.seats t =
-    c.index_mut-answering.ensures.value ∙ get_or_default c.self.inside.seats.items t _ _ (rw seats_now tenants) ∙ ap (λ all. seats_at all t) seats_now in
+    let there : message_at (channel_at w.channels t) n ≡ Some m =
+    sym (c.in-Some.ensures ∙ ap (λ k. message_at (channel_at c.self.inside.post t) k) c.from.ensures ∙ ap (λ (x : Tables). message_at (channel_at x.channels t) n) c.self.view_is) in
+    let tenants : t < length w.session_states = rw shaped.tenants c.requires.tenant in
+    let session_states_now : c.self.inside.session_states.items ≡ w.session_states = ap (λ (x : Tables). x.session_states) c.self.view_is in
+    let session_states_was : c.index_mut-answering.result.now ≡ session_states_at w.session_states t =
+    c.index_mut-answering.ensures.value ∙ get_or_default c.self.inside.session_states.items t _ _ (rw session_states_now tenants) ∙ ap (λ all. session_states_at all t) session_states_now in
     server_below w t n m r shaped there

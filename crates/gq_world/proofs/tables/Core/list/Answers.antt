@@ -4,7 +4,7 @@ use Rattle.std.proofs.lemmas.Result.{IfOk-weaker, on_ok_weaker}
 use Rattle.gq_grid.specs.Sets.{servers}
 use Rattle.gq_tag.specs.declared.TheConstants.{MOST_FILES}
 use Rattle.gq_desk.specs.Volumes.{account_at}
-use Rattle.gq_post.specs.Lanes.{lane_at}
+use Rattle.gq_post.specs.Channels.{channel_at}
 use Rattle.gq_phase.specs.Phase.{Task, Listing}
 use Rattle.gq_phase.specs.Standing.{Begins}
 use Rattle.gq_phase.specs.Quorums.{collect_quorum}
@@ -16,12 +16,12 @@ use Rattle.gq_model.specs.Trace.{files_of}
 use Rattle.gq_model.specs.Told.{Began}
 use Rattle.gq_model.specs.Lone.{Cause, first_cause}
 use Rattle.gq_model.specs.Shown.{shown}
-use Rattle.gq_world.specs.declared.sessions.Seat.{Seat}
+use Rattle.gq_world.specs.declared.sessions.SessionState.{SessionState}
 use Rattle.gq_world.specs.Tables.{Tables, IsShaped}
 use Rattle.gq_world.specs.Asking.{volume_causes, begun_tables}
 use Rattle.gq_world.specs.Machine.{Acts, TellsLine}
 use Rattle.gq_world.proofs.Listing.{files_read, files_few}
-use Rattle.gq_world.proofs.Requests.{IsRequest, is_list, list_task, Refuses, early, without_quorum, refused_tells, refused_acts, IsBegun, is_begun, begun_tells, begun_acts, seat_before, place_there, number_left, seat_read, began_with, quorum_with}
+use Rattle.gq_world.proofs.Requests.{IsRequest, is_list, list_task, Refuses, early, without_quorum, refused_tells, refused_acts, IsBegun, is_begun, begun_tells, begun_acts, session_state_before, place_there, number_left, session_state_read, began_with, quorum_with}
 use Rattle.gq_world.proofs.tables.Core.list.Goals as goal
 
 pub returns-in-Some-clause-answer : goal.returns-in-Some-clause-answer
@@ -85,15 +85,15 @@ returns-in-Ok-clause-answer c =
     let grid : c.grid.result.now ≡ w.plan.grid = c.grid.ensures ∙ ap (λ (x : Tables). x.plan.grid) c.self.view_is in
     let up : c.servers.result ≡ w.up = c.servers.ensures ∙ ap (λ (x : Tables). x.up) c.self.view_is in
     let s = r.session asked in
-    let all : c.self.inside.seats.items ≡ w.seats = ap (λ (x : Tables). x.seats) c.self.view_is in
-    let seat : c.index-seat.result.now ≡ seat_before w t k = seat_read w t k _ _ _ _ _ _ all (rw shaped.tenants c.requires.tenant) (place_there w t k shaped c.requires.tenant s.0 s.1) c.index.ensures c.behind-self.view_is c.index-seat.ensures in
+    let all : c.self.inside.session_states.items ≡ w.session_states = ap (λ (x : Tables). x.session_states) c.self.view_is in
+    let session_state : c.index-session_state.result.now ≡ session_state_before w t k = session_state_read w t k _ _ _ _ _ _ all (rw shaped.tenants c.requires.tenant) (place_there w t k shaped c.requires.tenant s.0 s.1) c.index.ensures c.behind-self.view_is c.index-session_state.ensures in
     let files : _ ≡ files_of (account_at w.desk t).volumes c.args.volume = files_read w t k c.args.volume c.self.inside.desk c.volumes.result.now _ asked (ap (λ (x : Tables). x.desk) c.self.view_is) c.volumes.ensures.volumes in
-    let ok = subst (λ n. Begins c.grid.result.now (record { tenant = t; session = k; op = c.index-seat.result.now.op + 1 }) (Listing c.args.volume n) c.index-seat.result.now.floor (servers c.servers.result) c.in-Ok.operation c.in-Ok.messages) files c.in-Ok.ensures.ok in
-    let begins = began_with w t k task c.grid.result.now c.servers.result c.index-seat.result.now c.in-Ok.operation c.in-Ok.messages grid up seat ok in
+    let ok = subst (λ n. Begins c.grid.result.now (record { tenant = t; session = k; op = c.index-session_state.result.now.op + 1 }) (Listing c.args.volume n) c.index-session_state.result.now.floor (servers c.servers.result) c.in-Ok.operation c.in-Ok.messages) files c.in-Ok.ensures.ok in
+    let begins = began_with w t k task c.grid.result.now c.servers.result c.index-session_state.result.now c.in-Ok.operation c.in-Ok.messages grid up session_state ok in
     let at : IsBegun w t k task causes c.in-Ok.operation c.in-Ok.messages =
     is_begun w t k task line causes c.in-Ok.operation c.in-Ok.messages r shaped c.requires.tenant asked
     (λ none. let h = c.in-Ok.ensures.none.1 (quorum_with w c.grid.result.now c.servers.result grid up ∙ none) in cc) begins in
-    let P : Answer → Type 0 = λ answer. shown answer ≡ Began ((seat_before w t k).op + 1) (length (lane_at w.lanes t)) (length c.in-Ok.messages) in
+    let P : Answer → Type 0 = λ answer. shown answer ≡ Began ((session_state_before w t k).op + 1) (length (channel_at w.channels t)) (length c.in-Ok.messages) in
     let Q : Answer → Type 0 = λ answer. TellsLine w t line (shown answer) in
     IfOk-weaker c.begin.result P Q (λ answer is. subst (TellsLine w t line) (sym is) (begun_tells w t k task line causes c.in-Ok.operation c.in-Ok.messages r at)) c.begin.ensures.answer
 
@@ -111,11 +111,11 @@ returns-in-Ok-clause-acts c =
     let grid : c.grid.result.now ≡ w.plan.grid = c.grid.ensures ∙ ap (λ (x : Tables). x.plan.grid) c.self.view_is in
     let up : c.servers.result ≡ w.up = c.servers.ensures ∙ ap (λ (x : Tables). x.up) c.self.view_is in
     let s = r.session asked in
-    let all : c.self.inside.seats.items ≡ w.seats = ap (λ (x : Tables). x.seats) c.self.view_is in
-    let seat : c.index-seat.result.now ≡ seat_before w t k = seat_read w t k _ _ _ _ _ _ all (rw shaped.tenants c.requires.tenant) (place_there w t k shaped c.requires.tenant s.0 s.1) c.index.ensures c.behind-self.view_is c.index-seat.ensures in
+    let all : c.self.inside.session_states.items ≡ w.session_states = ap (λ (x : Tables). x.session_states) c.self.view_is in
+    let session_state : c.index-session_state.result.now ≡ session_state_before w t k = session_state_read w t k _ _ _ _ _ _ all (rw shaped.tenants c.requires.tenant) (place_there w t k shaped c.requires.tenant s.0 s.1) c.index.ensures c.behind-self.view_is c.index-session_state.ensures in
     let files : _ ≡ files_of (account_at w.desk t).volumes c.args.volume = files_read w t k c.args.volume c.self.inside.desk c.volumes.result.now _ asked (ap (λ (x : Tables). x.desk) c.self.view_is) c.volumes.ensures.volumes in
-    let ok = subst (λ n. Begins c.grid.result.now (record { tenant = t; session = k; op = c.index-seat.result.now.op + 1 }) (Listing c.args.volume n) c.index-seat.result.now.floor (servers c.servers.result) c.in-Ok.operation c.in-Ok.messages) files c.in-Ok.ensures.ok in
-    let begins = began_with w t k task c.grid.result.now c.servers.result c.index-seat.result.now c.in-Ok.operation c.in-Ok.messages grid up seat ok in
+    let ok = subst (λ n. Begins c.grid.result.now (record { tenant = t; session = k; op = c.index-session_state.result.now.op + 1 }) (Listing c.args.volume n) c.index-session_state.result.now.floor (servers c.servers.result) c.in-Ok.operation c.in-Ok.messages) files c.in-Ok.ensures.ok in
+    let begins = began_with w t k task c.grid.result.now c.servers.result c.index-session_state.result.now c.in-Ok.operation c.in-Ok.messages grid up session_state ok in
     let at : IsBegun w t k task causes c.in-Ok.operation c.in-Ok.messages =
     is_begun w t k task line causes c.in-Ok.operation c.in-Ok.messages r shaped c.requires.tenant asked
     (λ none. let h = c.in-Ok.ensures.none.1 (quorum_with w c.grid.result.now c.servers.result grid up ∙ none) in cc) begins in
@@ -164,10 +164,10 @@ overflow_add-who c =
     let k : ℕ = c.args.session in
     let shaped : IsShaped w = subst IsShaped c.self.view_is c.self.invariant.1 in
     let s = r.session asked in
-    let all : c.self.inside.seats.items ≡ w.seats = ap (λ (x : Tables). x.seats) c.self.view_is in
-    let seat : c.index-seat.result.now ≡ seat_before w t k = seat_read w t k _ _ _ _ _ _ all (rw shaped.tenants c.requires.tenant) (place_there w t k shaped c.requires.tenant s.0 s.1) c.index.ensures c.behind-self.view_is c.index-seat.ensures in
+    let all : c.self.inside.session_states.items ≡ w.session_states = ap (λ (x : Tables). x.session_states) c.self.view_is in
+    let session_state : c.index-session_state.result.now ≡ session_state_before w t k = session_state_read w t k _ _ _ _ _ _ all (rw shaped.tenants c.requires.tenant) (place_there w t k shaped c.requires.tenant s.0 s.1) c.index.ensures c.behind-self.view_is c.index-session_state.ensures in
     let left = number_left w t k task line causes r c.requires.ready asked in
-    let op : c.index-seat.result.now.op ≡ (seat_before w t k).op = ap (λ (x : Seat). x.op) seat in
+    let op : c.index-session_state.result.now.op ≡ (session_state_before w t k).op = ap (λ (x : SessionState). x.op) session_state in
     omega arith
 
 pub list-requires-clause-some : goal.list-requires-clause-some

@@ -1,4 +1,4 @@
--- The mate that is found among the servers that are not lost decides.
+-- The peer that is found among the servers that are not lost decides.
 use Rattle.std.proofs.Common.{◌≡◌, ◌∙◌, ◌*◌, ◌<◌, true, None, Some, ap, sym, arith}
 use Rattle.gq_grid.specs.Sets.{servers}
 use Rattle.gq_world.specs.Tables.{Tables}
@@ -12,7 +12,7 @@ returns-in-None-clause-word c =
     let kept : c.self.inside.kept ≡ w.kept = ap (λ (x : Tables). x.kept) c.self.view_is in
     let within : c.args.server < c.grid-grid.result.now.rows * c.grid-grid.result.now.cols = let count = c.servers.ensures.value in let low = c.if-server-servers.false in omega arith in
     let here : servers c.self.inside.kept c.args.server ≡ true = sym c.has.ensures ∙ c.if-not-has.false in
-    loss_word w c.grid-grid.result.now c.self.inside.kept c.args.server None grid kept within here c.in-None.ensures.mate
+    loss_word w c.grid-grid.result.now c.self.inside.kept c.args.server None grid kept within here c.in-None.ensures.peer
 
 pub returns-in-Some-clause-word : goal.returns-in-Some-clause-word
 returns-in-Some-clause-word c =
@@ -21,4 +21,4 @@ returns-in-Some-clause-word c =
     let kept : c.self.inside.kept ≡ w.kept = ap (λ (x : Tables). x.kept) c.self.view_is in
     let within : c.args.server < c.grid-grid.result.now.rows * c.grid-grid.result.now.cols = let count = c.servers.ensures.value in let low = c.if-server-servers.false in omega arith in
     let here : servers c.self.inside.kept c.args.server ≡ true = sym c.has.ensures ∙ c.if-not-has.false in
-    loss_word w c.grid-grid.result.now c.self.inside.kept c.args.server (Some c.in-Some.field-0) grid kept within here c.in-Some.ensures.mate
+    loss_word w c.grid-grid.result.now c.self.inside.kept c.args.server (Some c.in-Some.field-0) grid kept within here c.in-Some.ensures.peer

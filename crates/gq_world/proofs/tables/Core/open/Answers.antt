@@ -17,7 +17,7 @@ add_everywhere-requires c =
     let w : Tables = c.args.self.now in
     let t : ℕ = c.args.tenant in
     let v : VolumeRow = record { files = c.args.files; blocks = c.args.blocks } in
-    let V : Tables = record { plan = c.self.inside.plan; up = c.self.inside.up.up; kept = c.self.inside.kept; lines = c.self.inside.lines.items; desk = c.self.inside.desk; lanes = c.self.inside.post; stores = c.self.inside.stores.items; seats = c.self.inside.seats.items } in
+    let V : Tables = record { plan = c.self.inside.plan; up = c.self.inside.up.up; kept = c.self.inside.kept; lines = c.self.inside.lines.items; desk = c.self.inside.desk; channels = c.self.inside.post; stores = c.self.inside.stores.items; session_states = c.self.inside.session_states.items } in
     let is : V ≡ w = c.self.view_is in
     let shaped : IsShaped w = subst IsShaped is c.self.invariant.1 in
     let sound : open_fault (account_at w.desk t) v ≡ None = subst (λ (x : Tables). open_fault (account_at x.desk t) v ≡ None) is c.in-Ok.ensures.sound in
@@ -29,7 +29,7 @@ invariant_of-self c =
     let w : Tables = c.args.self.now in
     let t : ℕ = c.args.tenant in
     let v : VolumeRow = record { files = c.args.files; blocks = c.args.blocks } in
-    let V : Tables = record { plan = c.self.inside.plan; up = c.self.inside.up.up; kept = c.self.inside.kept; lines = c.self.inside.lines.items; desk = c.self.inside.desk; lanes = c.self.inside.post; stores = c.self.inside.stores.items; seats = c.self.inside.seats.items } in
+    let V : Tables = record { plan = c.self.inside.plan; up = c.self.inside.up.up; kept = c.self.inside.kept; lines = c.self.inside.lines.items; desk = c.self.inside.desk; channels = c.self.inside.post; stores = c.self.inside.stores.items; session_states = c.self.inside.session_states.items } in
     let is : V ≡ w = c.self.view_is in
     let desk : length c.open_volume.new.self ≡ length c.self.inside.desk = ap length c.in-Ok.ensures.opened ∙ length-set c.self.inside.desk t (with_volume v (account_at c.self.inside.desk t)) in
     (c.self.invariant.0, opened_shaped V c.open_volume.new.self c.add_everywhere.new.stores.items c.self.invariant.1 desk c.add_everywhere.ensures.count c.add_everywhere.ensures.kept)
@@ -39,7 +39,7 @@ invariant_of-self-in-Ok c =
     let w : Tables = c.args.self.now in
     let t : ℕ = c.args.tenant in
     let v : VolumeRow = record { files = c.args.files; blocks = c.args.blocks } in
-    let V : Tables = record { plan = c.self.inside.plan; up = c.self.inside.up.up; kept = c.self.inside.kept; lines = c.self.inside.lines.items; desk = c.self.inside.desk; lanes = c.self.inside.post; stores = c.self.inside.stores.items; seats = c.self.inside.seats.items } in
+    let V : Tables = record { plan = c.self.inside.plan; up = c.self.inside.up.up; kept = c.self.inside.kept; lines = c.self.inside.lines.items; desk = c.self.inside.desk; channels = c.self.inside.post; stores = c.self.inside.stores.items; session_states = c.self.inside.session_states.items } in
     let is : V ≡ w = c.self.view_is in
     let desk : length c.open_volume.new.self ≡ length c.self.inside.desk = ap length c.in-Ok.ensures.opened ∙ length-set c.self.inside.desk t (with_volume v (account_at c.self.inside.desk t)) in
     (c.self.invariant.0, opened_shaped V c.open_volume.new.self c.add_everywhere.new.stores.items c.self.invariant.1 desk c.add_everywhere.ensures.count c.add_everywhere.ensures.kept)
@@ -49,7 +49,7 @@ returns-in_ok-add_everywhere-in-Ok-clause-acts c =
     let w : Tables = c.args.self.now in
     let t : ℕ = c.args.tenant in
     let v : VolumeRow = record { files = c.args.files; blocks = c.args.blocks } in
-    let V : Tables = record { plan = c.self.inside.plan; up = c.self.inside.up.up; kept = c.self.inside.kept; lines = c.self.inside.lines.items; desk = c.self.inside.desk; lanes = c.self.inside.post; stores = c.self.inside.stores.items; seats = c.self.inside.seats.items } in
+    let V : Tables = record { plan = c.self.inside.plan; up = c.self.inside.up.up; kept = c.self.inside.kept; lines = c.self.inside.lines.items; desk = c.self.inside.desk; channels = c.self.inside.post; stores = c.self.inside.stores.items; session_states = c.self.inside.session_states.items } in
     let is : V ≡ w = c.self.view_is in
     let shaped : IsShaped w = subst IsShaped is c.self.invariant.1 in
     let sound : open_fault (account_at w.desk t) v ≡ None = subst (λ (x : Tables). open_fault (account_at x.desk t) v ≡ None) is c.in-Ok.ensures.sound in

@@ -43,4 +43,4 @@ returns-in-None-loss_refusal-clause-advances c =
 
 pub returns-in-Ok-clause-advances : goal.returns-in-Ok-clause-advances
 returns-in-Ok-clause-advances c =
-    rw c.in-Repaired.is (repaired_advances c.args.self.now c.repair.new.self c.in-Repaired.server c.in-Ok.mate c.repair.ensures c.in-Ok.ensures.mate)
+    rw c.in-Repaired.is (repaired_advances c.args.self.now c.repair.new.self c.in-Repaired.server c.in-Ok.peer c.repair.ensures c.in-Ok.ensures.peer)

@@ -2,7 +2,7 @@
 use Rattle.std.proofs.Common.{◌≡◌, ◌∙◌, ◌+◌, ◌-◌, ℕ, List, None, Err, length, ap, sym, subst, arith}
 use Rattle.std.proofs.lemmas.Result.{IfOk-weaker, on_ok_weaker}
 use Rattle.gq_grid.specs.Sets.{servers}
-use Rattle.gq_post.specs.Lanes.{lane_at}
+use Rattle.gq_post.specs.Channels.{channel_at}
 use Rattle.gq_phase.specs.Phase.{Task}
 use Rattle.gq_phase.specs.Quorums.{collect_quorum}
 use Rattle.gq_model.specs.declared.events.Answer.{Answer}
@@ -12,11 +12,11 @@ use Rattle.gq_model.specs.declared.events.Refusal.TheVariants.{NoQuorum}
 use Rattle.gq_model.specs.Told.{Began}
 use Rattle.gq_model.specs.Lone.{Cause, first_cause}
 use Rattle.gq_model.specs.Shown.{shown}
-use Rattle.gq_world.specs.declared.sessions.Seat.{Seat}
+use Rattle.gq_world.specs.declared.sessions.SessionState.{SessionState}
 use Rattle.gq_world.specs.Tables.{Tables, IsShaped}
 use Rattle.gq_world.specs.Asking.{write_causes, begun_tables}
 use Rattle.gq_world.specs.Machine.{Acts, TellsLine}
-use Rattle.gq_world.proofs.Requests.{IsRequest, is_write, write_task, Refuses, early, without_quorum, refused_tells, refused_acts, IsBegun, is_begun, begun_tells, begun_acts, seat_before, place_there, number_left, seat_read, began_with, quorum_with}
+use Rattle.gq_world.proofs.Requests.{IsRequest, is_write, write_task, Refuses, early, without_quorum, refused_tells, refused_acts, IsBegun, is_begun, begun_tells, begun_acts, session_state_before, place_there, number_left, session_state_read, began_with, quorum_with}
 use Rattle.gq_world.proofs.tables.Core.write.Goals as goal
 
 pub returns-in-Some-clause-answer : goal.returns-in-Some-clause-answer
@@ -80,13 +80,13 @@ returns-in-Ok-clause-answer c =
     let grid : c.grid.result.now ≡ w.plan.grid = c.grid.ensures ∙ ap (λ (x : Tables). x.plan.grid) c.self.view_is in
     let up : c.servers.result ≡ w.up = c.servers.ensures ∙ ap (λ (x : Tables). x.up) c.self.view_is in
     let s = r.session asked in
-    let all : c.self.inside.seats.items ≡ w.seats = ap (λ (x : Tables). x.seats) c.self.view_is in
-    let seat : c.index-seat.result.now ≡ seat_before w t k = seat_read w t k _ _ _ _ _ _ all (rw shaped.tenants c.requires.tenant) (place_there w t k shaped c.requires.tenant s.0 s.1) c.index.ensures c.behind-self.view_is c.index-seat.ensures in
-    let begins = began_with w t k task c.grid.result.now c.servers.result c.index-seat.result.now c.in-Ok.operation c.in-Ok.messages grid up seat c.in-Ok.ensures.ok in
+    let all : c.self.inside.session_states.items ≡ w.session_states = ap (λ (x : Tables). x.session_states) c.self.view_is in
+    let session_state : c.index-session_state.result.now ≡ session_state_before w t k = session_state_read w t k _ _ _ _ _ _ all (rw shaped.tenants c.requires.tenant) (place_there w t k shaped c.requires.tenant s.0 s.1) c.index.ensures c.behind-self.view_is c.index-session_state.ensures in
+    let begins = began_with w t k task c.grid.result.now c.servers.result c.index-session_state.result.now c.in-Ok.operation c.in-Ok.messages grid up session_state c.in-Ok.ensures.ok in
     let at : IsBegun w t k task causes c.in-Ok.operation c.in-Ok.messages =
     is_begun w t k task line causes c.in-Ok.operation c.in-Ok.messages r shaped c.requires.tenant asked
     (λ none. let h = c.in-Ok.ensures.none.1 (quorum_with w c.grid.result.now c.servers.result grid up ∙ none) in cc) begins in
-    let P : Answer → Type 0 = λ answer. shown answer ≡ Began ((seat_before w t k).op + 1) (length (lane_at w.lanes t)) (length c.in-Ok.messages) in
+    let P : Answer → Type 0 = λ answer. shown answer ≡ Began ((session_state_before w t k).op + 1) (length (channel_at w.channels t)) (length c.in-Ok.messages) in
     let Q : Answer → Type 0 = λ answer. TellsLine w t line (shown answer) in
     IfOk-weaker c.begin.result P Q (λ answer is. subst (TellsLine w t line) (sym is) (begun_tells w t k task line causes c.in-Ok.operation c.in-Ok.messages r at)) c.begin.ensures.answer
 
@@ -104,9 +104,9 @@ returns-in-Ok-clause-acts c =
     let grid : c.grid.result.now ≡ w.plan.grid = c.grid.ensures ∙ ap (λ (x : Tables). x.plan.grid) c.self.view_is in
     let up : c.servers.result ≡ w.up = c.servers.ensures ∙ ap (λ (x : Tables). x.up) c.self.view_is in
     let s = r.session asked in
-    let all : c.self.inside.seats.items ≡ w.seats = ap (λ (x : Tables). x.seats) c.self.view_is in
-    let seat : c.index-seat.result.now ≡ seat_before w t k = seat_read w t k _ _ _ _ _ _ all (rw shaped.tenants c.requires.tenant) (place_there w t k shaped c.requires.tenant s.0 s.1) c.index.ensures c.behind-self.view_is c.index-seat.ensures in
-    let begins = began_with w t k task c.grid.result.now c.servers.result c.index-seat.result.now c.in-Ok.operation c.in-Ok.messages grid up seat c.in-Ok.ensures.ok in
+    let all : c.self.inside.session_states.items ≡ w.session_states = ap (λ (x : Tables). x.session_states) c.self.view_is in
+    let session_state : c.index-session_state.result.now ≡ session_state_before w t k = session_state_read w t k _ _ _ _ _ _ all (rw shaped.tenants c.requires.tenant) (place_there w t k shaped c.requires.tenant s.0 s.1) c.index.ensures c.behind-self.view_is c.index-session_state.ensures in
+    let begins = began_with w t k task c.grid.result.now c.servers.result c.index-session_state.result.now c.in-Ok.operation c.in-Ok.messages grid up session_state c.in-Ok.ensures.ok in
     let at : IsBegun w t k task causes c.in-Ok.operation c.in-Ok.messages =
     is_begun w t k task line causes c.in-Ok.operation c.in-Ok.messages r shaped c.requires.tenant asked
     (λ none. let h = c.in-Ok.ensures.none.1 (quorum_with w c.grid.result.now c.servers.result grid up ∙ none) in cc) begins in
@@ -155,8 +155,8 @@ overflow_add-who c =
     let k : ℕ = c.args.session in
     let shaped : IsShaped w = subst IsShaped c.self.view_is c.self.invariant.1 in
     let s = r.session asked in
-    let all : c.self.inside.seats.items ≡ w.seats = ap (λ (x : Tables). x.seats) c.self.view_is in
-    let seat : c.index-seat.result.now ≡ seat_before w t k = seat_read w t k _ _ _ _ _ _ all (rw shaped.tenants c.requires.tenant) (place_there w t k shaped c.requires.tenant s.0 s.1) c.index.ensures c.behind-self.view_is c.index-seat.ensures in
+    let all : c.self.inside.session_states.items ≡ w.session_states = ap (λ (x : Tables). x.session_states) c.self.view_is in
+    let session_state : c.index-session_state.result.now ≡ session_state_before w t k = session_state_read w t k _ _ _ _ _ _ all (rw shaped.tenants c.requires.tenant) (place_there w t k shaped c.requires.tenant s.0 s.1) c.index.ensures c.behind-self.view_is c.index-session_state.ensures in
     let left = number_left w t k task line causes r c.requires.ready asked in
-    let op : c.index-seat.result.now.op ≡ (seat_before w t k).op = ap (λ (x : Seat). x.op) seat in
+    let op : c.index-session_state.result.now.op ≡ (session_state_before w t k).op = ap (λ (x : SessionState). x.op) session_state in
     omega arith
