@@ -33,7 +33,7 @@ use Rattle.gq_laws.specs.Progress.{IsOutcomeOf}
 use Rattle.gq_laws.proofs.Remaining.{LeadsOn, round_leads}
 use Rattle.gq_laws.proofs.Completing.{has_operation}
 use Rattle.gq_world.specs.Tables.{Tables, Stands, up_in}
-use Rattle.gq_world.proofs.Lanes.{in_grid}
+use Rattle.gq_world.proofs.Channels.{in_grid}
 use Rattle.gq_text.specs.Words.{Word}
 use Rattle.gq_text.specs.Lines.{lines_of}
 use Rattle.gq_text.specs.Input.{event_of}

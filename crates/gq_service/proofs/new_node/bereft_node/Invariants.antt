@@ -8,5 +8,5 @@ use Rattle.gq_service.proofs.new_node.bereft_node.Given as goal
 abbrev pub invariant-loop-place : goal.invariant-loop-place
 invariant-loop-place l = record {
   bereft : Bereft l.this.plan.setup.plan (here_of l.this.number l.this.plan.setup) l.this.plan.setup.openings (first_of_read l.before) l.place l.node.tables;
-  goes : l.node.ended ≡ false;
+  has_memory : l.node.ended ≡ false;
 }
