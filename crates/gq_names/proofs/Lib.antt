@@ -9,4 +9,6 @@ pub mod Tellings
 pub mod Endings
 pub mod Steps
 pub mod Counting
+pub mod Onward
+pub mod Changing
 pub mod Completing
