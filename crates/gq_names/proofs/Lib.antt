@@ -10,5 +10,7 @@ pub mod Endings
 pub mod Steps
 pub mod Counting
 pub mod Onward
+pub mod Since
 pub mod Changing
 pub mod Completing
+pub mod Sweeping
