@@ -195,10 +195,6 @@ seen_along v w u s (step ∷ steps) kept from old =
     let up : (t : ℕ) → Follows v (u.session t).page (next.session t).page = λ t. pages_follow v (step ∷ []) u kept t in
     seen_along v w next s steps (kept_from v (step ∷ []) u kept) (λ t. follows_trans v (w.session t).page (u.session t).page (next.session t).page (from t) (up t)) (step_well v w u next kept from up s old step)
 
--- from where a new client of the session entered
-pub seen_since : (v : Setting) (w : World) (s : ℕ) (steps : List Step) → Kept v w →
-    let u : World = fold (after_step v) (after_step v w (Enters s)) steps in
-    SeenSince v w u s (u.session s).client
-seen_since v w s steps kept =
-    let entered : World = after_step v w (Enters s) in
-    seen_along v w entered s steps (kept_from v (Enters s ∷ []) w kept) (λ t. pages_follow v (Enters s ∷ []) w kept t) (subst (λ x. SeenSince v w entered s x.client) (sym (with_here s (record (w.session s) { client = Knows (w.session s).journal }) w s refl)) tt)
+-- from where its client had nothing to do
+pub seen_since : (v : Setting) (w : World) (s : ℕ) (known : Journal) (steps : List Step) → Kept v w → (w.session s).client ≡ Knows known → SeenSince v w (fold (after_step v) w steps) s ((fold (after_step v) w steps).session s).client
+seen_since v w s known steps kept idle = seen_along v w w s steps kept (λ t. follows_refl v (w.session t).page) (subst (λ z. SeenSince v w w s z) (sym idle) tt)

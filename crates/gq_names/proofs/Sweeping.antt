@@ -1,5 +1,5 @@
 -- Two rounds of changes, and no page shows a removal that it showed before.
-use Rattle.std.proofs.Common.{◌≡◌, ◌≢◌, ◌⊎◌, ℕ, zero, suc, ◌+◌, ◌<◌, ◌≤◌, Bool, true, false, List, [], ◌∷◌, ◌++◌, map, length, refl, sym, ap, ◌∙◌, subst, inl, inr, Option, arith, eqb, ltb}
+use Rattle.std.proofs.Common.{◌≡◌, ◌≢◌, ◌⊎◌, ℕ, zero, suc, ◌+◌, ◌<◌, ◌≤◌, Bool, true, false, List, [], ◌∷◌, ◌++◌, map, length, refl, sym, ap, ◌∙◌, subst, inl, inr, Option, Some, None, arith, eqb, ltb}
 use Rattle.std.proofs.lemmas.List.Elements.{Contains-append_cases, Contains-push_cases}
 use Rattle.std.specs.Prelude.{Contains, fold, not, ◌&&◌, ◌||◌, if◌then◌else◌}
 use Rattle.std.proofs.lemmas.Bool.{cases_eq, cases_Bool, ne_eqb, eq-eqb, true≢false, and_parts, and_from, or_left, or_right, or_parts}
@@ -7,7 +7,7 @@ use Rattle.gq_tag.specs.declared.Tag.{Tag}
 use Rattle.gq_tag.specs.declared.StoredCopy.{StoredCopy}
 use Rattle.gq_tag.specs.Tag.{first_tag, first_copy, is_less}
 use Rattle.gq_names.specs.Names.{Setting, Page, Journal, Change, Client, Knows, Looks, Announces, Carries, Session, World, Step, Enters, Chooses, ClientWrites, shown, all_below, greatest_asked, is_beaten, is_nothing, is_past, is_forgotten, goes_now, is_of, changed_after, changed_page, changed, highest, new_line, has_seen, is_closed, with_session, with_tag, with_end, chooses_by, writes_by, tick, greatest_number, after_step, world_after}
-use Rattle.gq_names.specs.Sweeping.{Turn, after_steps, when_looked, when_chosen, when_announcing, when_announced, when_carrying, after_turn, after_turns, every_name, every_page, IsRemoval, IsTurn, AreTurns, IsRound, Forgets, AllSweepsForget}
+use Rattle.gq_names.specs.Sweeping.{Choice, Turn, after_steps, when_begun, when_looked, when_chosen, when_announcing, when_announced, when_carrying, after_choice, after_turn, after_turns, every_name, every_page, can_go, IsRemoval, AsksForAll, IsCarried, IsTidy, Does, IsTurn, AreTurns, IsRound, Forgets, AllSweepsForget}
 use Rattle.gq_tag.proofs.Order.{IsAtMost, at_most_refl, at_most_trans, at_most_less, at_most-parts, less-parts, less_from, less_at_most}
 use Rattle.gq_names.proofs.Lists.{all_at, greatest_least, number_least}
 use Rattle.gq_names.proofs.Views.{Follows, IsFollowed, follows_refl, follows_trans, not_less_first, not_less_self, shown_is}
@@ -20,22 +20,25 @@ use Rattle.gq_names.proofs.Moves.{with_here}
 
 -- ---- what a turn does
 
--- Of session t's turn from the world w to the world u: the page as its journal had it, what it saw, and the page that it carried
+-- Of session t's turn from the world w to the world u: the page as its journal had it, what it saw, and the page that it left
 pub record Took (v : Setting) (w u : World) (t : ℕ) : Type 0 where
   pub page : Page
   pub name : Option ℕ
   pub line : StoredCopy
   pub seen : ℕ → Page
-  pub goes : ℕ → Bool
-  pub asks : ℕ → Bool
   pub from : Follows v (w.session t).page page
   pub since : (i : ℕ) → i < v.sessions → i ≢ t → Since v w u i (seen i)
   pub own_lines : (n : ℕ) → (page.line n ≡ first_copy) ⊎ ((page.line n).tag.session ≡ t)
   pub own_numbers : (n : ℕ) → (page.line n).tag.number < line.tag.number
   pub high : (i : ℕ) → i < v.sessions → (seen i).number < line.tag.number
-  pub lines : (n : ℕ) → is_of name n ≡ false → goes_now v every_name every_page seen t page n ≡ true → goes_now v goes asks seen t page n ≡ true
-  pub removals : (i n : ℕ) → i < v.sessions → i ≢ t → IsRemoval (shown (seen i) n) → (shown (seen i) n).tag.number ≤ changed_after asks seen page i
-  pub carried : (u.session t).page ≡ changed_page v goes asks seen t page name line
+  pub next : Page
+  pub carried : (u.session t).page ≡ next
+  -- the line of the name that it changed, and those of other names
+  pub new : (n : ℕ) → is_of name n ≡ true → (next.line n ≡ line) × (next.gone n ≡ false)
+  pub lines : (n : ℕ) → is_of name n ≡ false → next.line n ≡ page.line n
+  pub gone : (n : ℕ) → is_of name n ≡ false → page.gone n ≡ true → next.gone n ≡ true
+  pub stays : (n : ℕ) → is_of name n ≡ false → next.gone n ≡ false → can_go v seen t page n ≡ false
+  pub removals : AsksForAll v t seen next.after
 
 gone_shows : (page : Page) (n : ℕ) → page.gone n ≡ true → shown page n ≡ first_copy
 gone_shows page n is = rw is refl
@@ -91,26 +94,29 @@ module _ (v : Setting) (s name : ℕ) (low : s < v.sessions) (old : StoredCopy) 
       by (inr stays) (inl h) = absurd (true≢false (sym h.1 ∙ stays))
       by (inr stays) (inr newer) = inr (subst (λ z. is_less old.tag z.tag ≡ true) (sym (shown_is p name stays)) newer)
 
+  -- it is nothing, or a newer line
+  abbrev Newer : StoredCopy → Type 0
+  Newer line = IsAtMost line.tag first_tag ⊎ (is_less old.tag line.tag ≡ true)
+
+  none_shown : (p : Page) → p.gone name ≡ true → Newer (shown p name)
+  none_shown p gone = inl (let P : StoredCopy → Type 0 = λ z. IsAtMost z.tag first_tag in subst P (sym (gone_shows p name gone)) (at_most_refl first_tag))
+
   -- a page of another session minds it: it says that it was made beside it, and shows nothing of the name, or a newer line
   record Minds (page : Page) : Type 0 where
     asks : old.tag.number ≤ page.after s
-    shows : (shown page name ≡ first_copy) ⊎ (is_less old.tag (shown page name).tag ≡ true)
+    shows : Newer (shown page name)
 
   minds_on : (p q : Page) → Follows v p q → Minds p → Minds q
   minds_on p q follows minds = record { asks = let a = minds.asks in let b = follows.after s in omega (arith, a, b); shows = by (cases_Bool (q.gone name)) (follows.lines name) }
     where
-      Shows : StoredCopy → Type 0
-      Shows line = (line ≡ first_copy) ⊎ (is_less old.tag line.tag ≡ true)
-
-      stayed : (g : Bool) → p.gone name ≡ g → q.gone name ≡ false → (p.gone name ≡ true → q.gone name ≡ true) → q.line name ≡ p.line name → (shown q name ≡ first_copy) ⊎ (is_less old.tag (shown q name).tag ≡ true)
+      stayed : (g : Bool) → p.gone name ≡ g → q.gone name ≡ false → (p.gone name ≡ true → q.gone name ≡ true) → q.line name ≡ p.line name → Newer (shown q name)
       stayed true e stays sticky same = absurd (true≢false (sym (sticky e) ∙ stays))
       stayed false e stays sticky same =
           let is : shown p name ≡ shown q name = shown_is p name e ∙ (sym same ∙ sym (shown_is q name stays)) in
-          let P : StoredCopy → Type 0 = λ z. (z ≡ first_copy) ⊎ (is_less old.tag z.tag ≡ true) in
-          subst P is minds.shows
+          subst Newer is minds.shows
 
-      by : (q.gone name ≡ true) ⊎ (q.gone name ≡ false) → IsFollowed v p q name → (shown q name ≡ first_copy) ⊎ (is_less old.tag (shown q name).tag ≡ true)
-      by (inl gone) any = inl (gone_shows q name gone)
+      by : (q.gone name ≡ true) ⊎ (q.gone name ≡ false) → IsFollowed v p q name → Newer (shown q name)
+      by (inl gone) any = none_shown q gone
       by (inr stays) (inl a) = stayed (p.gone name) refl stays a.1 a.0
       by (inr stays) (inr a) =
           let asked = minds.asks in
@@ -119,35 +125,32 @@ module _ (v : Setting) (s name : ℕ) (low : s < v.sessions) (old : StoredCopy) 
 
   -- ---- turns
 
-  module _ (w u : World) (t : ℕ) (took : Took v w u t) where
-    abbrev next : Page
-    next = changed_page v took.goes took.asks took.seen t took.page took.name took.line
-
-    next_line : is_of took.name name ≡ false → next.line name ≡ took.page.line name
-    next_line none = rw none refl
-
-    next_gone : is_of took.name name ≡ false → next.gone name ≡ (took.page.gone name || goes_now v took.goes took.asks took.seen t took.page name)
-    next_gone none = rw none refl
-
-    new_shown : is_of took.name name ≡ true → (next.line name ≡ took.line) × (next.gone name ≡ false)
-    new_shown is = (rw is refl, rw is refl)
-
-    -- the line stays: so it is not beaten, nor forgotten
-    stayed : is_of took.name name ≡ false → next.gone name ≡ false → goes_now v every_name every_page took.seen t took.page name ≡ false
-    stayed none stays = by (cases_Bool (goes_now v every_name every_page took.seen t took.page name))
+  module _ (w u : World) (t : ℕ) (took : Took v w u t) (none : is_of took.name name ≡ false) (stays : took.next.gone name ≡ false) where
+    -- the line had not gone before
+    stayed : took.page.gone name ≡ false
+    stayed = by (cases_Bool (took.page.gone name))
       where
-        by : (goes_now v every_name every_page took.seen t took.page name ≡ true) ⊎ (goes_now v every_name every_page took.seen t took.page name ≡ false) → goes_now v every_name every_page took.seen t took.page name ≡ false
-        by (inl could) = absurd (true≢false (sym (took.lines name none could) ∙ (or_parts (took.page.gone name) (goes_now v took.goes took.asks took.seen t took.page name) (sym (next_gone none) ∙ stays)).1))
+        by : (took.page.gone name ≡ true) ⊎ (took.page.gone name ≡ false) → took.page.gone name ≡ false
+        by (inl gone) = absurd (true≢false (sym (took.gone name none gone) ∙ stays))
         by (inr is) = is
 
-    not_beaten : is_of took.name name ≡ false → next.gone name ≡ false → (i : ℕ) → i < v.sessions → IsAtMost (shown (took.seen i) name).tag (took.page.line name).tag
-    not_beaten none stays i inside =
-        let parts = or_parts (is_beaten v every_page took.seen took.page name) (is_forgotten v every_page took.seen t took.page name) (stayed none stays) in
-        at_most_trans (shown (took.seen i) name).tag (greatest_asked v every_page took.seen name).tag (took.page.line name).tag
-        (greatest_least v.sessions (λ z. if every_page z then shown (took.seen z) name else first_copy) i inside) parts.0
+    shown_same : shown took.next name ≡ shown took.page name
+    shown_same = shown_is took.next name stays ∙ (took.lines name none ∙ sym (shown_is took.page name stayed))
 
-    not_forgotten : is_of took.name name ≡ false → next.gone name ≡ false → is_forgotten v every_page took.seen t took.page name ≡ false
-    not_forgotten none stays = (or_parts (is_beaten v every_page took.seen took.page name) (is_forgotten v every_page took.seen t took.page name) (stayed none stays)).1
+    module _ (shows : is_less first_tag (shown took.page name).tag ≡ true) where
+      -- it is not beaten, nor forgotten
+      parts : (is_beaten v every_page took.seen took.page name ≡ false) × (is_forgotten v every_page took.seen t took.page name ≡ false)
+      parts = by (cases_Bool (is_beaten v every_page took.seen took.page name || is_forgotten v every_page took.seen t took.page name))
+        where
+          by : (is_beaten v every_page took.seen took.page name || is_forgotten v every_page took.seen t took.page name ≡ true) ⊎ (is_beaten v every_page took.seen took.page name || is_forgotten v every_page took.seen t took.page name ≡ false) →
+              (is_beaten v every_page took.seen took.page name ≡ false) × (is_forgotten v every_page took.seen t took.page name ≡ false)
+          by (inl could) = absurd (true≢false (sym (and_from (is_less first_tag (shown took.page name).tag) (goes_now v every_name every_page took.seen t took.page name) shows could) ∙ took.stays name none stays))
+          by (inr is) = or_parts (is_beaten v every_page took.seen took.page name) (is_forgotten v every_page took.seen t took.page name) is
+
+      not_beaten : (i : ℕ) → i < v.sessions → IsAtMost (shown (took.seen i) name).tag (took.page.line name).tag
+      not_beaten i inside =
+          at_most_trans (shown (took.seen i) name).tag (greatest_asked v every_page took.seen name).tag (took.page.line name).tag
+          (greatest_least v.sessions (λ z. if every_page z then shown (took.seen z) name else first_copy) i inside) parts.0
 
   -- a turn of another session: it minds the removal, where that is still shown
   minds_turn : (w u : World) (t : ℕ) → t ≢ s → Took v w u t → Has (w.session s).page ⊎ Over (w.session s).page → Over (u.session s).page ⊎ Minds (u.session t).page
@@ -156,13 +159,13 @@ module _ (v : Setting) (s name : ℕ) (low : s < v.sessions) (old : StoredCopy) 
       since : Since v w u s (took.seen s)
       since = took.since s low (λ same. other (sym same))
 
-      minds : Has (took.seen s) → Minds (next w u t took)
+      minds : Has (took.seen s) → Minds took.next
       minds has = record { asks = asks; shows = shows (cases_Bool (is_of took.name name)) }
         where
           here : shown (took.seen s) name ≡ old
           here = has_shows (took.seen s) has
 
-          asks : old.tag.number ≤ changed_after took.asks took.seen took.page s
+          asks : old.tag.number ≤ took.next.after s
           asks =
               let is : IsRemoval (shown (took.seen s) name) = subst IsRemoval (sym here) removal in
               let number : (shown (took.seen s) name).tag.number ≡ old.tag.number = ap (λ z. z.tag.number) here in
@@ -170,10 +173,7 @@ module _ (v : Setting) (s name : ℕ) (low : s < v.sessions) (old : StoredCopy) 
               omega (arith, number, asked)
 
           older : (took.page.line name ≡ first_copy) ⊎ ((took.page.line name).tag.session ≡ t) → IsAtMost old.tag (took.page.line name).tag → is_less old.tag (took.page.line name).tag ≡ true
-          older (inl first) most = absurd (not_less_first_than most first)
-            where
-              not_less_first_than : IsAtMost old.tag (took.page.line name).tag → took.page.line name ≡ first_copy → ⊥
-              not_less_first_than most first = true≢false (sym removal.0 ∙ subst (λ z. IsAtMost old.tag z.tag) first most)
+          older (inl first) most = absurd (true≢false (sym removal.0 ∙ subst (λ z. IsAtMost old.tag z.tag) first most))
           older (inr its) most = of (at_most-parts (took.page.line name).tag old.tag most) (since.lines name)
             where
               of : (old.tag.number < (took.page.line name).tag.number) ⊎ (((took.page.line name).tag.number ≡ old.tag.number) × (old.tag.session ≤ (took.page.line name).tag.session)) →
@@ -186,20 +186,24 @@ module _ (v : Setting) (s name : ℕ) (low : s < v.sessions) (old : StoredCopy) 
                   let same = parts.0 in
                   less_from old.tag (took.page.line name).tag (inr (omega (arith, same), omega (arith, mine, its, most, other)))
 
-          shows : (is_of took.name name ≡ true) ⊎ (is_of took.name name ≡ false) → (shown (next w u t took) name ≡ first_copy) ⊎ (is_less old.tag (shown (next w u t took) name).tag ≡ true)
+          kept : (none : is_of took.name name ≡ false) (stays : took.next.gone name ≡ false) → (is_less first_tag (shown took.page name).tag ≡ true) ⊎ (is_less first_tag (shown took.page name).tag ≡ false) → Newer (shown took.next name)
+          kept none stays (inr nothing) = subst Newer (sym (shown_same w u t took none stays)) (inl nothing)
+          kept none stays (inl some) =
+              let most : IsAtMost old.tag (took.page.line name).tag = subst (λ z. IsAtMost z.tag (took.page.line name).tag) here (not_beaten w u t took none stays some s low) in
+              inr (subst (λ z. is_less old.tag z.tag ≡ true) (sym (shown_is took.next name stays ∙ took.lines name none)) (older (took.own_lines name) most))
+
+          shows : (is_of took.name name ≡ true) ⊎ (is_of took.name name ≡ false) → Newer (shown took.next name)
           shows (inl is) =
-              let new = new_shown w u t took is in
+              let new = took.new name is in
               let number : ((took.seen s).line name).tag.number ≡ old.tag.number = ap (λ z. z.tag.number) has.0 in
               let numbers = since.numbers name in
               let high = took.high s low in
-              inr (subst (λ z. is_less old.tag z.tag ≡ true) (sym (shown_is (next w u t took) name new.1 ∙ new.0)) (less_from old.tag took.line.tag (inl (omega (arith, number, numbers, high)))))
-          shows (inr none) = of (cases_Bool ((next w u t took).gone name))
+              inr (subst (λ z. is_less old.tag z.tag ≡ true) (sym (shown_is took.next name new.1 ∙ new.0)) (less_from old.tag took.line.tag (inl (omega (arith, number, numbers, high)))))
+          shows (inr none) = of (cases_Bool (took.next.gone name))
             where
-              of : ((next w u t took).gone name ≡ true) ⊎ ((next w u t took).gone name ≡ false) → (shown (next w u t took) name ≡ first_copy) ⊎ (is_less old.tag (shown (next w u t took) name).tag ≡ true)
-              of (inl gone) = inl (gone_shows (next w u t took) name gone)
-              of (inr stays) =
-                  let most : IsAtMost old.tag (took.page.line name).tag = subst (λ z. IsAtMost z.tag (took.page.line name).tag) here (not_beaten w u t took none stays s low) in
-                  inr (subst (λ z. is_less old.tag z.tag ≡ true) (sym (shown_is (next w u t took) name stays ∙ next_line w u t took none)) (older (took.own_lines name) most))
+              of : (took.next.gone name ≡ true) ⊎ (took.next.gone name ≡ false) → Newer (shown took.next name)
+              of (inl gone) = none_shown took.next gone
+              of (inr stays) = kept none stays (cases_Bool (is_less first_tag (shown took.page name).tag))
 
       by : Has (took.seen s) ⊎ Over (took.seen s) → Over (u.session s).page ⊎ Minds (u.session t).page
       by (inl has) = inr (subst Minds (sym took.carried) (minds has))
@@ -214,9 +218,9 @@ module _ (v : Setting) (s name : ℕ) (low : s < v.sessions) (old : StoredCopy) 
       reached (inr (inl h)) = let number : (took.page.line name).tag.number ≡ old.tag.number = ap (λ z. z.tag.number) h.0 in omega (arith, number)
       reached (inr (inr newer)) = less_number old.tag (took.page.line name).tag newer
 
-      -- it is forgotten
-      forgotten : Has took.page → is_of took.name name ≡ false → (next w u s took).gone name ≡ false → is_forgotten v every_page took.seen s took.page name ≡ true
-      forgotten has none stays = and_from (is_nothing (took.page.line name).bytes) (all_below v.sessions (λ t. eqb t s || is_past every_page took.seen s took.page name t))
+      -- where it would stay it is forgotten
+      forgotten : Has took.page → (none : is_of took.name name ≡ false) (stays : took.next.gone name ≡ false) → (some : is_less first_tag (shown took.page name).tag ≡ true) → is_forgotten v every_page took.seen s took.page name ≡ true
+      forgotten has none stays some = and_from (is_nothing (took.page.line name).bytes) (all_below v.sessions (λ t. eqb t s || is_past every_page took.seen s took.page name t))
           (nothing (took.page.line name).bytes (ap (λ z. z.bytes) has.0 ∙ removal.1))
           (all_true v.sessions (λ t. eqb t s || is_past every_page took.seen s took.page name t) (λ t inside. past t inside (cases_eq t s)))
         where
@@ -226,10 +230,10 @@ module _ (v : Setting) (s name : ℕ) (low : s < v.sessions) (old : StoredCopy) 
           minded : (t : ℕ) → t < v.sessions → t ≢ s → Minds (took.seen t)
           minded t inside ne = minds_on (w.session t).page (took.seen t) (took.since t inside ne).from (others t inside ne)
 
-          shows : (t : ℕ) → t < v.sessions → (shown (took.seen t) name ≡ first_copy) ⊎ (is_less old.tag (shown (took.seen t) name).tag ≡ true) → not (is_less first_tag (shown (took.seen t) name).tag) ≡ true
-          shows t inside (inl first) = let P : StoredCopy → Type 0 = λ z. not (is_less first_tag z.tag) ≡ true in subst P (sym first) refl
+          shows : (t : ℕ) → t < v.sessions → Newer (shown (took.seen t) name) → not (is_less first_tag (shown (took.seen t) name).tag) ≡ true
+          shows t inside (inl nothing) = ap not nothing
           shows t inside (inr newer) =
-              let most : IsAtMost (shown (took.seen t) name).tag old.tag = subst (λ z. IsAtMost (shown (took.seen t) name).tag z.tag) has.0 (not_beaten w u s took none stays t inside) in
+              let most : IsAtMost (shown (took.seen t) name).tag old.tag = subst (λ z. IsAtMost (shown (took.seen t) name).tag z.tag) has.0 (not_beaten w u s took none stays some t inside) in
               absurd (true≢false (sym newer ∙ most))
 
           past : (t : ℕ) → t < v.sessions → (t ≡ s) ⊎ (t ≢ s) → (eqb t s || is_past every_page took.seen s took.page name t) ≡ true
@@ -242,19 +246,21 @@ module _ (v : Setting) (s name : ℕ) (low : s < v.sessions) (old : StoredCopy) 
               (and_from (not (ltb ((took.seen t).after s) (took.page.line name).tag.number)) (not (is_less first_tag (shown (took.seen t) name).tag))
               (not_below ((took.seen t).after s) (took.page.line name).tag.number (omega (arith, asked, number))) (shows t inside minds.shows))
 
-      by : (is_of took.name name ≡ true) ⊎ (is_of took.name name ≡ false) → Has took.page ⊎ Over took.page → Over (next w u s took)
+      goes : Has took.page → (none : is_of took.name name ≡ false) → (took.next.gone name ≡ true) ⊎ (took.next.gone name ≡ false) → Over took.next
+      goes has none (inl gone) = inl (took.lines name none ∙ has.0, gone)
+      goes has none (inr stays) =
+          let some : is_less first_tag (shown took.page name).tag ≡ true = subst (λ z. is_less first_tag z.tag ≡ true) (sym (has_shows took.page has)) removal.0 in
+          absurd (true≢false (sym (forgotten has none stays some) ∙ (parts w u s took none stays some).1))
+
+      by : (is_of took.name name ≡ true) ⊎ (is_of took.name name ≡ false) → Has took.page ⊎ Over took.page → Over took.next
       by (inl is) either =
-          let new = new_shown w u s took is in
+          let new = took.new name is in
           let number = reached either in
           let high = took.own_numbers name in
           inr (subst (λ z. is_less old.tag z.tag ≡ true) (sym new.0) (less_from old.tag took.line.tag (inl (omega (arith, number, high)))))
-      by (inr none) (inr (inl h)) = inl (next_line w u s took none ∙ h.0, next_gone w u s took none ∙ or_left (took.page.gone name) (goes_now v took.goes took.asks took.seen s took.page name) h.1)
-      by (inr none) (inr (inr newer)) = inr (subst (λ z. is_less old.tag z.tag ≡ true) (sym (next_line w u s took none)) newer)
-      by (inr none) (inl has) = of (cases_Bool ((next w u s took).gone name))
-        where
-          of : ((next w u s took).gone name ≡ true) ⊎ ((next w u s took).gone name ≡ false) → Over (next w u s took)
-          of (inl gone) = inl (next_line w u s took none ∙ has.0, gone)
-          of (inr stays) = absurd (true≢false (sym (forgotten has none stays) ∙ not_forgotten w u s took none stays))
+      by (inr none) (inr (inl h)) = inl (took.lines name none ∙ h.0, took.gone name none h.1)
+      by (inr none) (inr (inr newer)) = inr (subst (λ z. is_less old.tag z.tag ≡ true) (sym (took.lines name none)) newer)
+      by (inr none) (inl has) = goes has none (cases_Bool (took.next.gone name))
 
 -- ---- a turn, step by step
 
@@ -292,80 +298,146 @@ knows_lines v x kept s client is n =
     let P : Client → Type 0 = λ z. ((known_by z).page.line n ≡ first_copy) ⊎ (((known_by z).page.line n).tag.session ≡ s) in
     subst P is ((kept.counted s).1.journals.known.there.lines n)
 
+-- ---- its choice, from the world in which it has looked
+
+module _ (v : Setting) (w : World) (kept : Kept v w) (s : ℕ) (choice : Choice) where
+  kept_chosen : Kept v (when_chosen v w s choice)
+  kept_chosen = kept_from v (Chooses s choice.more choice.goes choice.asks ∷ []) w kept
+
+  kept_announcing : Kept v (when_announcing v w s choice)
+  kept_announcing = kept_from v choice.announcing (when_chosen v w s choice) kept_chosen
+
+  kept_announced : Kept v (when_announced v w s choice)
+  kept_announced = kept_from v (ClientWrites s true ∷ []) (when_announcing v w s choice) kept_announcing
+
+  kept_carrying : Kept v (when_carrying v w s choice)
+  kept_carrying = kept_from v choice.carrying (when_announced v w s choice) kept_announced
+
+  kept_carried : Kept v (after_choice v w s (Some choice))
+  kept_carried = kept_from v (ClientWrites s true ∷ []) (when_carrying v w s choice) kept_carrying
+
+  follows_carried : (t : ℕ) → Follows v (w.session t).page ((after_choice v w s (Some choice)).session t).page
+  follows_carried t =
+      let page : World → Page = λ z. (z.session t).page in
+      let a : Follows v (page w) (page (when_chosen v w s choice)) = pages_follow v (Chooses s choice.more choice.goes choice.asks ∷ []) w kept t in
+      let b : Follows v (page (when_chosen v w s choice)) (page (when_announcing v w s choice)) = pages_follow v choice.announcing (when_chosen v w s choice) kept_chosen t in
+      let c : Follows v (page (when_announcing v w s choice)) (page (when_announced v w s choice)) = pages_follow v (ClientWrites s true ∷ []) (when_announcing v w s choice) kept_announcing t in
+      let d : Follows v (page (when_announced v w s choice)) (page (when_carrying v w s choice)) = pages_follow v choice.carrying (when_announced v w s choice) kept_announced t in
+      let e : Follows v (page (when_carrying v w s choice)) (page (after_choice v w s (Some choice))) = pages_follow v (ClientWrites s true ∷ []) (when_carrying v w s choice) kept_carrying t in
+      let ab = follows_trans v (page w) (page (when_chosen v w s choice)) (page (when_announcing v w s choice)) a b in
+      let cd = follows_trans v (page (when_announcing v w s choice)) (page (when_announced v w s choice)) (page (when_carrying v w s choice)) c d in
+      let abcd = follows_trans v (page w) (page (when_announcing v w s choice)) (page (when_carrying v w s choice)) ab cd in
+      follows_trans v (page w) (page (when_carrying v w s choice)) (page (after_choice v w s (Some choice))) abcd e
+
+kept_choice : (v : Setting) (w : World) → Kept v w → (s : ℕ) (choice : Option Choice) → Kept v (after_choice v w s choice)
+kept_choice v w kept s None = kept
+kept_choice v w kept s (Some choice) = kept_carried v w kept s choice
+
+follows_choice : (v : Setting) (w : World) → Kept v w → (s : ℕ) (choice : Option Choice) (t : ℕ) → Follows v (w.session t).page ((after_choice v w s choice).session t).page
+follows_choice v w kept s None t = follows_refl v (w.session t).page
+follows_choice v w kept s (Some choice) t = follows_carried v w kept s choice t
+
+-- the page that is left
+record Left (v : Setting) (s : ℕ) (page : Page) (name : Option ℕ) (line : StoredCopy) (seen : ℕ → Page) (now : Page) : Type 0 where
+  next : Page
+  carried : now ≡ next
+  new : (n : ℕ) → is_of name n ≡ true → (next.line n ≡ line) × (next.gone n ≡ false)
+  lines : (n : ℕ) → is_of name n ≡ false → next.line n ≡ page.line n
+  gone : (n : ℕ) → is_of name n ≡ false → page.gone n ≡ true → next.gone n ≡ true
+  stays : (n : ℕ) → is_of name n ≡ false → next.gone n ≡ false → can_go v seen s page n ≡ false
+  removals : AsksForAll v s seen next.after
+
+-- the name that it changed; none where it changed nothing
+abbrev name_changed : Change → Option Choice → Option ℕ
+name_changed change None = None
+name_changed change (Some choice) = change.name
+
+more_of : Option Choice → ℕ
+more_of None = 0
+more_of (Some choice) = choice.more
+
+left : (v : Setting) (w : World) (s : ℕ) (journal : Journal) (change : Change) (looked : ℕ → Bool) (seen : ℕ → Page) (choice : Option Choice) → (w.session s).client ≡ Looks journal change looked seen → has_seen v looked seen ≡ true → Does v w s journal change seen choice →
+    Left v s journal.page (name_changed change choice) (new_line s (more_of choice) change (highest v journal.page seen)) seen ((after_choice v w s choice).session s).page
+unfolding more_of
+left v w s journal change looked seen None is has tidy = record {
+  next = journal.page;
+  carried = tidy.carried;
+  new = λ n is. absurd (true≢false (sym is));
+  lines = λ n none. refl;
+  gone = λ n none gone. gone;
+  stays = λ n none stays. tidy.lines n;
+  removals = tidy.removals;
+}
+left v w s journal change looked seen (Some choice) is has does = record {
+  next = next.page;
+  carried = then_page v (when_carrying v w s choice) s next change.op (does.carries ∙ then_carries v (when_announcing v w s choice) s next change.op (does.announces ∙ then_announces v w s choice.more choice.goes choice.asks journal change looked seen is has));
+  new = λ n is. (rw is refl, rw is refl);
+  lines = λ n none. rw none refl;
+  gone = λ n none gone. gone_is n none ∙ or_left (journal.page.gone n) (goes_now v choice.goes choice.asks seen s journal.page n) gone;
+  stays = λ n none still. stays n none (or_parts (journal.page.gone n) (goes_now v choice.goes choice.asks seen s journal.page n) (sym (gone_is n none) ∙ still)).1 (cases_Bool (can_go v seen s journal.page n));
+  removals = does.removals;
+}
+  where
+    next : Journal
+    next = changed v choice.goes choice.asks seen s journal change (new_line s choice.more change (highest v journal.page seen))
+
+    gone_is : (n : ℕ) → is_of change.name n ≡ false → next.page.gone n ≡ (journal.page.gone n || goes_now v choice.goes choice.asks seen s journal.page n)
+    gone_is n none = rw none refl
+
+    stays : (n : ℕ) → is_of change.name n ≡ false → goes_now v choice.goes choice.asks seen s journal.page n ≡ false → (can_go v seen s journal.page n ≡ true) ⊎ (can_go v seen s journal.page n ≡ false) → can_go v seen s journal.page n ≡ false
+    stays n none not (inl can) = absurd (true≢false (sym (does.lines n none can) ∙ not))
+    stays n none not (inr is) = is
+
 module _ (v : Setting) (w : World) (kept : Kept v w) (turn : Turn) where
-  kept_begun : Kept v (after_steps v w turn.before)
+  kept_begun : Kept v (when_begun v w turn)
   kept_begun = kept_from v turn.before w kept
 
   kept_looked : Kept v (when_looked v w turn)
-  kept_looked = kept_from v (Enters turn.session ∷ turn.looking) (after_steps v w turn.before) kept_begun
-
-  kept_chosen : Kept v (when_chosen v w turn)
-  kept_chosen = kept_from v (Chooses turn.session turn.more turn.goes turn.asks ∷ []) (when_looked v w turn) kept_looked
-
-  kept_announcing : Kept v (when_announcing v w turn)
-  kept_announcing = kept_from v turn.announcing (when_chosen v w turn) kept_chosen
-
-  kept_announced : Kept v (when_announced v w turn)
-  kept_announced = kept_from v (ClientWrites turn.session true ∷ []) (when_announcing v w turn) kept_announcing
-
-  kept_carrying : Kept v (when_carrying v w turn)
-  kept_carrying = kept_from v turn.carrying (when_announced v w turn) kept_announced
+  kept_looked = kept_from v turn.looking (when_begun v w turn) kept_begun
 
   kept_turn : Kept v (after_turn v w turn)
-  kept_turn = kept_from v (ClientWrites turn.session true ∷ []) (when_carrying v w turn) kept_carrying
+  kept_turn = kept_choice v (when_looked v w turn) kept_looked turn.session turn.choice
 
   -- pages follow, until its client has looked, and from then on
   follows_looked : (t : ℕ) → Follows v (w.session t).page ((when_looked v w turn).session t).page
-  follows_looked t = follows_trans v (w.session t).page ((after_steps v w turn.before).session t).page ((when_looked v w turn).session t).page (pages_follow v turn.before w kept t)
-      (pages_follow v (Enters turn.session ∷ turn.looking) (after_steps v w turn.before) kept_begun t)
+  follows_looked t = follows_trans v (w.session t).page ((when_begun v w turn).session t).page ((when_looked v w turn).session t).page (pages_follow v turn.before w kept t) (pages_follow v turn.looking (when_begun v w turn) kept_begun t)
 
   follows_rest : (t : ℕ) → Follows v ((when_looked v w turn).session t).page ((after_turn v w turn).session t).page
-  follows_rest t =
-      let page : World → Page = λ z. (z.session t).page in
-      let a : Follows v (page (when_looked v w turn)) (page (when_chosen v w turn)) = pages_follow v (Chooses turn.session turn.more turn.goes turn.asks ∷ []) (when_looked v w turn) kept_looked t in
-      let b : Follows v (page (when_chosen v w turn)) (page (when_announcing v w turn)) = pages_follow v turn.announcing (when_chosen v w turn) kept_chosen t in
-      let c : Follows v (page (when_announcing v w turn)) (page (when_announced v w turn)) = pages_follow v (ClientWrites turn.session true ∷ []) (when_announcing v w turn) kept_announcing t in
-      let d : Follows v (page (when_announced v w turn)) (page (when_carrying v w turn)) = pages_follow v turn.carrying (when_announced v w turn) kept_announced t in
-      let e : Follows v (page (when_carrying v w turn)) (page (after_turn v w turn)) = pages_follow v (ClientWrites turn.session true ∷ []) (when_carrying v w turn) kept_carrying t in
-      let ab = follows_trans v (page (when_looked v w turn)) (page (when_chosen v w turn)) (page (when_announcing v w turn)) a b in
-      let cd = follows_trans v (page (when_announcing v w turn)) (page (when_announced v w turn)) (page (when_carrying v w turn)) c d in
-      let abcd = follows_trans v (page (when_looked v w turn)) (page (when_announcing v w turn)) (page (when_carrying v w turn)) ab cd in
-      follows_trans v (page (when_looked v w turn)) (page (when_carrying v w turn)) (page (after_turn v w turn)) abcd e
+  follows_rest t = follows_choice v (when_looked v w turn) kept_looked turn.session turn.choice t
 
   follows_turn : (t : ℕ) → Follows v (w.session t).page ((after_turn v w turn).session t).page
   follows_turn t = follows_trans v (w.session t).page ((when_looked v w turn).session t).page ((after_turn v w turn).session t).page (follows_looked t) (follows_rest t)
 
   took : IsTurn v w turn → Took v w (after_turn v w turn) turn.session
   took is = record {
-    page = j.page;
-    name = is.change.name;
+    page = is.journal.page;
+    name = name_changed is.change turn.choice;
     line = line;
     seen = is.seen;
-    goes = turn.goes;
-    asks = turn.asks;
-    from = follows_trans v (w.session turn.session).page ((when_looked v w turn).session turn.session).page j.page (follows_looked turn.session) (knows_follows v (when_looked v w turn) kept_looked turn.session client is.looks);
+    from = follows_trans v (w.session turn.session).page ((when_looked v w turn).session turn.session).page is.journal.page (follows_looked turn.session) (knows_follows v (when_looked v w turn) kept_looked turn.session client is.looks);
     since = since;
     own_lines = knows_lines v (when_looked v w turn) kept_looked turn.session client is.looks;
     own_numbers = λ n. (let low = knows_numbers v (when_looked v w turn) kept_looked turn.session client is.looks n in let high = own_high in omega (arith, low, high));
     high = λ i inside. (let low = number_least v.sessions (λ z. (is.seen z).number) i inside in let high = others_high in omega (arith, low, high));
-    lines = is.lines;
-    removals = is.removals;
-    carried = carried;
+    next = leaves.next;
+    carried = leaves.carried;
+    new = leaves.new;
+    lines = leaves.lines;
+    gone = leaves.gone;
+    stays = leaves.stays;
+    removals = leaves.removals;
   }
     where
-      j : Journal
-      j = is.journal
-
       client : Client
       client = Looks is.journal is.change is.looked is.seen
 
       line : StoredCopy
-      line = new_line turn.session turn.more is.change (highest v is.journal.page is.seen)
+      line = new_line turn.session (more_of turn.choice) is.change (highest v is.journal.page is.seen)
 
-      next : Journal
-      next = changed v turn.goes turn.asks is.seen turn.session is.journal is.change (new_line turn.session turn.more is.change (highest v is.journal.page is.seen))
+      leaves : Left v turn.session is.journal.page (name_changed is.change turn.choice) line is.seen ((after_turn v w turn).session turn.session).page
+      leaves = left v (when_looked v w turn) turn.session is.journal is.change is.looked is.seen turn.choice is.looks is.has is.does
 
-      own_high : j.page.number < line.tag.number
+      own_high : is.journal.page.number < line.tag.number
       own_high = omega arith
 
       others_high : greatest_number v.sessions (λ z. (is.seen z).number) < line.tag.number
@@ -376,16 +448,10 @@ module _ (v : Setting) (w : World) (kept : Kept v w) (turn : Turn) where
 
       since : (i : ℕ) → i < v.sessions → i ≢ turn.session → Since v w (after_turn v w turn) i (is.seen i)
       since i inside ne =
-          let begun : World = after_steps v w turn.before in
-          let all : SeenSince v begun (when_looked v w turn) turn.session client = subst (λ z. SeenSince v begun (when_looked v w turn) turn.session z) is.looks (seen_since v begun turn.session turn.looking kept_begun) in
-          let here : Since v begun (when_looked v w turn) i (is.seen i) = all i (all_at v.sessions is.looked i parts.0 inside) ne in
-          since_on v w (when_looked v w turn) (after_turn v w turn) i (is.seen i) (follows_rest i) (since_back v w begun (when_looked v w turn) i (is.seen i) (pages_follow v turn.before w kept i) here)
-
-      carried : ((after_turn v w turn).session turn.session).page ≡ next.page
-      carried =
-          let a = then_announces v (when_looked v w turn) turn.session turn.more turn.goes turn.asks is.journal is.change is.looked is.seen is.looks is.has in
-          let b : ((when_announced v w turn).session turn.session).client ≡ Carries next is.change.op = then_carries v (when_announcing v w turn) turn.session next is.change.op (is.announces ∙ a) in
-          then_page v (when_carrying v w turn) turn.session next is.change.op (is.carries ∙ b)
+          let all : SeenSince v (when_begun v w turn) (when_looked v w turn) turn.session client =
+              subst (λ z. SeenSince v (when_begun v w turn) (when_looked v w turn) turn.session z) is.looks (seen_since v (when_begun v w turn) turn.session is.known turn.looking kept_begun is.idle) in
+          let here : Since v (when_begun v w turn) (when_looked v w turn) i (is.seen i) = all i (all_at v.sessions is.looked i parts.0 inside) ne in
+          since_on v w (when_looked v w turn) (after_turn v w turn) i (is.seen i) (follows_rest i) (since_back v w (when_begun v w turn) (when_looked v w turn) i (is.seen i) (pages_follow v turn.before w kept i) here)
 
 -- ---- rounds
 
