@@ -171,7 +171,7 @@ module _ (v : Setting) (w start : World) (s : ℕ) (low : s < v.sessions) (chang
         of (inl same) = let g = (all a).1.page.own in let h : (w.session a).page.after b ≡ (w.session a).page.after a = ap (λ z. (w.session a).page.after z) same in let i : (w.session b).page.number ≡ (w.session a).page.number = ap (λ z. (w.session z).page.number) same in let m = e in let n = f in omega (arith, m, n, g, h, i)
         of (inr ne) = let g = (all a).1.page.others b ne in let m = e in let n = f in omega (arith, m, n, g)
 
-    has : has_seen v sight.looked sight.seen ≡ true
+    pub has : has_seen v sight.looked sight.seen ≡ true
     has = and_from (all_below v.sessions sight.looked) (is_closed v sight.seen) (all_true v.sessions sight.looked (λ i less. sight.did i (inl less)))
         (all_true v.sessions (λ a. all_below v.sessions (λ b. not (ltb (sight.seen b).number ((sight.seen a).after b))))
         (λ a low_a. all_true v.sessions (λ b. not (ltb (sight.seen b).number ((sight.seen a).after b))) (λ b low_b. not_below (sight.seen b).number ((sight.seen a).after b) (enough a b low_a low_b (cases_eq a s) (cases_eq b s)))))

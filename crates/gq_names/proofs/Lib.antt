@@ -14,3 +14,4 @@ pub mod Since
 pub mod Changing
 pub mod Completing
 pub mod Sweeping
+pub mod Alone

@@ -395,7 +395,7 @@ module _ (v : Setting) (w : World) (kept : Kept v w) (turn : Turn) where
   kept_looked : Kept v (when_looked v w turn)
   kept_looked = kept_from v turn.looking (when_begun v w turn) kept_begun
 
-  kept_turn : Kept v (after_turn v w turn)
+  pub kept_turn : Kept v (after_turn v w turn)
   kept_turn = kept_choice v (when_looked v w turn) kept_looked turn.session turn.choice
 
   -- pages follow, until its client has looked, and from then on

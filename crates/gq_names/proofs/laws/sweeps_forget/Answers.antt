@@ -1,0 +1,6 @@
+use Rattle.gq_names.proofs.laws.sweeps_forget.Goals as goal
+use Rattle.gq_names.proofs.Sweeping.{all_sweeps_forget}
+use Rattle.gq_names.proofs.Alone.{all_can_sweep}
+
+pub returns : goal.returns
+returns c = record { forgets = all_sweeps_forget; can = all_can_sweep }
