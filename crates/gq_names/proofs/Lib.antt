@@ -15,3 +15,4 @@ pub mod Changing
 pub mod Completing
 pub mod Sweeping
 pub mod Alone
+pub mod WorkedSweep
