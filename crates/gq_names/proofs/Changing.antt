@@ -1,9 +1,8 @@
 -- A change that nobody disturbs: its client looks at each page once, chooses, and has two writes answered. The pages that it sees ask for nothing
 -- more than there is, so it looks once.
-use Rattle.std.proofs.Common.{◌≡◌, ◌≢◌, ◌⊎◌, ℕ, zero, suc, ◌<◌, ◌≤◌, Bool, true, false, List, [], ◌∷◌, ◌++◌, refl, sym, ap, ◌∙◌, subst, inl, inr, Option, arith, eqb, ltb}
+use Rattle.std.proofs.Common.{◌≡◌, ◌≢◌, ◌⊎◌, ℕ, zero, suc, ◌<◌, ◌≤◌, Bool, true, List, [], ◌∷◌, ◌++◌, refl, sym, ap, ◌∙◌, subst, inl, inr, Option, Some, None, arith, eqb, ltb}
 use Rattle.std.specs.Prelude.{fold, not, if◌then◌else◌}
 use Rattle.std.proofs.lemmas.Bool.{cases_eq, ne_eqb, eq-eqb, lt-ltb, and_from}
-use Rattle.gq_laws.specs.declared.ops.Op.{Op}
 use Rattle.gq_names.specs.Names.{Setting, Page, Journal, Change, Client, Knows, Looks, Announces, Carries, Session, World, Step, Enters, Sees, Chooses, ClientWrites, with_session, with_tag, with_end, sees_by, chooses_by, writes_by, looking, changed, highest, new_line, all_below, is_closed, no_page, none_seen, and_page, and_seen, has_seen, tick, after_step}
 use Rattle.gq_names.specs.Completing.{looks_at}
 use Rattle.gq_names.proofs.Counting.{numbers_ends, Ready, AllCounted, all_true, not_below}
@@ -17,6 +16,9 @@ fold_append v w (x ∷ xs) ys = fold_append v (after_step v w x) xs ys
 
 pub entered_is : (v : Setting) (w : World) (s : ℕ) → ((after_step v w (Enters s)).session s) ≡ record (w.session s) { client = Knows (w.session s).journal }
 entered_is v w s = with_here s (record (w.session s) { client = Knows (w.session s).journal }) w s refl
+
+pub entered_rest : (v : Setting) (w : World) (s t : ℕ) → t ≢ s → (after_step v w (Enters s)).session t ≡ w.session t
+entered_rest v w s t ne = with_away s (record (w.session s) { client = Knows (w.session s).journal }) w t ne
 
 pub entered_page : (v : Setting) (w : World) (s t : ℕ) → ((after_step v w (Enters s)).session t).page ≡ (w.session t).page
 entered_page v w s t = by (cases_eq t s)
@@ -41,10 +43,11 @@ module _ (v : Setting) (w start : World) (s : ℕ) (low : s < v.sessions) (chang
     pub own : seen s ≡ j.page
     pub others : (i : ℕ) → i < m → i ≢ s → seen i ≡ (w.session i).page
     pub pages : (t : ℕ) → (u.session t).page ≡ (w.session t).page
+    pub rest : (t : ℕ) → t ≢ s → u.session t ≡ w.session t
 
   -- nothing yet
-  pub first_sight : (entered : World) → (start.session s) ≡ looking entered s j change → ((t : ℕ) → (start.session t).page ≡ (w.session t).page) → Sight 0 start
-  first_sight entered is pages = record {
+  pub first_sight : (entered : World) → (start.session s) ≡ looking entered s j change → ((t : ℕ) → (start.session t).page ≡ (w.session t).page) → ((t : ℕ) → t ≢ s → start.session t ≡ w.session t) → Sight 0 start
+  first_sight entered is pages rest = record {
     begun = refl;
     ops = refl;
     looked = and_page s no_page;
@@ -54,6 +57,7 @@ module _ (v : Setting) (w start : World) (s : ℕ) (low : s < v.sessions) (chang
     own = rw (eq-eqb s s refl) refl;
     others = λ i less. absurd (omega (arith, less));
     pages = pages;
+    rest = rest;
   }
     where
       did : (i : ℕ) → (i < 0) ⊎ (i ≡ s) → and_page s no_page i ≡ true
@@ -89,6 +93,7 @@ module _ (v : Setting) (w start : World) (s : ℕ) (low : s < v.sessions) (chang
         own = sight.own;
         others = λ i before ne. other i ne (split i before);
         pages = sight.pages;
+        rest = sight.rest;
       })
         where
           did : (i : ℕ) → (i < suc m) ⊎ (i ≡ s) → sight.looked i ≡ true
@@ -112,6 +117,7 @@ module _ (v : Setting) (w start : World) (s : ℕ) (low : s < v.sessions) (chang
         own = rw (ne_eqb s m (λ same. away (sym same))) sight.own;
         others = λ i before ne. other i ne (split i before);
         pages = λ t. page t (cases_eq t s);
+        rest = λ t ne. with_away s more u t ne ∙ sight.rest t ne;
       })
         where
           did : (i : ℕ) → (i < suc m) ⊎ (i ≡ s) → (i ≡ m) ⊎ (i ≢ m) → and_page m sight.looked i ≡ true
@@ -213,3 +219,26 @@ module _ (v : Setting) (w start : World) (s : ℕ) (low : s < v.sessions) (chang
 
     pub carried_page : (carried_world.session s).page ≡ announced_journal.page
     carried_page = ap (λ z. z.page) (with_here s (record (announced_world.session s) { page = announced_journal.page; page_pending = []; client = Knows announced_journal }) (with_end change.op announced_world) s refl)
+
+    pub carried_journal : (carried_world.session s).journal.page ≡ announced_journal.page
+    carried_journal =
+        let x : Session = record (announced_world.session s) { page = announced_journal.page; page_pending = []; client = Knows announced_journal } in
+        ap (λ z. z.journal.page) (with_here s x (with_end change.op announced_world) s refl)
+        ∙ ap (λ z. z.journal.page) (with_here s (record (chosen.session s) { journal = announced_journal; journal_pending = []; client = Carries announced_journal change.op }) (with_tag v announced_journal announced_journal.op chosen) s refl)
+
+    -- other sessions stay as they were
+    pub carried_rest : (t : ℕ) → t ≢ s → carried_world.session t ≡ w.session t
+    carried_rest t ne =
+        with_away s (record (announced_world.session s) { page = announced_journal.page; page_pending = []; client = Knows announced_journal }) (with_end change.op announced_world) t ne
+        ∙ (end_same change.op
+        ∙ (with_away s (record (chosen.session s) { journal = announced_journal; journal_pending = []; client = Carries announced_journal change.op }) (with_tag v announced_journal announced_journal.op chosen) t ne
+        ∙ (tag_same announced_journal.op
+        ∙ (with_away s (record (u.session s) { client = Announces announced_journal change.op }) u t ne ∙ sight.rest t ne))))
+      where
+        end_same : (op : Option ℕ) → (with_end op announced_world).session t ≡ announced_world.session t
+        end_same None = refl
+        end_same (Some k) = refl
+
+        tag_same : (op : Option ℕ) → (with_tag v announced_journal op chosen).session t ≡ chosen.session t
+        tag_same None = refl
+        tag_same (Some k) = refl

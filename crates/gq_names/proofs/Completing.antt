@@ -1,16 +1,15 @@
 -- Each put and each get can be completed: who looks at the pages as they stand looks once.
-use Rattle.std.proofs.Common.{◌≡◌, ◌≢◌, ◌⊎◌, ℕ, zero, suc, ◌<◌, ◌≤◌, Bool, true, false, List, [], ◌∷◌, ◌++◌, refl, sym, ap, ◌∙◌, subst, inl, inr, Option, Some, arith, eqb, ltb}
-use Rattle.std.specs.Prelude.{IsSome, fold, not, if◌then◌else◌}
+use Rattle.std.proofs.Common.{◌≡◌, ◌≢◌, ◌⊎◌, ℕ, zero, suc, ◌<◌, ◌≤◌, Bool, true, false, List, [], ◌∷◌, ◌++◌, refl, sym, ap, ◌∙◌, subst, inl, inr, Option, Some, arith, ltb}
+use Rattle.std.specs.Prelude.{IsSome, fold, not}
 use Rattle.std.proofs.lemmas.Bool.{cases_eq, ne_eqb, eq-eqb, lt-ltb, and_from}
-use Rattle.gq_laws.specs.declared.ops.Kind.TheVariants.{Write as Writes}
 use Rattle.gq_laws.specs.declared.ops.Op.{Op}
 use Rattle.gq_laws.specs.Operations.{is_write}
-use Rattle.gq_names.specs.Names.{Setting, Page, Journal, Change, Client, Knows, Looks, Announces, Carries, Session, Reader, Idle, Searches, World, new_world, Step, Enters, Begins, Sees, Chooses, ClientWrites, Asks, Finds, Tells, with_session, with_reader, with_op, with_new_op, with_tag, with_end, new_put, new_get, finds_by, tells_by, told, greatest_shown, version_told, looking, sees_by, chooses_by, writes_by, begins_by, changed, highest, new_line, all_below, is_closed, no_page, none_seen, and_page, and_seen, has_seen, tick, after_step, world_after}
+use Rattle.gq_names.specs.Names.{Setting, Page, Journal, Change, Client, Knows, Announces, Reader, Idle, Searches, World, new_world, Step, Enters, Begins, Chooses, ClientWrites, Asks, Finds, Tells, with_session, with_reader, with_op, with_new_op, with_tag, new_put, new_get, finds_by, tells_by, told, greatest_shown, version_told, looking, begins_by, all_below, is_closed, no_page, none_seen, and_page, and_seen, has_seen, tick, after_step, world_after}
 use Rattle.gq_names.specs.Completing.{looks_at, putting, PutEnded, AllPutsComplete, finds_at, getting, GetEnded, AllGetsComplete}
-use Rattle.gq_names.proofs.Counting.{numbers_ends, Ready, AllCounted, counted_from, first_counted, all_true, not_below}
+use Rattle.gq_names.proofs.Counting.{AllCounted, counted_from, first_counted, all_true, not_below}
 use Rattle.gq_names.proofs.Moves.{with_here, with_away}
 use Rattle.gq_names.proofs.Tellings.{op_here}
-use Rattle.gq_names.proofs.Changing.{fold_append, entered_is, entered_page, Sight, first_sight, looks_all, announced_journal, announced_world, carried_world, writes_are}
+use Rattle.gq_names.proofs.Changing.{fold_append, entered_is, entered_page, entered_rest, Sight, first_sight, looks_all, announced_journal, announced_world, carried_world, writes_are}
 
 module _ (v : Setting) (w : World) (s : ℕ) (low : s < v.sessions) (bytes : List ℕ) where
   abbrev j : Journal
@@ -48,6 +47,7 @@ module _ (v : Setting) (w : World) (s : ℕ) (low : s < v.sessions) (bytes : Lis
 
   begins : Sight v w start s low change 0 start
   begins = first_sight v w start s low change entered (with_here s (looking entered s j change) (with_new_op (new_put entered s bytes) entered) s refl) start_page
+      (λ t ne. with_away s (looking entered s j change) (with_new_op (new_put entered s bytes) entered) t ne ∙ entered_rest v w s t ne)
 
   -- ---- and ends
 

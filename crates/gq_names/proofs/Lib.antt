@@ -15,4 +15,5 @@ pub mod Changing
 pub mod Completing
 pub mod Sweeping
 pub mod Alone
+pub mod Clearing
 pub mod WorkedSweep

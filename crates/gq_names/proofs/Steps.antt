@@ -7,7 +7,7 @@ use Rattle.gq_tag.specs.declared.Tag.{Tag}
 use Rattle.gq_tag.specs.Tag.{first_tag, is_less}
 use Rattle.gq_laws.specs.declared.ops.Op.{Op}
 use Rattle.gq_laws.specs.Operations.{is_write, Gives, At, WroteWith, Tagged}
-use Rattle.gq_names.specs.Names.{Setting, Page, Journal, Change, Client, Knows, Looks, Announces, Carries, Session, Reader, Idle, Searches, World, new_world, new_page, new_journal, Step, Enters, JournalLate, PageLate, Begins, Tidies, Sees, Chooses, ClientWrites, Asks, Finds, Tells, with_session, with_reader, with_op, with_new_op, with_tag, with_end, asks, told, new_put, looking, begins_by, tidying, tidies_by, sees_by, chooses_by, writes_by, finds_by, tells_by, journal_late, page_late, changed, highest, new_line, version_told, and_page, and_seen, greatest_shown, has_seen, behind, changes, tick, after_step, world_after, operations_of}
+use Rattle.gq_names.specs.Names.{Setting, Page, Journal, Change, Client, Knows, Looks, Announces, Carries, Session, Reader, Idle, Searches, World, new_world, new_page, new_journal, Step, Enters, JournalLate, PageLate, Begins, Tidies, Sees, Chooses, ClientWrites, Asks, Finds, Tells, with_session, with_reader, with_op, with_new_op, asks, told, new_put, looking, begins_by, tidying, tidies_by, sees_by, chooses_by, writes_by, finds_by, tells_by, journal_late, page_late, changed, highest, new_line, version_told, and_page, and_seen, greatest_shown, has_seen, behind, tick, after_step, world_after, operations_of}
 use Rattle.gq_names.specs.Laws.{AllNamesTagged}
 use Rattle.gq_tag.proofs.Order.{IsAtMost, at_most_refl}
 use Rattle.gq_names.proofs.Lists.{risen_at_most, rises_refl, chain_at, chain_ends}
@@ -15,7 +15,7 @@ use Rattle.gq_names.proofs.Views.{Among, Gone, Follows, follows_refl}
 use Rattle.gq_names.proofs.Pages.{PastOf, above_self}
 use Rattle.gq_names.proofs.Standing.{Ended, Sourced, Sane, ReadFrom, Lines, Searching, Sound}
 use Rattle.gq_names.proofs.Turns.{minding, lines_enters, lines_journal_late, lines_page_late, lines_begins_other, lines_sees, lines_chooses, lines_asked, lines_carried, lines_carries, lined_self}
-use Rattle.gq_names.proofs.Moves.{with_here, with_away, session_moves, rests, reader_moves}
+use Rattle.gq_names.proofs.Moves.{session_moves, rests, reader_moves}
 use Rattle.gq_names.proofs.Tellings.{announced_moves, none_some, some_is}
 use Rattle.gq_names.proofs.Endings.{carried_moves, put_moves, get_moves, search_finds, told_moves}
 

@@ -1,16 +1,16 @@
 -- Two rounds of changes, and no page shows a removal that it showed before.
-use Rattle.std.proofs.Common.{◌≡◌, ◌≢◌, ◌⊎◌, ℕ, zero, suc, ◌+◌, ◌<◌, ◌≤◌, Bool, true, false, List, [], ◌∷◌, ◌++◌, map, length, refl, sym, ap, ◌∙◌, subst, inl, inr, Option, Some, None, arith, eqb, ltb}
+use Rattle.std.proofs.Common.{◌≡◌, ◌≢◌, ◌⊎◌, ℕ, ◌<◌, ◌≤◌, Bool, true, false, List, [], ◌∷◌, ◌++◌, map, refl, sym, ap, ◌∙◌, subst, inl, inr, Option, Some, None, arith, eqb, ltb}
 use Rattle.std.proofs.lemmas.List.Elements.{Contains-append_cases, Contains-push_cases}
-use Rattle.std.specs.Prelude.{Contains, fold, not, ◌&&◌, ◌||◌, if◌then◌else◌}
-use Rattle.std.proofs.lemmas.Bool.{cases_eq, cases_Bool, ne_eqb, eq-eqb, true≢false, and_parts, and_from, or_left, or_right, or_parts}
+use Rattle.std.specs.Prelude.{Contains, not, ◌||◌, if◌then◌else◌}
+use Rattle.std.proofs.lemmas.Bool.{cases_eq, cases_Bool, eq-eqb, true≢false, and_parts, and_from, or_left, or_right, or_parts}
 use Rattle.gq_tag.specs.declared.Tag.{Tag}
 use Rattle.gq_tag.specs.declared.StoredCopy.{StoredCopy}
 use Rattle.gq_tag.specs.Tag.{first_tag, first_copy, is_less}
-use Rattle.gq_names.specs.Names.{Setting, Page, Journal, Change, Client, Knows, Looks, Announces, Carries, Session, World, Step, Enters, Chooses, ClientWrites, shown, all_below, greatest_asked, is_beaten, is_nothing, is_past, is_forgotten, goes_now, is_of, changed_after, changed_page, changed, highest, new_line, has_seen, is_closed, with_session, with_tag, with_end, chooses_by, writes_by, tick, greatest_number, after_step, world_after}
-use Rattle.gq_names.specs.Sweeping.{Choice, Turn, after_steps, when_begun, when_looked, when_chosen, when_announcing, when_announced, when_carrying, after_choice, after_turn, after_turns, every_name, every_page, can_go, IsRemoval, AsksForAll, IsCarried, IsTidy, Does, IsTurn, AreTurns, IsRound, Forgets, AllSweepsForget}
+use Rattle.gq_names.specs.Names.{Setting, Page, Journal, Change, Client, Knows, Looks, Announces, Carries, World, Chooses, ClientWrites, shown, all_below, greatest_asked, is_beaten, is_nothing, is_past, is_forgotten, goes_now, is_of, changed, highest, new_line, has_seen, is_closed, with_tag, with_end, chooses_by, writes_by, tick, greatest_number, after_step, world_after}
+use Rattle.gq_names.specs.Sweeping.{Choice, Turn, after_steps, when_begun, when_looked, when_chosen, when_announcing, when_announced, when_carrying, after_choice, after_turn, after_turns, every_name, every_page, can_go, IsRemoval, AsksForAll, Does, IsTurn, AreTurns, AllSweepsForget}
 use Rattle.gq_tag.proofs.Order.{IsAtMost, at_most_refl, at_most_trans, at_most_less, at_most-parts, less-parts, less_from, less_at_most}
 use Rattle.gq_names.proofs.Lists.{all_at, greatest_least, number_least}
-use Rattle.gq_names.proofs.Views.{Follows, IsFollowed, follows_refl, follows_trans, not_less_first, not_less_self, shown_is}
+use Rattle.gq_names.proofs.Views.{Follows, IsFollowed, follows_refl, follows_trans, not_less_self, shown_is}
 use Rattle.gq_names.proofs.Counting.{all_true, not_below}
 use Rattle.gq_names.proofs.Onward.{Kept, kept_after, kept_from, pages_follow}
 use Rattle.gq_names.proofs.Since.{Since, since_back, since_on, SeenSince, seen_since}
@@ -50,18 +50,18 @@ less_number a b less = by (less-parts a b less)
     by (inl low) = omega (arith, low)
     by (inr parts) = let same = parts.0 in omega (arith, same)
 
--- ---- one removal, and what becomes of it
+-- ---- one line, and what becomes of it
 
-module _ (v : Setting) (s name : ℕ) (low : s < v.sessions) (old : StoredCopy) (removal : IsRemoval old) where
+module _ (v : Setting) (s name : ℕ) (low : s < v.sessions) (old : StoredCopy) where
   -- the page shows it
-  abbrev Has : Page → Type 0
+  abbrev pub Has : Page → Type 0
   Has page = (page.line name ≡ old) × (page.gone name ≡ false)
 
   -- the page had it, and does not show it any more, or has a newer line
-  abbrev Over : Page → Type 0
+  abbrev pub Over : Page → Type 0
   Over page = ((page.line name ≡ old) × (page.gone name ≡ true)) ⊎ (is_less old.tag (page.line name).tag ≡ true)
 
-  over_on : (p q : Page) → Follows v p q → Over p → Over q
+  pub over_on : (p q : Page) → Follows v p q → Over p → Over q
   over_on p q follows = by (follows.lines name)
     where
       by : IsFollowed v p q name → Over p → Over q
@@ -70,7 +70,7 @@ module _ (v : Setting) (s name : ℕ) (low : s < v.sessions) (old : StoredCopy) 
       by (inr a) (inl h) = inr (subst (λ z. is_less z.tag (q.line name).tag ≡ true) h.0 a.0)
       by (inr a) (inr newer) = inr (at_most_less old.tag (p.line name).tag (q.line name).tag (less_at_most old.tag (p.line name).tag newer) a.0)
 
-  either_on : (p q : Page) → Follows v p q → Has p ⊎ Over p → Has q ⊎ Over q
+  pub either_on : (p q : Page) → Follows v p q → Has p ⊎ Over p → Has q ⊎ Over q
   either_on p q follows (inr over) = inr (over_on p q follows over)
   either_on p q follows (inl has) = by (cases_Bool (q.gone name)) (follows.lines name)
     where
@@ -79,7 +79,7 @@ module _ (v : Setting) (s name : ℕ) (low : s < v.sessions) (old : StoredCopy) 
       by (inr stays) (inl a) = inl (a.0 ∙ has.0, stays)
       by gone (inr a) = inr (inr (subst (λ z. is_less z.tag (q.line name).tag ≡ true) has.0 a.0))
 
-  not_both : (p : Page) → Has p → Over p → ⊥
+  pub not_both : (p : Page) → Has p → Over p → ⊥
   not_both p has (inl h) = true≢false (sym h.1 ∙ has.1)
   not_both p has (inr newer) = not_less_self old.tag (subst (λ z. is_less old.tag z.tag ≡ true) has.0 newer)
 
@@ -101,7 +101,7 @@ module _ (v : Setting) (s name : ℕ) (low : s < v.sessions) (old : StoredCopy) 
   none_shown : (p : Page) → p.gone name ≡ true → Newer (shown p name)
   none_shown p gone = inl (let P : StoredCopy → Type 0 = λ z. IsAtMost z.tag first_tag in subst P (sym (gone_shows p name gone)) (at_most_refl first_tag))
 
-  -- a page of another session minds it: it says that it was made beside it, and shows nothing of the name, or a newer line
+  -- a page of another session minds a removal: it says that it was made beside it, and shows nothing of the name, or a newer line
   record Minds (page : Page) : Type 0 where
     asks : old.tag.number ≤ page.after s
     shows : Newer (shown page name)
@@ -134,7 +134,7 @@ module _ (v : Setting) (s name : ℕ) (low : s < v.sessions) (old : StoredCopy) 
         by (inl gone) = absurd (true≢false (sym (took.gone name none gone) ∙ stays))
         by (inr is) = is
 
-    shown_same : shown took.next name ≡ shown took.page name
+    pub shown_same : shown took.next name ≡ shown took.page name
     shown_same = shown_is took.next name stays ∙ (took.lines name none ∙ sym (shown_is took.page name stayed))
 
     module _ (shows : is_less first_tag (shown took.page name).tag ≡ true) where
@@ -147,14 +147,14 @@ module _ (v : Setting) (s name : ℕ) (low : s < v.sessions) (old : StoredCopy) 
           by (inl could) = absurd (true≢false (sym (and_from (is_less first_tag (shown took.page name).tag) (goes_now v every_name every_page took.seen t took.page name) shows could) ∙ took.stays name none stays))
           by (inr is) = or_parts (is_beaten v every_page took.seen took.page name) (is_forgotten v every_page took.seen t took.page name) is
 
-      not_beaten : (i : ℕ) → i < v.sessions → IsAtMost (shown (took.seen i) name).tag (took.page.line name).tag
+      pub not_beaten : (i : ℕ) → i < v.sessions → IsAtMost (shown (took.seen i) name).tag (took.page.line name).tag
       not_beaten i inside =
           at_most_trans (shown (took.seen i) name).tag (greatest_asked v every_page took.seen name).tag (took.page.line name).tag
           (greatest_least v.sessions (λ z. if every_page z then shown (took.seen z) name else first_copy) i inside) parts.0
 
   -- a turn of another session: it minds the removal, where that is still shown
-  minds_turn : (w u : World) (t : ℕ) → t ≢ s → Took v w u t → Has (w.session s).page ⊎ Over (w.session s).page → Over (u.session s).page ⊎ Minds (u.session t).page
-  minds_turn w u t other took before = by (either_on (w.session s).page (took.seen s) since.from before)
+  minds_turn : IsRemoval old → (w u : World) (t : ℕ) → t ≢ s → Took v w u t → Has (w.session s).page ⊎ Over (w.session s).page → Over (u.session s).page ⊎ Minds (u.session t).page
+  minds_turn removal w u t other took before = by (either_on (w.session s).page (took.seen s) since.from before)
     where
       since : Since v w u s (took.seen s)
       since = took.since s low (λ same. other (sym same))
@@ -210,8 +210,8 @@ module _ (v : Setting) (s name : ℕ) (low : s < v.sessions) (old : StoredCopy) 
       by (inr over) = inl (over_on (took.seen s) (u.session s).page since.to over)
 
   -- a turn of its own session, where all others mind it: it goes
-  over_turn : (w u : World) → Took v w u s → Has (w.session s).page ⊎ Over (w.session s).page → ((t : ℕ) → t < v.sessions → t ≢ s → Minds (w.session t).page) → Over (u.session s).page
-  over_turn w u took before others = subst Over (sym took.carried) (by (cases_Bool (is_of took.name name)) (either_on (w.session s).page took.page took.from before))
+  over_turn : IsRemoval old → (w u : World) → Took v w u s → Has (w.session s).page ⊎ Over (w.session s).page → ((t : ℕ) → t < v.sessions → t ≢ s → Minds (w.session t).page) → Over (u.session s).page
+  over_turn removal w u took before others = subst Over (sym took.carried) (by (cases_Bool (is_of took.name name)) (either_on (w.session s).page took.page took.from before))
     where
       reached : Has took.page ⊎ Over took.page → old.tag.number ≤ (took.page.line name).tag.number
       reached (inl has) = let number : (took.page.line name).tag.number ≡ old.tag.number = ap (λ z. z.tag.number) has.0 in omega (arith, number)
@@ -348,7 +348,7 @@ record Left (v : Setting) (s : ℕ) (page : Page) (name : Option ℕ) (line : St
   removals : AsksForAll v s seen next.after
 
 -- the name that it changed; none where it changed nothing
-abbrev name_changed : Change → Option Choice → Option ℕ
+abbrev pub name_changed : Change → Option Choice → Option ℕ
 name_changed change None = None
 name_changed change (Some choice) = change.name
 
@@ -408,7 +408,7 @@ module _ (v : Setting) (w : World) (kept : Kept v w) (turn : Turn) where
   follows_turn : (t : ℕ) → Follows v (w.session t).page ((after_turn v w turn).session t).page
   follows_turn t = follows_trans v (w.session t).page ((when_looked v w turn).session t).page ((after_turn v w turn).session t).page (follows_looked t) (follows_rest t)
 
-  took : IsTurn v w turn → Took v w (after_turn v w turn) turn.session
+  pub took : IsTurn v w turn → Took v w (after_turn v w turn) turn.session
   took is = record {
     page = is.journal.page;
     name = name_changed is.change turn.choice;
@@ -449,32 +449,36 @@ module _ (v : Setting) (w : World) (kept : Kept v w) (turn : Turn) where
       since : (i : ℕ) → i < v.sessions → i ≢ turn.session → Since v w (after_turn v w turn) i (is.seen i)
       since i inside ne =
           let all : SeenSince v (when_begun v w turn) (when_looked v w turn) turn.session client =
-              subst (λ z. SeenSince v (when_begun v w turn) (when_looked v w turn) turn.session z) is.looks (seen_since v (when_begun v w turn) turn.session is.known turn.looking kept_begun is.idle) in
+          subst (λ z. SeenSince v (when_begun v w turn) (when_looked v w turn) turn.session z) is.looks (seen_since v (when_begun v w turn) turn.session is.known turn.looking kept_begun is.idle) in
           let here : Since v (when_begun v w turn) (when_looked v w turn) i (is.seen i) = all i (all_at v.sessions is.looked i parts.0 inside) ne in
           since_on v w (when_looked v w turn) (after_turn v w turn) i (is.seen i) (follows_rest i) (since_back v w (when_begun v w turn) (when_looked v w turn) i (is.seen i) (pages_follow v turn.before w kept i) here)
 
+  pub took_name : (is : IsTurn v w turn) → (took is).name ≡ name_changed is.change turn.choice
+  unfolding took
+  took_name is = refl
+
 -- ---- rounds
 
-kept_turns : (v : Setting) (turns : List Turn) (w : World) → Kept v w → Kept v (after_turns v w turns)
+pub kept_turns : (v : Setting) (turns : List Turn) (w : World) → Kept v w → Kept v (after_turns v w turns)
 kept_turns v [] w kept = kept
 kept_turns v (turn ∷ turns) w kept = kept_turns v turns (after_turn v w turn) (kept_turn v w kept turn)
 
-follows_turns : (v : Setting) (turns : List Turn) (w : World) → Kept v w → (t : ℕ) → Follows v (w.session t).page ((after_turns v w turns).session t).page
+pub follows_turns : (v : Setting) (turns : List Turn) (w : World) → Kept v w → (t : ℕ) → Follows v (w.session t).page ((after_turns v w turns).session t).page
 follows_turns v [] w kept t = follows_refl v (w.session t).page
 follows_turns v (turn ∷ turns) w kept t =
     let next : World = after_turn v w turn in
     follows_trans v (w.session t).page (next.session t).page ((after_turns v next turns).session t).page (follows_turn v w kept turn t) (follows_turns v turns next (kept_turn v w kept turn) t)
 
-turns_append : (v : Setting) (xs ys : List Turn) (w : World) → after_turns v w (xs ++ ys) ≡ after_turns v (after_turns v w xs) ys
+pub turns_append : (v : Setting) (xs ys : List Turn) (w : World) → after_turns v w (xs ++ ys) ≡ after_turns v (after_turns v w xs) ys
 turns_append v [] ys w = refl
 turns_append v (x ∷ xs) ys w = turns_append v xs ys (after_turn v w x)
 
-turns_split : (v : Setting) (xs ys : List Turn) (w : World) → AreTurns v w (xs ++ ys) → AreTurns v w xs × AreTurns v (after_turns v w xs) ys
+pub turns_split : (v : Setting) (xs ys : List Turn) (w : World) → AreTurns v w (xs ++ ys) → AreTurns v w xs × AreTurns v (after_turns v w xs) ys
 turns_split v [] ys w are = (tt, are)
 turns_split v (x ∷ xs) ys w are = let rest = turns_split v xs ys (after_turn v w x) are.1 in ((are.0, rest.0), rest.1)
 
 -- one of the turns is that of the session
-abbrev Takes : ℕ → List Turn → Type 0
+abbrev pub Takes : ℕ → List Turn → Type 0
 Takes t [] = ⊥
 Takes t (turn ∷ turns) = (turn.session ≡ t) ⊎ Takes t turns
 
@@ -492,43 +496,43 @@ takes_from t (turn ∷ turns) within = by (takes_from t turns) (Contains-append_
 
 module _ (v : Setting) (s name : ℕ) (low : s < v.sessions) (old : StoredCopy) (removal : IsRemoval old) where
   abbrev Status : Page → Type 0
-  Status page = Has v s name low old removal page ⊎ Over v s name low old removal page
+  Status page = Has v s name low old page ⊎ Over v s name low old page
 
   status_turn : (w : World) → Kept v w → (turn : Turn) → Status (w.session s).page → Status ((after_turn v w turn).session s).page
-  status_turn w kept turn = either_on v s name low old removal (w.session s).page ((after_turn v w turn).session s).page (follows_turn v w kept turn s)
+  status_turn w kept turn = either_on v s name low old (w.session s).page ((after_turn v w turn).session s).page (follows_turn v w kept turn s)
 
-  over_turns : (w : World) → Kept v w → (turns : List Turn) → Over v s name low old removal (w.session s).page → Over v s name low old removal ((after_turns v w turns).session s).page
-  over_turns w kept turns = over_on v s name low old removal (w.session s).page ((after_turns v w turns).session s).page (follows_turns v turns w kept s)
+  over_turns : (w : World) → Kept v w → (turns : List Turn) → Over v s name low old (w.session s).page → Over v s name low old ((after_turns v w turns).session s).page
+  over_turns w kept turns = over_on v s name low old (w.session s).page ((after_turns v w turns).session s).page (follows_turns v turns w kept s)
 
   -- in the first round each other session says that it was made beside the removal
   first_round : (turns : List Turn) (w : World) → Kept v w → Status (w.session s).page → AreTurns v w turns → (t : ℕ) → t ≢ s → Takes t turns →
-      Over v s name low old removal ((after_turns v w turns).session s).page ⊎ Minds v s name low old removal ((after_turns v w turns).session t).page
+      Over v s name low old ((after_turns v w turns).session s).page ⊎ Minds v s name low old ((after_turns v w turns).session t).page
   first_round [] w kept status are t other none = absurd none
   first_round (turn ∷ turns) w kept status are t other (inl is) = by (minds_turn v s name low old removal w next t other (subst (λ z. Took v w next z) is (took v w kept turn are.0)) status)
     where
       next : World
       next = after_turn v w turn
 
-      by : Over v s name low old removal ((after_turn v w turn).session s).page ⊎ Minds v s name low old removal ((after_turn v w turn).session t).page →
-          Over v s name low old removal ((after_turns v (after_turn v w turn) turns).session s).page ⊎ Minds v s name low old removal ((after_turns v (after_turn v w turn) turns).session t).page
+      by : Over v s name low old ((after_turn v w turn).session s).page ⊎ Minds v s name low old ((after_turn v w turn).session t).page →
+          Over v s name low old ((after_turns v (after_turn v w turn) turns).session s).page ⊎ Minds v s name low old ((after_turns v (after_turn v w turn) turns).session t).page
       by (inl over) = inl (over_turns (after_turn v w turn) (kept_turn v w kept turn) turns over)
-      by (inr minds) = inr (minds_on v s name low old removal ((after_turn v w turn).session t).page ((after_turns v (after_turn v w turn) turns).session t).page (follows_turns v turns (after_turn v w turn) (kept_turn v w kept turn) t) minds)
+      by (inr minds) = inr (minds_on v s name low old ((after_turn v w turn).session t).page ((after_turns v (after_turn v w turn) turns).session t).page (follows_turns v turns (after_turn v w turn) (kept_turn v w kept turn) t) minds)
   first_round (turn ∷ turns) w kept status are t other (inr later) = first_round turns (after_turn v w turn) (kept_turn v w kept turn) (status_turn w kept turn status) are.1 t other later
 
   -- in the second round it goes
-  second_round : (turns : List Turn) (w : World) → Kept v w → Status (w.session s).page → AreTurns v w turns → ((t : ℕ) → t < v.sessions → t ≢ s → Minds v s name low old removal (w.session t).page) → Takes s turns →
-      Over v s name low old removal ((after_turns v w turns).session s).page
+  second_round : (turns : List Turn) (w : World) → Kept v w → Status (w.session s).page → AreTurns v w turns → ((t : ℕ) → t < v.sessions → t ≢ s → Minds v s name low old (w.session t).page) → Takes s turns →
+      Over v s name low old ((after_turns v w turns).session s).page
   second_round [] w kept status are minds none = absurd none
   second_round (turn ∷ turns) w kept status are minds (inl is) =
       over_turns (after_turn v w turn) (kept_turn v w kept turn) turns
       (over_turn v s name low old removal w (after_turn v w turn) (subst (λ z. Took v w (after_turn v w turn) z) is (took v w kept turn are.0)) status minds)
   second_round (turn ∷ turns) w kept status are minds (inr later) =
       second_round turns (after_turn v w turn) (kept_turn v w kept turn) (status_turn w kept turn status) are.1
-      (λ t inside ne. minds_on v s name low old removal (w.session t).page ((after_turn v w turn).session t).page (follows_turn v w kept turn t) (minds t inside ne)) later
+      (λ t inside ne. minds_on v s name low old (w.session t).page ((after_turn v w turn).session t).page (follows_turn v w kept turn t) (minds t inside ne)) later
 
-  two_rounds : (w : World) → Kept v w → (first second : List Turn) → IsRound v first → IsRound v second → AreTurns v w (first ++ second) → Has v s name low old removal (w.session s).page →
-      Over v s name low old removal ((after_turns v w (first ++ second)).session s).page
-  two_rounds w kept first second round again are has = subst (λ z. Over v s name low old removal (z.session s).page) (sym (turns_append v first second w)) (by status)
+  pub two_rounds : (w : World) → Kept v w → (first second : List Turn) → ((t : ℕ) → t < v.sessions → t ≢ s → Takes t first) → Takes s second → AreTurns v w (first ++ second) → Has v s name low old (w.session s).page →
+      Over v s name low old ((after_turns v w (first ++ second)).session s).page
+  two_rounds w kept first second round again are has = subst (λ z. Over v s name low old (z.session s).page) (sym (turns_append v first second w)) (by status)
     where
       mid : World
       mid = after_turns v w first
@@ -540,17 +544,17 @@ module _ (v : Setting) (s name : ℕ) (low : s < v.sessions) (old : StoredCopy) 
       parts = turns_split v first second w are
 
       status : Status ((after_turns v w first).session s).page
-      status = either_on v s name low old removal (w.session s).page ((after_turns v w first).session s).page (follows_turns v first w kept s) (inl has)
+      status = either_on v s name low old (w.session s).page ((after_turns v w first).session s).page (follows_turns v first w kept s) (inl has)
 
-      minds : Has v s name low old removal ((after_turns v w first).session s).page → (t : ℕ) → t < v.sessions → t ≢ s → Minds v s name low old removal ((after_turns v w first).session t).page
-      minds still t inside ne = of (first_round first w kept (inl has) parts.0 t ne (takes_from t first (round t inside)))
+      minds : Has v s name low old ((after_turns v w first).session s).page → (t : ℕ) → t < v.sessions → t ≢ s → Minds v s name low old ((after_turns v w first).session t).page
+      minds still t inside ne = of (first_round first w kept (inl has) parts.0 t ne (round t inside ne))
         where
-          of : Over v s name low old removal ((after_turns v w first).session s).page ⊎ Minds v s name low old removal ((after_turns v w first).session t).page → Minds v s name low old removal ((after_turns v w first).session t).page
-          of (inl over) = absurd (not_both v s name low old removal ((after_turns v w first).session s).page still over)
+          of : Over v s name low old ((after_turns v w first).session s).page ⊎ Minds v s name low old ((after_turns v w first).session t).page → Minds v s name low old ((after_turns v w first).session t).page
+          of (inl over) = absurd (not_both v s name low old ((after_turns v w first).session s).page still over)
           of (inr is) = is
 
-      by : Status ((after_turns v w first).session s).page → Over v s name low old removal ((after_turns v (after_turns v w first) second).session s).page
-      by (inl still) = second_round second (after_turns v w first) kept_mid (inl still) parts.1 (minds still) (takes_from s second (again s low))
+      by : Status ((after_turns v w first).session s).page → Over v s name low old ((after_turns v (after_turns v w first) second).session s).page
+      by (inl still) = second_round second (after_turns v w first) kept_mid (inl still) parts.1 (minds still) again
       by (inr over) = over_turns (after_turns v w first) kept_mid second over
 
 pub all_sweeps_forget : AllSweepsForget
@@ -574,7 +578,7 @@ all_sweeps_forget v steps first second later round again are s low name removal 
     of : (page.gone name ≡ true) ⊎ (page.gone name ≡ false) → (shown ((after_steps v swept later).session s).page name ≡ first_copy) ⊎ (is_less (shown page name).tag (shown ((after_steps v swept later).session s).page name).tag ≡ true)
     of (inl gone) = absurd (not_less_self first_tag (subst (λ z. is_less first_tag z.tag ≡ true) (gone_shows page name gone) removal.0))
     of (inr stays) =
-        let has : Has v s name low (shown page name) removal page = (sym (shown_is page name stays), stays) in
-        let over = two_rounds v s name low (shown page name) removal (world_after v steps) kept first second round again are has in
-        over_shows v s name low (shown page name) removal ((after_steps v swept later).session s).page
-        (over_on v s name low (shown page name) removal (swept.session s).page ((after_steps v swept later).session s).page (pages_follow v later swept kept_swept s) over)
+        let has : Has v s name low (shown page name) page = (sym (shown_is page name stays), stays) in
+        let over = two_rounds v s name low (shown page name) removal (world_after v steps) kept first second (λ t inside ne. takes_from t first (round t inside)) (takes_from s second (again s low)) are has in
+        over_shows v s name low (shown page name) ((after_steps v swept later).session s).page
+        (over_on v s name low (shown page name) (swept.session s).page ((after_steps v swept later).session s).page (pages_follow v later swept kept_swept s) over)

@@ -1,9 +1,9 @@
 -- The worked sweep is one: each of its turns is a turn.
-use Rattle.std.proofs.Common.{◌≡◌, ◌≢◌, ◌⊎◌, ℕ, ◌<◌, ◌≤◌, Bool, true, false, List, [], ◌∷◌, ◌++◌, get_or, refl, sym, ap, ◌∙◌, subst, inl, inr, arith, eqb}
+use Rattle.std.proofs.Common.{◌≡◌, ◌≢◌, ◌⊎◌, ℕ, ◌<◌, ◌≤◌, true, false, [], ◌∷◌, ◌++◌, get_or, refl, sym, subst, inl, inr, arith, eqb}
 use Rattle.std.specs.Prelude.{◌==◌}
 use Rattle.std.proofs.lemmas.Bool.{cases_eq, cases_Bool, true≢false}
-use Rattle.gq_names.specs.Names.{Page, World, tidying, no_page, none_seen, and_page, and_seen, shown, goes_now, is_of, changed_after, world_after}
-use Rattle.gq_names.specs.Sweeping.{Turn, can_go, IsRemoval, AsksForAll, IsTurn, AreTurns, IsRound, after_turn, when_looked}
+use Rattle.gq_names.specs.Names.{Page, World, tidying, no_page, none_seen, and_page, and_seen, shown, goes_now, changed_after, world_after}
+use Rattle.gq_names.specs.Sweeping.{can_go, IsRemoval, IsTurn, AreTurns, IsRound, after_turn}
 use Rattle.gq_names.specs.Worked.{two, steps_removed, looks_alone, tidies_seven, first_round, second_round}
 
 not_nothing : (byte : ℕ) → byte ∷ [] ≡ [] → ⊥

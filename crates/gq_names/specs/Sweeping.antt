@@ -3,8 +3,7 @@
 -- A removal may go once each other page says that it was made beside it, and shows no line of its name. In the first round each session says
 -- so of the others' removals, and lines that are older than a removal go; in the second round the removals go. Between the changes, and in
 -- the midst of each, any other steps may come: late writes, changes of other sessions, gets. A session that has nothing to do changes nothing.
-use Rattle.std.specs.Prelude.{◌≡◌, ◌≢◌, ◌⊎◌, ℕ, ◌+◌, ◌<◌, ◌≤◌, List, [], ◌∷◌, ◌++◌, Bool, true, false, ◌&&◌, Option, Some, None, All, Contains, ⊤, map, fold}
-use Rattle.std.specs.List.{range_with_len}
+use Rattle.std.specs.Prelude.{◌≡◌, ◌≢◌, ◌⊎◌, ℕ, ◌<◌, ◌≤◌, List, [], ◌∷◌, ◌++◌, Bool, true, false, ◌&&◌, Option, Some, None, All, Contains, ⊤, map, fold}
 use Rattle.gq_tag.specs.declared.StoredCopy.{StoredCopy}
 use Rattle.gq_tag.specs.Tag.{first_copy, is_less}
 use Rattle.gq_names.specs.Names.{Setting, Page, Journal, Change, Knows, Looks, World, Step, Enters, Tidies, Chooses, ClientWrites, shown, has_seen, is_of, goes_now, changed_after, after_step, world_after}
@@ -143,3 +142,17 @@ alone v s = record {
 -- whatever happened, each session can make it
 abbrev pub AllCanSweep : Type 0
 AllCanSweep = (v : Setting) (steps : List Step) (sessions : List ℕ) → All (λ s. s < v.sessions) sessions → AreTurns v (world_after v steps) (map (alone v) sessions)
+
+-- a page shows a line of the name
+abbrev pub Shows : World → (s name : ℕ) → Type 0
+Shows w s name = is_less first_copy.tag (shown (w.session s).page name).tag ≡ true
+
+-- no page shows a removal, and of a name no more than one page shows a line
+pub record IsClear (v : Setting) (w : World) : Type 0 where
+  pub removals : (s name : ℕ) → s < v.sessions → IsRemoval (shown (w.session s).page name) → ⊥
+  pub lines : (s t name : ℕ) → s < v.sessions → t < v.sessions → Shows w s name → Shows w t name → s ≡ t
+
+-- so it is after two rounds of such changes, of all sessions, in one order
+abbrev pub AllSweepsClear : Type 0
+AllSweepsClear = (v : Setting) (steps : List Step) (sessions : List ℕ) → All (λ s. s < v.sessions) sessions → ((s : ℕ) → s < v.sessions → Contains sessions s) →
+    IsClear v (after_turns v (world_after v steps) (map (alone v) (sessions ++ sessions)))
