@@ -1,19 +1,15 @@
--- Each put and each get can be completed: the pages that a new client sees ask for nothing more than there is, so it looks once.
-use Rattle.std.proofs.Common.{◌≡◌, ◌≢◌, ◌⊎◌, ℕ, zero, suc, ◌<◌, ◌≤◌, Bool, true, false, List, [], ◌∷◌, ◌++◌, refl, sym, ap, ◌∙◌, subst, inl, inr, Option, Some, arith, eqb, ltb}
-use Rattle.std.specs.Prelude.{IsSome, fold, not, if◌then◌else◌}
+-- Each put and each get can be completed: who looks at the pages as they stand looks once.
+use Rattle.std.proofs.Common.{◌≡◌, ◌≢◌, ◌⊎◌, ℕ, zero, suc, ◌<◌, ◌≤◌, Bool, true, false, List, [], ◌∷◌, ◌++◌, refl, sym, ap, ◌∙◌, subst, inl, inr, Option, Some, arith, ltb}
+use Rattle.std.specs.Prelude.{IsSome, fold, not}
 use Rattle.std.proofs.lemmas.Bool.{cases_eq, ne_eqb, eq-eqb, lt-ltb, and_from}
-use Rattle.gq_laws.specs.declared.ops.Kind.TheVariants.{Write as Writes}
 use Rattle.gq_laws.specs.declared.ops.Op.{Op}
 use Rattle.gq_laws.specs.Operations.{is_write}
-use Rattle.gq_names.specs.Names.{Setting, Page, Journal, Change, Client, Knows, Looks, Announces, Carries, Session, Reader, Idle, Searches, World, new_world, Step, Enters, Begins, Sees, Chooses, ClientWrites, Asks, Finds, Tells, with_session, with_reader, with_op, with_new_op, with_tag, with_end, new_put, new_get, finds_by, tells_by, told, greatest_shown, version_told, looking, sees_by, chooses_by, writes_by, begins_by, changed, highest, new_line, all_below, is_closed, no_page, none_seen, and_page, and_seen, has_seen, tick, after_step, world_after}
+use Rattle.gq_names.specs.Names.{Setting, Page, Journal, Change, Client, Knows, Announces, Reader, Idle, Searches, World, new_world, Step, Enters, Begins, Chooses, ClientWrites, Asks, Finds, Tells, with_session, with_reader, with_op, with_new_op, with_tag, new_put, new_get, finds_by, tells_by, told, greatest_shown, version_told, looking, begins_by, all_below, is_closed, no_page, none_seen, and_page, and_seen, has_seen, tick, after_step, world_after}
 use Rattle.gq_names.specs.Completing.{looks_at, putting, PutEnded, AllPutsComplete, finds_at, getting, GetEnded, AllGetsComplete}
-use Rattle.gq_names.proofs.Counting.{numbers_ends, Ready, AllCounted, counted_from, first_counted, all_true, not_below}
+use Rattle.gq_names.proofs.Counting.{AllCounted, counted_from, first_counted, all_true, not_below}
 use Rattle.gq_names.proofs.Moves.{with_here, with_away}
 use Rattle.gq_names.proofs.Tellings.{op_here}
-
-fold_append : (v : Setting) (w : World) (xs ys : List Step) → fold (after_step v) w (xs ++ ys) ≡ fold (after_step v) (fold (after_step v) w xs) ys
-fold_append v w [] ys = refl
-fold_append v w (x ∷ xs) ys = fold_append v (after_step v w x) xs ys
+use Rattle.gq_names.proofs.Changing.{fold_append, entered_is, entered_page, entered_rest, Sight, first_sight, looks_all, announced_journal, announced_world, carried_world, writes_are}
 
 module _ (v : Setting) (w : World) (s : ℕ) (low : s < v.sessions) (bytes : List ℕ) where
   abbrev j : Journal
@@ -23,261 +19,88 @@ module _ (v : Setting) (w : World) (s : ℕ) (low : s < v.sessions) (bytes : Lis
   k = w.begun
 
   abbrev change : Change
-  change = record { name = v.name; bytes = bytes; op = Some k }
-
-  -- the operation goes on
-  record Lasts (u : World) : Type 0 where
-    begun : k < u.begun
-    kind : (u.op k).kind ≡ Writes bytes
-    session : (u.op k).session ≡ s
-
-  -- the client has looked at the first m pages
-  record Sight (m : ℕ) (u : World) : Type 0 where
-    lasts : Lasts u
-    looked : ℕ → Bool
-    seen : ℕ → Page
-    is : (u.session s).client ≡ Looks j change looked seen
-    did : (i : ℕ) → (i < m) ⊎ (i ≡ s) → looked i ≡ true
-    own : seen s ≡ j.page
-    others : (i : ℕ) → i < m → i ≢ s → seen i ≡ (w.session i).page
-    pages : (t : ℕ) → (u.session t).page ≡ (w.session t).page
+  change = record { name = Some v.name; bytes = bytes; op = Some k }
 
   -- ---- it begins
-
-  abbrev x : Session
-  x = record (w.session s) { client = Knows j }
 
   abbrev entered : World
   entered = after_step v w (Enters s)
 
-  entered_is : (entered.session s) ≡ x
-  entered_is = with_here s x w s refl
+  abbrev start : World
+  start = tick (with_session s (looking entered s j change) (with_new_op (new_put entered s bytes) entered))
 
-  abbrev looks : Session
-  looks = looking entered s j change
-
-  abbrev begun_world : World
-  begun_world = tick (with_session s looks (with_new_op (new_put entered s bytes) entered))
-
-  begins_is : after_step v entered (Begins s v.name bytes) ≡ begun_world
-  begins_is = rw (lt-ltb s v.sessions low) (by (entered.session s).client (ap (λ z. z.client) entered_is))
+  begins_is : after_step v entered (Begins s v.name bytes) ≡ start
+  begins_is = rw (lt-ltb s v.sessions low) (by (entered.session s).client (ap (λ z. z.client) (entered_is v w s)))
     where
-      by : (client : Client) → client ≡ Knows j → tick (begins_by v entered s v.name bytes client) ≡ begun_world
-      by client is = let P : Client → Type 0 = λ z. tick (begins_by v entered s v.name bytes z) ≡ begun_world in subst P (sym is) (rw (eq-eqb v.name v.name refl) refl)
+      by : (client : Client) → client ≡ Knows j → tick (begins_by v entered s v.name bytes client) ≡ start
+      by client is = let P : Client → Type 0 = λ z. tick (begins_by v entered s v.name bytes z) ≡ start in subst P (sym is) (rw (eq-eqb v.name v.name refl) refl)
 
-  entered_page : (t : ℕ) → (entered.session t).page ≡ (w.session t).page
-  entered_page t = by (cases_eq t s)
+  start_page : (t : ℕ) → (start.session t).page ≡ (w.session t).page
+  start_page t = by (cases_eq t s)
     where
-      by : (t ≡ s) ⊎ (t ≢ s) → (entered.session t).page ≡ (w.session t).page
-      by (inl same) = ap (λ z. z.page) (with_here s x w t same) ∙ ap (λ z. (w.session z).page) (sym same)
-      by (inr ne) = ap (λ z. z.page) (with_away s x w t ne)
+      by : (t ≡ s) ⊎ (t ≢ s) → (start.session t).page ≡ (w.session t).page
+      by (inl same) = ap (λ z. z.page) (with_here s (looking entered s j change) (with_new_op (new_put entered s bytes) entered) t same) ∙ (ap (λ z. (entered.session z).page) (sym same) ∙ entered_page v w s t)
+      by (inr ne) = ap (λ z. z.page) (with_away s (looking entered s j change) (with_new_op (new_put entered s bytes) entered) t ne) ∙ entered_page v w s t
 
-  begun_page : (t : ℕ) → (begun_world.session t).page ≡ (w.session t).page
-  begun_page t = by (cases_eq t s)
-    where
-      by : (t ≡ s) ⊎ (t ≢ s) → (begun_world.session t).page ≡ (w.session t).page
-      by (inl same) = ap (λ z. z.page) (with_here s looks (with_new_op (new_put entered s bytes) entered) t same) ∙ (ap (λ z. (entered.session z).page) (sym same) ∙ entered_page t)
-      by (inr ne) = ap (λ z. z.page) (with_away s looks (with_new_op (new_put entered s bytes) entered) t ne) ∙ entered_page t
+  start_op : start.op k ≡ new_put entered s bytes
+  start_op = op_here k (new_put entered s bytes) entered k refl
 
-  begun_op : begun_world.op k ≡ new_put entered s bytes
-  begun_op = op_here k (new_put entered s bytes) entered k refl
+  begins : Sight v w start s low change 0 start
+  begins = first_sight v w start s low change entered (with_here s (looking entered s j change) (with_new_op (new_put entered s bytes) entered) s refl) start_page
+      (λ t ne. with_away s (looking entered s j change) (with_new_op (new_put entered s bytes) entered) t ne ∙ entered_rest v w s t ne)
 
-  begins : Sight 0 begun_world
-  begins = record {
-    lasts = record { begun = omega arith; kind = ap (λ z. z.kind) begun_op; session = ap (λ z. z.session) begun_op };
-    looked = and_page s no_page;
-    seen = and_seen s j.page none_seen;
-    is = ap (λ z. z.client) (with_here s looks (with_new_op (new_put entered s bytes) entered) s refl);
-    did = λ i first. did i first;
-    own = rw (eq-eqb s s refl) refl;
-    others = λ i less. absurd (omega (arith, less));
-    pages = begun_page;
-  }
-    where
-      did : (i : ℕ) → (i < 0) ⊎ (i ≡ s) → and_page s no_page i ≡ true
-      did i (inl less) = absurd (omega (arith, less))
-      did i (inr same) = rw (eq-eqb i s same) refl
+  -- ---- and ends
 
-  -- ---- it looks at one page more
+  module _ (all : AllCounted w) (u : World) (sight : Sight v w start s low change v.sessions u) where
+    abbrev next : Journal
+    next = announced_journal v w start s low change all u sight 0 (λ n. false) (λ t. false)
 
-  looks_on : (m : ℕ) (u : World) → m < v.sessions → Sight m u → Sight (suc m) (after_step v u (Sees s m))
-  looks_on m u less sight = subst (λ z. Sight (suc m) z) (sym sees_is) (by (cases_eq m s))
-    where
-      more : Session
-      more = record (u.session s) { client = Looks j change (and_page m sight.looked) (and_seen m (u.session m).page sight.seen) }
+    abbrev before : World
+    before = announced_world v w start s low change all u sight 0 (λ n. false) (λ t. false)
 
-      sees_is : after_step v u (Sees s m) ≡ tick (if eqb m s then u else with_session s (record (u.session s) { client = Looks j change (and_page m sight.looked) (and_seen m (u.session m).page sight.seen) }) u)
-      sees_is = rw (lt-ltb m v.sessions less) (let P : Client → Type 0 = λ z. tick (sees_by u s m z) ≡ tick (sees_by u s m (Looks j change sight.looked sight.seen)) in subst P (sym sight.is) refl)
+    abbrev after : World
+    after = carried_world v w start s low change all u sight 0 (λ n. false) (λ t. false)
 
-      split : (i : ℕ) → i < suc m → (i < m) ⊎ (i ≡ m)
-      split i before = of (cases_eq i m)
-        where
-          of : (i ≡ m) ⊎ (i ≢ m) → (i < m) ⊎ (i ≡ m)
-          of (inl same) = inr same
-          of (inr ne) = inl (omega (arith, before, ne))
+    next_op : next.op ≡ Some k
+    unfolding announced_journal
+    next_op = refl
 
-      lasts : Lasts u
-      lasts = sight.lasts
-
-      by : (m ≡ s) ⊎ (m ≢ s) → Sight (suc m) (tick (if eqb m s then u else with_session s (record (u.session s) { client = Looks j change (and_page m sight.looked) (and_seen m (u.session m).page sight.seen) }) u))
-      by (inl here) = rw (eq-eqb m s here) (record {
-        lasts = record { begun = lasts.begun; kind = lasts.kind; session = lasts.session };
-        looked = sight.looked;
-        seen = sight.seen;
-        is = sight.is;
-        did = λ i first. did i first;
-        own = sight.own;
-        others = λ i before ne. other i ne (split i before);
-        pages = sight.pages;
-      })
-        where
-          did : (i : ℕ) → (i < suc m) ⊎ (i ≡ s) → sight.looked i ≡ true
-          did i (inr same) = sight.did i (inr same)
-          did i (inl before) = of (split i before)
-            where
-              of : (i < m) ⊎ (i ≡ m) → sight.looked i ≡ true
-              of (inl first) = sight.did i (inl first)
-              of (inr same) = sight.did i (inr (same ∙ here))
-
-          other : (i : ℕ) → i ≢ s → (i < m) ⊎ (i ≡ m) → sight.seen i ≡ (w.session i).page
-          other i ne (inl first) = sight.others i first ne
-          other i ne (inr same) = absurd (ne (same ∙ here))
-      by (inr away) = rw (ne_eqb m s away) (record {
-        lasts = record { begun = lasts.begun; kind = lasts.kind; session = lasts.session };
-        looked = and_page m sight.looked;
-        seen = and_seen m (u.session m).page sight.seen;
-        is = ap (λ z. z.client) (with_here s more u s refl);
-        did = λ i first. did i first (cases_eq i m);
-        own = rw (ne_eqb s m (λ same. away (sym same))) sight.own;
-        others = λ i before ne. other i ne (split i before);
-        pages = λ t. page t (cases_eq t s);
-      })
-        where
-          did : (i : ℕ) → (i < suc m) ⊎ (i ≡ s) → (i ≡ m) ⊎ (i ≢ m) → and_page m sight.looked i ≡ true
-          did i first (inl same) = rw (eq-eqb i m same) refl
-          did i (inl before) (inr ne) = rw (ne_eqb i m ne) (sight.did i (inl (omega (arith, before, ne))))
-          did i (inr same) (inr ne) = rw (ne_eqb i m ne) (sight.did i (inr same))
-
-          other : (i : ℕ) → i ≢ s → (i < m) ⊎ (i ≡ m) → and_seen m (u.session m).page sight.seen i ≡ (w.session i).page
-          other i ne (inl first) = rw (ne_eqb i m (λ same. omega (arith, first, same))) (sight.others i first ne)
-          other i ne (inr same) = rw (eq-eqb i m same) (sight.pages m ∙ ap (λ z. (w.session z).page) (sym same))
-
-          page : (t : ℕ) → (t ≡ s) ⊎ (t ≢ s) → ((with_session s more u).session t).page ≡ (w.session t).page
-          page t (inl same) = ap (λ z. z.page) (with_here s more u t same) ∙ (ap (λ z. (u.session z).page) (sym same) ∙ sight.pages t)
-          page t (inr ne) = ap (λ z. z.page) (with_away s more u t ne) ∙ sight.pages t
-
-  looks_all : (m : ℕ) → m ≤ v.sessions → Sight m (fold (after_step v) begun_world (looks_at s m))
-  looks_all zero less = begins
-  looks_all (suc m) less =
-      subst (λ z. Sight (suc m) z) (sym (fold_append v begun_world (looks_at s m) (Sees s m ∷ [])))
-      (looks_on m (fold (after_step v) begun_world (looks_at s m)) (omega (arith, less)) (looks_all m (omega (arith, less))))
-
-  -- ---- the pages ask for nothing more
-
-  module _ (all : AllCounted w) (u : World) (sight : Sight v.sessions u) where
-    ready : Ready w s (all s).0 j
-    ready = (all s).1.journals.now
-
-    own_number : (w.session s).page.number ≤ j.page.number
-    own_number = let a = numbers_ends (w.session s).page.number (w.session s).page_pending (all s).0 (all s).1.chain in let b = ready.number in omega (arith, a, b)
-
-    asks : (a b : ℕ) → a < v.sessions → b < v.sessions → (a ≡ s) ⊎ (a ≢ s) → (b ≡ s) ⊎ (b ≢ s) → (sight.seen a).after b ≤ (sight.seen b).number
-    asks a b low_a low_b (inl x) (inl y) =
-        let e : (sight.seen a).after b ≡ j.page.after s = ap (λ z. (sight.seen z).after b) x ∙ (ap (λ z. z.after b) sight.own ∙ ap (λ z. j.page.after z) y) in
-        let f : (sight.seen b).number ≡ j.page.number = ap (λ z. (sight.seen z).number) y ∙ ap (λ z. z.number) sight.own in
-        let g = ready.there.own in
-        omega (arith, e, f, g)
-    asks a b low_a low_b (inl x) (inr y) =
-        let e : (sight.seen a).after b ≡ j.page.after b = ap (λ z. (sight.seen z).after b) x ∙ ap (λ z. z.after b) sight.own in
-        let f : (sight.seen b).number ≡ (w.session b).page.number = ap (λ z. z.number) (sight.others b low_b y) in
-        let g = ready.there.others b y in
-        omega (arith, e, f, g)
-    asks a b low_a low_b (inr x) (inl y) =
-        let e : (sight.seen a).after b ≡ (w.session a).page.after s = ap (λ z. z.after b) (sight.others a low_a x) ∙ ap (λ z. (w.session a).page.after z) y in
-        let f : (sight.seen b).number ≡ j.page.number = ap (λ z. (sight.seen z).number) y ∙ ap (λ z. z.number) sight.own in
-        let g = (all a).1.page.others s (λ same. x (sym same)) in
-        let h = own_number in
-        omega (arith, e, f, g, h)
-    asks a b low_a low_b (inr x) (inr y) = of (cases_eq b a)
+    before_op : before.op k ≡ record (u.op k) { tag = Some (next.page.line v.name).tag }
+    before_op = by next.op next_op
       where
-        e : (sight.seen a).after b ≡ (w.session a).page.after b
-        e = ap (λ z. z.after b) (sight.others a low_a x)
+        by : (op : Option ℕ) → op ≡ Some k → (with_tag v next op (tick (with_session s (record (u.session s) { client = Announces next (Some k) }) u))).op k ≡ record (u.op k) { tag = Some (next.page.line v.name).tag }
+        by op is = rw is (op_here k (record (u.op k) { tag = Some (next.page.line v.name).tag }) (tick (with_session s (record (u.session s) { client = Announces next (Some k) }) u)) k refl)
 
-        f : (sight.seen b).number ≡ (w.session b).page.number
-        f = ap (λ z. z.number) (sight.others b low_b y)
+    after_op : after.op k ≡ record (before.op k) { end = Some before.now }
+    after_op = op_here k (record (before.op k) { end = Some before.now }) before k refl
 
-        of : (b ≡ a) ⊎ (b ≢ a) → (sight.seen a).after b ≤ (sight.seen b).number
-        of (inl same) = let g = (all a).1.page.own in let h : (w.session a).page.after b ≡ (w.session a).page.after a = ap (λ z. (w.session a).page.after z) same in let i : (w.session b).page.number ≡ (w.session a).page.number = ap (λ z. (w.session z).page.number) same in let m = e in let n = f in omega (arith, m, n, g, h, i)
-        of (inr ne) = let g = (all a).1.page.others b ne in let m = e in let n = f in omega (arith, m, n, g)
-
-    has : has_seen v sight.looked sight.seen ≡ true
-    has = and_from (all_below v.sessions sight.looked) (is_closed v sight.seen) (all_true v.sessions sight.looked (λ i less. sight.did i (inl less)))
-        (all_true v.sessions (λ a. all_below v.sessions (λ b. not (ltb (sight.seen b).number ((sight.seen a).after b))))
-        (λ a low_a. all_true v.sessions (λ b. not (ltb (sight.seen b).number ((sight.seen a).after b))) (λ b low_b. not_below (sight.seen b).number ((sight.seen a).after b) (asks a b low_a low_b (cases_eq a s) (cases_eq b s)))))
-
-    -- ---- it chooses, and its two writes are answered
-
-    next : Journal
-    next = changed v (λ n. false) (λ t. false) sight.seen s j change (new_line s 0 change (highest v j.page sight.seen))
-
-    abbrev chosen : World
-    chosen = tick (with_session s (record (u.session s) { client = Announces next (Some k) }) u)
-
-    chooses_is : after_step v u (Chooses s 0 (λ n. false) (λ t. false)) ≡ chosen
-    unfolding next
-    chooses_is = let P : Client → Type 0 = λ z. tick (chooses_by v u s 0 (λ n. false) (λ t. false) z) ≡ chosen in subst P (sym sight.is) (rw has refl)
-
-    abbrev announced : World
-    announced = tick (with_session s (record (chosen.session s) { journal = next; journal_pending = []; client = Carries next (Some k) }) (with_tag v next (Some k) chosen))
-
-    announces_is : after_step v chosen (ClientWrites s true) ≡ announced
-    unfolding next
-    announces_is =
-        let P : Client → Type 0 = λ z. tick (writes_by v chosen s true z) ≡ announced in
-        let is : (chosen.session s).client ≡ Announces next (Some k) = ap (λ z. z.client) (with_here s (record (u.session s) { client = Announces next (Some k) }) u s refl) in
-        subst P (sym is) refl
-
-    abbrev carried : World
-    carried = tick (with_session s (record (announced.session s) { page = next.page; page_pending = []; client = Knows next }) (with_end (Some k) announced))
-
-    carries_is : after_step v announced (ClientWrites s true) ≡ carried
-    carries_is =
-        let P : Client → Type 0 = λ z. tick (writes_by v announced s true z) ≡ carried in
-        let is : (announced.session s).client ≡ Carries next (Some k) = ap (λ z. z.client) (with_here s (record (chosen.session s) { journal = next; journal_pending = []; client = Carries next (Some k) }) (with_tag v next (Some k) chosen) s refl) in
-        subst P (sym is) refl
-
-    tagged : Op
-    tagged = record (u.op k) { tag = Some (next.page.line v.name).tag }
-
-    announced_op : announced.op k ≡ tagged
-    unfolding tagged
-    announced_op = op_here k (record (chosen.op k) { tag = Some (next.page.line v.name).tag }) chosen k refl
-
-    carried_op : carried.op k ≡ record (announced.op k) { end = Some announced.now }
-    carried_op = op_here k (record (announced.op k) { end = Some announced.now }) announced k refl
-
-    ended : PutEnded carried k s bytes
-    unfolding tagged
+    ended : PutEnded after k s bytes
     ended = record {
-      low = sight.lasts.begun;
-      kind = ap (λ z. z.kind) carried_op ∙ (ap (λ z. z.kind) announced_op ∙ sight.lasts.kind);
-      session = ap (λ z. z.session) carried_op ∙ (ap (λ z. z.session) announced_op ∙ sight.lasts.session);
-      ended = let P : Option ℕ → Type 0 = λ z. IsSome z in subst P (sym (ap (λ z. z.end) carried_op)) refl;
+      low = low_there (now_begun);
+      kind = ap (λ z. z.kind) after_op ∙ (ap (λ z. z.kind) before_op ∙ (ap (λ f. (f k).kind) sight.ops ∙ ap (λ z. z.kind) start_op));
+      session = ap (λ z. z.session) after_op ∙ (ap (λ z. z.session) before_op ∙ (ap (λ f. (f k).session) sight.ops ∙ ap (λ z. z.session) start_op));
+      ended = let P : Option ℕ → Type 0 = λ z. IsSome z in subst P (sym (ap (λ z. z.end) after_op)) refl;
     }
+      where
+        now_begun : after.begun ≡ u.begun
+        now_begun = by next.op next_op
+          where
+            by : (op : Option ℕ) → op ≡ Some k → (with_tag v next op (tick (with_session s (record (u.session s) { client = Announces next (Some k) }) u))).begun ≡ u.begun
+            by op is = rw is refl
 
-    writes : PutEnded (fold (after_step v) u (Chooses s 0 (λ n. false) (λ t. false) ∷ ClientWrites s true ∷ ClientWrites s true ∷ [])) k s bytes
-    writes =
-        let P : World → Type 0 = λ z. PutEnded z k s bytes in
-        let last : PutEnded (after_step v announced (ClientWrites s true)) k s bytes = subst P (sym carries_is) ended in
-        let before : PutEnded (after_step v (after_step v chosen (ClientWrites s true)) (ClientWrites s true)) k s bytes = subst (λ z. PutEnded (after_step v z (ClientWrites s true)) k s bytes) (sym announces_is) last in
-        subst (λ z. PutEnded (after_step v (after_step v z (ClientWrites s true)) (ClientWrites s true)) k s bytes) (sym chooses_is) before
+        low_there : after.begun ≡ u.begun → k < after.begun
+        low_there same = let more = sight.begun in omega (arith, same, more)
 
   puts : AllCounted w → PutEnded (fold (after_step v) w (putting v s bytes)) k s bytes
   puts all =
       let rest : List Step = Chooses s 0 (λ n. false) (λ t. false) ∷ ClientWrites s true ∷ ClientWrites s true ∷ [] in
+      let looked : World = fold (after_step v) start (looks_at s v.sessions) in
+      let sight : Sight v w start s low change v.sessions looked = looks_all v w start s low change begins v.sessions (omega arith) in
+      let P : World → Type 0 = λ z. PutEnded z k s bytes in
       subst (λ z. PutEnded (fold (after_step v) z (looks_at s v.sessions ++ rest)) k s bytes) (sym begins_is)
-      (subst (λ z. PutEnded z k s bytes) (sym (fold_append v begun_world (looks_at s v.sessions) rest))
-      (writes all (fold (after_step v) begun_world (looks_at s v.sessions)) (looks_all v.sessions (omega arith))))
+      (subst P (sym (fold_append v start (looks_at s v.sessions) rest))
+      (subst P (sym (writes_are v w start s low change all looked sight 0 (λ n. false) (λ t. false)))
+      (ended all looked sight)))
 
 pub all_puts_complete : AllPutsComplete
 all_puts_complete v steps s bytes low =

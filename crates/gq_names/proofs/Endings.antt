@@ -222,7 +222,7 @@ module _ (v : Setting) (w : World) (sound : Sound v w) (a : Op) (u : World) (now
 
 -- ---- a put begins
 
-module _ (v : Setting) (w : World) (sound : Sound v w) (s : ℕ) (low : s < v.sessions) (j : Journal) (bytes : List ℕ) (is : (w.session s).client ≡ Knows j) (change : Change) (name : change.name ≡ v.name) (its_bytes : change.bytes ≡ bytes) (its_op : change.op ≡ Some w.begun) where
+module _ (v : Setting) (w : World) (sound : Sound v w) (s : ℕ) (low : s < v.sessions) (j : Journal) (bytes : List ℕ) (is : (w.session s).client ≡ Knows j) (change : Change) (name : change.name ≡ Some v.name) (its_bytes : change.bytes ≡ bytes) (its_op : change.op ≡ Some w.begun) where
   abbrev looks : Session
   looks = looking w s j change
 

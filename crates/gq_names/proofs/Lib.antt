@@ -9,4 +9,11 @@ pub mod Tellings
 pub mod Endings
 pub mod Steps
 pub mod Counting
+pub mod Onward
+pub mod Since
+pub mod Changing
 pub mod Completing
+pub mod Sweeping
+pub mod Alone
+pub mod Clearing
+pub mod WorkedSweep

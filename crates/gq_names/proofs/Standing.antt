@@ -114,12 +114,12 @@ pub record BaseOp (v : Setting) (w : World) (s : ℕ) (base : Journal) (op : ℕ
 -- ---- of clients
 
 pub record Looking (v : Setting) (w : World) (s : ℕ) (change : Change) (looked : ℕ → Bool) (seen : ℕ → Page) (op : ℕ) : Type 0 where
-  pub name : change.name ≡ v.name
+  pub name : change.name ≡ Some v.name
   pub still : Open w s op change.bytes
   pub all : Seen v w (w.op op).begin looked seen
 
 abbrev pub LooksFor : Setting → World → ℕ → Change → (ℕ → Bool) → (ℕ → Page) → Option ℕ → Type 0
-LooksFor v w s change looked seen None = change.name ≢ v.name
+LooksFor v w s change looked seen None = change.name ≢ Some v.name
 LooksFor v w s change looked seen (Some k) = Looking v w s change looked seen k
 
 pub record LooksWell (v : Setting) (w : World) (past : ℕ → List Page) (s : ℕ) (journal : Journal) (change : Change) (looked : ℕ → Bool) (seen : ℕ → Page) : Type 0 where

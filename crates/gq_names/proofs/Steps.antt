@@ -7,16 +7,16 @@ use Rattle.gq_tag.specs.declared.Tag.{Tag}
 use Rattle.gq_tag.specs.Tag.{first_tag, is_less}
 use Rattle.gq_laws.specs.declared.ops.Op.{Op}
 use Rattle.gq_laws.specs.Operations.{is_write, Gives, At, WroteWith, Tagged}
-use Rattle.gq_names.specs.Names.{Setting, Page, Journal, Change, Client, Knows, Looks, Announces, Carries, Session, Reader, Idle, Searches, World, new_world, new_page, new_journal, Step, Enters, JournalLate, PageLate, Begins, Sees, Chooses, ClientWrites, Asks, Finds, Tells, with_session, with_reader, with_op, with_new_op, with_tag, with_end, asks, told, new_put, looking, begins_by, sees_by, chooses_by, writes_by, finds_by, tells_by, journal_late, page_late, changed, highest, new_line, version_told, and_page, and_seen, greatest_shown, has_seen, behind, changes, tick, after_step, world_after, operations_of}
-use Rattle.gq_names.specs.Laws.{Rises, AllPagesRise, AllNamesTagged}
+use Rattle.gq_names.specs.Names.{Setting, Page, Journal, Change, Client, Knows, Looks, Announces, Carries, Session, Reader, Idle, Searches, World, new_world, new_page, new_journal, Step, Enters, JournalLate, PageLate, Begins, Tidies, Sees, Chooses, ClientWrites, Asks, Finds, Tells, with_session, with_reader, with_op, with_new_op, asks, told, new_put, looking, begins_by, tidying, tidies_by, sees_by, chooses_by, writes_by, finds_by, tells_by, journal_late, page_late, changed, highest, new_line, version_told, and_page, and_seen, greatest_shown, has_seen, behind, tick, after_step, world_after, operations_of}
+use Rattle.gq_names.specs.Laws.{AllNamesTagged}
 use Rattle.gq_tag.proofs.Order.{IsAtMost, at_most_refl}
 use Rattle.gq_names.proofs.Lists.{risen_at_most, rises_refl, chain_at, chain_ends}
 use Rattle.gq_names.proofs.Views.{Among, Gone, Follows, follows_refl}
 use Rattle.gq_names.proofs.Pages.{PastOf, above_self}
 use Rattle.gq_names.proofs.Standing.{Ended, Sourced, Sane, ReadFrom, Lines, Searching, Sound}
 use Rattle.gq_names.proofs.Turns.{minding, lines_enters, lines_journal_late, lines_page_late, lines_begins_other, lines_sees, lines_chooses, lines_asked, lines_carried, lines_carries, lined_self}
-use Rattle.gq_names.proofs.Moves.{with_here, with_away, session_moves, rests, reader_moves}
-use Rattle.gq_names.proofs.Tellings.{announced_moves, none_some}
+use Rattle.gq_names.proofs.Moves.{session_moves, rests, reader_moves}
+use Rattle.gq_names.proofs.Tellings.{announced_moves, none_some, some_is}
 use Rattle.gq_names.proofs.Endings.{carried_moves, put_moves, get_moves, search_finds, told_moves}
 
 module _ (v : Setting) (w : World) (sound : Sound v w) (s : ℕ) where
@@ -51,17 +51,23 @@ module _ (v : Setting) (w : World) (sound : Sound v w) (s : ℕ) where
   begins low name bytes (Knows j) is = by (eqb name v.name) refl
     where
       watched : Change
-      watched = record { name = name; bytes = bytes; op = Some w.begun }
+      watched = record { name = Some name; bytes = bytes; op = Some w.begun }
 
       other : Change
-      other = record { name = name; bytes = bytes; op = None }
+      other = record { name = Some name; bytes = bytes; op = None }
 
       by : (b : Bool) → eqb name v.name ≡ b → Sound v (tick (if b then with_session s (looking w s j watched) (with_new_op (new_put w s bytes) w) else with_session s (looking w s j other) w))
-      by true e = put_moves v w sound s low j bytes is watched (eqb-true name v.name e) refl refl
-      by false e = session_moves v w sound s (looking w s j other) still (lines_begins_other v w past s base x lines j other low is refl (λ same. true≢false (sym (eq-eqb name v.name same) ∙ e)))
+      by true e = put_moves v w sound s low j bytes is watched (ap Some (eqb-true name v.name e)) refl refl
+      by false e = session_moves v w sound s (looking w s j other) still (lines_begins_other v w past s base x lines j other low is refl (λ same. true≢false (sym (eq-eqb name v.name (some_is name v.name same)) ∙ e)))
   begins low name bytes (Looks j change looked best) is = rests v w sound
   begins low name bytes (Announces j op) is = rests v w sound
   begins low name bytes (Carries j op) is = rests v w sound
+
+  tidies : s < v.sessions → (client : Client) → x.client ≡ client → Sound v (tick (tidies_by w s client))
+  tidies low (Knows j) is = session_moves v w sound s (looking w s j tidying) still (lines_begins_other v w past s base x lines j tidying low is refl (λ same. absurd (none_some v.name None refl same)))
+  tidies low (Looks j change looked seen) is = rests v w sound
+  tidies low (Announces j op) is = rests v w sound
+  tidies low (Carries j op) is = rests v w sound
 
   sees : (t : ℕ) (client : Client) → x.client ≡ client → Sound v (tick (sees_by w s t client))
   sees t (Looks j change looked seen) is = by (cases_eq t s)
@@ -90,10 +96,10 @@ module _ (v : Setting) (w : World) (sound : Sound v w) (s : ℕ) where
   chooses more goes asks (Carries j op) is = rests v w sound
 
   -- where the client carries its journal, that is the base
-  carrying : (j : Journal) (op : Option ℕ) → x.client ≡ Carries j op → j ≡ base
+  pub carrying : (j : Journal) (op : Option ℕ) → x.client ≡ Carries j op → j ≡ base
   carrying j op is = minding v w past s base x lines (Carries j op) is
 
-  mine : (j : Journal) → j ≡ base → Lines v w past s j x
+  pub mine : (j : Journal) → j ≡ base → Lines v w past s j x
   mine j same = subst (λ z. Lines v w past s z x) (sym same) lines
 
   writes : (answered : Bool) (client : Client) → x.client ≡ client → Sound v (tick (writes_by v w s answered client))
@@ -140,6 +146,11 @@ sound_step v w (Begins s name bytes) sound = by (ltb s v.sessions) refl
   where
     by : (b : Bool) → ltb s v.sessions ≡ b → Sound v (tick (if b then begins_by v w s name bytes (w.session s).client else w))
     by true e = begins v w sound s (ltb-true s v.sessions e) name bytes (w.session s).client refl
+    by false e = rests v w sound
+sound_step v w (Tidies s) sound = by (ltb s v.sessions) refl
+  where
+    by : (b : Bool) → ltb s v.sessions ≡ b → Sound v (tick (if b then tidies_by w s (w.session s).client else w))
+    by true e = tidies v w sound s (ltb-true s v.sessions e) (w.session s).client refl
     by false e = rests v w sound
 sound_step v w (Sees s t) sound = by (ltb t v.sessions)
   where
@@ -211,7 +222,7 @@ first_sound v = record {
     sources d (inl is) = let P : Page → Type 0 = λ z. Sourced new_world (z.line v.name) in subst P (sym is) (inl refl)
     sources d (inr none) = absurd none
 
-sound_from : (v : Setting) (steps : List Step) (w : World) → Sound v w → Sound v (fold (after_step v) w steps)
+pub sound_from : (v : Setting) (steps : List Step) (w : World) → Sound v w → Sound v (fold (after_step v) w steps)
 sound_from v [] w sound = sound
 sound_from v (step ∷ steps) w sound = sound_from v steps (after_step v w step) (sound_step v w step sound)
 
@@ -315,126 +326,3 @@ module _ (v : Setting) (w : World) (sound : Sound v w) where
 
 pub all_names_tagged : AllNamesTagged
 all_names_tagged v steps = tagged v (world_after v steps) (sound_after v steps)
-
--- ---- no step takes back what stands in a page
-
-module _ (v : Setting) (w : World) (sound : Sound v w) where
-  abbrev Up : World → Type 0
-  Up u = (t : ℕ) → Rises (w.session t).page (u.session t).page
-
-  no_less : Up w
-  no_less t = rises_refl (w.session t).page
-
-  -- one session has another page
-  up_with : (s : ℕ) (x : Session) (u : World) → ((t : ℕ) → u.session t ≡ w.session t) → Rises (w.session s).page x.page → Up (with_session s x u)
-  up_with s x u same up t = by (cases_eq t s)
-    where
-      P : Session → Type 0
-      P z = Rises (w.session t).page z.page
-
-      by : (t ≡ s) ⊎ (t ≢ s) → Rises (w.session t).page ((with_session s x u).session t).page
-      by (inl here) = subst P (sym (with_here s x u t here)) (let Q : ℕ → Type 0 = λ z. Rises (w.session z).page x.page in subst Q (sym here) up)
-      by (inr ne) = subst P (sym (with_away s x u t ne ∙ same t)) (no_less t)
-
-  up_kept : (s : ℕ) (x : Session) (u : World) → ((t : ℕ) → u.session t ≡ w.session t) → (w.session s).page ≡ x.page → Up (with_session s x u)
-  up_kept s x u same page = up_with s x u same (let P : Page → Type 0 = λ z. Rises (w.session s).page z in subst P page (rises_refl (w.session s).page))
-
-  tag_same : (j : Journal) (op : Option ℕ) (t : ℕ) → (with_tag v j op w).session t ≡ w.session t
-  tag_same j None t = refl
-  tag_same j (Some k) t = refl
-
-  end_same : (op : Option ℕ) (t : ℕ) → (with_end op w).session t ≡ w.session t
-  end_same None t = refl
-  end_same (Some k) t = refl
-
-  up_begins : (s name : ℕ) (bytes : List ℕ) (client : Client) → Up (begins_by v w s name bytes client)
-  up_begins s name bytes (Knows j) = by (eqb name v.name)
-    where
-      by : (b : Bool) → Up (if b then with_session s (looking w s j (record { name = name; bytes = bytes; op = Some w.begun })) (with_new_op (new_put w s bytes) w) else with_session s (looking w s j (record { name = name; bytes = bytes; op = None })) w)
-      by true = up_kept s (looking w s j (record { name = name; bytes = bytes; op = Some w.begun })) (with_new_op (new_put w s bytes) w) (λ t. refl) refl
-      by false = up_kept s (looking w s j (record { name = name; bytes = bytes; op = None })) w (λ t. refl) refl
-  up_begins s name bytes (Looks j change looked seen) = no_less
-  up_begins s name bytes (Announces j op) = no_less
-  up_begins s name bytes (Carries j op) = no_less
-
-  up_sees : (s t : ℕ) (client : Client) → Up (sees_by w s t client)
-  up_sees s t (Looks j change looked seen) = by (eqb t s)
-    where
-      next : Session
-      next = record (w.session s) { client = Looks j change (and_page t looked) (and_seen t (w.session t).page seen) }
-
-      by : (b : Bool) → Up (if b then w else with_session s (record (w.session s) { client = Looks j change (and_page t looked) (and_seen t (w.session t).page seen) }) w)
-      by true = no_less
-      by false = up_kept s (record (w.session s) { client = Looks j change (and_page t looked) (and_seen t (w.session t).page seen) }) w (λ i. refl) refl
-  up_sees s t (Knows j) = no_less
-  up_sees s t (Announces j op) = no_less
-  up_sees s t (Carries j op) = no_less
-
-  up_chooses : (s more : ℕ) (goes asks : ℕ → Bool) (client : Client) → Up (chooses_by v w s more goes asks client)
-  up_chooses s more goes asks (Looks j change looked seen) = by (has_seen v looked seen)
-    where
-      by : (b : Bool) → Up (if b then with_session s (record (w.session s) { client = Announces (changed v goes asks seen s j change (new_line s more change (highest v j.page seen))) change.op }) w else w)
-      by true = up_kept s (record (w.session s) { client = Announces (changed v goes asks seen s j change (new_line s more change (highest v j.page seen))) change.op }) w (λ i. refl) refl
-      by false = no_less
-  up_chooses s more goes asks (Knows j) = no_less
-  up_chooses s more goes asks (Announces j op) = no_less
-  up_chooses s more goes asks (Carries j op) = no_less
-
-  up_writes : (s : ℕ) (answered : Bool) (client : Client) → (w.session s).client ≡ client → Up (writes_by v w s answered client)
-  up_writes s true (Announces j op) is = up_kept s (record (w.session s) { journal = j; journal_pending = []; client = Carries j op }) (with_tag v j j.op w) (tag_same j j.op) refl
-  up_writes s false (Announces j op) is = up_kept s (record (w.session s) { journal_pending = (w.session s).journal_pending ++ j ∷ [] }) w (λ t. refl) refl
-  up_writes s true (Carries j op) is = up_with s (record (w.session s) { page = j.page; page_pending = []; client = Knows j }) (with_end op w) (end_same op)
-      (let own : Lines v w sound.past s j (w.session s) = mine v w sound s j (carrying v w sound s j op is) in chain_ends (w.session s).page (w.session s).page_pending j.page own.paged.chain)
-  up_writes s false (Carries j op) is = up_kept s (record (w.session s) { page_pending = (w.session s).page_pending ++ j.page ∷ [] }) w (λ t. refl) refl
-  up_writes s true (Knows j) is = no_less
-  up_writes s false (Knows j) is = no_less
-  up_writes s true (Looks j change looked seen) is = no_less
-  up_writes s false (Looks j change looked seen) is = no_less
-
-  up_journal : (s place : ℕ) (found : Option Journal) → Up (journal_late w s place found)
-  up_journal s place None = no_less
-  up_journal s place (Some j) = up_kept s (record (w.session s) { journal = j; journal_pending = behind (w.session s).journal_pending place }) w (λ t. refl) refl
-
-  up_page : (s place : ℕ) (found : Option Page) → slice_get (w.session s).page_pending place ≡ found → Up (page_late w s place found)
-  up_page s place None at = no_less
-  up_page s place (Some p) at = up_with s (record (w.session s) { page = p; page_pending = behind (w.session s).page_pending place }) w (λ t. refl)
-      (chain_at (w.session s).page (w.session s).page_pending (sound.base s).page place p (sound.lines s).paged.chain at).0
-
-  up_finds : (r t : ℕ) (reader : Reader) → Up (finds_by w r t reader)
-  up_finds r t Idle = no_less
-  up_finds r t (Searches k looked seen) = no_less
-
-  up_tells : (r : ℕ) (reader : Reader) → Up (tells_by v w r reader)
-  up_tells r Idle = no_less
-  up_tells r (Searches k looked seen) = by (has_seen v looked seen)
-    where
-      by : (b : Bool) → Up (if b then with_reader r Idle (with_op k (told w (greatest_shown v seen v.name).bytes (version_told v seen) (w.op k)) w) else w)
-      by true = no_less
-      by false = no_less
-
-  up_step : (step : Step) → Up (changes v w step)
-  up_step (Enters s) = up_kept s (record (w.session s) { client = Knows (w.session s).journal }) w (λ t. refl) refl
-  up_step (JournalLate s place) = up_journal s place (slice_get (w.session s).journal_pending place)
-  up_step (PageLate s place) = up_page s place (slice_get (w.session s).page_pending place) refl
-  up_step (Begins s name bytes) = by (ltb s v.sessions)
-    where
-      by : (b : Bool) → Up (if b then begins_by v w s name bytes (w.session s).client else w)
-      by true = up_begins s name bytes (w.session s).client
-      by false = no_less
-  up_step (Sees s t) = by (ltb t v.sessions)
-    where
-      by : (b : Bool) → Up (if b then sees_by w s t (w.session s).client else w)
-      by true = up_sees s t (w.session s).client
-      by false = no_less
-  up_step (Chooses s more goes asks) = up_chooses s more goes asks (w.session s).client
-  up_step (ClientWrites s answered) = up_writes s answered (w.session s).client refl
-  up_step (Asks r) = no_less
-  up_step (Finds r t) = by (ltb t v.sessions)
-    where
-      by : (b : Bool) → Up (if b then finds_by w r t (w.reader r) else w)
-      by true = up_finds r t (w.reader r)
-      by false = no_less
-  up_step (Tells r) = up_tells r (w.reader r)
-
-pub all_pages_rise : AllPagesRise
-all_pages_rise v steps step s = up_step v (world_after v steps) (sound_after v steps) step s

@@ -5,7 +5,7 @@ use Rattle.std.proofs.lemmas.Bool.{cases_eq, ne_eqb, eq-eqb, true≢false, and_p
 use Rattle.gq_tag.specs.declared.Tag.{Tag}
 use Rattle.gq_tag.specs.declared.StoredCopy.{StoredCopy}
 use Rattle.gq_tag.specs.Tag.{first_tag, is_less}
-use Rattle.gq_names.specs.Names.{Setting, Page, Journal, Change, Client, Knows, Looks, Announces, Session, World, behind, highest, new_line, changed, all_below, version_told, greatest_line, no_page, none_seen, and_page, and_seen, greatest_shown, is_closed, has_seen}
+use Rattle.gq_names.specs.Names.{Setting, Page, Journal, Change, Client, Knows, Looks, Announces, Session, World, behind, highest, new_line, is_of, changed, all_below, version_told, greatest_line, no_page, none_seen, and_page, and_seen, greatest_shown, is_closed, has_seen}
 use Rattle.gq_tag.proofs.Order.{IsAtMost, at_most_refl, at_most_trans, at_most_less, less_from}
 use Rattle.gq_names.proofs.Lists.{risen_at_most, first_least, each_at, each_behind, each_push, all_at, greatest_least, number_least}
 use Rattle.gq_names.proofs.Views.{Among, Gone, Follows, follows_trans, follows_rises, closed_at, at_most_shown, changed_follows, changed_gone}
@@ -112,6 +112,14 @@ lined_as v w s base x y ops lines (inr f) = inr (record {
 pub lined_self : (v : Setting) (w : World) (s : ℕ) (j : Journal) → Lined v w s j j
 lined_self v w s j = inl (record { op = refl; line = refl })
 
+-- the name that a change is of, if it is of one
+not_of : (name : Option ℕ) (n : ℕ) → name ≢ Some n → is_of name n ≡ false
+not_of None n other = refl
+not_of (Some name) n other = ne_eqb n name (λ same. other (ap Some (sym same)))
+
+its_of : (name : Option ℕ) (n : ℕ) → name ≡ Some n → is_of name n ≡ true
+its_of name n same = rw same (eq-eqb n n refl)
+
 -- a version is above the numbers of pages, and so above their lines
 less_new : (s more : ℕ) (change : Change) (high : ℕ) (t : Tag) → t.number ≤ high → is_less t (new_line s more change high).tag ≡ true
 less_new s more change high t low = less_from t (new_line s more change high).tag (inl (omega (arith, low)))
@@ -175,7 +183,7 @@ module _ (v : Setting) (w : World) (past : ℕ → List Page) (s : ℕ) (base : 
     for = for;
   }
 
-  pub lines_begins_other : (j : Journal) (change : Change) → s < v.sessions → x.client ≡ Knows j → change.op ≡ None → change.name ≢ v.name → Lines v w past s base (record x { client = Looks j change (and_page s no_page) (and_seen s j.page none_seen) })
+  pub lines_begins_other : (j : Journal) (change : Change) → s < v.sessions → x.client ≡ Knows j → change.op ≡ None → change.name ≢ Some v.name → Lines v w past s base (record x { client = Looks j change (and_page s no_page) (and_seen s j.page none_seen) })
   lines_begins_other j change low is none other =
       lines_client (Looks j change (and_page s no_page) (and_seen s j.page none_seen)) (knows (Knows j) is) tt (knows_line (Knows j) is)
       (looks_first j change low (let P : Option ℕ → Type 0 = λ z. LooksFor v w s change (and_page s no_page) (and_seen s j.page none_seen) z in subst P (sym none) other))
@@ -263,8 +271,8 @@ module _ (v : Setting) (w : World) (past : ℕ → List Page) (s : ℕ) (base : 
       abbrev next : Journal
       next = changed v goes asks seen s j change line
 
-      less : is_less (j.page.line change.name).tag line.tag ≡ true
-      less = less_new s more change high (j.page.line change.name).tag (let a = (mine.gone change.name).0 in let b = own_high in omega (arith, a, b))
+      less : (n : ℕ) → is_less (j.page.line n).tag line.tag ≡ true
+      less n = less_new s more change high (j.page.line n).tag (let a = (mine.gone n).0 in let b = own_high in omega (arith, a, b))
 
       above : j.page.number < line.tag.number
       above = let b = own_high in omega (arith, b)
@@ -282,18 +290,18 @@ module _ (v : Setting) (w : World) (past : ℕ → List Page) (s : ℕ) (base : 
       has_op (Some i) e k same = rw e same
 
       lined : (op : Option ℕ) → change.op ≡ op → LooksFor v w s change looked seen op → Lined v w s base next
-      lined None e other = lined_as v w s base j next (rw e refl) (rw (ne_eqb v.name change.name (λ same. other (sym same))) refl) (knows_line looker is)
+      lined None e other = lined_as v w s base j next (rw e refl) (rw (not_of change.name v.name other) refl) (knows_line looker is)
       lined (Some k) e looking = inr (record {
         op = k;
         is = rw e refl;
         still = subst (λ z. Open w s k z.bytes) (sym here) looking.still;
-        more = subst (λ z. is_less (base.page.line v.name).tag z.tag ≡ true) (sym here) (at_most_less (base.page.line v.name).tag (j.page.line v.name).tag line.tag (risen_at_most (base.page.line v.name) (j.page.line v.name) (follows_rises v base.page j.page mine.rises v.name)) (subst (λ n. is_less (j.page.line n).tag line.tag ≡ true) looking.name less));
+        more = subst (λ z. is_less (base.page.line v.name).tag z.tag ≡ true) (sym here) (at_most_less (base.page.line v.name).tag (j.page.line v.name).tag line.tag (risen_at_most (base.page.line v.name) (j.page.line v.name) (follows_rises v base.page j.page mine.rises v.name)) (less v.name));
         own = ap (λ z. z.tag.session) here;
         later = λ e t ended low. subst (λ z. is_less t z.tag ≡ true) (sym here) (over t (seen_at v w (w.op k).begin looked seen has looking.all e t ended low));
       })
         where
           here : next.page.line v.name ≡ line
-          here = rw (eq-eqb v.name change.name (sym looking.name)) refl
+          here = rw (its_of change.name v.name looking.name) refl
 
           over : (t : Tag) → (t ≡ first_tag) ⊎ ((i : ℕ) × (i < v.sessions) × IsAtMost t ((seen i).line v.name).tag) → is_less t line.tag ≡ true
           over t (inl first) = subst (λ z. is_less z line.tag ≡ true) (sym first) (less_new s more change high first_tag (omega arith))

@@ -1,11 +1,11 @@
 -- Lines that go: who sees pages that ask for one another sees a line at least as great as each that ever stood in one of them.
-use Rattle.std.proofs.Common.{◌≡◌, ◌≢◌, ◌⊎◌, ℕ, ◌<◌, ◌≤◌, Bool, true, false, List, [], ◌∷◌, refl, sym, ap, ◌∙◌, subst, inl, inr, arith, eqb, ltb, max}
+use Rattle.std.proofs.Common.{◌≡◌, ◌≢◌, ◌⊎◌, ℕ, ◌<◌, ◌≤◌, Bool, true, false, List, [], ◌∷◌, Option, refl, sym, ap, ◌∙◌, subst, inl, inr, arith, eqb, ltb, max}
 use Rattle.std.specs.Prelude.{not, ◌||◌, ◌&&◌, if◌then◌else◌}
-use Rattle.std.proofs.lemmas.Bool.{cases_eq, cases_lt, lt-ltb, ne_eqb, eq-eqb, true≢false, and_parts}
+use Rattle.std.proofs.lemmas.Bool.{cases_eq, cases_Bool, cases_lt, lt-ltb, ne_eqb, true≢false, and_parts}
 use Rattle.gq_tag.specs.declared.Tag.{Tag}
 use Rattle.gq_tag.specs.declared.StoredCopy.{StoredCopy}
 use Rattle.gq_tag.specs.Tag.{first_tag, first_copy, is_less}
-use Rattle.gq_names.specs.Names.{Setting, Page, shown, all_below, greatest_of, greatest_shown, greatest_line, greatest_asked, is_beaten, is_nothing, is_past, is_forgotten, goes_now, changed_page, is_closed}
+use Rattle.gq_names.specs.Names.{Setting, Page, shown, all_below, greatest_of, greatest_shown, greatest_line, greatest_asked, is_beaten, is_nothing, is_past, is_forgotten, goes_now, is_of, changed_page, is_closed}
 use Rattle.gq_names.specs.Laws.{IsRisen, Rises}
 use Rattle.gq_tag.proofs.Order.{IsAtMost, at_most_refl, at_most_trans, at_most_less, less_at_most, less_from, at_most-parts}
 use Rattle.gq_names.proofs.Lists.{risen_at_most, first_least, all_at, greatest_least, Chosen, greatest_is}
@@ -269,7 +269,7 @@ not_true : (a : Bool) → not a ≡ true → a ≡ false
 not_true true is = absurd (true≢false (sym is))
 not_true false is = refl
 
-module _ (v : Setting) (past : ℕ → List Page) (s : ℕ) (goes asks : ℕ → Bool) (seen : ℕ → Page) (page : Page) (name : ℕ) (line : StoredCopy) (within : s < v.sessions) (own : seen s ≡ page) (was : (t : ℕ) → t < v.sessions → t ≢ s → Among (seen t) (past t))
+module _ (v : Setting) (past : ℕ → List Page) (s : ℕ) (goes asks : ℕ → Bool) (seen : ℕ → Page) (page : Page) (name : Option ℕ) (line : StoredCopy) (within : s < v.sessions) (own : seen s ≡ page) (was : (t : ℕ) → t < v.sessions → t ≢ s → Among (seen t) (past t))
     (above : page.number ≤ line.tag.number) where
   abbrev next : Page
   next = changed_page v goes asks seen s page name line
@@ -281,26 +281,26 @@ module _ (v : Setting) (past : ℕ → List Page) (s : ℕ) (goes asks : ℕ →
       by true = omega arith
       by false = omega arith
 
-  same_line : (n : ℕ) → n ≢ name → next.line n ≡ page.line n
-  same_line n ne = rw (ne_eqb n name ne) refl
+  same_line : (n : ℕ) → is_of name n ≡ false → next.line n ≡ page.line n
+  same_line n ne = rw ne refl
 
   or_left : (a b : Bool) → a ≡ true → (a || b) ≡ true
   or_left true b is = refl
   or_left false b is = absurd (true≢false (sym is))
 
-  pub changed_follows : is_less (page.line name).tag line.tag ≡ true → ((t : ℕ) → t < v.sessions → page.after t < line.tag.number) → Follows v page next
-  changed_follows less high = record { after = after_up; lines = λ n. by n (cases_eq n name) }
+  pub changed_follows : ((n : ℕ) → is_less (page.line n).tag line.tag ≡ true) → ((t : ℕ) → t < v.sessions → page.after t < line.tag.number) → Follows v page next
+  changed_follows less high = record { after = after_up; lines = λ n. by n (cases_Bool (is_of name n)) }
     where
-      by : (n : ℕ) → (n ≡ name) ⊎ (n ≢ name) → IsFollowed v page next n
+      by : (n : ℕ) → (is_of name n ≡ true) ⊎ (is_of name n ≡ false) → IsFollowed v page next n
       by n (inl same) =
-          let here : next.line n ≡ line = rw (eq-eqb n name same) refl in
+          let here : next.line n ≡ line = rw same refl in
           inr (
-            (let P : StoredCopy → Type 0 = λ z. is_less (page.line n).tag z.tag ≡ true in subst P (sym here) (let Q : ℕ → Type 0 = λ z. is_less (page.line z).tag line.tag ≡ true in subst Q (sym same) less)),
+            (let P : StoredCopy → Type 0 = λ z. is_less (page.line n).tag z.tag ≡ true in subst P (sym here) (less n)),
             λ t low. (let e : (next.line n).tag.number ≡ line.tag.number = ap (λ z. z.tag.number) here in let h = high t low in omega (arith, e, h)),
           )
-      by n (inr ne) = inl (same_line n ne, λ went. rw (ne_eqb n name ne) (or_left (page.gone n) (goes_now v goes asks seen s page n) went))
+      by n (inr ne) = inl (same_line n ne, λ went. rw ne (or_left (page.gone n) (goes_now v goes asks seen s page n) went))
 
-  old_beaten : (n : ℕ) → n ≢ name → Beaten v past page n → Beaten v past next n
+  old_beaten : (n : ℕ) → is_of name n ≡ false → Beaten v past page n → Beaten v past next n
   old_beaten n ne b = record {
     session = b.session;
     low = b.low;
@@ -310,7 +310,7 @@ module _ (v : Setting) (past : ℕ → List Page) (s : ℕ) (goes asks : ℕ →
     less = subst (λ z. is_less z.tag (b.page.line n).tag ≡ true) (sym (same_line n ne)) b.less;
   }
 
-  old_forgotten : (n : ℕ) → n ≢ name → Forgotten v past s page n → Forgotten v past s next n
+  old_forgotten : (n : ℕ) → is_of name n ≡ false → Forgotten v past s page n → Forgotten v past s next n
   old_forgotten n ne f = record {
     low = f.low;
     nothing = ap (λ z. z.bytes) (same_line n ne) ∙ f.nothing;
@@ -326,7 +326,7 @@ module _ (v : Setting) (past : ℕ → List Page) (s : ℕ) (goes asks : ℕ →
   asked_number : (i : ℕ) → asks i ≡ true → (seen i).number ≤ next.after i
   asked_number i asking = rw asking (omega arith)
 
-  new_beaten : (n : ℕ) → n ≢ name → is_beaten v asks seen page n ≡ true → Beaten v past next n
+  new_beaten : (n : ℕ) → is_of name n ≡ false → is_beaten v asks seen page n ≡ true → Beaten v past next n
   new_beaten n ne less = by (greatest_is v.sessions (λ t. if asks t then shown (seen t) n else first_copy))
     where
       not_first : greatest_asked v asks seen n ≡ first_copy → ⊥
@@ -354,7 +354,7 @@ module _ (v : Setting) (past : ℕ → List Page) (s : ℕ) (goes asks : ℕ →
       by (inl first) = absurd (not_first first)
       by (inr chosen) = of chosen.session chosen.low (asks chosen.session) ((seen chosen.session).gone n) refl refl chosen.is
 
-  new_forgotten : (n : ℕ) → n ≢ name → is_forgotten v asks seen s page n ≡ true → Forgotten v past s next n
+  new_forgotten : (n : ℕ) → is_of name n ≡ false → is_forgotten v asks seen s page n ≡ true → Forgotten v past s next n
   new_forgotten n ne forgot = record {
     low = within;
     nothing = ap (λ z. z.bytes) (same_line n ne) ∙ is_none (page.line n).bytes parts.0;
@@ -383,21 +383,21 @@ module _ (v : Setting) (past : ℕ → List Page) (s : ℕ) (goes asks : ℕ →
           }
 
   pub changed_gone : Gone v past s page → Gone v past s next
-  changed_gone gone n = (number (cases_eq n name), λ is. by is (cases_eq n name))
+  changed_gone gone n = (number (cases_Bool (is_of name n)), λ is. by is (cases_Bool (is_of name n)))
     where
-      number : (n ≡ name) ⊎ (n ≢ name) → (next.line n).tag.number ≤ line.tag.number
-      number (inl same) = let e : (next.line n).tag.number ≡ line.tag.number = rw (eq-eqb n name same) refl in omega (arith, e)
+      number : (is_of name n ≡ true) ⊎ (is_of name n ≡ false) → (next.line n).tag.number ≤ line.tag.number
+      number (inl same) = let e : (next.line n).tag.number ≡ line.tag.number = rw same refl in omega (arith, e)
       number (inr ne) = let e : (next.line n).tag.number ≡ (page.line n).tag.number = ap (λ z. z.tag.number) (same_line n ne) in let l = (gone n).0 in omega (arith, e, l, above)
 
-      by : next.gone n ≡ true → (n ≡ name) ⊎ (n ≢ name) → Beaten v past next n ⊎ Forgotten v past s next n
+      by : next.gone n ≡ true → (is_of name n ≡ true) ⊎ (is_of name n ≡ false) → Beaten v past next n ⊎ Forgotten v past s next n
       by is (inl same) = absurd (true≢false (sym is ∙ gone_here))
         where
           gone_here : next.gone n ≡ false
-          gone_here = rw (eq-eqb n name same) refl
+          gone_here = rw same refl
       by is (inr ne) = of (or_cases (page.gone n) (goes_now v goes asks seen s page n) (sym gone_there ∙ is))
         where
           gone_there : next.gone n ≡ (page.gone n || goes_now v goes asks seen s page n)
-          gone_there = rw (ne_eqb n name ne) refl
+          gone_there = rw ne refl
 
           old : Beaten v past page n ⊎ Forgotten v past s page n → Beaten v past next n ⊎ Forgotten v past s next n
           old (inl b) = inl (old_beaten n ne b)

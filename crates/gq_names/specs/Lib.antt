@@ -1,4 +1,5 @@
 pub mod Names
 pub mod Laws
 pub mod Completing
+pub mod Sweeping
 pub mod Worked

@@ -4,7 +4,7 @@
 -- writes it. A *page* has a *line* for each name: a version, and what the name holds from then on. A version is a tag: a number, and the
 -- session that chose it. Of a name the greatest line of all pages counts. A line *goes* once another page shows a greater one: the page then
 -- says from which number on that page, and others, have to be seen beside it (*after*). And a removal's line goes, it is *forgotten*, once
--- all other pages say that they were made beside it and none shows a line of its name.
+-- all other pages say that they were made beside it and none shows a line of its name. Lines go with any change, also with one of no name.
 --
 -- The journal has the page as it is to be. A client *announces* a change by writing its journal, and *carries* it into the page once that write
 -- was answered, and not before. So a page is written from a journal that nothing older can replace any more.
@@ -57,9 +57,10 @@ new_journal = record { page = new_page; op = None }
 
 -- ---- what clients do
 
--- what a put makes of a name; the number of the operation, where the name is watched. What a name holds is a list: that of a removal is empty
+-- what a put makes of a name; the number of the operation, where the name is watched. What a name holds is a list: that of a removal is empty.
+-- A change may also be of no name: by it lines go, and the page asks for others
 pub record Change : Type 0 where
-  pub name : ℕ
+  pub name : Option ℕ
   pub bytes : List ℕ
   pub op : Option ℕ
 
@@ -114,6 +115,8 @@ pub data Step : Type 0 where
   PageLate : (session place : ℕ) → Step
   -- its client begins to put this under the name
   Begins : (session name : ℕ) (bytes : List ℕ) → Step
+  -- it begins a change of no name
+  Tidies : (session : ℕ) → Step
   -- it reads the page of a session
   Sees : (session other : ℕ) → Step
   -- it has read all: it chooses a number that is greater by one than that of each page that it saw, or still more; which lines are to go, and of
@@ -229,9 +232,16 @@ looking w s journal change = record (w.session s) { client = Looks journal chang
 abbrev pub begins_by : Setting → World → (s name : ℕ) → List ℕ → Client → World
 begins_by v w s name bytes (Knows journal) =
     if name == v.name
-    then with_session s (looking w s journal (record { name = name; bytes = bytes; op = Some w.begun })) (with_new_op (new_put w s bytes) w)
-    else with_session s (looking w s journal (record { name = name; bytes = bytes; op = None })) w
+    then with_session s (looking w s journal (record { name = Some name; bytes = bytes; op = Some w.begun })) (with_new_op (new_put w s bytes) w)
+    else with_session s (looking w s journal (record { name = Some name; bytes = bytes; op = None })) w
 begins_by v w s name bytes _ = w
+
+abbrev pub tidying : Change
+tidying = record { name = None; bytes = []; op = None }
+
+abbrev pub tidies_by : World → (s : ℕ) → Client → World
+tidies_by w s (Knows journal) = with_session s (looking w s journal tidying) w
+tidies_by w s _ = w
 
 abbrev pub sees_by : World → (s t : ℕ) → Client → World
 sees_by w s t (Looks journal change looked seen) =
@@ -266,11 +276,20 @@ is_forgotten v asks seen s page name = is_nothing (page.line name).bytes && all_
 abbrev pub goes_now : Setting → (goes asks : ℕ → Bool) → (ℕ → Page) → (s : ℕ) → Page → (name : ℕ) → Bool
 goes_now v goes asks seen s page name = goes name && (is_beaten v asks seen page name || is_forgotten v asks seen s page name)
 
-abbrev pub changed_page : Setting → (goes asks : ℕ → Bool) → (ℕ → Page) → (s : ℕ) → Page → (name : ℕ) → StoredCopy → Page
+-- the change is of this name
+abbrev pub is_of : Option ℕ → (name : ℕ) → Bool
+is_of None n = false
+is_of (Some name) n = n == name
+
+-- which number the page of a session has at least from then on, where it is seen beside the changed page
+abbrev pub changed_after : (asks : ℕ → Bool) → (ℕ → Page) → Page → (t : ℕ) → ℕ
+changed_after asks seen page t = if asks t then max (page.after t) (seen t).number else page.after t
+
+abbrev pub changed_page : Setting → (goes asks : ℕ → Bool) → (ℕ → Page) → (s : ℕ) → Page → (name : Option ℕ) → StoredCopy → Page
 changed_page v goes asks seen s page name line = record {
-  line = λ n. if n == name then line else page.line n;
-  gone = λ n. if n == name then false else page.gone n || goes_now v goes asks seen s page n;
-  after = λ t. if asks t then max (page.after t) (seen t).number else page.after t;
+  line = λ n. if is_of name n then line else page.line n;
+  gone = λ n. if is_of name n then false else page.gone n || goes_now v goes asks seen s page n;
+  after = changed_after asks seen page;
   number = line.tag.number;
 }
 
@@ -325,6 +344,7 @@ changes v w (Enters s) = with_session s (record (w.session s) { client = Knows (
 changes v w (JournalLate s place) = journal_late w s place (slice_get (w.session s).journal_pending place)
 changes v w (PageLate s place) = page_late w s place (slice_get (w.session s).page_pending place)
 changes v w (Begins s name bytes) = if nat_lt s v.sessions then begins_by v w s name bytes (w.session s).client else w
+changes v w (Tidies s) = if nat_lt s v.sessions then tidies_by w s (w.session s).client else w
 changes v w (Sees s t) = if nat_lt t v.sessions then sees_by w s t (w.session s).client else w
 changes v w (Chooses s more goes asks) = chooses_by v w s more goes asks (w.session s).client
 changes v w (ClientWrites s answered) = writes_by v w s answered (w.session s).client

@@ -1,9 +1,11 @@
--- A worked case, computed: so the laws speak of runs in which something is told.
-use Rattle.std.specs.Prelude.{◌≡◌, ℕ, List, [], ◌∷◌, Bool, true, false, Some, None}
+-- Two worked cases, computed: so the laws speak of runs in which something is told, and of sweeps in which something is forgotten.
+use Rattle.std.specs.Prelude.{◌≡◌, ℕ, List, [], ◌∷◌, ◌++◌, Bool, true, false, ◌==◌, Some, None}
 use Rattle.gq_tag.specs.declared.Tag.{Tag}
 use Rattle.gq_tag.specs.Tag.{first_copy}
 use Rattle.gq_laws.specs.declared.ops.Kind.TheVariants.{Write as Writes, Read as Reads}
-use Rattle.gq_names.specs.Names.{Setting, World, Step, Enters, PageLate, Begins, Sees, Chooses, ClientWrites, Asks, Finds, Tells, shown, world_after, operations_of}
+use Rattle.gq_tag.specs.declared.StoredCopy.{StoredCopy}
+use Rattle.gq_names.specs.Names.{Setting, World, Step, Enters, PageLate, Begins, Tidies, Sees, Chooses, ClientWrites, Asks, Finds, Tells, shown, world_after, operations_of}
+use Rattle.gq_names.specs.Sweeping.{Turn, AreTurns, IsRound, after_turns}
 
 -- two sessions; the name 7 is watched
 abbrev pub two : Setting
@@ -58,3 +60,46 @@ pub record IsWorked : Type 0 where
   -- nor is the removal, which was forgotten, and its page asks for that of session 0 as it was then
   pub forgotten : shown (world_worked.session 1).page 7 ≡ first_copy
   pub minds : (world_worked.session 1).page.after 0 ≡ 3
+
+-- ---- a sweep
+
+abbrev pub steps_removed : List Step
+steps_removed =
+    -- session 0 puts 65 under the name, and session 1 takes it away
+    Begins 0 7 (65 ∷ []) ∷ Sees 0 1 ∷ Chooses 0 0 no_one no_one ∷ ClientWrites 0 true ∷ ClientWrites 0 true
+    ∷ Begins 1 7 [] ∷ Sees 1 0 ∷ Chooses 1 0 no_one no_one ∷ ClientWrites 1 true ∷ ClientWrites 1 true ∷ []
+
+abbrev pub removal : StoredCopy
+removal = record { tag = version 2 1; bytes = [] }
+
+-- a client of the session looks at the other page, and changes nothing
+abbrev pub looks_alone : (s t : ℕ) → Turn
+looks_alone s t = record { session = s; before = Enters s ∷ []; looking = Tidies s ∷ Sees s t ∷ []; choice = None }
+
+-- with its change goes its line of the name 7, and it asks for the other page. Amid it somebody looks at the page that will be changed
+abbrev pub tidies_seven : (s t : ℕ) → Turn
+tidies_seven s t = record {
+  session = s;
+  before = Enters s ∷ Asks 4 ∷ [];
+  looking = Tidies s ∷ Sees s t ∷ Finds 4 s ∷ [];
+  choice = Some (record { more = 0; goes = λ name. name == 7; asks = λ i. i == t; announcing = Finds 4 t ∷ []; carrying = Tells 4 ∷ [] });
+}
+
+-- session 1 has nothing to do as long as page 0 shows the older line, which goes then. So the removal can go
+abbrev pub first_round : List Turn
+first_round = looks_alone 1 0 ∷ tidies_seven 0 1 ∷ []
+
+abbrev pub second_round : List Turn
+second_round = tidies_seven 1 0 ∷ looks_alone 0 1 ∷ []
+
+pub record IsSweepWorked : Type 0 where
+  pub first : IsRound two first_round
+  pub second : IsRound two second_round
+  pub turns : AreTurns two (world_after two steps_removed) (first_round ++ second_round)
+  -- what page 1 shows of the name before it, after one round, and after both
+  pub before : shown ((world_after two steps_removed).session 1).page 7 ≡ removal
+  pub between : shown ((after_turns two (world_after two steps_removed) first_round).session 1).page 7 ≡ removal
+  pub after : shown ((after_turns two (world_after two steps_removed) (first_round ++ second_round)).session 1).page 7 ≡ first_copy
+  -- and page 0
+  pub older : shown ((world_after two steps_removed).session 0).page 7 ≡ record { tag = version 1 0; bytes = 65 ∷ [] }
+  pub gone : shown ((after_turns two (world_after two steps_removed) first_round).session 0).page 7 ≡ first_copy

@@ -1,10 +1,8 @@
 -- The sessions of a new node begin at its first number, and never fall behind it.
-use Rattle.std.proofs.Common.{◌≡◌, ◌≢◌, ◌⊎◌, ℕ, ◌*◌, ◌<◌, ◌≤◌, Bool, true, false, not, List, [], ◌∷◌, refl, sym, ap, ◌∙◌, subst, inl, inr, arith, eqb}
+use Rattle.std.proofs.Common.{◌≡◌, ◌≢◌, ◌⊎◌, ℕ, ◌≤◌, Bool, true, false, List, [], ◌∷◌, refl, sym, ap, ◌∙◌, subst, inl, inr, arith}
 use Rattle.std.specs.Prelude.{◌==◌, ◌&&◌, fold, if◌then◌else◌}
 use Rattle.std.proofs.lemmas.Bool.{cases_eq, cases_Bool, eq-eqb, ne_eqb, true≢false}
-use Rattle.gq_tag.specs.Tag.{File}
 use Rattle.gq_desk.specs.Plans.{is_in}
-use Rattle.gq_model.specs.Trace.{Session}
 use Rattle.gq_cluster.specs.Cluster.{Part, part_after, given_part}
 use Rattle.gq_cluster.specs.Restarts.{begun_anew}
 use Rattle.gq_replace.specs.Plans.{place_of}

@@ -1,33 +1,33 @@
 -- The numbers of a lost node stay below what plans with its loss leave to it.
-use Rattle.std.proofs.Common.{◌≡◌, ◌≢◌, ◌⊎◌, ℕ, ◌+◌, ◌*◌, ◌<◌, ◌≤◌, Bool, true, false, List, [], ◌∷◌, ◌++◌, length, map, refl, sym, ap, ◌∙◌, subst, inl, inr, arith, eqb, length-append}
-use Rattle.std.specs.Prelude.{Contains, ◌==◌, nat_lt, fold, if◌then◌else◌}
+use Rattle.std.proofs.Common.{◌≡◌, ◌≢◌, ◌⊎◌, ℕ, ◌*◌, ◌<◌, ◌≤◌, Bool, true, false, List, [], ◌∷◌, ◌++◌, length, refl, sym, ap, ◌∙◌, subst, inl, inr, arith, length-append}
+use Rattle.std.specs.Prelude.{Contains, ◌==◌, fold}
 use Rattle.std.proofs.lemmas.Bool.{cases_eq, cases_lt, eq-eqb, ne_eqb, eqb-true, lt-ltb, ltb-true, true≢false}
 use Rattle.std.proofs.lemmas.List.Elements.{Contains-append_cases}
 use Rattle.std.proofs.lemmas.List.Sums.{count_by-le-length}
-use Rattle.gq_tag.specs.Tag.{File, OwnMessage}
+use Rattle.gq_tag.specs.Tag.{OwnMessage}
 use Rattle.gq_cluster.specs.Cluster.{step_of}
 use Rattle.gq_replace.specs.declared.numbers.TheConstants.{NUMBERS_OF_A_LOSS}
 use Rattle.gq_replace.specs.Plans.{Plan, IsChain, GoesOn, place_of, generation, times, has_node, is_replaced}
 use Rattle.gq_replace.specs.Fleet.{World, Fleet, Posted, FleetStep, Begins, StartsAgain, Does, Answers, Hears, Gives, Takes, new_fleet, plan_of, address, posts, is_ready_by, after_fleet_step, fleet_after, MayHappen, AllMayHappen}
 use Rattle.gq_replace.proofs.Agreeing.{from_map}
 use Rattle.gq_replace.proofs.Chains.{times_grow}
-use Rattle.gq_numbers.specs.Numbers.{IsBelow, BringsBelow, FewLosses, NumbersLast, node_of, IsNotSaid, AllAsked}
+use Rattle.gq_numbers.specs.Numbers.{IsBelow, FewLosses, node_of, IsNotSaid, AllAsked}
 
 -- ---- a step of another node leaves what a node used
 
 -- what both fleets have of the node
-record SameAt (u v : Fleet) (h : ℕ) : Type 0 where
-  part : v.part h ≡ u.part h
-  letters : (x : Posted) → Contains v.posted x → x.from ≡ h → Contains u.posted x
+pub record SameAt (u v : Fleet) (h : ℕ) : Type 0 where
+  pub part : v.part h ≡ u.part h
+  pub letters : (x : Posted) → Contains v.posted x → x.from ≡ h → Contains u.posted x
 
-same_below : (u v : Fleet) (h bound : ℕ) → SameAt u v h → IsBelow u h bound → IsBelow v h bound
+pub same_below : (u v : Fleet) (h bound : ℕ) → SameAt u v h → IsBelow u h bound → IsBelow v h bound
 same_below u v h bound same below = record {
   letters = λ x within from. below.letters x (same.letters x within from) from;
   copies = λ file copy within. below.copies file copy (subst (λ p. Contains (p.brought file) copy) same.part within);
   reserved = λ k. subst (λ p. (p.reserved k).floor < bound) (sym same.part) (below.reserved k);
 }
 
-other_same : (w : World) (u : Fleet) (step : FleetStep) (h : ℕ) → node_of step ≢ h → SameAt u (after_fleet_step w u step) h
+pub other_same : (w : World) (u : Fleet) (step : FleetStep) (h : ℕ) → node_of step ≢ h → SameAt u (after_fleet_step w u step) h
 other_same w u (Begins node plan) h away = record { part = rw (ne_eqb h node (λ e. away (sym e))) refl; letters = λ x within from. within }
 other_same w u (StartsAgain node plan) h away = record { part = rw (ne_eqb h node (λ e. away (sym e))) refl; letters = λ x within from. within }
 other_same w u (Does node act) h away = record { part = rw (ne_eqb h node (λ e. away (sym e))) refl; letters = letters }

@@ -1,25 +1,22 @@
 -- By an act no session's own last number falls, nor does what is reserved for it, and the tag of a write is above that number.
-use Rattle.std.proofs.Common.{◌≡◌, ◌≢◌, ◌⊎◌, ℕ, ◌+◌, ◌<◌, ◌≤◌, Bool, true, false, not, max, List, [], ◌∷◌, length, refl, sym, ap, ◌∙◌, subst, inl, inr, Option, Some, None, arith, eqb, leb}
-use Rattle.std.specs.Prelude.{◌==◌, ◌&&◌, nat_le, min, option_map, if◌then◌else◌}
-use Rattle.std.proofs.lemmas.Bool.{cases_eq, eq-eqb, ne_eqb, eqb-true, leb-false, and_parts, true≢false}
+use Rattle.std.proofs.Common.{◌≡◌, ℕ, ◌+◌, ◌<◌, ◌≤◌, Bool, true, false, not, max, List, length, refl, sym, ap, ◌∙◌, subst, Option, Some, None, arith}
+use Rattle.std.specs.Prelude.{◌==◌, ◌&&◌, nat_le, option_map, if◌then◌else◌}
+use Rattle.std.proofs.lemmas.Bool.{eqb-true, leb-false}
 use Rattle.gq_grid.specs.Grid.{Servers}
 use Rattle.gq_tag.specs.declared.Tag.{Tag}
-use Rattle.gq_tag.specs.declared.StoredCopy.{StoredCopy}
-use Rattle.gq_tag.specs.declared.Body.{Body}
-use Rattle.gq_tag.specs.declared.Body.TheVariants.{Ask, Copy, Store, Stored}
-use Rattle.gq_tag.specs.Tag.{File, OwnMessage, greatest, is_less, to_server}
+use Rattle.gq_tag.specs.Tag.{File, OwnMessage, greatest, to_server}
 use Rattle.gq_desk.specs.declared.volumes.VolumeRow.{VolumeRow}
-use Rattle.gq_phase.specs.Phase.{Task, Writing, Reading, Listing, Operation, Heard, HeardStale, HeardNoted, HeardNext, HeardDone, hear, hear_current, is_current, with_reply, heard_copies, hear_reply, reply_of}
+use Rattle.gq_phase.specs.Phase.{Task, Writing, Reading, Listing, Operation, Heard, HeardStale, HeardNoted, HeardNext, HeardDone, hear, is_current, with_reply, heard_copies, hear_reply, reply_of}
 use Rattle.gq_model.specs.declared.events.Line.{Line}
-use Rattle.gq_model.specs.declared.events.Line.TheVariants.{Write, Read, List as ListFiles, Deliver, Retry, Abandon}
+use Rattle.gq_model.specs.declared.events.Line.TheVariants.{Write, Read, List as ListFiles, Abandon}
 use Rattle.gq_model.specs.Told.{Told, Began, Noted, Round, Done, Stale}
-use Rattle.gq_model.specs.Trace.{State, Session, Deed, Elsewhere, Begins, Hears, Moves, Ends, Leaps, deed, heard_deed, operation_with, session_by}
+use Rattle.gq_model.specs.Trace.{Session, Deed, Elsewhere, Begins, Moves, Ends, deed, heard_deed, operation_with, session_by}
 use Rattle.gq_model.specs.Lone.{Step, is_refusal, heard_step, hear_step}
 use Rattle.gq_laws.proofs.RoundEnds.{Next, ToStore, ToCollect, Skips, next_of}
-use Rattle.gq_cluster.specs.Facts.{OwnFact, Begun, Numbered, Kept, Had, Reserved, greatest_op, greatest_number, last_of_run, reserving, with_reserved, replaced_in}
+use Rattle.gq_cluster.specs.Facts.{Begun, Numbered, Reserved, greatest_op, greatest_number, last_of_run, reserving, with_reserved, replaced_in}
 use Rattle.gq_cluster.specs.Cluster.{Setting, Part, Act, Asks, Comes, act_entry, copy_in, state_of, session_named, step_of, fact_in, fact_of, part_after}
 use Rattle.gq_cluster.proofs.Reserving.{replaced_none}
-use Rattle.gq_replace.proofs.Acting.{session_then, session_after, reserved_after}
+use Rattle.gq_replace.proofs.Acting.{session_after, reserved_after}
 
 -- ---- the tag of a write
 

@@ -1,3 +1,4 @@
 pub mod Floors
 pub mod Ahead
 pub mod Behind
+pub mod WorkedCase

@@ -1,6 +1,7 @@
-//! The law, as a clause of a function that does nothing.
+//! The law, and a case of which it speaks, as clauses of functions that do nothing.
 
 ghost use Rattle.gq_numbers.specs.Numbers.{AllAbove};
+ghost use Rattle.gq_numbers.specs.Worked.{IsWorked};
 
 /// Take any steps of nodes, of which some are lost and replaced by new ones. Asked is more than the law of such nodes asks: that fewer than
 /// `gq_replace::NUMBERS_OF_A_LOSS` numbers of tags are used from one loss to the next, and that a node does nothing once some node was
@@ -10,4 +11,9 @@ ghost use Rattle.gq_numbers.specs.Numbers.{AllAbove};
 /// written at a new one.
 pub fn above()
     ensures { AllAbove }
+{}
+
+/// A run in which a node is lost, and then the node in its place, and sessions of both new nodes write: all that `above` asks is so of it.
+pub fn worked()
+    ensures { IsWorked }
 {}
