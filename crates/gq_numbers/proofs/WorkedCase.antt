@@ -9,7 +9,7 @@ use Rattle.gq_tag.specs.declared.Body.{Body}
 use Rattle.gq_tag.specs.declared.Body.TheVariants.{Ask, Copy, Store, Stored}
 use Rattle.gq_tag.specs.Tag.{File, OwnMessage, is_file, first_copy}
 use Rattle.gq_desk.specs.Plans.{is_in}
-use Rattle.gq_phase.specs.Quorums.{collect_quorum, store_quorum, ends_collect, ends_store, are_mates}
+use Rattle.gq_phase.specs.Quorums.{collect_quorum, store_quorum, ends_collect, ends_store, are_peers}
 use Rattle.gq_model.specs.declared.events.Line.TheVariants.{Write}
 use Rattle.gq_cluster.specs.Facts.{Reserved}
 use Rattle.gq_cluster.specs.Cluster.{Act, Asks, Comes, everyone, step_of, part_after}
@@ -37,7 +37,7 @@ infixr 4 ◌and◌
 p and q = (p, q)
 
 pub may_happen : AllMayHappen twice new_fleet steps_worked
-unfolding collect_quorum store_quorum ends_collect ends_store are_mates
+unfolding collect_quorum store_quorum ends_collect ends_store are_peers
 may_happen =
     (refl, refl, refl)
     and (refl, refl, refl)
@@ -54,7 +54,7 @@ may_happen =
     and tt
 
 pub stores : Stores twice.setting (fleet_worked.part 128) (letter 4 1 (Copy written)) everyone rewritten.tag
-unfolding collect_quorum store_quorum ends_collect ends_store are_mates
+unfolding collect_quorum store_quorum ends_collect ends_store are_peers
 stores = record { reply = refl; file = record { volume = 0; place = 0 }; bytes = rewritten.bytes; writes = refl; round = 2; first = 0; count = 2; told = refl }
 
 -- ---- numbers are below a bound, step by step
@@ -213,7 +213,7 @@ below4 : AllBelow u4 two_times
 below4 = begins_below u3 64 1 two_times (λ node. below_more u3 node once two_times (omega arith) (below3 node)) (omega arith)
 
 does5 : ActBelow u4 64 act5 two_times
-unfolding collect_quorum store_quorum ends_collect ends_store are_mates
+unfolding collect_quorum store_quorum ends_collect ends_store are_peers
 does5 = record {
   letters = (tt, tt);
   copies = (below4 64).copies;
@@ -224,14 +224,14 @@ below5 : AllBelow u5 two_times
 below5 = act_below u4 64 act5 two_times below4 does5
 
 does6 : ActBelow u5 1 act6 two_times
-unfolding collect_quorum store_quorum ends_collect ends_store are_mates
+unfolding collect_quorum store_quorum ends_collect ends_store are_peers
 does6 = record { letters = (omega arith, tt); copies = (below5 1).copies; reserved = (below5 1).reserved }
 
 below6 : AllBelow u6 two_times
 below6 = act_below u5 1 act6 two_times below5 does6
 
 does7 : ActBelow u6 64 act7 two_times
-unfolding collect_quorum store_quorum ends_collect ends_store are_mates
+unfolding collect_quorum store_quorum ends_collect ends_store are_peers
 does7 = record {
   letters = (omega arith, (omega arith, tt));
   copies = (below6 64).copies;
@@ -247,7 +247,7 @@ kept_below true copy (suc i, low, is) = absurd (omega (arith, low))
 kept_below false copy (i, low, is) = absurd (omega (arith, low))
 
 does8 : ActBelow u7 1 act8 two_times
-unfolding collect_quorum store_quorum ends_collect ends_store are_mates
+unfolding collect_quorum store_quorum ends_collect ends_store are_peers
 does8 = record { letters = (tt, tt); copies = λ other copy within. kept_below (is_file file other && everyone 1) copy within; reserved = (below7 1).reserved }
 
 below8 : AllBelow u8 two_times
@@ -260,7 +260,7 @@ below10 : AllBelow u10 three_times
 below10 = begins_below u9 128 2 three_times (λ node. below_more u9 node two_times three_times (omega arith) (below9 node)) (omega arith)
 
 does11 : ActBelow u10 128 act11 three_times
-unfolding collect_quorum store_quorum ends_collect ends_store are_mates
+unfolding collect_quorum store_quorum ends_collect ends_store are_peers
 does11 = record {
   letters = (tt, tt);
   copies = (below10 128).copies;
@@ -271,7 +271,7 @@ below11 : AllBelow u11 three_times
 below11 = act_below u10 128 act11 three_times below10 does11
 
 does12 : ActBelow u11 1 act12 three_times
-unfolding collect_quorum store_quorum ends_collect ends_store are_mates
+unfolding collect_quorum store_quorum ends_collect ends_store are_peers
 does12 = record { letters = (omega arith, tt); copies = (below11 1).copies; reserved = (below11 1).reserved }
 
 below12 : AllBelow u12 three_times
