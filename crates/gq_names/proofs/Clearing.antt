@@ -3,7 +3,6 @@ use Rattle.std.proofs.Common.{◌≡◌, ◌≢◌, ◌⊎◌, ℕ, ◌<◌, ◌
 use Rattle.std.specs.Prelude.{All, Contains}
 use Rattle.std.proofs.lemmas.Bool.{cases_eq, cases_Bool, true≢false}
 use Rattle.std.proofs.lemmas.List.Elements.{All-append, All-cons, All-head, All-tail, Contains-append_cases, Contains-push_cases}
-use Rattle.gq_tag.specs.declared.Tag.{Tag}
 use Rattle.gq_tag.specs.declared.StoredCopy.{StoredCopy}
 use Rattle.gq_tag.specs.Tag.{first_tag, first_copy, is_less}
 use Rattle.gq_names.specs.Names.{Setting, Page, World, shown, is_of, world_after}
@@ -89,9 +88,6 @@ module _ (v : Setting) (s : ℕ) where
   settled_turn : (w : World) → Kept v w → (t : ℕ) → t < v.sessions → Settled w s → Settled (after_turn v w (alone v t)) s × ((name : ℕ) → ((after_turn v w (alone v t)).session s).page.line name ≡ (w.session s).page.line name)
   settled_turn w kept t low settled = by (cases_eq s t)
     where
-      next : World
-      next = after_turn v w (alone v t)
-
       by : (s ≡ t) ⊎ (s ≢ t) → Settled (after_turn v w (alone v t)) s × ((name : ℕ) → ((after_turn v w (alone v t)).session s).page.line name ≡ (w.session s).page.line name)
       by (inl same) =
           let P : ℕ → Type 0 = λ z. Settled (after_turn v w (alone v t)) z in
@@ -113,9 +109,6 @@ module _ (v : Setting) (s : ℕ) where
   showed : (xs : List ℕ) (w : World) → Kept v w → Inside v xs → Settled w s → (name : ℕ) → ((after_turns v w (map (alone v) xs)).session s).page.gone name ≡ false → (w.session s).page.gone name ≡ false
   showed xs w kept low settled name stays = by ((follows_turns v (map (alone v) xs) w kept s).lines name) (cases_Bool ((w.session s).page.gone name))
     where
-      end : World
-      end = after_turns v w (map (alone v) xs)
-
       by : IsFollowed v (w.session s).page ((after_turns v w (map (alone v) xs)).session s).page name → ((w.session s).page.gone name ≡ true) ⊎ ((w.session s).page.gone name ≡ false) → (w.session s).page.gone name ≡ false
       by any (inr is) = is
       by (inl a) (inl gone) = absurd (true≢false (sym (a.1 gone) ∙ stays))
@@ -197,9 +190,6 @@ module _ (v : Setting) (s : ℕ) (low : s < v.sessions) (between behind : List �
       line : ((end.session s).page.gone name ≡ false) × (shown (end.session s).page name ≡ (end.session s).page.line name)
       line = shows_line (end.session s).page name removal.0
 
-      all : after_turns v w (map (alone v) (between ++ s ∷ behind)) ≡ end
-      all = alone_append v between (s ∷ behind) w
-
       line_same : (end.session s).page.line name ≡ (w.session s).page.line name
       line_same = (settled_turns v s (s ∷ behind) second kept_second in_rest settled_second).1 name ∙ (settled_turns v s between w kept in_between settled).1 name
 
@@ -226,9 +216,6 @@ module _ (v : Setting) (s : ℕ) (low : s < v.sessions) (between behind : List �
   not_older : (t name : ℕ) → t < v.sessions → t ≢ s → Shows end s name → Shows end t name → is_less (shown (end.session s).page name).tag (shown (end.session t).page name).tag ≡ true → ⊥
   not_older t name low_t ne shows_s shows_t older = true≢false (sym older ∙ most)
     where
-      old : StoredCopy
-      old = shown (end.session t).page name
-
       mine : ((end.session s).page.gone name ≡ false) × (shown (end.session s).page name ≡ (end.session s).page.line name)
       mine = shows_line (end.session s).page name shows_s
 
@@ -352,12 +339,6 @@ module _ (v : Setting) (w : World) (kept : Kept v w) (sessions : List ℕ) (insi
   one : (s t name : ℕ) → s < v.sessions → t < v.sessions → Shows swept s name → Shows swept t name → s ≡ t
   one s t name low_s low_t shows_s shows_t = by (cases_eq s t)
     where
-      a : Tag
-      a = (shown (swept.session s).page name).tag
-
-      b : Tag
-      b = (shown (swept.session t).page name).tag
-
       differ : s ≢ t → (is_less (shown (swept.session s).page name).tag (shown (swept.session t).page name).tag ≡ true) ⊎ (is_less (shown (swept.session s).page name).tag (shown (swept.session t).page name).tag ≡ false) → s ≡ t
       differ ne (inl less) = absurd (newest s low_s t name low_t (λ same. ne (sym same)) shows_s shows_t less)
       differ ne (inr most) = absurd (newest t low_t s name low_s ne shows_t shows_s (less_from (shown (swept.session t).page name).tag (shown (swept.session s).page name).tag (of (at_most-parts (shown (swept.session s).page name).tag (shown (swept.session t).page name).tag most))))

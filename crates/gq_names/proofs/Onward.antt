@@ -162,12 +162,6 @@ pages_follow v (step ∷ steps) w kept s =
     follows_trans v (w.session s).page (next.session s).page ((fold (after_step v) next steps).session s).page (up_step v w kept.sound kept.counted step s)
     (pages_follow v steps next (kept_from v (step ∷ []) w kept) s)
 
--- what a client reads in the journal goes on from the page
-pub journal_follows : (v : Setting) (w : World) → Kept v w → (s : ℕ) → Follows v (w.session s).page (w.session s).journal.page
-journal_follows v w kept s =
-    let own : Lines v w kept.sound.past s (kept.sound.base s) (w.session s) = kept.sound.lines s in
-    follows_trans v (w.session s).page (kept.sound.base s).page (w.session s).journal.page (own.paged.past_of.pages.most (w.session s).page own.paged.was).1 own.paged.above.now.rises
-
 -- no line has a greater number than its page
 pub line_number : (v : Setting) (w : World) → Kept v w → (s name : ℕ) → ((w.session s).page.line name).tag.number ≤ (w.session s).page.number
 line_number v w kept s name =

@@ -534,9 +534,6 @@ module _ (v : Setting) (s name : ℕ) (low : s < v.sessions) (old : StoredCopy) 
       Over v s name low old ((after_turns v w (first ++ second)).session s).page
   two_rounds w kept first second round again are has = subst (λ z. Over v s name low old (z.session s).page) (sym (turns_append v first second w)) (by status)
     where
-      mid : World
-      mid = after_turns v w first
-
       kept_mid : Kept v (after_turns v w first)
       kept_mid = kept_turns v first w kept
 
@@ -560,9 +557,6 @@ module _ (v : Setting) (s name : ℕ) (low : s < v.sessions) (old : StoredCopy) 
 pub all_sweeps_forget : AllSweepsForget
 all_sweeps_forget v steps first second later round again are s low name removal = of (cases_Bool (page.gone name))
   where
-    w : World
-    w = world_after v steps
-
     page : Page
     page = ((world_after v steps).session s).page
 
