@@ -15,8 +15,10 @@ from collections.abc import Callable, Collection, Iterator
 from contextlib import AbstractContextManager
 
 from . import core, ways
+from .buckets import Bucket, Held, held_of
+from .contents import Content, Inline, InSlots, Joined
 from .errors import Damaged, NoRoom, SessionTaken
-from .fleet import FleetFiles, ground_of, held_of, sign, spool
+from .fleet import FleetFiles, ground_of, sign, spool
 from .fleet_map import FleetMap, Move
 from .grid import listed
 from .layout import Layout
@@ -102,14 +104,18 @@ class Mover:
                 bucket.refresh()
                 highest = max([highest, *(known.page.number for known in bucket.client.seen)])
                 names = [name for name in bucket.by_name() if self.move.has(slice_of(name))]
-                count = self.layout_of(self.move.target).sessions
-                for turn in range(count):
-                    if mine := [name for name in names if turn_of(name, count) == turn]:
-                        self.copy_some(source, turn, mine)
+                turns = {name: self.turn(bucket, name) for name in names}
+                for turn in sorted(set(turns.values())):
+                    self.copy_some(source, turn, [name for name in names if turns[name] == turn])
         for page in self.pages(self.move.target):
             with self.files(self.move.target) as target:
                 raise_number(target, page, highest)
         self.tell(f"{self.copied} names copied")
+
+    def turn(self, bucket: Bucket, name: str) -> int:
+        """Whose turn it is for a name: the session's that has it at the old grid; of another count of sessions the one's that clients try first."""
+        count, found = self.layout_of(self.move.target).sessions, bucket.greatest(name)
+        return found.session - 1 if found and count == self.layout_of(self.move.source).sessions else turn_of(name, count)
 
     def copy_some(self, source: NamedFiles, turn: int, names: list[str]) -> None:
         """By the session of the new grid whose turn it is for these names, as clients have them, or by another one whose page has room."""
@@ -142,11 +148,9 @@ class Mover:
             bucket, held = target.bucket(name), held_of(found)
             content = None
             if held:
-                with spool() as room:
-                    if fleet.grid(found.grid).copy_to(held, room) is not None:
-                        continue  # (the slots are used anew: the line has gone)
-                    room.seek(0)
-                    content = target.placed(bucket, name, Source(room), lambda held=held: held.words)  # type: ignore[misc]
+                content = self.placed(fleet.grid(found.grid), target, bucket, held)
+                if content is None:
+                    continue  # (the slots are used anew: the line has gone)
                 again = fleet.drive(ways.walk(name, self.start(name), True))
                 if ways.greatest(again) != found:
                     target.unplace(bucket, content)
@@ -160,6 +164,28 @@ class Mover:
             target.writer.change(bucket, journal)
             self.copied += 1
             return
+
+    def placed(self, source: NamedFiles, target: NamedFiles, bucket: Bucket, held: Held) -> Content | None:
+        """What a name holds, in its place at the new grid: each part by itself, so that it has the same parts. None where a slot holds something else by now."""
+        if isinstance(held.content, Inline):
+            return target.placed(bucket, held.name, Source(held.content.content), lambda: held.words)
+        parts: list[InSlots] = []
+        try:
+            for part in held.content.parts:
+                with spool() as room:
+                    if source.copy_part(held, part, room) is not None:
+                        self.unplace(target, bucket, parts)
+                        return None
+                    room.seek(0)
+                    parts.append(target.in_slots(bucket, held.name, Source(room), lambda: held.words))
+        except NoRoom:
+            self.unplace(target, bucket, parts)
+            raise
+        return joined(parts)
+
+    def unplace(self, target: NamedFiles, bucket: Bucket, parts: list[InSlots]) -> None:
+        if parts:
+            target.unplace(bucket, joined(parts))
 
     def start(self, name: str) -> Stop:
         found = self.map.range_of(slice_of(name))
@@ -198,6 +224,10 @@ class Mover:
             return 0
         files.writer.change(bucket, journal)
         return len(names)
+
+
+def joined(parts: list[InSlots]) -> Content:
+    return parts[0] if len(parts) == 1 else Joined(tuple(parts))
 
 
 def raise_number(files: NamedFiles, page: int, highest: int) -> None:

@@ -7,7 +7,7 @@ from typing import IO
 
 from .asking import ask_plan
 from .errors import BadSettings, CarrierFault, ClientError, NoSuchName, SessionTaken, Unanswered
-from .fleet import MAP_NAME, FleetFiles
+from .fleet import MAP_NAME, FleetFiles, in_threads
 from .fleet_map import FleetMap, parse_map
 from .layout import Layout, layout_of
 from .names import NamedFiles, Progress
@@ -84,7 +84,7 @@ class OpenGrids:
             yield files
 
     def files(self) -> FleetFiles:
-        return FleetFiles(self.map, lambda grid, ground: self.grid(grid).files(self.progress, ground))
+        return FleetFiles(self.map, lambda grid, ground: self.grid(grid).files(self.progress, ground), in_threads)
 
     def with_latest_map(self) -> FleetFiles:
         """The files by the fleet's own copy of the map, where that is a later one. Where the grid that has it is silent, this one is as right."""
