@@ -18,7 +18,7 @@ from memory import Memory
 from gridfs_client import OneByOne, Unanswered
 from gridfs_client.contents import Joined
 from gridfs_s3.errors import S3Error
-from gridfs_s3.places import of_words, parts_of
+from gridfs_s3.places import of_words, parts_of, upload_name
 from gridfs_s3.shared import Shared
 from gridfs_s3.store import Store
 
@@ -62,13 +62,14 @@ def content_of(objects, name):
 
 def part(objects, upload, number, content):
     source = Source(content)
-    return objects.put_part(BUCKET, upload, number, source, 5)
+    return objects.put_part(upload_name(BUCKET, upload, NAME), number, source, 5)
 
 
 def complete(objects, upload):
-    held = objects.upload(BUCKET, upload)
+    name = upload_name(BUCKET, upload, NAME)
+    held = objects.upload(name)
     chosen = [slots for _, slots in objects.uploaded(held)]
-    return objects.complete(BUCKET, upload, NAME, {"m": "joined", "n": "3"}, chosen, None)
+    return objects.complete(name, NAME, {"m": "joined", "n": "3"}, chosen, None)
 
 
 def kill_at(step):
@@ -171,7 +172,7 @@ class Steps(unittest.TestCase):
         self.assertEqual(seen, {(OLD, 1), (b"".join(PARTS), 0)})
 
     def test_given_up(self):
-        _, seen = self.each_step(self.uploaded, lambda files, upload: files.delete(f".s3/up/{BUCKET}/{upload}"), lambda memory: self.judge(memory, OLD, OLD))
+        _, seen = self.each_step(self.uploaded, lambda files, upload: files.delete(upload_name(BUCKET, upload, NAME)), lambda memory: self.judge(memory, OLD, OLD))
         self.assertEqual(seen, {(OLD, 1), (OLD, 0)})
 
     def test_touch(self):
@@ -274,9 +275,10 @@ class Steps(unittest.TestCase):
         def refuse(held):
             raise S3Error("PreconditionFailed")
 
-        chosen = [slots for _, slots in files.uploaded(files.upload(BUCKET, upload))]
+        name = upload_name(BUCKET, upload, NAME)
+        chosen = [slots for _, slots in files.uploaded(files.upload(name))]
         with self.assertRaises(S3Error):
-            files.complete(BUCKET, upload, NAME, {"m": "joined"}, chosen, refuse)
+            files.complete(name, NAME, {"m": "joined"}, chosen, refuse)
         for number in range(6):
             put(files, "bucket/other", b"%d" % number * 900)
         complete(files, upload)

@@ -2,7 +2,7 @@
 
 import time
 from collections.abc import Collection, Iterator
-from contextlib import closing, contextmanager
+from contextlib import ExitStack, closing, contextmanager
 from typing import IO
 
 from .asking import ask_plan
@@ -50,13 +50,16 @@ class OpenGrid:
 
     def lock(self, numbers: list[int]) -> tuple[int, IO[str]]:
         until = time.monotonic() + self.settings.pace().timeout
-        while True:
-            for number in numbers:
-                if lock := self.settings.lock(number):
-                    return number, lock
-            if not numbers or time.monotonic() > until:
-                raise SessionTaken(f"sessions {', '.join(map(str, numbers))} of {self.settings.tenant} are used by other commands")
-            time.sleep(AGAIN)
+        with ExitStack() as waits:
+            while True:
+                for number in numbers:
+                    if lock := self.settings.lock(number):
+                        return number, lock
+                if not numbers or time.monotonic() > until:
+                    raise SessionTaken(f"sessions {', '.join(map(str, numbers))} of {self.settings.tenant} are used by other commands")
+                waits.close()
+                waits.enter_context(self.settings.want(numbers[0]))
+                time.sleep(AGAIN)
 
     def close(self) -> None:
         self.sessions.close()
