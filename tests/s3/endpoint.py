@@ -83,11 +83,12 @@ class Gateway:
 
 
 @contextlib.contextmanager
-def stand_in(plan=PLAN):
+def stand_in(plan=PLAN, folder=None):
     """A stand-in for a grid; the folder of its settings, and of all that belongs to it."""
     for name in [name for name in os.environ if name.startswith("AWS_")]:
         del os.environ[name]
-    with tempfile.TemporaryDirectory(prefix="gridfs-s3-") as room:
+    with contextlib.nullcontext(folder) if folder else tempfile.TemporaryDirectory(prefix="gridfs-s3-") as room:
+        os.makedirs(room, exist_ok=True)
         log = os.path.join(room, "log.grid")
         with open(log, "wb") as out:
             process = subprocess.Popen([sys.executable, "-B", os.path.join(HERE, "stand_in.py"), plan, room], stdin=subprocess.DEVNULL, stdout=out, stderr=out)
