@@ -4,7 +4,7 @@ import asyncio
 import hashlib
 import re
 from collections.abc import Callable, Generator
-from contextlib import closing, nullcontext
+from contextlib import closing
 from typing import TypeVar
 from urllib.parse import unquote
 
@@ -110,29 +110,27 @@ class Copies(Operations):
             return await self.gateway.change(target, lambda store: put(store, source, found[0]), number=number, condition=condition)
         wants = Want(name), Want(target, number)
         for _ in range(TURNS):
-            reader, writer = await self.grids.take_all(wants)
-            is_writing, rest, page = False, None, None
-            try:
-                data, rest = await reader.run(begin, keep=True)
-                copied = Copied(data, rest, part[1] - part[0])
-                is_writing = True
-                besides = tuple(worker for _, worker in (*reader.workers, *writer.workers))
-                async with self.grids.lending.judge() if condition else nullcontext():
+            async with self.gateway.judging(condition, target):
+                reader, writer = await self.grids.take_all(wants)
+                is_writing, rest, page = False, None, None
+                try:
+                    data, rest = await reader.run(begin, keep=True)
+                    copied = Copied(data, rest, part[1] - part[0])
+                    is_writing = True
+                    besides = tuple(worker for _, worker in (*reader.workers, *writer.workers))
                     return await writer.run(lambda store: put(store, copied, found[0]), besides=besides)
-            except Crowded:
-                pass
-            except Elsewhere as fault:
-                await self.gateway.go_on(wants[is_writing], fault)
-            except NotSettled:
-                await self.gateway.settle_for_condition(target)
-            except PageFull as full:
-                page = full.page
-            finally:
-                if rest:
-                    await asyncio.get_running_loop().run_in_executor(reader.pool.threads, rest.close)  # (what it reads ahead ends before the next one works)
-                reader.release()
-                if not is_writing:
-                    writer.release()
+                except (Crowded, NotSettled):
+                    pass
+                except Elsewhere as fault:
+                    await self.gateway.go_on(wants[is_writing], fault)
+                except PageFull as full:
+                    page = full.page
+                finally:
+                    if rest:  # (what it reads ahead ends before the next one works)
+                        await asyncio.get_running_loop().run_in_executor(reader.pool.threads, rest.close)
+                    reader.release()
+                    if not is_writing:
+                        writer.release()
             if page is not None:
                 await writer.pool.sweep(page)
             await self.grids.gathering.is_over()

@@ -2,8 +2,8 @@
 
 import asyncio
 import time
-from collections.abc import Callable, Iterable, Mapping
-from contextlib import nullcontext
+from collections.abc import AsyncIterator, Callable, Iterable, Mapping
+from contextlib import AsyncExitStack, asynccontextmanager
 from typing import TypeVar
 
 from gridfs_client.buckets import Held
@@ -27,6 +27,7 @@ Told = TypeVar("Told")
 KNOWN_FOR = 2.0  # seconds for which a bucket that was there is taken to be there
 TURNS = 20  # how often a change begins anew that wants the room of all sessions while others do, or judges a condition amid others
 LONGEST_XML = 4 << 20
+MOST_GRIDS = 4  # of a way, whose pages are settled
 LENT_FOR = 20.0  # seconds for which a condition waits for a session that another command has
 MAP_AGAIN = 5.0  # seconds after which a later map is looked for
 
@@ -97,22 +98,22 @@ class Gateway:
         want, silent = Want(name, number), 0
         for _ in range(TURNS):
             await asyncio.gather(*(pool.settle_before(name) for pool in self.grids.pools_of(name)))
-            taken = await self.take(want)
-            try:
-                async with self.grids.lending.judge() if condition else nullcontext():
+            async with self.judging(condition, name):
+                taken = await self.take(want)
+                try:
                     return await taken.run(work, helpers, is_soon=number is None and silent < 2)
-            except Elsewhere as fault:
-                await self.go_on(want, fault)
-            except Crowded:
-                await self.grids.gathering.is_over()
-            except PageFull as full:
-                await taken.pool.sweep(full.page)
-            except NotSettled:
-                await self.settle_for_condition(name)
-            except Unanswered:
-                silent += 1
-                if taken.has_written or number is not None or silent > 2:
-                    raise
+                except Elsewhere as fault:
+                    await self.go_on(want, fault)
+                except Crowded:
+                    await self.grids.gathering.is_over()
+                except PageFull as full:
+                    await taken.pool.sweep(full.page)
+                except NotSettled:
+                    pass
+                except Unanswered:
+                    silent += 1
+                    if taken.has_written or number is not None or silent > 2:
+                        raise
         raise S3Error("ServiceUnavailable", "Many others change this at the same time. Nothing was changed.")
 
     async def all(self, work: Callable[[Iterable[Held]], Told]) -> Told:
@@ -153,17 +154,25 @@ class Gateway:
 
     # Pages that are settled
 
-    async def settle_for_condition(self, name: str) -> None:
-        """503 ServiceUnavailable where a session's home is silent, or another command has one for long: nothing was changed."""
-        if self.grids.is_settled(name):
+    @asynccontextmanager
+    async def judging(self, condition: Condition | None, name: str) -> AsyncIterator[None]:
+        """Where there is a condition no session is lent meanwhile, and the name's pages are settled. 503 ServiceUnavailable where a session's home is silent, or
+        other commands have sessions for long: nothing was changed."""
+        if not condition:
+            yield
             return
-        try:
-            settled = (pool.settle(pool.layout.page_of(name), by_lent=True) for pool in self.grids.pools_of(name))
-            await asyncio.wait_for(asyncio.gather(*settled), LENT_FOR)
-        except asyncio.TimeoutError:
-            pass
-        if not self.grids.is_settled(name):
-            raise S3Error("ServiceUnavailable", "A condition needs all sessions, and one can't be had. Nothing was changed.")
+        async with AsyncExitStack() as judged:
+            try:
+                await asyncio.wait_for(judged.enter_async_context(self.grids.lending.judge()), LENT_FOR)
+            except asyncio.TimeoutError:
+                raise S3Error("ServiceUnavailable", "A condition needs all sessions, and another command has one. Nothing was changed.") from None
+            for _ in range(MOST_GRIDS):  # (what is read meanwhile may show that the way goes on)
+                if self.grids.is_settled(name):
+                    break
+                await asyncio.gather(*(pool.settle(pool.layout.page_of(name)) for pool in self.grids.pools_of(name)))
+            if not self.grids.is_settled(name):
+                raise S3Error("ServiceUnavailable", "A condition needs all sessions, and the home of one is silent. Nothing was changed.")
+            yield
 
     async def condition_of(self, asked: Asked, name: str) -> Condition | None:
         """What judges a conditional change of a name, right before it, while no other one of the name is under way.
@@ -178,7 +187,6 @@ class Gateway:
             raise S3Error("NotImplemented", "If-None-Match of a put has to be *.")
         if not self.grids.has_all and all(pool.is_open for pool in self.grids.pools.values()):
             raise S3Error("NotImplemented", "Conditional puts need a gateway that has all sessions of its tenant: others write by the rest.")
-        await self.settle_for_condition(name)
 
         def condition(held: Held | None) -> None:
             if not self.grids.is_settled(name):

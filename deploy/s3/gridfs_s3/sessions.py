@@ -48,6 +48,7 @@ class Pool:
         self.threads = ThreadPoolExecutor(32, thread_name_prefix="session")
         self.loop = asyncio.get_running_loop()
         self.tasks: set[asyncio.Task[None]] = set()
+        self.lends: set[int] = set()  # numbers of sessions that are lent, or are to be
 
     # Beginning
 
@@ -187,10 +188,10 @@ class Pool:
         while True:
             await asyncio.sleep(LOOK)
             for number, worker in list(self.workers.items()):
-                if not worker.is_lent and not worker.is_silent and self.settings.is_wanted(number):
-                    worker.is_lent = True
+                if number not in self.lends and not worker.is_silent and self.settings.is_wanted(number):
+                    self.lends.add(number)
                     self.spawn(self.lend(worker))
-            if self.is_open and self.carrier and len(self.workers) < self.sessions:
+            if self.carrier and len(self.workers) < self.sessions:
                 self.take_more(self.carrier)
 
     def take_more(self, carrier: Carrier) -> None:
@@ -202,21 +203,24 @@ class Pool:
     async def lend(self, worker: Worker) -> None:
         """Gives a session up once it is free, and has it again once the command is done. What is known of files is forgotten, and no page is settled by it
         any more."""
-        try:
-            await self.lease(worker.number)
-        except Unanswered:
-            worker.is_lent = False
-            return
         async with self.lending.lend():
-            self.renew(worker)
-            worker.lock.close()
-        lock = None
-        while lock is None:
-            await asyncio.sleep(LOOK)
-            lock = None if self.settings.is_wanted(worker.number) else self.settings.lock(worker.number)
-        worker.lock, worker.is_lent = lock, False
-        worker.session.forget()
-        self.release(worker)
+            worker.is_lent = True
+            try:
+                await self.lease(worker.number)
+                self.renew(worker)
+                worker.lock.close()
+                lock = None
+                while lock is None:
+                    await asyncio.sleep(LOOK)
+                    lock = None if self.settings.is_wanted(worker.number) else self.settings.lock(worker.number)
+                worker.lock = lock
+                worker.session.forget()
+                self.release(worker)
+            except Unanswered:
+                pass
+            finally:
+                worker.is_lent = False
+                self.lends.discard(worker.number)
 
     # Working
 
@@ -357,10 +361,10 @@ class Pool:
             with suppress(ClientError):
                 await asyncio.shield(self.begun[page])
 
-    async def settle(self, page: int, by_lent: bool = False) -> None:
-        """Sees that nothing that earlier clients of these sessions wrote can come into a page any more: by each whose home answers, side by side, and
-        perhaps by those that are lent, once they are back. A fault is raised where there is one, once all have ended."""
-        wanted = [worker for worker in self.workers.values() if page not in worker.store.settled and not worker.is_silent and (by_lent or not worker.is_lent)]
+    async def settle(self, page: int) -> None:
+        """Sees that nothing that earlier clients of these sessions wrote can come into a page any more: by each that is here and whose home answers, side by
+        side. A fault is raised where there is one, once all have ended."""
+        wanted = [worker for worker in self.workers.values() if page not in worker.store.settled and not worker.is_silent and not worker.is_lent]
         found = await asyncio.gather(*(self.settle_by(worker.number, page) for worker in wanted), return_exceptions=True)
         for fault in found:
             if isinstance(fault, BaseException):

@@ -82,15 +82,16 @@ class Gathering:
 
 
 class Lending:
-    """A session is lent only while no condition is judged: whoever has it then may change what the condition is about. Each waits for the others."""
+    """A session is lent only while no condition is judged, and a condition is judged only while none is lent: whoever has one may change what the condition is
+    about. (Who has one and wants another one gets it: meanwhile no condition is judged.)"""
 
     def __init__(self) -> None:
-        self.judging, self.waiting, self.change = 0, 0, asyncio.Condition()
+        self.judging, self.lent, self.change = 0, 0, asyncio.Condition()
 
     @asynccontextmanager
     async def judge(self) -> AsyncIterator[None]:
         async with self.change:
-            await self.change.wait_for(lambda: not self.waiting)
+            await self.change.wait_for(lambda: not self.lent)
             self.judging += 1
         try:
             yield
@@ -102,12 +103,13 @@ class Lending:
     @asynccontextmanager
     async def lend(self) -> AsyncIterator[None]:
         async with self.change:
-            self.waiting += 1
-            try:
-                await self.change.wait_for(lambda: not self.judging)
-                yield
-            finally:
-                self.waiting -= 1
+            self.lent += 1
+            await self.change.wait_for(lambda: not self.judging)
+        try:
+            yield
+        finally:
+            async with self.change:
+                self.lent -= 1
                 self.change.notify_all()
 
 
