@@ -22,7 +22,12 @@ sys.path.insert(0, os.path.dirname(os.path.abspath(__file__)))
 import code_of_s3
 import endpoint
 import kills
+from gridfs_client.fleet import sign
 from gridfs_client.fleet_map import read_map
+from gridfs_client.moving import Mover
+from gridfs_client.open_grids import OpenGrids
+from gridfs_client.settings import Settings
+from gridfs_client.ways import SLICES
 
 LABELS = ["east", "west", "south"]
 FLEET = [sys.executable, "-B", os.path.join(code_of_s3.CLIENT, "gridfs-fleet")]
@@ -103,7 +108,155 @@ def tried(kind, count, seconds, kills_of_each):
         return wrong, f"{told}, {found.moves} moves, statuses of movers {statuses}"
 
 
+class Model:
+    """What a bucket has to hold, and each operation on it."""
+
+    def __init__(self, s3):
+        self.s3, self.objects, self.draw, self.uploads, self.wrong, self.stage = s3, {}, random.Random(1), {}, [], "before"
+        self.beside, self.condition = {}, {}  # metadata; headers of the next put
+        s3.meta.events.register("before-sign.s3.PutObject", lambda request, **_: [request.headers.__setitem__(*each) for each in self.condition.items()])
+        s3.create_bucket(Bucket="moved")
+        for key in ("short", "long", "copied", "touched", "removed", "odd/", "given/a", "given/b"):
+            self.put(key)
+        self.begin("from the beginning")
+
+    def expect(self, what, found, wanted):
+        if found != wanted:
+            self.wrong.append(f"{self.stage}: {what}: {str(found)[:200]} in place of {str(wanted)[:200]}")
+
+    def body(self, key):
+        return self.draw.randbytes(2_500_000 if key == "long" else self.draw.choice((10, 5_000)))
+
+    def put(self, key, **condition):
+        body = self.body(key)
+        self.condition = condition
+        self.s3.put_object(Bucket="moved", Key=key, Body=body, Metadata={"of": key.strip("/")})
+        self.condition, self.objects[key], self.beside[key] = {}, body, key.strip("/")
+
+    def begin(self, key):
+        self.uploads[key] = self.s3.create_multipart_upload(Bucket="moved", Key=key, Metadata={"of": key})["UploadId"], []
+        self.part(key)
+
+    def part(self, key):
+        upload, parts = self.uploads[key]
+        body = self.draw.randbytes(self.draw.choice((200, 300_000)))
+        told = self.s3.upload_part(Bucket="moved", Key=key, UploadId=upload, PartNumber=len(parts) + 1, Body=body)
+        parts.append((body, told["ETag"]))
+
+    def complete(self, key):
+        upload, parts = self.uploads.pop(key)
+        wanted = [{"PartNumber": number, "ETag": etag} for number, (_, etag) in enumerate(parts, 1)]
+        told = self.s3.list_parts(Bucket="moved", Key=key, UploadId=upload)["Parts"]
+        self.expect("parts of an upload", [(each["Size"], each["ETag"]) for each in told], [(len(body), etag) for body, etag in parts])
+        self.s3.complete_multipart_upload(Bucket="moved", Key=key, UploadId=upload, MultipartUpload={"Parts": wanted})
+        self.objects[key], self.beside[key] = b"".join(body for body, _ in parts), key
+
+    def refused(self, work, *codes, **words):
+        try:
+            work(Bucket="moved", **words)
+            self.expect(f"{work.__name__} of {words['Key']}", "done", codes)
+        except kills.ClientError as fault:
+            self.expect(f"{work.__name__} of {words['Key']}", kills.code_of(fault) in codes or kills.code_of(fault), True)
+
+    def use(self, stage):
+        """Each operation once; and what is there then."""
+        self.stage, s3 = stage, self.s3
+        self.look()
+        for key in ("short", "long", f"new {stage}"):
+            self.put(key)
+        s3.copy_object(Bucket="moved", Key="copied", CopySource={"Bucket": "moved", "Key": "long"})
+        self.objects["copied"], self.beside["copied"] = self.objects["long"], "long"
+        s3.copy_object(Bucket="moved", Key="touched", CopySource={"Bucket": "moved", "Key": "touched"}, MetadataDirective="REPLACE", Metadata={"of": "touched", "at": stage})
+        s3.delete_object(Bucket="moved", Key="removed")
+        self.objects.pop("removed", None)
+        self.refused(s3.get_object, "NoSuchKey", Key="removed")
+        self.condition = {"If-None-Match": "*"}
+        self.refused(s3.put_object, "PreconditionFailed", Key="short", Body=b"x")
+        self.put("removed", **{"If-None-Match": "*"})
+        self.put("short", **{"If-Match": s3.head_object(Bucket="moved", Key="short")["ETag"]})
+        told = s3.delete_objects(Bucket="moved", Delete={"Objects": [{"Key": "given/a"}, {"Key": "given/b"}]})
+        self.expect("removals", len(told["Deleted"]), 2)
+        self.objects = {key: body for key, body in self.objects.items() if not key.startswith("given/")}
+        self.put("given/a")
+        self.part("from the beginning")
+        for key in [key for key in self.uploads if key != "from the beginning"]:
+            self.part(key)
+            self.complete(key)
+        self.begin(f"upload {stage}")
+        self.begin("given up")
+        upload, _ = self.uploads.pop("given up")
+        s3.abort_multipart_upload(Bucket="moved", Key="given up", UploadId=upload)
+        self.refused(s3.list_parts, "NoSuchUpload", Key="given up", UploadId=upload)
+        self.look()
+
+    def look(self):
+        for key, body in self.objects.items():
+            found = self.s3.get_object(Bucket="moved", Key=key)
+            self.expect(f"the content of {key}", found["Body"].read(), body)
+            self.expect(f"what is beside {key}", (found["Metadata"].get("of"), found["ContentLength"]), (self.beside[key], len(body)))
+            self.expect(f"a range of {key}", self.s3.get_object(Bucket="moved", Key=key, Range="bytes=3-8")["Body"].read(), body[3:9])
+        told = self.s3.list_objects_v2(Bucket="moved").get("Contents", [])
+        self.expect("a listing", {each["Key"]: each["Size"] for each in told}, {key: len(body) for key, body in self.objects.items()})
+        told = self.s3.list_multipart_uploads(Bucket="moved").get("Uploads", [])
+        self.expect("uploads", {each["Key"]: each["UploadId"] for each in told}, {key: upload for key, (upload, _) in self.uploads.items()})
+        self.expect("buckets", [each["Name"] for each in self.s3.list_buckets()["Buckets"]], ["moved"])
+
+
+def at_each_stage(is_following):
+    """Each operation at each stage of moves there, and of a part back, by a gateway that finds later maps, or has none but the first."""
+    with fleet(LABELS[:2]) as found:
+        first, settings = os.path.join(found.room, "first"), os.path.join(found.room, "first.ini")
+        with open(first, "w", encoding="ascii") as out:
+            out.write(read_map(found.map).text())
+        with open(settings, "w", encoding="ascii") as out:
+            out.write(f"[gridfs]\nmap = {found.map if is_following else first}\n")
+        gateway = endpoint.Gateway(settings, found.room)
+        try:
+            model = Model(gateway.client())
+            for number, (slices, target) in enumerate((((0, SLICES - 1), "west"), ((0, 40_000), "east"), ((20_000, 60_000), "west"))):
+                for part in [each for each in read_map(found.map).ranges if each.grid != target]:
+                    if max(part.first, slices[0]) <= min(part.last, slices[1]):
+                        stages(found, model, read_map(found.map).begun(max(part.first, slices[0]), min(part.last, slices[1]), target), f"move {number}")
+            model.complete("from the beginning")
+            model.look()
+            gateway.kill()
+            gateway.settings = found.settings
+            gateway.start()
+            model.stage = "by the last map"
+            model.look()
+            return model.wrong + (["a traceback"] if "Traceback" in gateway.told() else [])
+        finally:
+            gateway.kill()
+
+
+def stages(found, model, now, word):
+    """A move, with all operations between its steps."""
+    now.save()
+    move = now.moves[-1]
+    with contextlib.closing(OpenGrids(now, Settings({"timeout": "20", "helpers": "0", "session": "all"}))) as grids:
+        mover = Mover(now, move, grids.session, grids.layout)
+        for session, page in mover.lacking()[::3]:
+            with mover.files(move.source, [session]) as files:
+                sign(files, files.writer.bucket(page), move.signpost)
+        model.use(f"{word}, some pages are signed")
+        mover.sign_all()
+        model.use(f"{word}, all pages are signed")
+        mover.copy_all()
+        model.use(f"{word}, all is copied")
+        now = now.come(move)
+        now.save()
+        mover.map = now
+        model.use(f"{word}, the map has changed")
+        mover.clear_all()
+        now.ended(move).save()
+        model.use(f"{word}, it has ended")
+
+
 def main(words):
+    if words[0] == "operations":
+        wrong = [f"{text} (later maps: {is_following})" for is_following in (True, False) for text in at_each_stage(is_following)]
+        print("".join(f"{line}\n" for line in wrong[:20]) + f"{len(wrong)} wrong")
+        return bool(wrong)
     kind, count = {"histories": (kills.Trial, 2), "conditions": (kills.Conditional, 1)}[words[0]]
     wrong, told = tried(kind, count, float(words[1]), int(words[2]))
     print("".join(f"{line}\n" for line in wrong) + told)

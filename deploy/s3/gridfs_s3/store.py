@@ -10,6 +10,7 @@ from gridfs_client.buckets import Bucket, Held
 from gridfs_client.contents import Content, Inline, InSlots, Joined
 from gridfs_client.core import Line, Version
 from gridfs_client.errors import CarrierFault, NoRoom, NoSuchName, SessionTaken, Unanswered
+from gridfs_client.fleet import spool
 from gridfs_client.layout import Layout
 from gridfs_client.names import no_words
 from gridfs_client.pages import check_words
@@ -259,21 +260,54 @@ class Store(Reader):
         """What was uploaded until now; NoSuchUpload (404)."""
         return found_upload(self.look(name))
 
-    def own_upload(self, held: Held | None) -> Held:
-        """An upload that this session has; NoSuchUpload (404), or Elsewhere for what another one has."""
-        found = found_upload(held)
-        if (found.version.grid, found.version.session) != (self.grid, self.me):
-            raise Elsewhere(found.version.grid, found.version.session)
+    def own_upload(self, name: str) -> Held:
+        """An upload that this session has at the last grid of its way, to which it is brought where its slice is moved. NoSuchUpload (404), or Elsewhere for
+        what another session has."""
+        found = found_upload(self.look_for_change(name))
+        if found.version.grid != self.grid:
+            return self.bring(name, found)
+        self.expect_own(found)
         return found
+
+    def expect_own(self, held: Held) -> None:
+        if (held.version.grid, held.version.session) != (self.grid, self.me):
+            raise Elsewhere(held.version.grid, held.version.session)
+
+    def bring(self, name: str, held: Held) -> Held:
+        """Puts an upload that stands at an earlier grid anew, with the same parts."""
+        assert self.trip
+        source, words = self.trip.grid(held.version.grid), values_beside(held)
+
+        def is_the_same(now: Held | None) -> None:
+            if not now or now.version != held.version:
+                raise Elsewhere(self.grid)
+
+        def placed(bucket: Bucket, _: Held | None) -> Content:
+            parts: list[InSlots] = []
+            try:
+                for part in held.content.parts:
+                    with spool() as room:
+                        if source.copy_part(held, part, room) is not None:
+                            raise Elsewhere(self.grid)  # (it was replaced meanwhile)
+                        room.seek(0)
+                        parts.append(self.in_slots(bucket, name, Source(room), lambda: self.words_at(lambda: words, STAMP)))
+            except BaseException:
+                self.unplace(bucket, joined(parts))
+                raise
+            return joined(parts)
+
+        return self.change(name, placed, lambda: words, is_the_same)
 
     def put_part(self, name: str, number: int, body: Body, now: int) -> str:
         """Adds a part, or puts another one in its place; its MD5. NoSuchUpload (404)."""
         bucket = self.bucket(name)
         body.rewind()
         values: Values = {}
+        if self.trip:
+            self.own_upload(name)
 
         def placed(_: Bucket, held: Held | None) -> Content:
-            self.own_upload(held)
+            self.expect_own(found_upload(held))
             source = Source(cast(IO[bytes], body))
             added: InSlots | None = None
             if source.size:
@@ -283,7 +317,7 @@ class Store(Reader):
             now_held = found_upload(bucket.held(name))
             parts = {part.number: (part, slots) for part, slots in self.uploaded(now_held)}
             parts[number] = Part(number, body.digest(), added.size if added else 0, now), added
-            values.update({key: value for key, value in of_words(now_held.words).items() if key != "t"})
+            values.update(values_beside(now_held))
             values["p"] = ",".join(parts[each][0].text() for each in sorted(parts))
             return joined([parts[each][1] for each in sorted(parts)])
 
@@ -296,8 +330,13 @@ class Store(Reader):
         return [(part, next(slots) if part.size else None) for part in parts_of(of_words(held.words))]
 
     def complete(self, name: str, object_name: str, values: Values, chosen: Sequence[InSlots | None], condition: Condition | None) -> Held:
-        """Gives the object the parts as they stand, and has the upload go, in one change."""
-        return self.change(object_name, lambda *_: joined(chosen), lambda: values, condition, frozenset([name]))
+        """Gives the object the parts as they stand, and has the upload go, in one change; over several grids by a change more, since another grid may still have
+        an older line of it. (Both lines stand in one page, so slots that one of them names stay.)"""
+        besides = frozenset[str]() if self.trip else frozenset([name])
+        held = self.change(object_name, lambda *_: joined(chosen), lambda: values, condition, besides)
+        if self.trip:
+            self.delete(name)
+        return held
 
     # What there is room for
 
@@ -306,6 +345,11 @@ class Store(Reader):
         taken = self.writer.keeper.needed().taken()
         used = sum(slot.room for number, slot in self.writer.keeper.slots.items() if number in taken)
         return used, sum(slot.room for slot in self.writer.keeper.slots.values()) - used
+
+
+def values_beside(held: Held) -> Values:
+    """What is kept beside an upload, but for the time."""
+    return {key: value for key, value in of_words(held.words).items() if key != "t"}
 
 
 def found_upload(held: Held | None) -> Held:

@@ -100,7 +100,7 @@ class Uploads(Operations):
 
         def finish(store: Store) -> Held:
             try:
-                held = store.own_upload(store.look(place))
+                held = store.own_upload(place)
             except S3Error:
                 # (asked again by who did not hear the answer)
                 if (done := store.look(name)) and of_words(done.words).get("u") == upload:
@@ -128,7 +128,7 @@ class Uploads(Operations):
         session, name = self.session_of(asked), self.name_of(asked)
 
         def give_up(store: Store) -> None:
-            expect_key(asked, store.own_upload(store.look(name)))
+            expect_key(asked, store.upload(name))
             store.delete(name)
 
         await self.gateway.change(name, give_up, number=session)
