@@ -8,7 +8,6 @@ A client of these histories is a gateway with some sessions, of which it takes a
 
 import contextlib
 import hashlib
-import io
 import os
 import random
 import sys
@@ -16,6 +15,7 @@ import sys
 sys.path.insert(0, os.path.dirname(os.path.abspath(__file__)))
 import code_of_s3  # noqa: F401  (which says where the code is)
 import registers
+from bodies_in_memory import Body
 from gridfs_client import ClientError, NoSuchName, Replaced, Unanswered
 from gridfs_s3.errors import S3Error
 from gridfs_s3.places import of_words, upload_name
@@ -32,18 +32,6 @@ ALONE = 2  # in the last shape there is one gateway at a time, which has all ses
 
 class WentBack(Exception):
     """A time of a key went back."""
-
-
-class Body(io.BytesIO):
-    @property
-    def told_size(self):
-        return len(self.getvalue())
-
-    def rewind(self):
-        self.seek(0)
-
-    def digest(self):
-        return "0" * 32
 
 
 class Objects:

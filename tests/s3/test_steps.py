@@ -2,7 +2,6 @@
 of theirs that take effect late. And the forms of what is beside a content."""
 
 import hashlib
-import io
 import os
 import random
 import sys
@@ -12,6 +11,7 @@ from unittest import mock
 HERE = os.path.dirname(os.path.abspath(__file__))
 sys.path[:0] = [HERE, os.path.join(HERE, "..", "names")]
 import code_of_s3  # noqa: F401  (which says where the code is)
+from bodies_in_memory import Body
 from histories import Killed
 from memory import Memory
 
@@ -24,18 +24,6 @@ from gridfs_s3.store import Store
 
 NAME, BUCKET = "bucket/key", "bucket"
 OLD, PARTS = b"old" * 100, [b"a" * 500, b"b" * 10, b"c" * 700]
-
-
-class Source(io.BytesIO):
-    @property
-    def told_size(self):
-        return len(self.getvalue())
-
-    def rewind(self):
-        self.seek(0)
-
-    def digest(self):
-        return hashlib.md5(self.getvalue()).hexdigest()
 
 
 def client(memory, number=1, at_step=None):
@@ -52,7 +40,7 @@ def fresh():
 
 
 def put(objects, name, content, word="x"):
-    return objects.put_object(name, Source(content), lambda: {"m": word})
+    return objects.put_object(name, Body(content), lambda: {"m": word})
 
 
 def content_of(objects, name):
@@ -61,8 +49,7 @@ def content_of(objects, name):
 
 
 def part(objects, upload, number, content):
-    source = Source(content)
-    return objects.put_part(upload_name(BUCKET, upload, NAME), number, source, 5)
+    return objects.put_part(upload_name(BUCKET, upload, NAME), number, Body(content), 5)
 
 
 def complete(objects, upload):
@@ -211,7 +198,7 @@ class Steps(unittest.TestCase):
             raise S3Error("PreconditionFailed")
 
         with self.assertRaises(S3Error):
-            files.put_object(NAME, Source(b"new" * 200), dict, refuse)
+            files.put_object(NAME, Body(b"new" * 200), dict, refuse)
         calls = []
 
         def refuse_late(held):
@@ -220,7 +207,7 @@ class Steps(unittest.TestCase):
                 raise S3Error("PreconditionFailed")
 
         with self.assertRaises(S3Error):
-            files.put_object(NAME, Source(b"new" * 200), dict, refuse_late)
+            files.put_object(NAME, Body(b"new" * 200), dict, refuse_late)
         self.assertEqual(content_of(files, NAME), OLD)
         self.assertEqual(files.writer.keeper.needed().taken(), files.writer.bucket(0).journal.slots(1))
 
@@ -246,7 +233,7 @@ class Steps(unittest.TestCase):
                 raise S3Error("PreconditionFailed")
 
         try:
-            one.put_object(NAME, Source(b"new" * 200), dict, condition)
+            one.put_object(NAME, Body(b"new" * 200), dict, condition)
         except S3Error:
             is_done = False
         memory.surface()

@@ -8,6 +8,7 @@ import sys
 from collections.abc import Iterator
 from contextlib import closing, contextmanager
 from dataclasses import replace
+from typing import IO
 
 from . import __version__
 from .errors import BadSettings, ClientError
@@ -50,10 +51,17 @@ def parser() -> argparse.ArgumentParser:
     return main
 
 
+def lock_beside(path: str) -> IO[str]:
+    try:
+        return open(path + ".lock", "w", encoding="ascii")
+    except OSError as fault:
+        raise OSError(fault.errno, fault.strerror, path) from None
+
+
 @contextmanager
 def alone(path: str) -> Iterator[None]:
     """As long as no other command of this machine changes the map."""
-    with open(path + ".lock", "w", encoding="ascii") as lock:
+    with lock_beside(path) as lock:
         try:
             fcntl.flock(lock, fcntl.LOCK_EX | fcntl.LOCK_NB)
         except BlockingIOError:
@@ -96,10 +104,10 @@ def status(now: FleetMap, settings: Settings) -> int:
         for grid in now.grids:
             text = f"{grid}: {shares[grid]} slices"
             try:
-                usage = usage_of(grids.grid(grid).files(None, grids.files().ground(grid)))
+                usage = usage_of(grids.files().grid(grid))
                 text += f", {usage.names} names, {usage.bytes_free} bytes free, fullest page {usage.fullest.percent} % full"
             except ClientError as fault:
-                text, found = f"{text}, {fault}", found or fault.status
+                text, found = f"{fault}; {shares[grid]} slices", found or fault.status
             print(text, flush=True)
     for move in now.moves:
         what = "has yet to be cleared" if move.is_there else "has not ended"
@@ -110,8 +118,11 @@ def status(now: FleetMap, settings: Settings) -> int:
 def run(words: list[str]) -> int:
     args = parser().parse_args(words)
     settings = Settings({"timeout": args.timeout, "helpers": "3", "session": "all"})
+    settings.seconds("timeout")
     if args.word == "status":
         return status(read_map(args.map), settings)
+    if args.word != "begin":
+        read_map(args.map)
     with alone(args.map):
         if args.word == "begin":
             if os.path.exists(args.map):

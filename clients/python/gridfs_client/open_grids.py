@@ -50,7 +50,8 @@ class OpenGrid:
 
     def lock(self, numbers: list[int]) -> tuple[int, IO[str]]:
         until = time.monotonic() + self.settings.pace().timeout
-        with ExitStack() as waits:
+        waits = ExitStack()
+        try:
             while True:
                 for number in numbers:
                     if lock := self.settings.lock(number):
@@ -60,10 +61,22 @@ class OpenGrid:
                 waits.close()
                 waits.enter_context(self.settings.want(numbers[0]))
                 time.sleep(AGAIN)
+        finally:
+            waits.close()
 
     def close(self) -> None:
         self.sessions.close()
         self.carrier.close()
+
+
+@contextmanager
+def faults_of(grid: str) -> Iterator[None]:
+    """Has a fault name the grid."""
+    try:
+        yield
+    except ClientError as fault:
+        fault.args = (f"{grid}: {fault}",)
+        raise
 
 
 class OpenGrids:
@@ -75,7 +88,8 @@ class OpenGrids:
 
     def grid(self, grid: str) -> OpenGrid:
         if grid not in self.open:
-            self.open[grid] = OpenGrid(self.settings.of_grid(self.map.path, grid, self.map.grids[grid]), self.name)
+            with faults_of(grid):
+                self.open[grid] = OpenGrid(self.settings.of_grid(self.map.path, grid, self.map.grids[grid]), self.name)
         return self.open[grid]
 
     def layout(self, grid: str) -> Layout:
@@ -87,7 +101,12 @@ class OpenGrids:
             yield files
 
     def files(self) -> FleetFiles:
-        return FleetFiles(self.map, lambda grid, ground: self.grid(grid).files(self.progress, ground), in_threads)
+        return FleetFiles(self.map, self.files_of, in_threads)
+
+    def files_of(self, grid: str, ground: Ground) -> NamedFiles:
+        opened = self.grid(grid)
+        with faults_of(grid):
+            return opened.files(self.progress, ground)
 
     def with_latest_map(self) -> FleetFiles:
         """The files by the fleet's own copy of the map, where that is a later one. Where the grid that has it is silent, this one is as right."""

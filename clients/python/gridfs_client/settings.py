@@ -118,7 +118,7 @@ class Settings:
         try:
             values.update(read_file(Path(map_path).parent / file))
         except FileNotFoundError:
-            raise BadSettings(f"{Path(map_path).parent / file}: no such file, and the map has it for {grid}") from None
+            raise BadSettings(f"{Path(map_path).parent / file}: no such file: the settings of {grid}") from None
         kept = ["timeout", "helpers", *(["session"] if self.values.get("session", "all") != "all" else [])]
         return Settings(values | {key: self.values[key] for key in kept if key in self.values})
 
