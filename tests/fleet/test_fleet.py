@@ -47,6 +47,10 @@ class Grids:
         self.map = fleet_map
         self.maps.append(fleet_map)
 
+    def change_map(self, change):
+        self.save(change(self.map))
+        return self.map
+
     def begin(self, first, last, target):
         self.save(self.map.begun(first, last, target))
 
@@ -60,7 +64,7 @@ class Grids:
             finally:
                 self.held.remove(number)
 
-        return kind(self.map, self.map.moves[0], session, lambda label: self.memories[label].layout, self.save)
+        return kind(self.map, self.map.moves[0], session, lambda label: self.memories[label].layout, self.change_map)
 
     def end(self):
         while self.map.moves:

@@ -10,6 +10,7 @@ import hashlib
 import os
 import sys
 import time
+from dataclasses import replace
 from unittest import mock
 
 HERE = os.path.dirname(os.path.abspath(__file__))
@@ -138,20 +139,16 @@ def as_it_was(self, name, grid, is_wanted):
     return held_of(fleets.ways.greatest(self.walked))
 
 
-def unforgotten(self, name, object_name, values, chosen, condition):
-    """Over several grids too a completion has the upload's line go, and leaves no removal."""
-    trip, self.trip = self.trip, None
-    try:
-        return complete(self, name, object_name, values, chosen, condition)
-    finally:
-        self.trip = trip
+def here_alone(self, name):
+    """A get reads what a name holds by the session that it has, at whichever grid that stands."""
+    held = held_of(fleets.ways.greatest(self.walk(name)))
+    return held and replace(held, version=replace(held.version, grid=self.map.stop(slice_of(name)).grid))
 
 
-complete = Store.complete
 BUGS = {
     "a look ends at the first grid": (Trip, "look", first_alone),
     "nobody looks again right before a change": (Trip, "look_again", as_it_was),
-    "a completion looks at its own grid alone": (Store, "complete", unforgotten),
+    "a get reads at the first grid": (Trip, "look", here_alone),
 }
 
 

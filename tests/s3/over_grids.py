@@ -234,7 +234,7 @@ def stages(found, model, now, word):
     now.save()
     move = now.moves[-1]
     with contextlib.closing(OpenGrids(now, Settings({"timeout": "20", "helpers": "0", "session": "all"}))) as grids:
-        mover = Mover(now, move, grids.session, grids.layout)
+        mover = Mover(now, move, grids.session, grids.layout, lambda change: change(now))
         for session, page in mover.lacking()[::3]:
             with mover.files(move.source, [session]) as files:
                 sign(files, files.writer.bucket(page), move.signpost)

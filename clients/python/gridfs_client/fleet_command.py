@@ -5,7 +5,9 @@ import fcntl
 import os
 import signal
 import sys
-from collections.abc import Iterator
+import threading
+from collections.abc import Callable, Iterator, Sequence
+from concurrent.futures import ThreadPoolExecutor
 from contextlib import closing, contextmanager
 from dataclasses import replace
 from typing import IO
@@ -69,32 +71,42 @@ def alone(path: str) -> Iterator[None]:
         yield
 
 
-def end_move(now: FleetMap, move: Move, settings: Settings) -> FleetMap:
-    def tell(text: str) -> None:
-        print(f"move {move.number}: {text}", flush=True)
+class Moves:
+    """Moves of a map that go on side by side."""
 
-    def save(fleet_map: FleetMap) -> None:
-        fleet_map.save()
-        if fault := publish(fleet_map, settings):
-            complain(f"the map was not put into the fleet: {fault}")
+    def __init__(self, now: FleetMap, settings: Settings):
+        self.now, self.settings, self.guard = now, settings, threading.Lock()
 
-    tell(f"slices {move.first}-{move.last} from {move.source} to {move.target}")
-    with closing(OpenGrids(now, settings)) as grids:
-        ended = Mover(now, move, grids.session, grids.layout, save, tell).run()
-    tell("ended")
-    return ended
+    def change_map(self, change: Callable[[FleetMap], FleetMap]) -> FleetMap:
+        with self.guard:
+            self.now = change(self.now)
+            self.now.save()
+            if fault := publish(self.now, self.settings):
+                complain(f"the map was not put into the fleet: {fault}")
+            return self.now
+
+    def end(self, moves: Sequence[Move]) -> None:
+        """Ends these; the first fault of one is raised once all have ended or failed."""
+        with closing(OpenGrids(self.now, self.settings)) as grids, ThreadPoolExecutor(len(moves)) as threads:
+            for grid in sorted({grid for move in moves for grid in (move.source, move.target)}):
+                grids.grid(grid)
+            for future in [threads.submit(self.end_one, grids, move) for move in moves]:
+                future.result()
+
+    def end_one(self, grids: OpenGrids, move: Move) -> None:
+        def tell(text: str) -> None:
+            print(f"move {move.number}: {text}", flush=True)
+
+        tell(f"slices {move.first}-{move.last} from {move.source} to {move.target}")
+        Mover(self.now, move, grids.session, grids.layout, self.change_map, tell).run()
+        tell("ended")
 
 
 def end_moves(now: FleetMap, settings: Settings) -> FleetMap:
-    while move := next(moves_to_end(now), None):
-        now = end_move(now, move, settings)
-    return now
-
-
-def started(now: FleetMap, first: int, last: int, target: str) -> FleetMap:
-    begun = now.begun(first, last, target)
-    begun.save()
-    return begun
+    moves = Moves(now, settings)
+    while under_way := moves_to_end(moves.now):
+        moves.end(under_way)
+    return moves.now
 
 
 def status(now: FleetMap, settings: Settings) -> int:
@@ -140,12 +152,14 @@ def run(words: list[str]) -> int:
             first, _, last = args.slices.partition("-")
             if not (first.isdecimal() and last.isdecimal() and args.grid):
                 raise BadSettings(f"{args.slices}: FIRST-LAST and a grid are wanted")
-            begun = started(now, int(first), int(last), args.grid)
-            end_move(begun, begun.moves[-1], settings)
+            begun = now.begun(int(first), int(last), args.grid)
+            begun.save()
+            Moves(begun, settings).end(begun.moves[-1:])
         else:
             now = end_moves(now, settings)
-            while args.word == "spread" and (part := now.next_part()):
-                now = end_moves(started(now, *part), settings)
+            while args.word == "spread" and (begun := now.spread()).moves:
+                begun.save()
+                now = end_moves(begun, settings)
     return 0
 
 

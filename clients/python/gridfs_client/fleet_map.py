@@ -161,6 +161,18 @@ class FleetMap:
         count = max(1, min(shares[most] - part, part - shares[least], last.count))
         return last.last - count + 1, last.last, least
 
+    def spread(self) -> "FleetMap":
+        """With the moves by which each grid gets an equal part, as many as may be under way at once."""
+        begun, then = self, self
+        while part := then.next_part():
+            try:
+                begun = begun.begun(*part)
+            except BadSettings:
+                break  # (of slices that have yet to come)
+            move = begun.moves[-1]
+            then = replace(then, moves=(*then.moves, move)).come(move).ended(move)
+        return begun
+
     def text(self) -> str:
         lines = ["fleet 1", *(f"grid {grid} {settings}" for grid, settings in self.grids.items())]
         lines += [f"slices {each.first}-{each.last} {each.move} {each.grid}" for each in self.ranges]

@@ -11,7 +11,7 @@ It has a session for a page at a time. What it can't have of a session, its own 
 machine.
 """
 
-from collections.abc import Callable, Collection, Iterator
+from collections.abc import Callable, Collection
 from contextlib import AbstractContextManager
 
 from . import core, ways
@@ -33,8 +33,12 @@ OpenSession = Callable[[str, Collection[int], Ground], AbstractContextManager[Na
 LayoutOf = Callable[[str], Layout]
 
 
+# Changes the map as it is then, which other moves may have changed meanwhile, and gives it.
+ChangeMap = Callable[[Callable[[FleetMap], FleetMap]], FleetMap]
+
+
 class Mover:
-    """One move that a map says to be under way. `tell` is told what is done, `save` is given the map where that changes."""
+    """One move that a map says to be under way. `tell` is told what is done. Moves of other slices may go on side by side."""
 
     def __init__(
         self,
@@ -42,10 +46,10 @@ class Mover:
         move: Move,
         open_session: OpenSession,
         layout_of: LayoutOf,
-        save: Callable[[FleetMap], None] = lambda _: None,
+        change_map: ChangeMap,
         tell: Callable[[str], None] = lambda _: None,
     ):
-        self.map, self.move, self.open_session, self.layout_of, self.save, self.tell = fleet_map, move, open_session, layout_of, save, tell
+        self.map, self.move, self.open_session, self.layout_of, self.change_map, self.tell = fleet_map, move, open_session, layout_of, change_map, tell
         self.copied = 0
 
     def run(self) -> FleetMap:
@@ -53,11 +57,9 @@ class Mover:
         if not self.move.is_there:
             self.sign_all()
             self.copy_all()
-            self.map = self.map.come(self.move)
-            self.save(self.map)
+            self.map = self.change_map(lambda now: now.come(self.move))
         self.clear_all()
-        self.map = self.map.ended(self.move)
-        self.save(self.map)
+        self.map = self.change_map(lambda now: now.ended(self.move))
         return self.map
 
     def sessions(self, grid: str) -> range:
@@ -73,13 +75,15 @@ class Mover:
 
     def sign_all(self) -> None:
         """In each page that doesn't show it, by its session; SessionTaken where some sessions can't be had, and don't have it by themselves."""
-        lacking, count = self.lacking(), 0
+        lacking, count, taken = self.lacking(), 0, set[int]()
         for session, page in lacking:
+            if session in taken:
+                continue
             try:
                 with self.files(self.move.source, [session]) as files:
                     count += sign(files, files.writer.bucket(page), self.move.signpost)
             except SessionTaken:
-                continue
+                taken.add(session)
         left = sorted({session for session, _ in self.lacking()}) if lacking else []
         if left:
             raise SessionTaken(f"sessions {listed(left)} of {self.move.source} lack signposts: run it where they are used, or once they are free")
@@ -239,9 +243,14 @@ def raise_number(files: NamedFiles, page: int, highest: int) -> None:
         files.writer.change(bucket, core.changed(bucket.client, None, keeps=bucket.keeps, least=highest))
 
 
-def moves_to_end(fleet_map: FleetMap) -> Iterator[Move]:
-    """Moves that were begun, those whose slices are at the new grid first."""
-    yield from sorted(fleet_map.moves, key=lambda move: (not move.is_there, move.number))
+def moves_to_end(fleet_map: FleetMap) -> list[Move]:
+    """Moves that were begun and may go on side by side, those whose slices are at the new grid first: no grid is an old one of some and a new one of others, so
+    that none waits for a session of one that waits for its own."""
+    found = list[Move]()
+    for move in sorted(fleet_map.moves, key=lambda move: (not move.is_there, move.number)):
+        if move.source not in {each.target for each in found} and move.target not in {each.source for each in found}:
+            found.append(move)
+    return found
 
 
 __all__ = ["Mover", "OpenSession", "moves_to_end"]
