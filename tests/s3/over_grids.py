@@ -3,7 +3,8 @@
 
     over_grids.py histories SECONDS KILLS       puts, gets, heads, removals and uploads in parts, by two gateways that share the sessions (kills.py)
     over_grids.py conditions SECONDS KILLS      conditional puts, by one gateway that has all sessions (kills.py)
-    over_grids.py operations                    each operation, at each stage of a move
+    over_grids.py operations                    each operation, at each stage of three moves, by a gateway that follows maps and one that does not
+    over_grids.py once                          the same of one move, by one that does not
 
 Each grid is a stand-in. Gateways and movers are killed (kill -9), and begun again; a mover has its sessions from the gateways. The status is 1 where something
 is wrong, and where fewer than two moves ended.
@@ -30,6 +31,7 @@ from gridfs_client.settings import Settings
 from gridfs_client.ways import SLICES
 
 LABELS = ["east", "west", "south"]
+STAGES = 5  # of a move
 FLEET = [sys.executable, "-B", os.path.join(code_of_s3.CLIENT, "gridfs-fleet")]
 
 
@@ -118,14 +120,15 @@ class Model:
         s3.create_bucket(Bucket="moved")
         for key in ("short", "long", "copied", "touched", "removed", "odd/", "given/a", "given/b"):
             self.put(key)
-        self.begin("from the beginning")
+        for key in ("from the beginning", *(f"begun {number}" for number in range(STAGES))):
+            self.begin(key)
 
     def expect(self, what, found, wanted):
         if found != wanted:
             self.wrong.append(f"{self.stage}: {what}: {str(found)[:200]} in place of {str(wanted)[:200]}")
 
     def body(self, key):
-        return self.draw.randbytes(2_500_000 if key == "long" else self.draw.choice((10, 5_000)))
+        return self.draw.randbytes({"long": 2_500_000, "touched": 100_000}.get(key) or self.draw.choice((10, 5_000)))
 
     def put(self, key, **condition):
         body = self.body(key)
@@ -179,7 +182,7 @@ class Model:
         self.objects = {key: body for key, body in self.objects.items() if not key.startswith("given/")}
         self.put("given/a")
         self.part("from the beginning")
-        for key in [key for key in self.uploads if key != "from the beginning"]:
+        for key in [key for key in self.uploads if key.startswith("upload")] + [key for key in self.uploads if key.startswith("begun")][:1]:
             self.part(key)
             self.complete(key)
         self.begin(f"upload {stage}")
@@ -202,7 +205,7 @@ class Model:
         self.expect("buckets", [each["Name"] for each in self.s3.list_buckets()["Buckets"]], ["moved"])
 
 
-def at_each_stage(is_following):
+def at_each_stage(is_following, count=3):
     """Each operation at each stage of moves there, and of a part back, by a gateway that finds later maps, or has none but the first."""
     with fleet(LABELS[:2]) as found:
         first, settings = os.path.join(found.room, "first"), os.path.join(found.room, "first.ini")
@@ -213,7 +216,7 @@ def at_each_stage(is_following):
         gateway = endpoint.Gateway(settings, found.room)
         try:
             model = Model(gateway.client())
-            for number, (slices, target) in enumerate((((0, SLICES - 1), "west"), ((0, 40_000), "east"), ((20_000, 60_000), "west"))):
+            for number, (slices, target) in enumerate((((0, SLICES - 1), "west"), ((0, 40_000), "east"), ((20_000, 60_000), "west"))[:count]):
                 for part in [each for each in read_map(found.map).ranges if each.grid != target]:
                     if max(part.first, slices[0]) <= min(part.last, slices[1]):
                         stages(found, model, read_map(found.map).begun(max(part.first, slices[0]), min(part.last, slices[1]), target), f"move {number}")
@@ -225,6 +228,8 @@ def at_each_stage(is_following):
             model.stage = "by the last map"
             model.look()
             return model.wrong + (["a traceback"] if "Traceback" in gateway.told() else [])
+        except kills.FAULTS as fault:
+            return [*model.wrong, f"{model.stage}: {fault}"]
         finally:
             gateway.kill()
 
@@ -253,8 +258,9 @@ def stages(found, model, now, word):
 
 
 def main(words):
-    if words[0] == "operations":
-        wrong = [f"{text} (later maps: {is_following})" for is_following in (True, False) for text in at_each_stage(is_following)]
+    if words[0] in ("operations", "once"):
+        runs = [(True, 3), (False, 3)] if words[0] == "operations" else [(False, 1)]
+        wrong = [f"{text} (later maps: {run[0]})" for run in runs for text in at_each_stage(*run)]
         print("".join(f"{line}\n" for line in wrong[:20]) + f"{len(wrong)} wrong")
         return bool(wrong)
     kind, count = {"histories": (kills.Trial, 2), "conditions": (kills.Conditional, 1)}[words[0]]

@@ -330,13 +330,10 @@ class Store(Reader):
         return [(part, next(slots) if part.size else None) for part in parts_of(of_words(held.words))]
 
     def complete(self, name: str, object_name: str, values: Values, chosen: Sequence[InSlots | None], condition: Condition | None) -> Held:
-        """Gives the object the parts as they stand, and has the upload go, in one change; over several grids by a change more, since another grid may still have
-        an older line of it. (Both lines stand in one page, so slots that one of them names stay.)"""
+        """Gives the object the parts as they stand, and has the upload go, in one change. Over several grids the upload stays, and has to be removed: another grid
+        may still have an older line of it. (Both lines stand in one page, so slots that one of them names stay.)"""
         besides = frozenset[str]() if self.trip else frozenset([name])
-        held = self.change(object_name, lambda *_: joined(chosen), lambda: values, condition, besides)
-        if self.trip:
-            self.delete(name)
-        return held
+        return self.change(object_name, lambda *_: joined(chosen), lambda: values, condition, besides)
 
     # What there is room for
 

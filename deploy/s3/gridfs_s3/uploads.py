@@ -6,11 +6,12 @@ import re
 from aiohttp import web
 
 from gridfs_client.buckets import Held
+from gridfs_client.errors import ClientError
 
 from . import markup
 from .bodies import body_of
 from .copying import Copies, range_to_copy
-from .errors import S3Error
+from .errors import S3Error, tell
 from .gateway import LONGEST_XML, Operations, let_body_come
 from .markup import document, element, many
 from .objects import HELPERS, LONGEST_PUT, MANY, Objects, values_of
@@ -119,8 +120,17 @@ class Uploads(Operations):
             return store.complete(place, name, values, [found[number][1] for number in numbers], condition)
 
         held = await self.gateway.change(name, finish, number=session, condition=condition)
+        if self.grids.map:
+            await self.remove(place)
         inner = [element("Location", f"/{asked.bucket}/{asked.key}"), element("Bucket", asked.bucket), element("Key", asked.key)]
         return answer(document("CompleteMultipartUploadResult", *inner, element("ETag", f'"{Object(asked.key, held).etag}"')))
+
+    async def remove(self, name: str) -> None:
+        """Has an upload go whose object is there. (Where that fails it is told to whoever runs the gateway, since the completion was done.)"""
+        try:
+            await self.gateway.change(name, lambda store: store.delete(name))
+        except (ClientError, S3Error) as fault:
+            tell(f"{name} stays: {fault}")
 
     async def abort_multipart_upload(self, asked: Asked) -> web.Response:
         """204. 404 NoSuchBucket, NoSuchUpload."""
