@@ -26,10 +26,8 @@ from histories import History, Killed
 from memory import Memory, MemorySession
 
 from gridfs_client import ClientError, NamedFiles, OneByOne, core, ways
-from gridfs_client.buckets import held_of
 from gridfs_client.fleet import FleetFiles, sign
 from gridfs_client.fleet_map import new_map
-from gridfs_client.listing import Listing, Told
 from gridfs_client.moving import Mover, moves_to_end
 from gridfs_client.ways import SLICES, slice_of
 
@@ -218,24 +216,7 @@ def uncopied(self):
     pass
 
 
-def unordered(self, grids):
-    """A listing looks at each grid once."""
-    missing = [grid for grid in grids if grid not in self.seen]
-    self.wanted.update(missing[:1])
-    return not missing
-
-
-def unconfirmed(self, name, lines):
-    """A listing tells a line of an old grid without another look at it."""
-    grids = list(self.way(slice_of(name), lambda grid: self.shown_to(name, grid)))
-    if self.is_in_order(grids):
-        held = held_of(max((line for line in lines if line.grid in grids), key=ways.version_in, default=None))
-        self.done[name] = Told(held, 1, 1) if held else None
-
-
 BUGS = {
-    "unordered": (Listing, "is_in_order", unordered),
-    "unconfirmed": (Listing, "follow", unconfirmed),
     "stays": (ways, "looked", stays),
     "new-alone": (ways, "number_above", new_alone),
     "unsigned": (Mover, "sign_all", unsigned),

@@ -2,22 +2,26 @@
 
 import contextlib
 import dataclasses
+import hashlib
 import io
 import os
 import sys
 import tempfile
 import unittest
+from unittest import mock
 
 HERE = os.path.dirname(os.path.abspath(__file__))
 sys.path[:0] = [os.path.join(HERE, "..", "names")]
 from histories import Killed
 from memory import Memory, MemorySession
 
-from gridfs_client import BadSettings, NamedFiles, NoSuchName, OneByOne, Unanswered, command, core, fleet_command
+from gridfs_client import BadSettings, NamedFiles, NoSuchName, OneByOne, Unanswered, command, core, fleet_command, ways
+from gridfs_client.buckets import held_of
 from gridfs_client.contents import Inline, Joined, digest_of
 from gridfs_client.core import Copied, Line, Page, Signpost
 from gridfs_client.fleet import FleetFiles
 from gridfs_client.fleet_map import Range, new_map, parse_map
+from gridfs_client.listing import Listing, Told
 from gridfs_client.moving import Mover, moves_to_end
 from gridfs_client.pages import parse_page, text_of
 from gridfs_client.streams import Source
@@ -297,6 +301,76 @@ class Moves(unittest.TestCase):
                 for fleet_map in grids.maps:
                     for name, content in held.items():
                         self.assertEqual(grids.files(1, fleet_map).get(name)[0], content, (kind, step))
+
+
+def unordered(self, grids):
+    """A listing looks at each grid once."""
+    missing = [grid for grid in grids if grid not in self.seen]
+    self.wanted.update(missing[:1])
+    return not missing
+
+
+def unconfirmed(self, name, lines):
+    """A listing tells a line of an old grid without another look at it."""
+    grids = list(self.way(slice_of(name), lambda grid: self.shown_to(name, grid)))
+    if self.is_in_order(grids):
+        held = held_of(max((line for line in lines if line.grid in grids), key=ways.version_in, default=None))
+        self.done[name] = Told(held, 1, 1) if held else None
+
+
+class Listings(unittest.TestCase):
+    """What a listing tells while a move goes on between its looks at one grid and at the other."""
+
+    def told(self, grids, between, first):
+        """A listing by the map before, which looks at this grid first."""
+        begun, works = grids.maps[-1], [between]
+
+        def side_by_side(look, labels):
+            found = {}
+            for label in sorted(labels, key=lambda label: label != first):
+                found[label] = look(label)
+                if works:
+                    works.pop()()
+            return [found[label] for label in labels]
+
+        files = FleetFiles(begun, lambda label, ground: grids.named(label, 1, ground), side_by_side)
+        return {entry.name: entry.sha256 for entry in files.names()}
+
+    def copied_amid(self):
+        """Names are copied and cleared after the look at the new grid, and before that at the old one."""
+        grids = Grids()
+        grids.files(1).put("a", b"x")
+        grids.begin(*((0, 0) if slice_of("a") else (1, 1)), "west")  # (so that it looks at the new grid too at first)
+        grids.end()
+        grids.begin(slice_of("a"), slice_of("a"), "west")
+        return self.told(grids, grids.end, "west").get("a")
+
+    def removed_amid(self):
+        """A name is put at the new grid before the listing. After the look at the old grid it is removed, and that forgotten."""
+        grids = Grids()
+        grids.files(1).put("a", b"old")
+        grids.begin(0, SLICES - 1, "west")
+        grids.mover().sign_all()
+        grids.files(1).put("a", b"new")
+
+        def remove():
+            grids.end()
+            grids.files(2).remove("a")
+            for number in (1, 2, 1, 2):
+                files = grids.named("west", number, Ground("west", lambda _: 1))
+                files.writer.tidy(files.writer.bucket(0), anew=True)
+
+        return self.told(grids, remove, "east").get("a")
+
+    def test_looks_in_order(self):
+        self.assertEqual(self.copied_amid(), hashlib.sha256(b"x").hexdigest())
+        with mock.patch.object(Listing, "is_in_order", unordered):
+            self.assertIsNone(self.copied_amid())
+
+    def test_looks_again(self):
+        self.assertNotEqual(self.removed_amid(), hashlib.sha256(b"old").hexdigest())
+        with mock.patch.object(Listing, "follow", unconfirmed):
+            self.assertEqual(self.removed_amid(), hashlib.sha256(b"old").hexdigest())
 
 
 class Commands(unittest.TestCase):

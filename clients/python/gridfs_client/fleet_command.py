@@ -9,17 +9,20 @@ import threading
 from collections.abc import Callable, Iterator, Sequence
 from concurrent.futures import ThreadPoolExecutor
 from contextlib import closing, contextmanager
-from dataclasses import replace
+from dataclasses import dataclass, replace
 from typing import IO
 
 from . import __version__
-from .errors import BadSettings, ClientError
+from .asking import SILENCE, ask_all
+from .core import Page
+from .errors import BadSettings, ClientError, Silent
 from .fleet_map import FleetMap, Move, new_map, read_map
 from .local import complain
 from .moving import Mover, moves_to_end
 from .open_grids import OpenGrids, publish
 from .settings import Settings
 from .usage import usage_of
+from .ways import slice_of
 
 EPILOG = """\
 examples:
@@ -27,7 +30,7 @@ examples:
   gridfs-fleet --map fleet add west west.ini        one grid more, without names
   gridfs-fleet --map fleet spread                   slices are moved until each grid has an equal part of them
   gridfs-fleet --map fleet move 0-16383 west        these slices are moved, of the slices 0 to 65535
-  gridfs-fleet --map fleet status                   which slices each grid has, its room, and moves under way
+  gridfs-fleet --map fleet status                   of each grid its slices, nodes and room, and how far moves are
 
 The settings of a grid are a file as gridfs-client reads it, beside the map. A move may be killed at any moment: `spread` or `move` without words ends
 it. An older map is as right as the last one, and a copy of that stands in the fleet under the name `.fleet`."""
@@ -49,7 +52,7 @@ def parser() -> argparse.ArgumentParser:
     sub.add_argument("slices", nargs="?", help="FIRST-LAST, of 0 to 65535, which are at one grid")
     sub.add_argument("grid", nargs="?")
     words.add_parser("spread", help="end moves that were begun, and move slices until each grid has an equal part")
-    words.add_parser("status", help="tell which slices each grid has, its room, and moves under way")
+    words.add_parser("status", help="tell of each grid its slices, nodes and room, and how far moves are")
     return main
 
 
@@ -109,22 +112,51 @@ def end_moves(now: FleetMap, settings: Settings) -> FleetMap:
     return moves.now
 
 
+@dataclass
+class Report:
+    """What is told of a grid, its status, and its pages where they were seen."""
+
+    text: str
+    status: int = 0
+    pages: Sequence[Page] = ()
+
+
+def report_of(grids: OpenGrids, grid: str, slices: int) -> Report:
+    try:
+        opened = grids.grid(grid)
+        nodes = ask_all(opened.carrier, min(SILENCE, opened.settings.seconds("timeout")), opened.settings.shape())
+        text = f"{grid}: {slices} slices, {nodes.summary() if nodes else 'no node answers'}"
+        if nodes is None or nodes.goes_on() is False:
+            return Report(text, Silent.status)
+        files = grids.files().grid(grid)
+        usage = usage_of(files)
+    except ClientError as fault:
+        return Report(f"{fault}; {slices} slices", fault.status)
+    text += f", {usage.names} names, {usage.bytes_free} bytes free, fullest page {usage.fullest.percent} % full"
+    return Report(text, 0, [known.page for bucket in files.writer.buckets.values() for known in bucket.client.seen])
+
+
+def move_text(move: Move, pages: Sequence[Page]) -> str:
+    """How far a move is, by the pages of its old grid."""
+    what = "has yet to be cleared" if move.is_there else "has not ended"
+    text = f"move {move.number} {what}: slices {move.first}-{move.last} from {move.source} to {move.target}"
+    if pages:
+        signed = sum(move.signpost in page.signposts for page in pages)
+        lines = sum(move.has(slice_of(line.name)) for page in pages for line in page.lines)
+        text += f"; {signed} of {len(pages)} pages have its signpost, and {lines} lines are left there"
+    return text
+
+
 def status(now: FleetMap, settings: Settings) -> int:
     """What each grid has, and the status of the first that doesn't answer."""
-    found, shares = 0, now.shares()
-    with closing(OpenGrids(now, settings)) as grids:
-        for grid in now.grids:
-            text = f"{grid}: {shares[grid]} slices"
-            try:
-                usage = usage_of(grids.files().grid(grid))
-                text += f", {usage.names} names, {usage.bytes_free} bytes free, fullest page {usage.fullest.percent} % full"
-            except ClientError as fault:
-                text, found = f"{fault}; {shares[grid]} slices", found or fault.status
-            print(text, flush=True)
+    shares = now.shares()
+    with closing(OpenGrids(now, settings)) as grids, ThreadPoolExecutor(len(now.grids)) as threads:
+        reports = dict(zip(now.grids, threads.map(lambda grid: report_of(grids, grid, shares[grid]), now.grids)))
+    for report in reports.values():
+        print(report.text)
     for move in now.moves:
-        what = "has yet to be cleared" if move.is_there else "has not ended"
-        print(f"move {move.number} {what}: slices {move.first}-{move.last} from {move.source} to {move.target}")
-    return found
+        print(move_text(move, reports[move.source].pages))
+    return next((report.status for report in reports.values() if report.status), 0)
 
 
 def run(words: list[str]) -> int:
