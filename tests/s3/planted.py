@@ -13,7 +13,7 @@ BUGS = {
     "a get takes what a slot holds, whatever it is": ("test_steps.py Contents.test_replaced_while_it_is_read", "reading.py", "without_head(held.version.session, span.part.put, span.place, piece)", 'piece.partition(b"\\n")[2]'),
     "the ETag of parts has no number": ("test_forms.py Places.test_etag", "places.py", "(f\"-{self.values['n']}\" if \"n\" in self.values else \"\")", '""'),
     "times are those of the machine's clock": ("test_steps.py Times", "shared.py", "max(time.time_ns() // 1_000_000, self.last + 1, before + 1)", "time.time_ns() // 1_000_000"),
-    "a condition is not judged again right before the change": ("test_steps.py Steps.test_condition", "store.py", "self.look_again(name, condition is not None)", "self.look_again(name, False)"),
+    "a condition is not judged again right before the change": ("test_steps.py Steps.test_condition", "store.py", "            if condition:\n                condition(before)\n", ""),
     "a content that is refused keeps its slots": ("test_steps.py Steps.test_condition", "store.py", "            self.unplace(bucket, content)\n", ""),
     "nothing is settled": ("test_steps.py Steps.test_settled", "store.py", "            self.writer.tidy(bucket, anew=True)\n", "            bucket.look(own=True)\n"),
     "what got no answer is forgotten": ("test_steps.py Times.test_no_answer", "shared.py", "max(least, self.unsure.get(name, 0) + 1)", "least"),
