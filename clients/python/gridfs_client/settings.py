@@ -208,7 +208,8 @@ class Settings:
     def locked(self, number: int, word: str, how: int) -> IO[str] | None:
         folder = Path(self.values["locks"]) if "locks" in self.values else default_locks()
         folder.mkdir(parents=True, exist_ok=True)
-        lock = open(folder / f"{self.tenant}-{number}.{word}", "w")
+        # (for reading, so that commands of several users can lock what one of them has made)
+        lock = open(folder / f"{self.tenant}-{number}.{word}", opener=lambda path, _: os.open(path, os.O_RDONLY | os.O_CREAT, 0o644))
         try:
             fcntl.flock(lock, how)
             return lock

@@ -187,12 +187,16 @@ class Pool:
         """Lends a session to a command that waits for it, and takes those that other commands had before."""
         while True:
             await asyncio.sleep(LOOK)
-            for number, worker in list(self.workers.items()):
-                if number not in self.lends and not worker.is_silent and self.settings.is_wanted(number):
-                    self.lends.add(number)
-                    self.spawn(self.lend(worker))
-            if self.carrier and len(self.workers) < self.sessions:
-                self.take_more(self.carrier)
+            try:
+                for number, worker in list(self.workers.items()):
+                    if number not in self.lends and not worker.is_silent and self.settings.is_wanted(number):
+                        self.lends.add(number)
+                        self.spawn(self.lend(worker))
+                if self.carrier and len(self.workers) < self.sessions:
+                    self.take_more(self.carrier)
+            except OSError as fault:
+                tell(f"{self.named()}{fault.filename or 'locks'}: {fault.strerror}: no session is lent")
+                await asyncio.sleep(TIDY)
 
     def take_more(self, carrier: Carrier) -> None:
         for number in self.settings.session_numbers(self.sessions):
