@@ -33,14 +33,6 @@ STARTED, PATIENCE = 60, 90  # seconds
 TENANT = "ann"
 
 
-def write_plan(path):
-    volumes = [*[(SESSIONS * 2, 16)] * 4, (64, 4)]
-    share = sum(files * blocks for files, blocks in volumes)
-    with open(path, "w", encoding="ascii") as out:
-        out.write(f"grid 2 2\nblocks {share}\ntenant {TENANT} {share} {SESSIONS} 1\ngo\n")
-        out.writelines(f"{TENANT} open {files} {blocks}\n" for files, blocks in volumes)
-
-
 class Trial:
     def __init__(self, folder, program, bug):
         self.folder, self.program, self.bug, self.draw = folder, program, bug, random.Random()
@@ -49,7 +41,7 @@ class Trial:
         self.count = collections.Counter()
 
     def start_grid(self, label):
-        write_plan(f"{self.folder}/{label}.plan")
+        names_trial.write_plan(f"{self.folder}/{label}.plan", tenant=TENANT, sessions=SESSIONS, each=2)
         words = [os.path.join(TOP, "examples", "grid"), "--plan", f"{self.folder}/{label}.plan", "--program", self.program, "--tick", "0.1", f"{self.folder}/{label}"]
         self.grids[label] = subprocess.Popen(words, stdin=subprocess.PIPE, stdout=self.log, stderr=self.log, text=True, bufsize=1)
         until = time.monotonic() + STARTED

@@ -4,6 +4,7 @@
     over_grids.py histories SECONDS KILLS       puts, gets, heads, removals and uploads in parts, by two gateways that share the sessions (kills.py)
     over_grids.py conditions SECONDS KILLS      conditional puts, by one gateway that has all sessions (kills.py)
     over_grids.py operations                    each operation, at each stage of three moves, by a gateway that follows maps and one that does not
+    over_grids.py silent                        what is told while a grid stands still
     over_grids.py once                          the same of one move, by one that does not
 
 Each grid is a stand-in. Gateways and movers are killed (kill -9), and begun again; a mover has its sessions from the gateways. The status is 1 where something
@@ -13,6 +14,7 @@ is wrong, and where fewer than two moves ended.
 import contextlib
 import os
 import random
+import signal
 import subprocess
 import sys
 import tempfile
@@ -28,7 +30,7 @@ from gridfs_client.fleet_map import read_map
 from gridfs_client.moving import Mover
 from gridfs_client.open_grids import OpenGrids
 from gridfs_client.settings import Settings
-from gridfs_client.ways import SLICES
+from gridfs_client.ways import SLICES, slice_of
 
 LABELS = ["east", "west", "south"]
 STAGES = 5  # of a move
@@ -81,10 +83,12 @@ class Fleet:
 @contextlib.contextmanager
 def fleet(labels=LABELS):
     with contextlib.ExitStack() as grids:
-        room = grids.enter_context(tempfile.TemporaryDirectory(prefix="gridfs-s3-"))
+        room, processes = grids.enter_context(tempfile.TemporaryDirectory(prefix="gridfs-s3-")), {}
         for label in labels:
-            grids.enter_context(endpoint.stand_in(folder=os.path.join(room, label)))
-        yield Fleet(room, labels)
+            grids.enter_context(endpoint.stand_in(folder=os.path.join(room, label), processes=processes))
+        found = Fleet(room, labels)
+        found.processes = {label: processes[os.path.join(room, label)] for label in labels}
+        yield found
 
 
 def tried(kind, count, seconds, kills_of_each):
@@ -234,6 +238,60 @@ def at_each_stage(is_following, count=3):
             gateway.kill()
 
 
+def while_one_is_silent():
+    """A grid stands still: its names are told 503, and so are listings, and the others go on. A gateway that begins then does so too; all is there once the grid
+    answers again."""
+    wrong = []
+
+    def told(what, work, code):
+        try:
+            work()
+            found = None
+        except kills.FAULTS as fault:
+            found = kills.code_of(fault)
+        if found != code:
+            wrong.append(f"{what}: {found} in place of {code}")
+
+    with fleet(LABELS[:2]) as found:
+        gateway = endpoint.Gateway(found.settings, found.room)
+        try:
+            s3, keys = gateway.client(), {}
+            s3.create_bucket(Bucket="moved")
+            for number in range(12):
+                s3.put_object(Bucket="moved", Key=f"key {number}", Body=b"%d" % number)
+            at_west = slice_of(".s3/bucket/moved") < SLICES // 2
+            found.tell("move", f"{SLICES // 2}-{SLICES - 1}" if at_west else f"0-{SLICES // 2 - 1}", "west")  # (the bucket itself stays)
+            now = read_map(found.map)
+            keys = {f"key {number}": now.stop(slice_of(f"moved/key {number}")).grid for number in range(12)}
+            if set(keys.values()) != {"east", "west"}:
+                wrong.append(f"all keys are at one grid: {keys}")
+            for is_begun_anew in (False, True):
+                found.processes["west"].send_signal(signal.SIGSTOP)
+                if is_begun_anew:
+                    gateway.kill()
+                    gateway.start()
+                for key, grid in keys.items():
+                    code = None if grid == "east" else "ServiceUnavailable"
+                    told(f"a get of {key} at {grid}", lambda key=key: s3.get_object(Bucket="moved", Key=key), code)
+                    told(f"a put of {key} at {grid}", lambda key=key: s3.put_object(Bucket="moved", Key=key, Body=key.split()[1].encode()), code)
+                told("a listing", lambda: s3.list_objects_v2(Bucket="moved"), "ServiceUnavailable")
+                found.processes["west"].send_signal(signal.SIGCONT)
+                until = time.monotonic() + 60
+                while time.monotonic() < until:
+                    with contextlib.suppress(*kills.FAULTS):
+                        if len(s3.list_objects_v2(Bucket="moved")["Contents"]) == len(keys):
+                            break
+                    time.sleep(0.5)
+                for key, grid in keys.items():
+                    told(f"a put of {key} at {grid} that answers again", lambda key=key: s3.put_object(Bucket="moved", Key=key, Body=key.split()[1].encode()), None)
+                    if s3.get_object(Bucket="moved", Key=key)["Body"].read() != key.split()[1].encode():
+                        wrong.append(f"{key} has another content")
+            return wrong + (["a traceback"] if "Traceback" in gateway.told() else [])
+        finally:
+            found.processes["west"].send_signal(signal.SIGCONT)
+            gateway.kill()
+
+
 def stages(found, model, now, word):
     """A move, with all operations between its steps."""
     now.save()
@@ -258,6 +316,11 @@ def stages(found, model, now, word):
 
 
 def main(words):
+    if words[0] == "silent":
+        os.environ["GRIDFS_TIMEOUT"] = "4"
+        wrong = while_one_is_silent()
+        print("".join(f"{line}\n" for line in wrong) + f"{len(wrong)} wrong")
+        return bool(wrong)
     if words[0] in ("operations", "once"):
         runs = [(True, 3), (False, 3)] if words[0] == "operations" else [(False, 1)]
         wrong = [f"{text} (later maps: {run[0]})" for run in runs for text in at_each_stage(*run)]

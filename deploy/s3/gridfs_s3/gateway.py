@@ -207,7 +207,7 @@ class Gateway:
         check_bucket(bucket)
         if self.known_buckets.get(bucket, 0) > time.monotonic():
             return
-        if not await self.look(bucket, lambda store: store.look(BUCKETS + bucket)):
+        if not await self.look(BUCKETS + bucket, lambda store: store.look(BUCKETS + bucket)):
             self.known_buckets.pop(bucket, None)
             raise S3Error("NoSuchBucket", BucketName=bucket)
         if len(self.known_buckets) > 1_000:

@@ -216,7 +216,8 @@ class Pool:
                 lock = None
                 while lock is None:
                     await asyncio.sleep(LOOK)
-                    lock = None if self.settings.is_wanted(worker.number) else self.settings.lock(worker.number)
+                    with suppress(OSError):  # (which is told elsewhere)
+                        lock = None if self.settings.is_wanted(worker.number) else self.settings.lock(worker.number)
                 worker.lock = lock
                 worker.session.forget()
                 self.release(worker)
