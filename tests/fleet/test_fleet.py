@@ -167,7 +167,7 @@ class Moves(unittest.TestCase):
             self.expect(grids, held)
 
     def test_parts(self):
-        """A content of several parts has them still behind a move, at a grid of another layout too; a name along with another one stands with it."""
+        """A content of several parts has them still after a move, at a grid of another layout too."""
         grids = Grids(slots=12)
         grids.memories["west"] = Memory(3, 5, 16, 12, 2)
         files = grids.named("east", 1, Ground("east", lambda _: 0))

@@ -83,7 +83,7 @@ class Machine:
 
 
 def told(program, carry):
-    """All nodes of both grids run; names are spread over both; a node of one grid that is stopped is told of, and its names are got."""
+    """All nodes of both grids run; names are spread over both; `status` has a node of one grid that was stopped, whose names are got."""
     folder = os.path.abspath("machine")
     machine = Machine(folder, program, carry)
     assert machine.words_of("3")[-1].endswith("lib/3/journal") and f"{folder}/etc/secret/3.crt" in machine.words_of("3"), machine.words_of("3")

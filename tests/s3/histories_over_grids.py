@@ -138,7 +138,7 @@ def first_alone(self, name):
 
 
 def here_alone(self, name):
-    """A get reads what a name holds by the session that it has, at whichever grid that stands."""
+    """A get reads what a name holds by the session that it has, at whichever grid that is."""
     held = held_of(fleets.ways.greatest(self.walk(name)))
     return held and replace(held, version=replace(held.version, grid=self.map.stop(slice_of(name)).grid))
 

@@ -4,7 +4,7 @@
     over_grids.py histories SECONDS KILLS       puts, gets, heads, removals and uploads in parts, by two gateways that share the sessions (kills.py)
     over_grids.py conditions SECONDS KILLS      conditional puts, by one gateway that has all sessions (kills.py)
     over_grids.py operations                    each operation, at each stage of three moves, by a gateway that follows maps and one that does not
-    over_grids.py silent                        what is told while a grid stands still
+    over_grids.py silent                        what a gateway answers while a grid does not
     over_grids.py once                          the same of one move, by one that does not
 
 Each grid is a stand-in. Gateways and movers are killed (kill -9), and begun again; a mover has its sessions from the gateways. The status is 1 where something
@@ -239,7 +239,7 @@ def at_each_stage(is_following, count=3):
 
 
 def while_one_is_silent():
-    """A grid stands still: its names are told 503, and so are listings, and the others go on. A gateway that begins then does so too; all is there once the grid
+    """A grid does not answer: requests for its names and listings get 503, and others go on. A gateway that begins then does so too; all is there once the grid
     answers again."""
     wrong = []
 

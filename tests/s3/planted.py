@@ -30,7 +30,7 @@ BUGS = {
     "document types are taken": ("test_forms.py Markup.test_what_is_refused", "markup.py", "    parser.StartDoctypeDeclHandler = parser.EntityDeclHandler = refuse\n", ""),
     "a key that may only read changes something": ("test_malformed.py Malformed.test_keys_that_may_less", "routes.py", 'asked.method not in ("GET", "HEAD")', "False"),
     "a copy reads from any bucket": ("test_malformed.py Malformed.test_keys_that_may_less", "copying.py", "        asked.signed.key.expect(bucket, is_change=False)\n", ""),
-    "an upload stays behind where its slice is moved": ("over_grids.py once", "store.py", "            return self.bring(name, found)\n", "            raise S3Error(\"NoSuchUpload\")\n"),
+    "an upload is left where its slice is moved": ("over_grids.py once", "store.py", "            return self.bring(name, found)\n", "            raise S3Error(\"NoSuchUpload\")\n"),
     "a completion over several grids leaves the upload": ("over_grids.py once", "uploads.py", "        if self.grids.map:\n            await self.remove(place)\n", ""),
     "a session that was lent goes on with its last number": ("over_grids.py once", "sessions.py", "                worker.session.forget()\n", ""),
     "a bucket is looked for by another name's grid": ("over_grids.py silent", "gateway.py", "self.look(BUCKETS + bucket, lambda", "self.look(bucket, lambda"),

@@ -114,7 +114,7 @@ def end_moves(now: FleetMap, settings: Settings) -> FleetMap:
 
 @dataclass
 class Report:
-    """What is told of a grid, its status, and its pages where they were seen."""
+    """A line about a grid, its status, and its pages where they were seen."""
 
     text: str
     status: int = 0

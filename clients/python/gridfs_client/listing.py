@@ -1,7 +1,7 @@
 """A listing of names over several grids without input and output: which grids are to be looked at next, and what names hold.
 
 All grids of the map are looked at side by side, each page of each. Then, as in the walk of one name (ways.py), each grid of a way has to be looked at after
-the one before it; and a line that counts and stands at a grid before the last one has to be there still in a look at the end. So some grids are looked at
+the one before it; and a line that counts and is at a grid before the last one has to be there still in a look at the end. So some grids are looked at
 again, for all such names together.
 
     listing = Listing(fleet_map)

@@ -38,7 +38,7 @@ ChangeMap = Callable[[Callable[[FleetMap], FleetMap]], FleetMap]
 
 
 class Mover:
-    """One move that a map says to be under way. `tell` is told what is done. Moves of other slices may go on side by side."""
+    """One move that a map says to be under way. `tell` is called with what is done. Moves of other slices may go on side by side."""
 
     def __init__(
         self,

@@ -1,4 +1,4 @@
-"""The tenant behind the endpoint: how operations look and change, and what all of them need."""
+"""The tenant of the endpoint: how operations look and change, and what all of them need."""
 
 import asyncio
 import time

@@ -201,7 +201,7 @@ class Grids:
         return None
 
     def preferred(self, want: Want, pool: Pool) -> int:
-        """The session by which changes of a name mostly go: so its lines mostly stand in one page."""
+        """The session by which changes of a name mostly go: so its lines are mostly in one page."""
         numbers = list(pool.workers)
         return numbers[turn_of(want.name, len(numbers))] if numbers else 0
 

@@ -4,7 +4,7 @@
     .s3/key/BUCKET/DIGEST     any other object: DIGEST is SHA-256 of the key, in 43 letters of base64url; the words have the key
     .s3/bucket/BUCKET         the bucket is there
     .s3/up/BUCKET/ID/=DIGEST  an upload in parts that is under way: what was uploaded, in the order of the parts. DIGEST is SHA-256 of the object's
-                              name, so that both stand in the same page, at the same grid
+                              name, so that both are in the same page, at the same grid
 
 A bucket's name begins with a letter or digit, so none of these are in each other's way. The words of a line are KEY=VALUE with & between, each
 quoted as in a URL:

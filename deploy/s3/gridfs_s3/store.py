@@ -195,8 +195,8 @@ class Store(Reader):
             return False
 
     def touch(self, name: str, seen: Held, values: Callable[[], Values]) -> Held | None:
-        """Gives a content other words where it stands, in slots of this session or in the line; None where the name holds another one by now, or it stands at
-        another grid."""
+        """Gives a content other words where it is, in slots of this session or in the line; None where the name holds another one by now, or it is at another
+        grid."""
         if seen.version.grid != self.grid:
             return None
 
@@ -274,7 +274,7 @@ class Store(Reader):
             raise Elsewhere(held.version.grid, held.version.session)
 
     def bring(self, name: str, held: Held) -> Held:
-        """Puts an upload that stands at an earlier grid anew, with the same parts."""
+        """Puts an upload that is at an earlier grid anew, with the same parts."""
         assert self.trip
         source, words = self.trip.grid(held.version.grid), values_beside(held)
 
@@ -330,8 +330,8 @@ class Store(Reader):
         return [(part, next(slots) if part.size else None) for part in parts_of(of_words(held.words))]
 
     def complete(self, name: str, object_name: str, values: Values, chosen: Sequence[InSlots | None], condition: Condition | None) -> Held:
-        """Gives the object the parts as they stand, and has the upload go, in one change. Over several grids the upload stays, and has to be removed: another grid
-        may still have an older line of it. (Both lines stand in one page, so slots that one of them names stay.)"""
+        """Gives the object the parts as they are, and has the upload go, in one change. Over several grids the upload stays, and has to be removed: another grid
+        may still have an older line of it. (Both lines are in one page, so slots that one of them names stay.)"""
         besides = frozenset[str]() if self.trip else frozenset([name])
         return self.change(object_name, lambda *_: joined(chosen), lambda: values, condition, besides)
 
