@@ -3,7 +3,7 @@
     fleet_trial.py GRIDFS [SECONDS] [--grids N] [--kills N] [--bug NAME]
 
 Each grid is one of examples/grid. Clients begin by the map as it is, or by one from before, and have their sessions for a few operations. `gridfs-fleet spread`
-is begun anew where it was killed. What is started here is ended, each by its process. Then all slices have to be spread, each name's history has to have an
+is begun anew where it was killed; once all slices are spread, some are moved elsewhere. What is started here is ended, each by its process. Then all slices have to be spread, each name's history has to have an
 order, and each grid that names left has none of them.
 """
 
@@ -33,14 +33,6 @@ STARTED, PATIENCE = 60, 90  # seconds
 TENANT = "ann"
 
 
-def write_plan(path):
-    volumes = [*[(SESSIONS * 2, 16)] * 4, (64, 4)]
-    share = sum(files * blocks for files, blocks in volumes)
-    with open(path, "w", encoding="ascii") as out:
-        out.write(f"grid 2 2\nblocks {share}\ntenant {TENANT} {share} {SESSIONS} 1\ngo\n")
-        out.writelines(f"{TENANT} open {files} {blocks}\n" for files, blocks in volumes)
-
-
 class Trial:
     def __init__(self, folder, program, bug):
         self.folder, self.program, self.bug, self.draw = folder, program, bug, random.Random()
@@ -49,7 +41,7 @@ class Trial:
         self.count = collections.Counter()
 
     def start_grid(self, label):
-        write_plan(f"{self.folder}/{label}.plan")
+        names_trial.write_plan(f"{self.folder}/{label}.plan", tenant=TENANT, sessions=SESSIONS, each=2)
         words = [os.path.join(TOP, "examples", "grid"), "--plan", f"{self.folder}/{label}.plan", "--program", self.program, "--tick", "0.1", f"{self.folder}/{label}"]
         self.grids[label] = subprocess.Popen(words, stdin=subprocess.PIPE, stdout=self.log, stderr=self.log, text=True, bufsize=1)
         until = time.monotonic() + STARTED
@@ -71,15 +63,19 @@ class Trial:
         words = [sys.executable, "-B", f"{HERE}/fleet_client.py", json.dumps(settings)]
         self.clients[number] = subprocess.Popen(words, stdin=subprocess.DEVNULL, stdout=self.log, stderr=self.log)
 
-    def see_to_mover(self):
-        """The mover goes on, or is begun again."""
+    def see_to_mover(self, is_over=False):
+        """The mover goes on, or is begun again: where all slices are spread, some go elsewhere, until it is over."""
         if self.mover and self.mover.poll() is not None:
             self.count["movers ended"] += 1
             if self.mover.returncode:
                 self.count[f"movers with status {self.mover.returncode}"] += 1
             self.mover = None
-        if self.mover is None and (read_map(self.map).moves or read_map(self.map).next_part()):
-            self.mover = subprocess.Popen(self.fleet("spread"), stdin=subprocess.DEVNULL, stdout=self.log, stderr=self.log)
+        now, words = read_map(self.map), ["spread"]
+        if self.mover is None and not now.moves and not now.next_part() and not is_over:
+            each = self.draw.choice(now.ranges)
+            words = ["move", f"{self.draw.randint(each.first, each.last)}-{each.last}", self.draw.choice([grid for grid in now.grids if grid != each.grid])]
+        if self.mover is None and (now.moves or now.next_part() or words[0] == "move"):
+            self.mover = subprocess.Popen(self.fleet(*words), stdin=subprocess.DEVNULL, stdout=self.log, stderr=self.log)
 
     def kill(self, what, until):
         if what == "mover":
@@ -144,12 +140,14 @@ def run(folder, program, seconds, grids, kills, bug=None):
             except subprocess.TimeoutExpired:
                 wrong.append(f"client {number} does not end")
         end = time.monotonic() + PATIENCE
-        while (now := read_map(trial.map)).moves or now.next_part():
-            trial.see_to_mover()
+        now = read_map(trial.map)
+        while trial.mover or now.moves or now.next_part():
+            trial.see_to_mover(is_over=True)
             if time.monotonic() > end:
                 wrong.append(f"not all slices are spread: {now.shares()}")
                 break
             time.sleep(0.1)
+            now = read_map(trial.map)
         trial.count["moves"] = now.last_move
         if not bug:
             told = subprocess.run(trial.fleet("status"), capture_output=True, text=True, check=False)

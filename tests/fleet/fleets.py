@@ -11,6 +11,7 @@ import argparse
 import collections
 import contextlib
 import dataclasses
+import functools
 import os
 import random
 import sys
@@ -27,7 +28,7 @@ from memory import Memory, MemorySession
 from gridfs_client import ClientError, NamedFiles, OneByOne, core, ways
 from gridfs_client.fleet import FleetFiles, sign
 from gridfs_client.fleet_map import new_map
-from gridfs_client.moving import Mover
+from gridfs_client.moving import Mover, moves_to_end
 from gridfs_client.ways import SLICES, slice_of
 
 LABELS = ("east", "west", "south")
@@ -80,21 +81,25 @@ class Actor:
         self.fleet.held.discard((grid, number))
         self.held.discard((grid, number))
 
-    def files(self, grid, numbers, ground):
+    def files(self, grid, numbers, ground, kind=NamedFiles):
         memory = self.fleet.memories[grid]
-        return NamedFiles(MemorySession(memory, self.take(grid, numbers), self.step), memory.layout, team=OneByOne(), ground=ground)
+        return kind(MemorySession(memory, self.take(grid, numbers), self.step), memory.layout, team=OneByOne(), ground=ground)
 
 
 class Fleet:
-    def __init__(self, draw, labels, sessions, pages, slots):
+    def __init__(self, draw, labels, sessions, pages, slots, page_blocks):
         self.draw, self.sessions, self.held = draw, sessions, set()
-        self.memories = {label: Memory(sessions, pages, 40, slots, 2) for label in labels}
+        self.memories = {label: Memory(sessions, pages, page_blocks, slots, 2) for label in labels}
         self.map = dataclasses.replace(new_map("east", "-"), grids=dict.fromkeys(labels, "-"))
         self.maps, self.counts = [self.map], collections.Counter()
 
     def save(self, fleet_map):
         self.map = fleet_map
         self.maps.append(fleet_map)
+
+    def change_map(self, change):
+        self.save(change(self.map))
+        return self.map
 
     def all(self):
         return range(1, self.sessions + 1)
@@ -106,35 +111,40 @@ class Fleet:
             memory.take(memory.pending.pop(self.draw.randrange(len(memory.pending))))
 
     def run(self, works, kills, late):
-        """`works` makes for each actor what it does, until it gives none."""
-        actors = {number: Actor(self, work()) for number, work in enumerate(works)}
+        """`works` makes by a number what an actor does. Movers have the numbers from 0 downwards, and are begun anew."""
+        actors = {number: Actor(self, work()) for number, work in works.items()}
         weights = dict.fromkeys(actors, 1.0)
-        while any(number for number in actors if number):  # (number 0 is the mover)
+        while max(actors) > 0:
             if self.draw.random() < 0.02:
                 weights = {number: self.draw.choice((0.01, 0.1, 1, 1)) for number in actors}
             if self.draw.random() < late:
                 self.late()
-            number = self.draw.choices(list(actors), [weights[each] * (1 if each else 4) for each in actors])[0]  # (a move has many steps)
+            number = self.draw.choices(list(actors), [weights[each] * (1 if each > 0 else 4) for each in actors])[0]  # (a move has many steps)
             actor = actors[number]
             if self.draw.random() < kills:
                 actor.is_killed = True
-                self.counts["movers killed" if number == 0 else "clients killed"] += 1
+                self.counts["clients killed" if number > 0 else "movers killed"] += 1
             actor.go()
             self.counts["steps"] += 1
             if actor.has_ended:
                 del actors[number]
-                if actor.is_killed or number == 0:
+                if actor.is_killed or number <= 0:
                     actors[number] = Actor(self, works[number]())
-        if 0 in actors:
-            actors[0].is_killed = True
-            actors[0].go()
+        for actor in actors.values():
+            actor.is_killed = True
+            actor.go()
 
 
-def try_fleet(seed, operations=60):
+def plain(fleet_map, actor, _):
+    return FleetFiles(fleet_map, lambda grid, ground: actor.files(grid, actor.fleet.all(), ground))
+
+
+def try_fleet(seed, operations=60, client_of=plain, page_blocks=40, slots=(8, 12)):
+    """A history of clients that `client_of` makes, of a map, an actor and what is drawn."""
     draw = random.Random(seed)
     labels = LABELS[: draw.choice((2, 2, 3))]
     clients = draw.choice((2, 3))
-    fleet = Fleet(draw, labels, clients + draw.choice((1, 2)), draw.choice((1, 1, 2)), draw.choice((8, 12)))
+    fleet = Fleet(draw, labels, clients + draw.choice((1, 2)), draw.choice((1, 1, 2)), draw.choice(slots), page_blocks)
     names = ["a", "b b", "ç"][: draw.choice((1, 2, 3))]
     history = History(names, (3, 45, 150), weights=draw.choice(((4, 5, 2, 1), (4, 4, 4, 0), (2, 6, 1, 0))))
     kills, late, left = draw.choice((0, 0.001, 0.004, 0.01)), draw.choice((0.1, 0.02, 0.005)), [operations]
@@ -143,7 +153,7 @@ def try_fleet(seed, operations=60):
         def work(actor):
             while left[0] > 0:
                 fleet_map = draw.choice(fleet.maps) if draw.random() < 0.5 else fleet.map
-                files = FleetFiles(fleet_map, lambda grid, ground: actor.files(grid, fleet.all(), ground))
+                files = client_of(fleet_map, actor, draw)
                 for _ in range(draw.choice((1, 2, 5))):
                     left[0] -= 1
                     history.do(actor, files, draw)
@@ -152,17 +162,23 @@ def try_fleet(seed, operations=60):
 
         return work
 
-    def mover():
+    def mover(turn, count):
+        """Moves whose numbers have this rest, side by side with another mover's."""
+
         def work(actor):
-            while not fleet.map.moves:
+            while not (mine := [move for move in moves_to_end(fleet.map) if move.number % count == turn]):
                 first, last = 0, SLICES - 1
                 if draw.random() < 0.4:
                     first = last = slice_of(draw.choice(names))
                 try:
-                    fleet.save(fleet.map.begun(first, last, draw.choice(labels)))
+                    begun = fleet.map.begun(first, last, draw.choice(labels))
+                    if begun.last_move % count == turn:
+                        fleet.save(begun)
+                        continue
                 except ClientError:
-                    actor.step()
-            move = fleet.map.moves[0]
+                    pass
+                actor.step()
+            move = mine[0]
 
             @contextlib.contextmanager
             def session(grid, numbers, ground):
@@ -170,12 +186,13 @@ def try_fleet(seed, operations=60):
                 yield files
                 actor.leave(grid, files.me)
 
-            Mover(fleet.map, move, session, lambda grid: fleet.memories[grid].layout, fleet.save).run()
+            Mover(fleet.map, move, session, lambda grid: fleet.memories[grid].layout, fleet.change_map).run()
             fleet.counts["moves ended"] += 1
 
         return work
 
-    fleet.run([mover, *[client] * clients], kills, late)
+    movers = 1 + (seed % 3 == 0)
+    fleet.run({-turn: functools.partial(mover, turn, movers) for turn in range(movers)} | {number: client for number in range(1, 1 + clients)}, kills, late)
     return history, fleet
 
 
@@ -205,7 +222,7 @@ BUGS = {
     "unsigned": (Mover, "sign_all", unsigned),
     "uncopied": (Mover, "copy_all", uncopied),
 }
-SEEDS = {"stays": 1, "new-alone": 1, "unsigned": 1, "uncopied": 9}  # of the history that finds each
+SEEDS = {"stays": 1, "new-alone": 0, "unsigned": 2, "uncopied": 51}  # of the history that finds each
 
 
 def is_found(seed, operations=60):

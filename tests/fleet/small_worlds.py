@@ -21,7 +21,6 @@ where there were more worlds than --most.
 """
 
 import argparse
-import collections
 import contextlib
 import os
 import random
@@ -33,7 +32,8 @@ from unittest import mock
 sys.dont_write_bytecode = True
 HERE = os.path.dirname(os.path.abspath(__file__))
 sys.path[:0] = [os.path.join(HERE, "..", "names"), os.path.join(HERE, "..", "..", "clients", "python")]
-from worlds import Op, Wrong, at, judge_ops, tag_of
+from searching import Wrong, searched
+from worlds import Op, at, judge_ops, tag_of
 
 from gridfs_client import core, ways
 from gridfs_client.core import Copied, Known, Line, ListPages, Page, ReadJournal, ReadPage, Signpost, WriteJournal, WritePage
@@ -348,26 +348,7 @@ def first_world(bounds):
 
 
 def search(bounds, most):
-    first = first_world(bounds)
-    known, left, count = {first: None}, collections.deque([first]), 0
-    while left:
-        world = left.popleft()
-        for words, following in Steps(world, bounds).all():
-            count += 1
-            try:
-                judge(world, following, bounds)
-            except Wrong as wrong:
-                told = [words]
-                while known[world]:
-                    world, before = known[world]
-                    told.append(before)
-                raise Wrong(str(wrong), *told[::-1]) from None
-            if following not in known:
-                if len(known) >= most:
-                    return len(known), count, False
-                known[following] = world, words
-                left.append(following)
-    return len(known), count, True
+    return searched(first_world(bounds), lambda world: Steps(world, bounds).all(), lambda world, following: judge(world, following, bounds), most)
 
 
 def wander(bounds, ways_to_go, seed=1):

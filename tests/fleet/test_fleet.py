@@ -2,25 +2,33 @@
 
 import contextlib
 import dataclasses
+import hashlib
+import io
 import os
 import sys
+import tempfile
 import unittest
+from unittest import mock
 
 HERE = os.path.dirname(os.path.abspath(__file__))
 sys.path[:0] = [os.path.join(HERE, "..", "names")]
 from histories import Killed
 from memory import Memory, MemorySession
 
-from gridfs_client import BadSettings, NamedFiles, NoSuchName, OneByOne, core
-from gridfs_client.contents import Inline
+from gridfs_client import BadSettings, NamedFiles, NoSuchName, OneByOne, Unanswered, command, core, fleet_command, ways
+from gridfs_client.buckets import held_of
+from gridfs_client.contents import Inline, Joined, digest_of
 from gridfs_client.core import Copied, Line, Page, Signpost
 from gridfs_client.fleet import FleetFiles
 from gridfs_client.fleet_map import Range, new_map, parse_map
-from gridfs_client.moving import Mover
+from gridfs_client.listing import Listing, Told
+from gridfs_client.moving import Mover, moves_to_end
 from gridfs_client.pages import parse_page, text_of
-from gridfs_client.ways import SLICES, slice_of
+from gridfs_client.streams import Source
+from gridfs_client.ways import SLICES, Ground, slice_of
 
 LONG = bytes(range(200))
+SETTINGS = "[gridfs]\ntenant = ann\nsocket = none\n"
 
 
 class Grids:
@@ -47,6 +55,10 @@ class Grids:
         self.map = fleet_map
         self.maps.append(fleet_map)
 
+    def change_map(self, change):
+        self.save(change(self.map))
+        return self.map
+
     def begin(self, first, last, target):
         self.save(self.map.begun(first, last, target))
 
@@ -60,7 +72,7 @@ class Grids:
             finally:
                 self.held.remove(number)
 
-        return kind(self.map, self.map.moves[0], session, lambda label: self.memories[label].layout, self.save)
+        return kind(self.map, self.map.moves[0], session, lambda label: self.memories[label].layout, self.change_map)
 
     def end(self):
         while self.map.moves:
@@ -154,6 +166,67 @@ class Moves(unittest.TestCase):
             held["short"] = target.encode()
             self.expect(grids, held)
 
+    def test_parts(self):
+        """A content of several parts has them still after a move, at a grid of another layout too."""
+        grids = Grids(slots=12)
+        grids.memories["west"] = Memory(3, 5, 16, 12, 2)
+        files = grids.named("east", 1, Ground("east", lambda _: 0))
+        bucket = files.bucket("joined")
+        bucket.look(own=True)
+        parts = tuple(files.in_slots(bucket, "joined", Source(content)) for content in (LONG, b"short", LONG[:130]))
+        files.commit(bucket, "joined", Joined(parts), "w")
+        before = grids.files(1).stat("joined")
+        grids.begin(0, SLICES - 1, "west")
+        grids.end()
+        for fleet_map in grids.maps:
+            content, entry = grids.files(2, fleet_map).get("joined")
+            self.assertEqual((content, entry.sha256, entry.words), (LONG + b"short" + LONG[:130], before.sha256, "w"))
+        moved = grids.named("west", 1, Ground("west", lambda _: 1))
+        moved.bucket("joined").refresh()
+        self.assertEqual([part.size for part in moved.bucket("joined").held("joined").content.parts], [200, 5, 130])
+
+    def test_along(self):
+        for name in ("a", "b/c", "ä"):
+            along = f"any/name/={digest_of(name.encode())}"
+            self.assertEqual(slice_of(along), slice_of(name))
+            for memory in (Memory(2, 7), Memory(3, 5)):
+                self.assertEqual(memory.layout.page_of(along), memory.layout.page_of(name))
+
+    def test_silent(self):
+        """A listing tells what the other grids have, and which one was silent."""
+        grids, _ = self.filled()
+        middle = SLICES // 2
+        grids.begin(middle, SLICES - 1, "west")
+        grids.end()
+        files = grids.files(1)
+        names = [f"name {number}" for number in range(8)]
+        for name in names:
+            files.put(name, b"x")
+
+        def open_grid(label, ground):
+            if label == "west":
+                raise Unanswered("no answer")
+            return grids.named(label, 1, ground)
+
+        told = FleetFiles(grids.map, open_grid).names_told("name")
+        self.assertEqual(([entry.name for entry in told.entries], list(told.silent)), ([name for name in names if slice_of(name) < middle], ["west"]))
+        self.assertTrue(0 < len(told.entries) < len(names))
+        with self.assertRaises(Unanswered):
+            FleetFiles(grids.map, open_grid).names()
+
+    def test_side_by_side(self):
+        """Moves of which none has an old grid that is another one's new grid."""
+        now = dataclasses.replace(new_map("a", "-"), grids=dict.fromkeys("abcd", "-")).spread()
+        self.assertEqual([move.target for move in moves_to_end(now)], ["b", "c", "d"])
+        for move in now.moves:
+            now = now.come(move).ended(move)
+        self.assertEqual(set(now.shares().values()), {SLICES // 4})
+        first, last = now.ranges[0].first, now.ranges[0].last
+        now = now.begun(first, first, "b").begun(last, last, "c")
+        there = next(each for each in now.ranges if each.grid == "b")
+        now = now.begun(there.first, there.first, "a")
+        self.assertEqual([move.target for move in moves_to_end(now)], ["b", "c"])
+
     def test_other_layout(self):
         grids, held = self.filled(pages=2)
         grids.memories["west"] = Memory(3, 5, 16, 8, 2)
@@ -228,6 +301,136 @@ class Moves(unittest.TestCase):
                 for fleet_map in grids.maps:
                     for name, content in held.items():
                         self.assertEqual(grids.files(1, fleet_map).get(name)[0], content, (kind, step))
+
+
+def unordered(self, grids):
+    """A listing looks at each grid once."""
+    missing = [grid for grid in grids if grid not in self.seen]
+    self.wanted.update(missing[:1])
+    return not missing
+
+
+def unconfirmed(self, name, lines):
+    """A listing tells a line of an old grid without another look at it."""
+    grids = list(self.way(slice_of(name), lambda grid: self.shown_to(name, grid)))
+    if self.is_in_order(grids):
+        held = held_of(max((line for line in lines if line.grid in grids), key=ways.version_in, default=None))
+        self.done[name] = Told(held, 1, 1) if held else None
+
+
+class Listings(unittest.TestCase):
+    """What a listing tells while a move goes on between its looks at one grid and at the other."""
+
+    def told(self, grids, between, first):
+        """A listing by the map before, which looks at this grid first."""
+        begun, works = grids.maps[-1], [between]
+
+        def side_by_side(look, labels):
+            found = {}
+            for label in sorted(labels, key=lambda label: label != first):
+                found[label] = look(label)
+                if works:
+                    works.pop()()
+            return [found[label] for label in labels]
+
+        files = FleetFiles(begun, lambda label, ground: grids.named(label, 1, ground), side_by_side)
+        return {entry.name: entry.sha256 for entry in files.names()}
+
+    def copied_amid(self):
+        """Names are copied and cleared after the look at the new grid, and before that at the old one."""
+        grids = Grids()
+        grids.files(1).put("a", b"x")
+        grids.begin(*((0, 0) if slice_of("a") else (1, 1)), "west")  # (so that it looks at the new grid too at first)
+        grids.end()
+        grids.begin(slice_of("a"), slice_of("a"), "west")
+        return self.told(grids, grids.end, "west").get("a")
+
+    def removed_amid(self):
+        """A name is put at the new grid before the listing. After the look at the old grid it is removed, and that forgotten."""
+        grids = Grids()
+        grids.files(1).put("a", b"old")
+        grids.begin(0, SLICES - 1, "west")
+        grids.mover().sign_all()
+        grids.files(1).put("a", b"new")
+
+        def remove():
+            grids.end()
+            grids.files(2).remove("a")
+            for number in (1, 2, 1, 2):
+                files = grids.named("west", number, Ground("west", lambda _: 1))
+                files.writer.tidy(files.writer.bucket(0), anew=True)
+
+        return self.told(grids, remove, "east").get("a")
+
+    def test_looks_in_order(self):
+        self.assertEqual(self.copied_amid(), hashlib.sha256(b"x").hexdigest())
+        with mock.patch.object(Listing, "is_in_order", unordered):
+            self.assertIsNone(self.copied_amid())
+
+    def test_looks_again(self):
+        self.assertNotEqual(self.removed_amid(), hashlib.sha256(b"old").hexdigest())
+        with mock.patch.object(Listing, "follow", unconfirmed):
+            self.assertEqual(self.removed_amid(), hashlib.sha256(b"old").hexdigest())
+
+
+class Commands(unittest.TestCase):
+    """Wrong words, maps and settings: one line each on standard error, and the status."""
+
+    def setUp(self):
+        self.before, folder = os.getcwd(), tempfile.TemporaryDirectory(prefix="fleet")
+        self.addCleanup(folder.cleanup)
+        self.addCleanup(os.chdir, self.before)
+        os.chdir(folder.name)
+        for name, text in {"a.ini": SETTINGS, "b.ini": SETTINGS, "a b.ini": SETTINGS, "no map": "hello\n", "bytes": "\xff"}.items():
+            with open(name, "w", encoding="latin-1") as out:
+                out.write(text)
+
+    def told(self, call, words):
+        with contextlib.redirect_stderr(io.StringIO()) as told, contextlib.redirect_stdout(io.TextIOWrapper(io.BytesIO())) as out:
+            status = call(words)
+            out.flush()
+        return status, told.getvalue().splitlines(), out.buffer.getvalue().decode()
+
+    def refuse(self, status, why, *words, map="map", call=fleet_command.main):
+        found = self.told(call, ["--map", map, "--timeout", "1", *words])
+        self.assertEqual((found[0], len(found[1])), (status, 1), found)
+        self.assertIn(why, found[1][0])
+
+    def test_wrong(self):
+        for words in (["status"], ["spread"], ["move"], ["add", "a", "a.ini"]):
+            self.refuse(2, "there is no such map; `gridfs-fleet --map missing begin GRID SETTINGS` makes one", *words, map="missing")
+            self.refuse(2, "no map of a fleet", *words, map="no map")
+            self.refuse(2, "no map of a fleet", *words, map="bytes")
+            self.refuse(2, "Is a directory", *words, map=".")
+        self.assertFalse([name for name in os.listdir() if name.endswith(".lock")])
+        self.refuse(6, "no folder/map: No such file or directory", "begin", "a", "a.ini", map="no folder/map")
+        self.refuse(2, "c.ini: no such file: the settings of a", "begin", "a", "c.ini")
+        self.refuse(2, "A!: no word for a grid", "begin", "A!", "a.ini")
+        self.refuse(2, "'a b.ini': a map has no such path", "begin", "a", "a b.ini")
+        self.assertEqual(self.told(fleet_command.main, ["--map", "map", "begin", "a", "a.ini"])[0], 0)
+        self.refuse(2, "there is a map", "begin", "a", "a.ini")
+        self.refuse(2, "there is such a grid", "add", "a", "a.ini")
+        self.assertEqual(self.told(fleet_command.main, ["--map", "map", "add", "b", "b.ini"])[0], 0)
+        for words in (["5"], ["5-3", "b"], ["0-5", "c"], ["0-99999", "b"], ["0-5", "a"]):
+            self.refuse(2, "", "move", *words)
+        self.refuse(2, "is no number of seconds", "--timeout", "x", "spread")
+        self.refuse(6, "a: none: No such file or directory", "move", "0-5", "b")
+        self.refuse(6, "a: none: No such file or directory", "spread")
+        status, told, out = self.told(fleet_command.main, ["--map", "map", "status"])
+        self.assertEqual((status, told, out.splitlines()[0]), (6, [], "a: none: No such file or directory; 65536 slices"))
+
+    def test_wrong_maps_of_clients(self):
+        client = command.main
+        for words in (["ls"], ["get", "x"], ["put", "a.ini", "x"], ["rm", "x"], ["stat", "x"], ["sweep"]):
+            self.refuse(2, "there is no such map", *words, map="missing", call=client)
+            self.refuse(2, "no map of a fleet", *words, map="no map", call=client)
+        for words in (["status"], ["mirror", ".", "grid:"], ["plan"], ["read", "0", "0"]):
+            self.refuse(2, "is about one grid", *words, map="missing", call=client)
+        self.told(fleet_command.main, ["--map", "map", "begin", "a", "a.ini"])
+        self.refuse(6, "a: none: No such file or directory", "get", "x", call=client)
+        status, told, out = self.told(client, ["--map", "map", "ls"])
+        wanted = ["gridfs-client: names at a are not told: none: No such file or directory", "gridfs-client: not all names are told: a is silent"]
+        self.assertEqual((status, told, out), (6, wanted, ""))
 
 
 if __name__ == "__main__":

@@ -21,7 +21,6 @@ the ways to wrong worlds that are known for some variants. It ends with status 1
 """
 
 import argparse
-import collections
 import contextlib
 import functools
 import random
@@ -34,6 +33,7 @@ from unittest import mock
 sys.dont_write_bytecode = True
 from histories import HERE  # (and where the client is found)
 from linearizability import Operation, is_linearizable
+from searching import Wrong, searched
 
 from gridfs_client import Tag, core
 from gridfs_client.core import Carries, Known, Line, ListPages, Page, ReadPage, Version, WriteJournal, WritePage
@@ -54,10 +54,6 @@ class Bounds(NamedTuple):
     pending: int = 2
     anew: int = 0
     behind: int = 0
-
-
-class Wrong(Exception):
-    """What was seen is not that of one register: the steps that led there."""
 
 
 class Session(NamedTuple):
@@ -271,24 +267,7 @@ def first_world(bounds):
 
 def search(bounds):
     """All worlds: how many there are, and how many steps from them. Wrong at the first that is wrong."""
-    first = first_world(bounds)
-    known, left, ways = {first: None}, collections.deque([first]), 0
-    while left:
-        world = left.popleft()
-        for words, following in Steps(world, bounds).all():
-            ways += 1
-            try:
-                judge(world, following)
-            except Wrong as wrong:
-                told = [words]
-                while known[world]:
-                    world, before = known[world]
-                    told.append(before)
-                raise Wrong(str(wrong), *told[::-1]) from None
-            if following not in known:
-                known[following] = world, words
-                left.append(following)
-    return len(known), ways
+    return searched(first_world(bounds), lambda world: Steps(world, bounds).all(), judge)[:2]
 
 
 def wander(bounds, ways, seed=1):

@@ -84,7 +84,7 @@ def left_in(gateway):
     """The bytes of slots that are free, by the metrics, of the sessions whose tables are known."""
     with urllib.request.urlopen(f"{gateway.url}/metrics") as told:
         lines = told.read().decode().splitlines()
-    return float(next(line.split()[-1] for line in lines if line.startswith('gridfs_s3_slot_bytes{state="left"')))
+    return float(next(line.split()[-1] for line in lines if line.startswith('gridfs_s3_slot_bytes{grid="",state="left"')))
 
 
 def main(seconds):

@@ -48,7 +48,7 @@ class Gateway:
 
     def start(self):
         words = [GATEWAY, "--config", self.settings, "--keys", self.keys, "--listen", f"127.0.0.1:{self.port}"]
-        environment = {**os.environ, "GRIDFS_SESSION": self.sessions, "GRIDFS_LOCKS": os.path.join(self.room, "locks")}
+        environment = {"GRIDFS_TIMEOUT": "20", **os.environ, "GRIDFS_SESSION": self.sessions, "GRIDFS_LOCKS": os.path.join(self.room, "locks")}
         with open(self.log, "ab") as log:
             begun = log.tell()
             self.process = subprocess.Popen(words, env=environment, stdin=subprocess.DEVNULL, stdout=log, stderr=log)
@@ -83,14 +83,17 @@ class Gateway:
 
 
 @contextlib.contextmanager
-def stand_in(plan=PLAN):
-    """A stand-in for a grid; the folder of its settings, and of all that belongs to it."""
+def stand_in(plan=PLAN, folder=None, processes=None):
+    """A stand-in for a grid; the folder of its settings, and of all that belongs to it. Its process is noted under that folder, where that is wanted."""
     for name in [name for name in os.environ if name.startswith("AWS_")]:
         del os.environ[name]
-    with tempfile.TemporaryDirectory(prefix="gridfs-s3-") as room:
+    with contextlib.nullcontext(folder) if folder else tempfile.TemporaryDirectory(prefix="gridfs-s3-") as room:
+        os.makedirs(room, exist_ok=True)
         log = os.path.join(room, "log.grid")
         with open(log, "wb") as out:
             process = subprocess.Popen([sys.executable, "-B", os.path.join(HERE, "stand_in.py"), plan, room], stdin=subprocess.DEVNULL, stdout=out, stderr=out)
+        if processes is not None:
+            processes[folder] = process
         try:
             wait(lambda: os.path.getsize(log), process, log)
             yield room

@@ -8,7 +8,6 @@ A client of these histories is a gateway with some sessions, of which it takes a
 
 import contextlib
 import hashlib
-import io
 import os
 import random
 import sys
@@ -16,9 +15,10 @@ import sys
 sys.path.insert(0, os.path.dirname(os.path.abspath(__file__)))
 import code_of_s3  # noqa: F401  (which says where the code is)
 import registers
+from bodies_in_memory import Body
 from gridfs_client import ClientError, NoSuchName, Replaced, Unanswered
 from gridfs_s3.errors import S3Error
-from gridfs_s3.places import of_words
+from gridfs_s3.places import of_words, upload_name
 from gridfs_s3.shared import Shared
 from gridfs_s3.store import PageFull, Store
 
@@ -32,18 +32,6 @@ ALONE = 2  # in the last shape there is one gateway at a time, which has all ses
 
 class WentBack(Exception):
     """A time of a key went back."""
-
-
-class Body(io.BytesIO):
-    @property
-    def told_size(self):
-        return len(self.getvalue())
-
-    def rewind(self):
-        self.seek(0)
-
-    def digest(self):
-        return "0" * 32
 
 
 class Objects:
@@ -100,11 +88,11 @@ class Objects:
 
     def put_in_parts(self, store, name, content, values):
         """By an upload of one session, with a part that is put twice and one that is left out."""
-        upload, half = store.begin_upload("bucket", name, {}), len(content) // 2
+        upload, half = upload_name("bucket", store.begin_upload("bucket", name, {}), name), len(content) // 2
         for number, part in ((1, b"x" * 50), (3, content[half:]), (2, b"left out"), (1, content[:half])):
-            store.put_part("bucket", upload, number, Body(part), 5)
-        found = {part.number: slots for part, slots in store.uploaded(store.upload("bucket", upload))}
-        store.complete("bucket", upload, name, values, [found[1], found[3]], None)
+            store.put_part(upload, number, Body(part), 5)
+        found = {part.number: slots for part, slots in store.uploaded(store.upload(upload))}
+        store.complete(upload, name, values, [found[1], found[3]], None)
 
     def change_words(self, name, values):
         """Gives a content other words where it stands, if it is there still: that changes nothing of it. (Beside another gateway it would be one

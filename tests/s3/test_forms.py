@@ -31,8 +31,8 @@ from gridfs_s3.listing import Cut
 from gridfs_s3.places import Object, check_bucket, name_of, object_of, of_words, to_words
 from gridfs_s3.requests import judge, range_of, seconds_of_date
 from gridfs_s3.sessions import Pool
-from gridfs_s3.shared import Shared
-from gridfs_s3.workers import Crowded
+from gridfs_s3.shared import Turns
+from gridfs_s3.workers import Crowded, Gathering, Lending
 
 
 def held(name, words=None, content=b"hi"):
@@ -289,16 +289,16 @@ class Sessions(Case):
         """Not even in the moment in which the lock is free, and another one is next: that one could wait for this one."""
 
         async def scenario():
-            pool, entered, go, never = Pool(None), asyncio.Event(), asyncio.Event(), asyncio.Event()
+            pool, entered, go, never = Pool(None, Gathering(), Lending(), Turns()), asyncio.Event(), asyncio.Event(), asyncio.Event()
 
             async def first():
-                async with pool.gather():
+                async with pool.gathering:
                     entered.set()
                     await go.wait()
                 await pool.others([])
 
             async def second():
-                async with pool.gather():
+                async with pool.gathering:
                     await never.wait()
 
             tasks = [asyncio.create_task(first())]
@@ -315,16 +315,16 @@ class Sessions(Case):
 
 class Clock(Case):
     def test_it_never_goes_back(self):
-        shared = Shared()
+        turns = Turns()
         with mock.patch("time.time_ns", lambda: 5_000_000_000):
-            self.assertEqual([shared.time_after(0), shared.time_after(0), shared.time_after(9_000), shared.time_after(0)], [5_000, 5_001, 9_001, 9_002])
-            shared.is_later_than(20_000)
-            self.assertEqual(shared.time_after(0), 20_001)
+            self.assertEqual([turns.time_after(0), turns.time_after(0), turns.time_after(9_000), turns.time_after(0)], [5_000, 5_001, 9_001, 9_002])
+            turns.is_later_than(20_000)
+            self.assertEqual(turns.time_after(0), 20_001)
 
     def test_numbers(self):
-        shared = Shared()
-        shared.is_unsure("a", 7)
-        self.assertEqual((shared.number_for("a", 3), shared.number_for("a", 9), shared.number_for("b", 3)), (8, 9, 3))
+        turns = Turns()
+        turns.is_unsure("a", 7)
+        self.assertEqual((turns.number_for("a", 3), turns.number_for("a", 9), turns.number_for("b", 3)), (8, 9, 3))
 
 
 if __name__ == "__main__":

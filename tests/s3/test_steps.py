@@ -2,7 +2,6 @@
 of theirs that take effect late. And the forms of what is beside a content."""
 
 import hashlib
-import io
 import os
 import random
 import sys
@@ -12,30 +11,19 @@ from unittest import mock
 HERE = os.path.dirname(os.path.abspath(__file__))
 sys.path[:0] = [HERE, os.path.join(HERE, "..", "names")]
 import code_of_s3  # noqa: F401  (which says where the code is)
+from bodies_in_memory import Body
 from histories import Killed
 from memory import Memory
 
 from gridfs_client import OneByOne, Unanswered
 from gridfs_client.contents import Joined
 from gridfs_s3.errors import S3Error
-from gridfs_s3.places import of_words, parts_of
+from gridfs_s3.places import of_words, parts_of, upload_name
 from gridfs_s3.shared import Shared
 from gridfs_s3.store import Store
 
 NAME, BUCKET = "bucket/key", "bucket"
 OLD, PARTS = b"old" * 100, [b"a" * 500, b"b" * 10, b"c" * 700]
-
-
-class Source(io.BytesIO):
-    @property
-    def told_size(self):
-        return len(self.getvalue())
-
-    def rewind(self):
-        self.seek(0)
-
-    def digest(self):
-        return hashlib.md5(self.getvalue()).hexdigest()
 
 
 def client(memory, number=1, at_step=None):
@@ -52,7 +40,7 @@ def fresh():
 
 
 def put(objects, name, content, word="x"):
-    return objects.put_object(name, Source(content), lambda: {"m": word})
+    return objects.put_object(name, Body(content), lambda: {"m": word})
 
 
 def content_of(objects, name):
@@ -61,14 +49,14 @@ def content_of(objects, name):
 
 
 def part(objects, upload, number, content):
-    source = Source(content)
-    return objects.put_part(BUCKET, upload, number, source, 5)
+    return objects.put_part(upload_name(BUCKET, upload, NAME), number, Body(content), 5)
 
 
 def complete(objects, upload):
-    held = objects.upload(BUCKET, upload)
+    name = upload_name(BUCKET, upload, NAME)
+    held = objects.upload(name)
     chosen = [slots for _, slots in objects.uploaded(held)]
-    return objects.complete(BUCKET, upload, NAME, {"m": "joined", "n": "3"}, chosen, None)
+    return objects.complete(name, NAME, {"m": "joined", "n": "3"}, chosen, None)
 
 
 def kill_at(step):
@@ -171,7 +159,7 @@ class Steps(unittest.TestCase):
         self.assertEqual(seen, {(OLD, 1), (b"".join(PARTS), 0)})
 
     def test_given_up(self):
-        _, seen = self.each_step(self.uploaded, lambda files, upload: files.delete(f".s3/up/{BUCKET}/{upload}"), lambda memory: self.judge(memory, OLD, OLD))
+        _, seen = self.each_step(self.uploaded, lambda files, upload: files.delete(upload_name(BUCKET, upload, NAME)), lambda memory: self.judge(memory, OLD, OLD))
         self.assertEqual(seen, {(OLD, 1), (OLD, 0)})
 
     def test_touch(self):
@@ -210,7 +198,7 @@ class Steps(unittest.TestCase):
             raise S3Error("PreconditionFailed")
 
         with self.assertRaises(S3Error):
-            files.put_object(NAME, Source(b"new" * 200), dict, refuse)
+            files.put_object(NAME, Body(b"new" * 200), dict, refuse)
         calls = []
 
         def refuse_late(held):
@@ -219,7 +207,7 @@ class Steps(unittest.TestCase):
                 raise S3Error("PreconditionFailed")
 
         with self.assertRaises(S3Error):
-            files.put_object(NAME, Source(b"new" * 200), dict, refuse_late)
+            files.put_object(NAME, Body(b"new" * 200), dict, refuse_late)
         self.assertEqual(content_of(files, NAME), OLD)
         self.assertEqual(files.writer.keeper.needed().taken(), files.writer.bucket(0).journal.slots(1))
 
@@ -245,7 +233,7 @@ class Steps(unittest.TestCase):
                 raise S3Error("PreconditionFailed")
 
         try:
-            one.put_object(NAME, Source(b"new" * 200), dict, condition)
+            one.put_object(NAME, Body(b"new" * 200), dict, condition)
         except S3Error:
             is_done = False
         memory.surface()
@@ -274,9 +262,10 @@ class Steps(unittest.TestCase):
         def refuse(held):
             raise S3Error("PreconditionFailed")
 
-        chosen = [slots for _, slots in files.uploaded(files.upload(BUCKET, upload))]
+        name = upload_name(BUCKET, upload, NAME)
+        chosen = [slots for _, slots in files.uploaded(files.upload(name))]
         with self.assertRaises(S3Error):
-            files.complete(BUCKET, upload, NAME, {"m": "joined"}, chosen, refuse)
+            files.complete(name, NAME, {"m": "joined"}, chosen, refuse)
         for number in range(6):
             put(files, "bucket/other", b"%d" % number * 900)
         complete(files, upload)

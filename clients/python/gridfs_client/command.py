@@ -226,9 +226,9 @@ def ls(opened: Opened | OpenedFleet, args: argparse.Namespace) -> None:
         entries = names.names(args.prefix)
     tell(args, [told_of(entry) for entry in entries], "\n".join(map(line_of, entries)) or None)
     for grid, fault in silent.items():
-        complain(f"names at {grid} are not told: {fault}")
+        complain(f"names at {grid} are not told: {str(fault).removeprefix(f'{grid}: ')}")
     if silent:
-        raise next(iter(silent.values()))
+        raise Skipped(f"not all names are told: {listed(silent)} {'is' if len(silent) == 1 else 'are'} silent", next(iter(silent.values())).status)
 
 
 def rm(opened: Opened | OpenedFleet, args: argparse.Namespace) -> None:

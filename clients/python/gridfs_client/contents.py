@@ -10,6 +10,7 @@ NUMBER = r"(?:0|[1-9][0-9]*)"
 RUNS = rf"{NUMBER}(?:-{NUMBER})?(?:,{NUMBER}(?:-{NUMBER})?)*"
 STRANDS = rf"{NUMBER}:{RUNS}(?:;{NUMBER}:{RUNS})*"
 PART = rf"[1-9][0-9]* [A-Za-z0-9_-]{{43}} {NUMBER} {STRANDS}"
+BESIDE = re.compile(r".*/=([A-Za-z0-9_-]{43})", re.DOTALL)
 CONTENT = re.compile(rf"-|@([A-Za-z0-9_-]*)|({PART}(?:&{PART})*)")
 
 
@@ -29,6 +30,12 @@ def digest_of(content: bytes) -> str:
 
 def digest_in_hex(digest: str) -> str:
     return from_base64(digest).hex()
+
+
+def digest_to_place(name: str) -> bytes:
+    """By which a name has its page and its slice: SHA-256 of it. A name that ends in /=DIGEST has those of the name whose digest that is."""
+    found = BESIDE.fullmatch(name)
+    return from_base64(found[1]) if found else hashlib.sha256(name.encode()).digest()
 
 
 @dataclass(frozen=True)

@@ -3,17 +3,19 @@
 import io
 import tempfile
 import time
-from collections.abc import Callable
+from collections.abc import Callable, Sequence
+from concurrent.futures import ThreadPoolExecutor
 from dataclasses import dataclass
 from typing import IO
 
 from . import core, ways
-from .buckets import Bucket, Held
+from .buckets import Bucket, Held, held_of
 from .contents import Content, Inline
-from .core import Line, Version
+from .core import Knows, Line, Version
 from .errors import BadSettings, ClientError, Damaged, NoRoom, NoSuchName, Replaced
 from .fleet_map import FleetMap
 from .layout import Layout
+from .listing import Listing
 from .names import Entry, Listed, NamedFiles, Swept, copied_whole, entry_of, no_words
 from .pages import check_name, check_words, text_of
 from .streams import Source
@@ -31,13 +33,6 @@ def ground_of(fleet_map: FleetMap, grid: str) -> Ground:
     return Ground(grid, arrived)
 
 
-def held_of(found: Found | None) -> Held | None:
-    """What the line that counts holds. Its pieces are those of the session whose page shows it."""
-    if found is None or found.line.content is None:
-        return None
-    return Held(found.line.name, Version(found.line.version, found.session), found.line.content, found.line.words)
-
-
 @dataclass(frozen=True)
 class Names:
     """A listing, and the grids that didn't answer, each with what was the matter."""
@@ -46,11 +41,25 @@ class Names:
     silent: dict[str, ClientError]
 
 
-class FleetFiles:
-    """`open_grid` gives a client's files at a grid, of a session that has no other client, with this ground; it is asked once for each."""
+Look = Callable[[str], "Sequence[Knows] | ClientError"]
+SideBySide = Callable[[Look, Sequence[str]], "list[Sequence[Knows] | ClientError]"]
 
-    def __init__(self, fleet_map: FleetMap, open_grid: Callable[[str, Ground], NamedFiles]):
-        self.map, self.open_grid = fleet_map, open_grid
+
+def one_by_one(look: Look, grids: Sequence[str]) -> "list[Sequence[Knows] | ClientError]":
+    return list(map(look, grids))
+
+
+def in_threads(look: Look, grids: Sequence[str]) -> "list[Sequence[Knows] | ClientError]":
+    with ThreadPoolExecutor(max(1, len(grids))) as threads:
+        return list(threads.map(look, grids))
+
+
+class FleetFiles:
+    """`open_grid` gives a client's files at a grid, of a session that has no other client, with this ground; it is asked once for each. Grids are looked
+    at for a listing by `side_by_side`."""
+
+    def __init__(self, fleet_map: FleetMap, open_grid: Callable[[str, Ground], NamedFiles], side_by_side: "SideBySide" = one_by_one):
+        self.map, self.open_grid, self.side_by_side = fleet_map, open_grid, side_by_side
         self.grids: dict[str, NamedFiles] = {}
 
     def grid(self, grid: str) -> NamedFiles:
@@ -81,7 +90,8 @@ class FleetFiles:
                 else:
                     if isinstance(asked, core.WritePage):
                         bucket.forget()  # until the answer is there
-                    state = ways.told(state, bucket.answer(asked, None))
+                    assert state.state
+                    state = ways.told(state, bucket.known(state.state) or bucket.answer(asked, None))
                     bucket.is_carried |= isinstance(asked, core.WritePage)
             except core.Older as fault:
                 raise Damaged(f"{grid}: {bucket.where(*fault.args)} is older than another page that was written after it") from None
@@ -194,40 +204,20 @@ class FleetFiles:
         return found.entries
 
     def names_told(self, prefix: str = "") -> Names:
-        """The names at all grids that answer. A name that no signpost is on the way of is told as its grid was looked at, each other one by a walk."""
-        begin, names, direct = time.time(), set[str](), dict[str, Listed]()
-        silent, left, looked = dict[str, ClientError](), [each.grid for each in self.map.ranges], set[str]()
-        while left:
-            grid = left.pop(0)
-            if grid in looked:
-                continue
-            looked.add(grid)
-            try:
-                files, since = self.grid(grid), time.time()
-                for bucket, _ in files.buckets():
-                    signposts = {each for known in bucket.client.seen for each in known.page.signposts}
-                    left += [each.grid for each in signposts]
-                    shown = [name for name in bucket.by_name() if name.startswith(prefix)]
-                    names.update(shown)
-                    for name in shown:
-                        stop, held = self.map.stop(slice_of(name)), bucket.held(name)
-                        if stop.grid == grid and not any(each.leads(slice_of(name), stop.move) for each in signposts):
-                            names.discard(name)
-                            if held:
-                                direct[name] = Listed(**vars(entry_of(held)), seen_from=since, seen_to=time.time())
-            except ClientError as fault:
-                silent[grid] = fault
-        for name in sorted(names - direct.keys()):
-            since, slice_number = time.time(), slice_of(name)
-            if self.map.stop(slice_number).grid in silent:
-                continue
-            try:
-                held = held_of(ways.greatest(self.walk(name)))
-                if held:
-                    direct[name] = Listed(**vars(entry_of(held)), seen_from=min(begin, since), seen_to=time.time())
-            except ClientError as fault:
-                silent[self.map.stop(slice_number).grid] = fault
-        return Names([direct[name] for name in sorted(direct)], silent)
+        """The names at all grids that answer, which are looked at side by side."""
+        listing, moments = Listing(self.map, prefix), [time.time()]
+        while grids := sorted(listing.wanted):
+            listing.looked(dict(zip(grids, self.side_by_side(self.all_buckets, grids))))
+            moments.append(time.time())
+        entries = [Listed(**vars(entry_of(told.held)), seen_from=moments[told.first - 1], seen_to=moments[told.last]) for told in listing.told()]
+        return Names(entries, listing.silent)
+
+    def all_buckets(self, grid: str) -> "Sequence[Knows] | ClientError":
+        """What is seen of each bucket of a grid, or why it was silent."""
+        try:
+            return [bucket.client for bucket, _ in self.grid(grid).buckets()]
+        except ClientError as fault:
+            return fault
 
     def sweep(self) -> Swept:
         found = [self.grid(grid).sweep() for grid in self.map.grids]

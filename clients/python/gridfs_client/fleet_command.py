@@ -5,18 +5,24 @@ import fcntl
 import os
 import signal
 import sys
-from collections.abc import Iterator
+import threading
+from collections.abc import Callable, Iterator, Sequence
+from concurrent.futures import ThreadPoolExecutor
 from contextlib import closing, contextmanager
-from dataclasses import replace
+from dataclasses import dataclass, replace
+from typing import IO
 
 from . import __version__
-from .errors import BadSettings, ClientError
+from .asking import SILENCE, ask_all
+from .core import Page
+from .errors import BadSettings, ClientError, Silent
 from .fleet_map import FleetMap, Move, new_map, read_map
 from .local import complain
 from .moving import Mover, moves_to_end
 from .open_grids import OpenGrids, publish
 from .settings import Settings
 from .usage import usage_of
+from .ways import slice_of
 
 EPILOG = """\
 examples:
@@ -24,7 +30,7 @@ examples:
   gridfs-fleet --map fleet add west west.ini        one grid more, without names
   gridfs-fleet --map fleet spread                   slices are moved until each grid has an equal part of them
   gridfs-fleet --map fleet move 0-16383 west        these slices are moved, of the slices 0 to 65535
-  gridfs-fleet --map fleet status                   which slices each grid has, its room, and moves under way
+  gridfs-fleet --map fleet status                   of each grid its slices, nodes and room, and how far moves are
 
 The settings of a grid are a file as gridfs-client reads it, beside the map. A move may be killed at any moment: `spread` or `move` without words ends
 it. An older map is as right as the last one, and a copy of that stands in the fleet under the name `.fleet`."""
@@ -46,14 +52,21 @@ def parser() -> argparse.ArgumentParser:
     sub.add_argument("slices", nargs="?", help="FIRST-LAST, of 0 to 65535, which are at one grid")
     sub.add_argument("grid", nargs="?")
     words.add_parser("spread", help="end moves that were begun, and move slices until each grid has an equal part")
-    words.add_parser("status", help="tell which slices each grid has, its room, and moves under way")
+    words.add_parser("status", help="tell of each grid its slices, nodes and room, and how far moves are")
     return main
+
+
+def lock_beside(path: str) -> IO[str]:
+    try:
+        return open(path + ".lock", "w", encoding="ascii")
+    except OSError as fault:
+        raise OSError(fault.errno, fault.strerror, path) from None
 
 
 @contextmanager
 def alone(path: str) -> Iterator[None]:
     """As long as no other command of this machine changes the map."""
-    with open(path + ".lock", "w", encoding="ascii") as lock:
+    with lock_beside(path) as lock:
         try:
             fcntl.flock(lock, fcntl.LOCK_EX | fcntl.LOCK_NB)
         except BlockingIOError:
@@ -61,57 +74,99 @@ def alone(path: str) -> Iterator[None]:
         yield
 
 
-def end_move(now: FleetMap, move: Move, settings: Settings) -> FleetMap:
-    def tell(text: str) -> None:
-        print(f"move {move.number}: {text}", flush=True)
+class Moves:
+    """Moves of a map that go on side by side."""
 
-    def save(fleet_map: FleetMap) -> None:
-        fleet_map.save()
-        if fault := publish(fleet_map, settings):
-            complain(f"the map was not put into the fleet: {fault}")
+    def __init__(self, now: FleetMap, settings: Settings):
+        self.now, self.settings, self.guard = now, settings, threading.Lock()
 
-    tell(f"slices {move.first}-{move.last} from {move.source} to {move.target}")
-    with closing(OpenGrids(now, settings)) as grids:
-        ended = Mover(now, move, grids.session, grids.layout, save, tell).run()
-    tell("ended")
-    return ended
+    def change_map(self, change: Callable[[FleetMap], FleetMap]) -> FleetMap:
+        with self.guard:
+            self.now = change(self.now)
+            self.now.save()
+            if fault := publish(self.now, self.settings):
+                complain(f"the map was not put into the fleet: {fault}")
+            return self.now
+
+    def end(self, moves: Sequence[Move]) -> None:
+        """Ends these; the first fault of one is raised once all have ended or failed."""
+        with closing(OpenGrids(self.now, self.settings)) as grids, ThreadPoolExecutor(len(moves)) as threads:
+            for grid in sorted({grid for move in moves for grid in (move.source, move.target)}):
+                grids.grid(grid)
+            for future in [threads.submit(self.end_one, grids, move) for move in moves]:
+                future.result()
+
+    def end_one(self, grids: OpenGrids, move: Move) -> None:
+        def tell(text: str) -> None:
+            print(f"move {move.number}: {text}", flush=True)
+
+        tell(f"slices {move.first}-{move.last} from {move.source} to {move.target}")
+        Mover(self.now, move, grids.session, grids.layout, self.change_map, tell).run()
+        tell("ended")
 
 
 def end_moves(now: FleetMap, settings: Settings) -> FleetMap:
-    while move := next(moves_to_end(now), None):
-        now = end_move(now, move, settings)
-    return now
+    moves = Moves(now, settings)
+    while under_way := moves_to_end(moves.now):
+        moves.end(under_way)
+    return moves.now
 
 
-def started(now: FleetMap, first: int, last: int, target: str) -> FleetMap:
-    begun = now.begun(first, last, target)
-    begun.save()
-    return begun
+@dataclass
+class Report:
+    """A line about a grid, its status, and its pages where they were seen."""
+
+    text: str
+    status: int = 0
+    pages: Sequence[Page] = ()
+
+
+def report_of(grids: OpenGrids, grid: str, slices: int) -> Report:
+    try:
+        opened = grids.grid(grid)
+        nodes = ask_all(opened.carrier, min(SILENCE, opened.settings.seconds("timeout")), opened.settings.shape())
+        text = f"{grid}: {slices} slices, {nodes.summary() if nodes else 'no node answers'}"
+        if nodes is None or nodes.goes_on() is False:
+            return Report(text, Silent.status)
+        files = grids.files().grid(grid)
+        usage = usage_of(files)
+    except ClientError as fault:
+        return Report(f"{fault}; {slices} slices", fault.status)
+    text += f", {usage.names} names, {usage.bytes_free} bytes free, fullest page {usage.fullest.percent} % full"
+    return Report(text, 0, [known.page for bucket in files.writer.buckets.values() for known in bucket.client.seen])
+
+
+def move_text(move: Move, pages: Sequence[Page]) -> str:
+    """How far a move is, by the pages of its old grid."""
+    what = "has yet to be cleared" if move.is_there else "has not ended"
+    text = f"move {move.number} {what}: slices {move.first}-{move.last} from {move.source} to {move.target}"
+    if pages:
+        signed = sum(move.signpost in page.signposts for page in pages)
+        lines = sum(move.has(slice_of(line.name)) for page in pages for line in page.lines)
+        text += f"; {signed} of {len(pages)} pages have its signpost, and {lines} lines are left there"
+    return text
 
 
 def status(now: FleetMap, settings: Settings) -> int:
     """What each grid has, and the status of the first that doesn't answer."""
-    found, shares = 0, now.shares()
-    with closing(OpenGrids(now, settings)) as grids:
-        for grid in now.grids:
-            text = f"{grid}: {shares[grid]} slices"
-            try:
-                usage = usage_of(grids.grid(grid).files(None, grids.files().ground(grid)))
-                text += f", {usage.names} names, {usage.bytes_free} bytes free, fullest page {usage.fullest.percent} % full"
-            except ClientError as fault:
-                text, found = f"{text}, {fault}", found or fault.status
-            print(text, flush=True)
+    shares = now.shares()
+    with closing(OpenGrids(now, settings)) as grids, ThreadPoolExecutor(len(now.grids)) as threads:
+        reports = dict(zip(now.grids, threads.map(lambda grid: report_of(grids, grid, shares[grid]), now.grids)))
+    for report in reports.values():
+        print(report.text)
     for move in now.moves:
-        what = "has yet to be cleared" if move.is_there else "has not ended"
-        print(f"move {move.number} {what}: slices {move.first}-{move.last} from {move.source} to {move.target}")
-    return found
+        print(move_text(move, reports[move.source].pages))
+    return next((report.status for report in reports.values() if report.status), 0)
 
 
 def run(words: list[str]) -> int:
     args = parser().parse_args(words)
     settings = Settings({"timeout": args.timeout, "helpers": "3", "session": "all"})
+    settings.seconds("timeout")
     if args.word == "status":
         return status(read_map(args.map), settings)
+    if args.word != "begin":
+        read_map(args.map)
     with alone(args.map):
         if args.word == "begin":
             if os.path.exists(args.map):
@@ -129,12 +184,14 @@ def run(words: list[str]) -> int:
             first, _, last = args.slices.partition("-")
             if not (first.isdecimal() and last.isdecimal() and args.grid):
                 raise BadSettings(f"{args.slices}: FIRST-LAST and a grid are wanted")
-            begun = started(now, int(first), int(last), args.grid)
-            end_move(begun, begun.moves[-1], settings)
+            begun = now.begun(int(first), int(last), args.grid)
+            begun.save()
+            Moves(begun, settings).end(begun.moves[-1:])
         else:
             now = end_moves(now, settings)
-            while args.word == "spread" and (part := now.next_part()):
-                now = end_moves(started(now, *part), settings)
+            while args.word == "spread" and (begun := now.spread()).moves:
+                begun.save()
+                now = end_moves(begun, settings)
     return 0
 
 

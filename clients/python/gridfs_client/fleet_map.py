@@ -75,6 +75,11 @@ class FleetMap:
     path: str = field(default="", compare=False)
 
     def __post_init__(self) -> None:
+        for grid, settings in self.grids.items():
+            if not re.fullmatch(GRID, grid):
+                raise BadSettings(f"{grid}: no word for a grid, which is a letter a to z, and up to 15 more letters or digits")
+            if not re.fullmatch(r"[!-~]+", settings):
+                raise BadSettings(f"{settings!r}: a map has no such path, but letters of ASCII without spaces")
         at = 0
         for each in self.ranges:
             if each.first != at or each.last < at or each.grid not in self.grids:
@@ -156,6 +161,18 @@ class FleetMap:
         count = max(1, min(shares[most] - part, part - shares[least], last.count))
         return last.last - count + 1, last.last, least
 
+    def spread(self) -> "FleetMap":
+        """With the moves by which each grid gets an equal part, as many as may be under way at once."""
+        begun, then = self, self
+        while part := then.next_part():
+            try:
+                begun = begun.begun(*part)
+            except BadSettings:
+                break  # (of slices that have yet to come)
+            move = begun.moves[-1]
+            then = replace(then, moves=(*then.moves, move)).come(move).ended(move)
+        return begun
+
     def text(self) -> str:
         lines = ["fleet 1", *(f"grid {grid} {settings}" for grid, settings in self.grids.items())]
         lines += [f"slices {each.first}-{each.last} {each.move} {each.grid}" for each in self.ranges]
@@ -206,5 +223,9 @@ def read_map(path: str) -> FleetMap:
     try:
         with open(path, encoding="ascii") as text:
             return parse_map(text.read(), path)
-    except (OSError, UnicodeDecodeError) as fault:
-        raise BadSettings(f"{path}: {fault}") from None
+    except FileNotFoundError:
+        raise BadSettings(f"{path}: there is no such map; `gridfs-fleet --map {path} begin GRID SETTINGS` makes one") from None
+    except OSError as fault:
+        raise BadSettings(f"{path}: {fault.strerror}") from None
+    except UnicodeDecodeError:
+        raise BadSettings(f"{path}: no map of a fleet") from None

@@ -11,12 +11,14 @@ It has a session for a page at a time. What it can't have of a session, its own 
 machine.
 """
 
-from collections.abc import Callable, Collection, Iterator
+from collections.abc import Callable, Collection
 from contextlib import AbstractContextManager
 
 from . import core, ways
+from .buckets import Bucket, Held, held_of
+from .contents import Content, Inline, InSlots, Joined
 from .errors import Damaged, NoRoom, SessionTaken
-from .fleet import FleetFiles, ground_of, held_of, sign, spool
+from .fleet import FleetFiles, ground_of, sign, spool
 from .fleet_map import FleetMap, Move
 from .grid import listed
 from .layout import Layout
@@ -31,8 +33,12 @@ OpenSession = Callable[[str, Collection[int], Ground], AbstractContextManager[Na
 LayoutOf = Callable[[str], Layout]
 
 
+# Changes the map as it is then, which other moves may have changed meanwhile, and gives it.
+ChangeMap = Callable[[Callable[[FleetMap], FleetMap]], FleetMap]
+
+
 class Mover:
-    """One move that a map says to be under way. `tell` is told what is done, `save` is given the map where that changes."""
+    """One move that a map says to be under way. `tell` is called with what is done. Moves of other slices may go on side by side."""
 
     def __init__(
         self,
@@ -40,10 +46,10 @@ class Mover:
         move: Move,
         open_session: OpenSession,
         layout_of: LayoutOf,
-        save: Callable[[FleetMap], None] = lambda _: None,
+        change_map: ChangeMap,
         tell: Callable[[str], None] = lambda _: None,
     ):
-        self.map, self.move, self.open_session, self.layout_of, self.save, self.tell = fleet_map, move, open_session, layout_of, save, tell
+        self.map, self.move, self.open_session, self.layout_of, self.change_map, self.tell = fleet_map, move, open_session, layout_of, change_map, tell
         self.copied = 0
 
     def run(self) -> FleetMap:
@@ -51,11 +57,9 @@ class Mover:
         if not self.move.is_there:
             self.sign_all()
             self.copy_all()
-            self.map = self.map.come(self.move)
-            self.save(self.map)
+            self.map = self.change_map(lambda now: now.come(self.move))
         self.clear_all()
-        self.map = self.map.ended(self.move)
-        self.save(self.map)
+        self.map = self.change_map(lambda now: now.ended(self.move))
         return self.map
 
     def sessions(self, grid: str) -> range:
@@ -71,13 +75,15 @@ class Mover:
 
     def sign_all(self) -> None:
         """In each page that doesn't show it, by its session; SessionTaken where some sessions can't be had, and don't have it by themselves."""
-        lacking, count = self.lacking(), 0
+        lacking, count, taken = self.lacking(), 0, set[int]()
         for session, page in lacking:
+            if session in taken:
+                continue
             try:
                 with self.files(self.move.source, [session]) as files:
                     count += sign(files, files.writer.bucket(page), self.move.signpost)
             except SessionTaken:
-                continue
+                taken.add(session)
         left = sorted({session for session, _ in self.lacking()}) if lacking else []
         if left:
             raise SessionTaken(f"sessions {listed(left)} of {self.move.source} lack signposts: run it where they are used, or once they are free")
@@ -102,14 +108,18 @@ class Mover:
                 bucket.refresh()
                 highest = max([highest, *(known.page.number for known in bucket.client.seen)])
                 names = [name for name in bucket.by_name() if self.move.has(slice_of(name))]
-                count = self.layout_of(self.move.target).sessions
-                for turn in range(count):
-                    if mine := [name for name in names if turn_of(name, count) == turn]:
-                        self.copy_some(source, turn, mine)
+                turns = {name: self.turn(bucket, name) for name in names}
+                for turn in sorted(set(turns.values())):
+                    self.copy_some(source, turn, [name for name in names if turns[name] == turn])
         for page in self.pages(self.move.target):
             with self.files(self.move.target) as target:
                 raise_number(target, page, highest)
         self.tell(f"{self.copied} names copied")
+
+    def turn(self, bucket: Bucket, name: str) -> int:
+        """Whose turn it is for a name: the session's that has it at the old grid; of another count of sessions the one's that clients try first."""
+        count, found = self.layout_of(self.move.target).sessions, bucket.greatest(name)
+        return found.session - 1 if found and count == self.layout_of(self.move.source).sessions else turn_of(name, count)
 
     def copy_some(self, source: NamedFiles, turn: int, names: list[str]) -> None:
         """By the session of the new grid whose turn it is for these names, as clients have them, or by another one whose page has room."""
@@ -142,11 +152,9 @@ class Mover:
             bucket, held = target.bucket(name), held_of(found)
             content = None
             if held:
-                with spool() as room:
-                    if fleet.grid(found.grid).copy_to(held, room) is not None:
-                        continue  # (the slots are used anew: the line has gone)
-                    room.seek(0)
-                    content = target.placed(bucket, name, Source(room), lambda held=held: held.words)  # type: ignore[misc]
+                content = self.placed(fleet.grid(found.grid), target, bucket, held)
+                if content is None:
+                    continue  # (the slots are used anew: the line has gone)
                 again = fleet.drive(ways.walk(name, self.start(name), True))
                 if ways.greatest(again) != found:
                     target.unplace(bucket, content)
@@ -160,6 +168,28 @@ class Mover:
             target.writer.change(bucket, journal)
             self.copied += 1
             return
+
+    def placed(self, source: NamedFiles, target: NamedFiles, bucket: Bucket, held: Held) -> Content | None:
+        """What a name holds, in its place at the new grid: each part by itself, so that it has the same parts. None where a slot holds something else by now."""
+        if isinstance(held.content, Inline):
+            return target.placed(bucket, held.name, Source(held.content.content), lambda: held.words)
+        parts: list[InSlots] = []
+        try:
+            for part in held.content.parts:
+                with spool() as room:
+                    if source.copy_part(held, part, room) is not None:
+                        self.unplace(target, bucket, parts)
+                        return None
+                    room.seek(0)
+                    parts.append(target.in_slots(bucket, held.name, Source(room), lambda: held.words))
+        except NoRoom:
+            self.unplace(target, bucket, parts)
+            raise
+        return joined(parts)
+
+    def unplace(self, target: NamedFiles, bucket: Bucket, parts: list[InSlots]) -> None:
+        if parts:
+            target.unplace(bucket, joined(parts))
 
     def start(self, name: str) -> Stop:
         found = self.map.range_of(slice_of(name))
@@ -200,6 +230,10 @@ class Mover:
         return len(names)
 
 
+def joined(parts: list[InSlots]) -> Content:
+    return parts[0] if len(parts) == 1 else Joined(tuple(parts))
+
+
 def raise_number(files: NamedFiles, page: int, highest: int) -> None:
     """A page of the bucket gets a number that is at least this, where none has."""
     bucket = files.writer.bucket(page)
@@ -209,9 +243,14 @@ def raise_number(files: NamedFiles, page: int, highest: int) -> None:
         files.writer.change(bucket, core.changed(bucket.client, None, keeps=bucket.keeps, least=highest))
 
 
-def moves_to_end(fleet_map: FleetMap) -> Iterator[Move]:
-    """Moves that were begun, those whose slices are at the new grid first."""
-    yield from sorted(fleet_map.moves, key=lambda move: (not move.is_there, move.number))
+def moves_to_end(fleet_map: FleetMap) -> list[Move]:
+    """Moves that were begun and may go on side by side, those whose slices are at the new grid first: no grid is an old one of some and a new one of others, so
+    that none waits for a session of one that waits for its own."""
+    found = list[Move]()
+    for move in sorted(fleet_map.moves, key=lambda move: (not move.is_there, move.number)):
+        if move.source not in {each.target for each in found} and move.target not in {each.source for each in found}:
+            found.append(move)
+    return found
 
 
 __all__ = ["Mover", "OpenSession", "moves_to_end"]

@@ -2,12 +2,12 @@
 
 import time
 from collections.abc import Collection, Iterator
-from contextlib import closing, contextmanager
+from contextlib import ExitStack, closing, contextmanager
 from typing import IO
 
 from .asking import ask_plan
 from .errors import BadSettings, CarrierFault, ClientError, NoSuchName, SessionTaken, Unanswered
-from .fleet import MAP_NAME, FleetFiles
+from .fleet import MAP_NAME, FleetFiles, in_threads
 from .fleet_map import FleetMap, parse_map
 from .layout import Layout, layout_of
 from .names import NamedFiles, Progress
@@ -50,17 +50,33 @@ class OpenGrid:
 
     def lock(self, numbers: list[int]) -> tuple[int, IO[str]]:
         until = time.monotonic() + self.settings.pace().timeout
-        while True:
-            for number in numbers:
-                if lock := self.settings.lock(number):
-                    return number, lock
-            if not numbers or time.monotonic() > until:
-                raise SessionTaken(f"sessions {', '.join(map(str, numbers))} of {self.settings.tenant} are used by other commands")
-            time.sleep(AGAIN)
+        waits = ExitStack()
+        try:
+            while True:
+                for number in numbers:
+                    if lock := self.settings.lock(number):
+                        return number, lock
+                if not numbers or time.monotonic() > until:
+                    raise SessionTaken(f"sessions {', '.join(map(str, numbers))} of {self.settings.tenant} are used by other commands")
+                waits.close()
+                waits.enter_context(self.settings.want(numbers[0]))
+                time.sleep(AGAIN)
+        finally:
+            waits.close()
 
     def close(self) -> None:
         self.sessions.close()
         self.carrier.close()
+
+
+@contextmanager
+def faults_of(grid: str) -> Iterator[None]:
+    """Has a fault name the grid."""
+    try:
+        yield
+    except ClientError as fault:
+        fault.args = (f"{grid}: {fault}",)
+        raise
 
 
 class OpenGrids:
@@ -72,7 +88,8 @@ class OpenGrids:
 
     def grid(self, grid: str) -> OpenGrid:
         if grid not in self.open:
-            self.open[grid] = OpenGrid(self.settings.of_grid(self.map.path, grid, self.map.grids[grid]), self.name)
+            with faults_of(grid):
+                self.open[grid] = OpenGrid(self.settings.of_grid(self.map.path, grid, self.map.grids[grid]), self.name)
         return self.open[grid]
 
     def layout(self, grid: str) -> Layout:
@@ -84,7 +101,12 @@ class OpenGrids:
             yield files
 
     def files(self) -> FleetFiles:
-        return FleetFiles(self.map, lambda grid, ground: self.grid(grid).files(self.progress, ground))
+        return FleetFiles(self.map, self.files_of, in_threads)
+
+    def files_of(self, grid: str, ground: Ground) -> NamedFiles:
+        opened = self.grid(grid)
+        with faults_of(grid):
+            return opened.files(self.progress, ground)
 
     def with_latest_map(self) -> FleetFiles:
         """The files by the fleet's own copy of the map, where that is a later one. Where the grid that has it is silent, this one is as right."""

@@ -111,15 +111,16 @@ class Settings:
         return cls(values)
 
     def of_grid(self, map_path: str, grid: str, file: str) -> "Settings":
-        """Those of a grid of a fleet: a file beside the map, with the time for an answer and the helpers of this command. Commands tell each other the sessions that
+        """Those of a grid of a fleet: a file beside the map, with the time for an answer, the helpers and the sessions of this command. Commands tell each other the sessions that
         they use in a folder of the grid."""
         values = {key: setting.default for key, setting in SETTINGS.items() if setting.default is not None}
         values["locks"] = str((Path(self.values["locks"]) if "locks" in self.values else default_locks()) / grid)
         try:
             values.update(read_file(Path(map_path).parent / file))
         except FileNotFoundError:
-            raise BadSettings(f"{Path(map_path).parent / file}: no such file, and the map has it for {grid}") from None
-        return Settings(values | {key: self.values[key] for key in ("timeout", "helpers") if key in self.values})
+            raise BadSettings(f"{Path(map_path).parent / file}: no such file: the settings of {grid}") from None
+        kept = ["timeout", "helpers", *(["session"] if self.values.get("session", "all") != "all" else [])]
+        return Settings(values | {key: self.values[key] for key in kept if key in self.values})
 
     def need(self, key: str) -> str:
         if key not in self.values:
@@ -190,11 +191,27 @@ class Settings:
 
     def lock(self, number: int) -> IO[str] | None:
         """An open file as long as which no other command on this machine uses the session; None where another one does."""
+        return self.locked(number, "lock", fcntl.LOCK_EX | fcntl.LOCK_NB)
+
+    def want(self, number: int) -> IO[str]:
+        """An open file as long as which this command waits for the session: who has it for long, as a gateway, lends it then."""
+        found = self.locked(number, "wanted", fcntl.LOCK_SH)
+        assert found
+        return found
+
+    def is_wanted(self, number: int) -> bool:
+        """Whether another command on this machine waits for the session."""
+        if found := self.locked(number, "wanted", fcntl.LOCK_EX | fcntl.LOCK_NB):
+            found.close()
+        return found is None
+
+    def locked(self, number: int, word: str, how: int) -> IO[str] | None:
         folder = Path(self.values["locks"]) if "locks" in self.values else default_locks()
         folder.mkdir(parents=True, exist_ok=True)
-        lock = open(folder / f"{self.tenant}-{number}.lock", "w")
+        # (for reading, so that commands of several users can lock what one of them has made)
+        lock = open(folder / f"{self.tenant}-{number}.{word}", opener=lambda path, _: os.open(path, os.O_RDONLY | os.O_CREAT, 0o644))
         try:
-            fcntl.flock(lock, fcntl.LOCK_EX | fcntl.LOCK_NB)
+            fcntl.flock(lock, how)
             return lock
         except BlockingIOError:
             lock.close()

@@ -1,6 +1,6 @@
 """Names over several grids without input and output: the way of a name, the look along it, signposts and copies.
 
-A *slice* is the first 16 bits of SHA-256 of a name. A *map* says at which grid the names of a slice are looked for first. A *move* takes slices from
+A *slice* is the first 16 bits of a name's digest. A *map* says at which grid the names of a slice are looked for first. A *move* takes slices from
 one grid to another. Its *signpost* is announced and carried in each page of the old grid, and stays. The *way* of a name begins at the grid of the map
 that a client has. Where a page there shows a signpost for the slice, of a later move than that by which one came, it goes on at the signpost's grid.
 
@@ -13,19 +13,18 @@ at the end: where it has gone meanwhile, the look begins anew.
         state = told(state, ..)           # a client of the grid, or what came of its request
 """
 
-import hashlib
 from collections.abc import Callable, Collection, Iterator
 from dataclasses import dataclass, replace
 
 from . import core
-from .contents import Content
+from .contents import Content, digest_to_place
 from .core import Copied, Knows, Line, Page, Signpost, Version
 
 SLICES = 65_536
 
 
 def slice_of(name: str) -> int:
-    return int.from_bytes(hashlib.sha256(name.encode()).digest()[:2], "big")
+    return int.from_bytes(digest_to_place(name)[:2], "big")
 
 
 @dataclass(frozen=True)

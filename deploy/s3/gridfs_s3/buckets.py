@@ -1,7 +1,10 @@
 """Operations on buckets."""
 
+from collections.abc import Iterable
+
 from aiohttp import web
 
+from gridfs_client.buckets import Held
 from gridfs_client.contents import Inline
 
 from . import markup
@@ -9,7 +12,7 @@ from .bodies import body_of
 from .errors import S3Error
 from .gateway import LONGEST_XML, Operations, let_body_come
 from .markup import document, element, many
-from .places import BUCKETS, KEYS, UPLOADS, check_bucket, of_words
+from .places import BUCKETS, KEYS, UPLOADS, check_bucket, of_words, upload_of
 from .requests import Asked, answer, iso
 from .store import Store
 
@@ -17,7 +20,7 @@ from .store import Store
 class Buckets(Operations):
     async def list_buckets(self, asked: Asked) -> web.Response:
         """200: those that the access key sees."""
-        found = await self.gateway.look("", lambda store: [held for held in store.all() if held.name.startswith(BUCKETS)])
+        found = await self.gateway.all(lambda every: [held for held in every if held.name.startswith(BUCKETS)])
         rows = [
             many("Bucket", element("Name", held.name[len(BUCKETS) :]), element("CreationDate", iso(int(of_words(held.words).get("t", 0)))))
             for held in sorted(found, key=lambda held: held.name)
@@ -53,21 +56,21 @@ class Buckets(Operations):
         await self.gateway.need_bucket(asked.bucket)
         prefixes = (f"{asked.bucket}/", f"{KEYS}{asked.bucket}/")
 
-        def look(store: Store) -> list[str]:
-            names = [held.name for held in store.all()]
+        def look(every: Iterable[Held]) -> list[str]:
+            names = [held.name for held in every]
             if any(name.startswith(prefixes) for name in names):
                 raise S3Error("BucketNotEmpty", BucketName=asked.bucket)
             return [name for name in names if name.startswith(f"{UPLOADS}{asked.bucket}/")]
 
-        for name in [*await self.gateway.look("", look), BUCKETS + asked.bucket]:
+        for name in [*await self.gateway.all(look), BUCKETS + asked.bucket]:
             await self.gateway.change(name, lambda store, name=name: store.delete(name), number=self.session_of(name))  # type: ignore[misc]
         self.gateway.known_buckets.pop(asked.bucket, None)
         return answer(status=204)
 
     def session_of(self, name: str) -> int | None:
         """The session that an upload belongs to, where it is here."""
-        word = name.rpartition("/")[2].partition(".")[0] if name.startswith(UPLOADS) else ""
-        return int(word) if word.isdecimal() and int(word) in self.pool.workers else None
+        word = upload_of(name).partition(".")[0] if name.startswith(UPLOADS) else ""
+        return int(word) if word.isdecimal() and self.grids.has_session(int(word)) else None
 
     async def get_bucket_location(self, asked: Asked) -> web.Response:
         """200. 404 NoSuchBucket."""

@@ -23,6 +23,7 @@ def parser() -> argparse.ArgumentParser:
         formatter_class=argparse.RawDescriptionHelpFormatter, allow_abbrev=False,
     )  # fmt: skip
     found.add_argument("--config", metavar="FILE", help="the file of settings, as for gridfs-client")
+    found.add_argument("--map", metavar="FILE", help="a map of several grids (gridfs-fleet), in place of the settings of one")
     found.add_argument("--keys", metavar="FILE", required=True, help="the access keys with their secrets; others may not read it")
     found.add_argument("--listen", metavar="WHERE", default="127.0.0.1:9000", help="ADDRESS:PORT, or unix:PATH (127.0.0.1:9000)")
     found.add_argument("--region", default="us-east-1", metavar="WORD", help="the region that is told (us-east-1)")

@@ -14,12 +14,14 @@ from gridfs_client.buckets import Held
 
 from .bodies import Whole
 from .errors import S3Error
-from .gateway import TURNS, Operations
+from .gateway import TURNS, NotSettled, Operations
+from .grids import Want
 from .markup import document, element
 from .objects import SMALL, Objects, values_of
 from .places import KEYS, Object, Values, name_of
 from .requests import Asked, answer, iso, judge
 from .store import Body, Condition, PageFull, Store
+from .trips import Elsewhere
 from .workers import Crowded
 
 Told = TypeVar("Told")
@@ -70,7 +72,13 @@ class Copies(Operations):
         return bucket, key
 
     async def copied(
-        self, asked: Asked, put: Callable[[Store, Body, Object], Told], choose: Callable[[Object], tuple[int, int]], target: str, number: int | None = None
+        self,
+        asked: Asked,
+        put: Callable[[Store, Body, Object], Told],
+        choose: Callable[[Object], tuple[int, int]],
+        target: str,
+        number: int | None = None,
+        condition: Condition | None = None,
     ) -> Told:
         """Has one session read an object, in the range that is chosen, and another one put it: `put` is given what reads the content. 404 NoSuchBucket,
         NoSuchKey; 412 PreconditionFailed; 416 InvalidRange."""
@@ -99,31 +107,33 @@ class Copies(Operations):
         whole = await self.gateway.look(name, small)
         if whole is not None:
             source = Whole(whole, hashlib.md5(whole).hexdigest())
-            return await self.gateway.change(target, lambda store: put(store, source, found[0]), number=number)
-        if len(self.pool.workers) == 1:
-            raise S3Error("NotImplemented", "A gateway with one session copies at most 1 MiB.")
+            return await self.gateway.change(target, lambda store: put(store, source, found[0]), number=number, condition=condition)
+        wants = Want(name), Want(target, number)
         for _ in range(TURNS):
-            reader, writer = await self.pool.pair(number, self.gateway.preferred(name))
-            is_writing, rest, page = False, None, None
-            try:
-                data, rest = await self.pool.run(reader, begin, keep=True)
-                copied = Copied(data, rest, part[1] - part[0])
-                is_writing = True
-                return await self.pool.run(writer, lambda store: put(store, copied, found[0]), besides=(reader,))
-            except Crowded:
-                pass
-            except PageFull as full:
-                page = full.page
-            finally:
-                if rest:
-                    await asyncio.get_running_loop().run_in_executor(self.pool.threads, rest.close)  # (what it reads ahead ends before the next one works)
-                self.pool.release(reader)
-                if not is_writing:
-                    self.pool.release(writer)
+            async with self.gateway.judging(condition, target):
+                reader, writer = await self.grids.take_all(wants)
+                is_writing, rest, page = False, None, None
+                try:
+                    data, rest = await reader.run(begin, keep=True)
+                    copied = Copied(data, rest, part[1] - part[0])
+                    is_writing = True
+                    besides = tuple(worker for _, worker in (*reader.workers, *writer.workers))
+                    return await writer.run(lambda store: put(store, copied, found[0]), besides=besides)
+                except (Crowded, NotSettled):
+                    pass
+                except Elsewhere as fault:
+                    await self.gateway.go_on(wants[is_writing], fault)
+                except PageFull as full:
+                    page = full.page
+                finally:
+                    if rest:  # (what it reads ahead ends before the next one works)
+                        await asyncio.get_running_loop().run_in_executor(reader.pool.threads, rest.close)
+                    reader.release()
+                    if not is_writing:
+                        writer.release()
             if page is not None:
-                await self.pool.sweep(page)
-            async with self.pool.gathering:
-                pass
+                await writer.pool.sweep(page)
+            await self.grids.gathering.is_over()
         raise S3Error("ServiceUnavailable", "Many others change this at the same time. Nothing was changed.")
 
     async def copy_object(self, asked: Asked) -> web.Response:
@@ -154,7 +164,7 @@ class Copies(Operations):
         def put(store: Store, source: Body, found: Object) -> Held:
             return store.put_object(name, source, lambda: values_for(found, source.digest()), condition)
 
-        held = await self.copied(asked, put, lambda found: (0, found.size), name)
+        held = await self.copied(asked, put, lambda found: (0, found.size), name, condition=condition)
         return self.result("CopyObjectResult", Object(asked.key, held))
 
     async def touched(self, asked: Asked, name: str, values: Callable[[Object], Values]) -> Held | None:
@@ -163,7 +173,7 @@ class Copies(Operations):
             found = await self.objects.found(asked)
             judge(asked.headers, found, "x-amz-copy-source-", is_read=False)
             number = None if not found.held.content.pieces else found.held.version.session
-            if number is not None and number not in self.pool.workers:
+            if number is not None and not self.grids.has_session(number):
                 return None
             if held := await self.gateway.change(name, lambda store: store.touch(name, found.held, lambda: values(found)), number=number):
                 return held

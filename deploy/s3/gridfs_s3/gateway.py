@@ -1,28 +1,50 @@
-"""The tenant behind the endpoint: by which sessions operations look and change, and what all of them need."""
+"""The tenant of the endpoint: how operations look and change, and what all of them need."""
 
 import asyncio
-import hashlib
 import time
-from collections.abc import Callable, Mapping
+from collections.abc import AsyncIterator, Callable, Iterable, Mapping
+from contextlib import AsyncExitStack, asynccontextmanager
 from typing import TypeVar
 
 from gridfs_client.buckets import Held
-from gridfs_client.errors import ClientError, SessionTaken, Unanswered
+from gridfs_client.errors import ClientError, NoSuchName, SessionTaken, Unanswered
+from gridfs_client.fleet import MAP_NAME
+from gridfs_client.fleet_map import parse_map, read_map
+from gridfs_client.listing import Listing
 
 from . import metrics
-from .errors import S3Error
+from .errors import S3Error, tell
+from .grids import Grids, Taken, Want
 from .keys import Key
 from .markup import element, many
 from .places import BUCKETS, Object, check_bucket
 from .requests import Asked, matches
-from .sessions import Pool
 from .store import Condition, PageFull, Store
-from .workers import Crowded, Worker
+from .trips import Elsewhere
+from .workers import Crowded
 
 Told = TypeVar("Told")
 KNOWN_FOR = 2.0  # seconds for which a bucket that was there is taken to be there
 TURNS = 20  # how often a change begins anew that wants the room of all sessions while others do, or judges a condition amid others
 LONGEST_XML = 4 << 20
+MOST_GRIDS = 4  # of a way, whose pages are settled
+LENT_FOR = 20.0  # seconds for which a condition waits for a session that another command has
+MAP_AGAIN = 5.0  # seconds after which a later map is looked for
+
+
+def map_in(store: Store) -> bytes | None:
+    """The fleet's own map, where there is one."""
+    try:
+        _, parts, data = store.read(MAP_NAME, whole)
+    except NoSuchName:
+        return None
+    return data + b"".join(parts)
+
+
+def whole(held: Held | None) -> tuple[int, int]:
+    if not held:
+        raise NoSuchName(MAP_NAME)
+    return 0, held.content.size
 
 
 class NotSettled(Exception):
@@ -30,80 +52,127 @@ class NotSettled(Exception):
 
 
 class Gateway:
-    """One tenant, by the sessions of a pool."""
+    """One tenant, by the sessions of its grids."""
 
-    def __init__(self, pool: Pool, tenant: str, keys: Mapping[str, Key], region: str, domain: str | None):
-        self.pool, self.tenant, self.keys, self.region, self.domain = pool, tenant, keys, region, domain
+    def __init__(self, grids: Grids, tenant: str, keys: Mapping[str, Key], region: str, domain: str | None):
+        self.grids, self.tenant, self.keys, self.region, self.domain = grids, tenant, keys, region, domain
         self.known_buckets: dict[str, float] = {}
 
     # Sessions
 
-    def preferred(self, name: str) -> int:
-        """The session by which changes of a name mostly go: so its lines mostly stand in one page."""
-        numbers = list(self.pool.workers)
-        return numbers[int.from_bytes(hashlib.sha256(name.encode()).digest()[-8:], "big") % len(numbers)]
-
-    async def lease(self, number: int | None = None, name: str = "") -> Worker:
+    async def take(self, want: Want) -> Taken:
         begin = time.monotonic()
         try:
-            return await self.pool.lease(number, self.preferred(name))
+            return await self.grids.take(want)
         finally:
             metrics.waits.labels(self.tenant).observe(time.monotonic() - begin)
 
+    async def go_on(self, want: Want, fault: Elsewhere) -> None:
+        """To where something has to be done, perhaps a grid that only a later map has."""
+        if fault.grid not in self.grids.pools:
+            await self.look_for_map()
+        if fault.grid not in self.grids.pools:
+            raise S3Error("ServiceUnavailable", f"A signpost leads to the grid {fault.grid}, and the map has no such grid. Nothing was changed.")
+        want.goes_on(fault)
+
     async def look(self, name: str, work: Callable[[Store], Told], helpers: int = 0, has_begun: Callable[[], bool] = lambda: False) -> Told:
         """Has some session do what changes nothing; another one where its home is silent, as long as nothing of an answer is out."""
-        for turn in range(3):
-            worker = await self.lease(name=name)
-            try:
-                return await self.pool.run(worker, work, helpers, is_soon=turn < 2)
-            except (Unanswered, SessionTaken):
-                if turn == 2 or has_begun():
-                    raise
-        raise AssertionError
-
-    async def change(self, name: str, work: Callable[[Store], Told], helpers: int = 0, number: int | None = None) -> Told:
-        """Has a session change something, this one or any; another one where its home is silent and nothing was written yet."""
-        await self.settle(name)
-        silent = 0
+        want, silent = Want(name), 0
         for _ in range(TURNS):
-            worker = await self.lease(number, name)
-            session = worker.session
+            taken = await self.take(want)
             try:
-                return await self.pool.run(worker, work, helpers, is_soon=number is None and silent < 2)
-            except Crowded:
-                async with self.pool.gathering:
-                    pass
-            except PageFull as full:
-                await self.pool.sweep(full.page)
-            except NotSettled:
-                await self.settle_for_condition(name)
-            except Unanswered:
+                return await taken.run(work, helpers, is_soon=silent < 2)
+            except Elsewhere as fault:
+                await self.go_on(want, fault)
+            except (Unanswered, SessionTaken):
                 silent += 1
-                if session.has_written or number is not None or silent > 2:
+                if silent > 2 or has_begun():
                     raise
+        raise S3Error("ServiceUnavailable", "The name goes from grid to grid again and again.")
+
+    async def change(
+        self, name: str, work: Callable[[Store], Told], helpers: int = 0, number: int | None = None, condition: Condition | None = None
+    ) -> Told:
+        """Has a session change something, this one or any; another one where its home is silent and nothing was written yet. The condition is one by which
+        the work is done."""
+        want, silent = Want(name, number), 0
+        for _ in range(TURNS):
+            await asyncio.gather(*(pool.settle_before(name) for pool in self.grids.pools_of(name)))
+            async with self.judging(condition, name):
+                taken = await self.take(want)
+                try:
+                    return await taken.run(work, helpers, is_soon=number is None and silent < 2)
+                except Elsewhere as fault:
+                    await self.go_on(want, fault)
+                except Crowded:
+                    await self.grids.gathering.is_over()
+                except PageFull as full:
+                    await taken.pool.sweep(full.page)
+                except NotSettled:
+                    pass
+                except Unanswered:
+                    silent += 1
+                    if taken.has_written or number is not None or silent > 2:
+                        raise
         raise S3Error("ServiceUnavailable", "Many others change this at the same time. Nothing was changed.")
+
+    async def all(self, work: Callable[[Iterable[Held]], Told]) -> Told:
+        """What comes of all that names hold, each at some moment of the call. Unanswered where a grid is silent."""
+        if not self.grids.map:
+            return await self.look("", lambda store: work(store.all()))
+        listing = Listing(self.grids.map)
+        while wanted := sorted(listing.wanted):
+            for grid in wanted:
+                if grid not in self.grids.pools:
+                    raise Unanswered(f"a grid is not known yet: {grid}")
+            listing.looked(dict(zip(wanted, await asyncio.gather(*map(self.grids.look_at, wanted)))))
+            for grid, fault in listing.silent.items():
+                raise Unanswered(f"{grid}: {fault}")
+        return await asyncio.get_running_loop().run_in_executor(None, lambda: work(told.held for told in listing.told()))
+
+    # The map
+
+    async def look_for_map(self) -> None:
+        """Goes on by a later map, where one is in its file, or in the fleet."""
+        before = self.grids.map
+        if not before:
+            return
+        try:
+            latest = [read_map(before.path)]
+            if content := await self.look(MAP_NAME, map_in):
+                latest.append(parse_map(content.decode("ascii"), before.path))
+            later = max(latest, key=lambda each: each.age)
+            if later.age > before.age:
+                await self.grids.adopt(later)
+        except (ClientError, S3Error, UnicodeDecodeError) as fault:
+            tell(f"{before.path}: {fault}")
+
+    async def follow_maps(self) -> None:
+        while True:
+            await asyncio.sleep(MAP_AGAIN)
+            await self.look_for_map()
 
     # Pages that are settled
 
-    async def settle(self, name: str) -> None:
-        """Before the first change on a page: what an earlier gateway left under way there ends, where its session's home answers."""
-        page = self.pool.layout.page_of(name)
-        if page not in self.pool.begun:
-            self.pool.begun[page] = asyncio.get_running_loop().create_task(self.pool.settle(page))
-        if not self.pool.begun[page].done():
-            try:
-                await asyncio.shield(self.pool.begun[page])
-            except ClientError:
-                pass
-
-    async def settle_for_condition(self, name: str) -> None:
-        """503 ServiceUnavailable where a session's home is silent: nothing was changed."""
-        page = self.pool.layout.page_of(name)
-        if self.pool.is_settled(page):
+    @asynccontextmanager
+    async def judging(self, condition: Condition | None, name: str) -> AsyncIterator[None]:
+        """Where there is a condition no session is lent meanwhile, and the name's pages are settled. 503 ServiceUnavailable where a session's home is silent, or
+        other commands have sessions for long: nothing was changed."""
+        if not condition:
+            yield
             return
-        await self.pool.settle(page)
-        if not self.pool.is_settled(page):
-            raise S3Error("ServiceUnavailable", "A condition needs all sessions, and the home of one is silent. Nothing was changed.")
+        async with AsyncExitStack() as judged:
+            try:
+                await asyncio.wait_for(judged.enter_async_context(self.grids.lending.judge()), LENT_FOR)
+            except asyncio.TimeoutError:
+                raise S3Error("ServiceUnavailable", "A condition needs all sessions, and another command has one. Nothing was changed.") from None
+            for _ in range(MOST_GRIDS):  # (what is read meanwhile may show that the way goes on)
+                if self.grids.is_settled(name):
+                    break
+                await asyncio.gather(*(pool.settle(pool.layout.page_of(name)) for pool in self.grids.pools_of(name)))
+            if not self.grids.is_settled(name):
+                raise S3Error("ServiceUnavailable", "A condition needs all sessions, and the home of one is silent. Nothing was changed.")
+            yield
 
     async def condition_of(self, asked: Asked, name: str) -> Condition | None:
         """What judges a conditional change of a name, right before it, while no other one of the name is under way.
@@ -116,13 +185,11 @@ class Gateway:
             return None
         if none not in (None, "*"):
             raise S3Error("NotImplemented", "If-None-Match of a put has to be *.")
-        if not self.pool.has_all:
+        if not self.grids.has_all and all(pool.is_open for pool in self.grids.pools.values()):
             raise S3Error("NotImplemented", "Conditional puts need a gateway that has all sessions of its tenant: others write by the rest.")
-        await self.settle_for_condition(name)
-        page = self.pool.layout.page_of(name)
 
         def condition(held: Held | None) -> None:
-            if not self.pool.is_settled(page):
+            if not self.grids.is_settled(name):
                 raise NotSettled
             if none and held:
                 raise S3Error("PreconditionFailed", Condition="If-None-Match")
@@ -140,7 +207,7 @@ class Gateway:
         check_bucket(bucket)
         if self.known_buckets.get(bucket, 0) > time.monotonic():
             return
-        if not await self.look(bucket, lambda store: store.look(BUCKETS + bucket)):
+        if not await self.look(BUCKETS + bucket, lambda store: store.look(BUCKETS + bucket)):
             self.known_buckets.pop(bucket, None)
             raise S3Error("NoSuchBucket", BucketName=bucket)
         if len(self.known_buckets) > 1_000:
@@ -155,7 +222,7 @@ class Operations:
     """Operations on one kind of resource. Each is called as S3's documentation names it, and gives the answer to a request."""
 
     def __init__(self, gateway: Gateway):
-        self.gateway, self.pool = gateway, gateway.pool
+        self.gateway, self.grids = gateway, gateway.grids
 
 
 async def let_body_come(asked: Asked) -> None:

@@ -6,12 +6,13 @@ from urllib.parse import quote
 
 from aiohttp import web
 
+from gridfs_client.buckets import Held
+
 from .errors import S3Error
 from .gateway import Operations
 from .markup import document, element, many
-from .places import UPLOADS, Object, object_of, of_words
+from .places import UPLOADS, Object, object_of, of_words, upload_of
 from .requests import Asked, answer, iso
-from .store import Store
 
 
 def coding_of(asked: Asked) -> str | None:
@@ -58,11 +59,11 @@ class Listings(Operations):
     async def objects_of(self, bucket: str, prefix: str) -> list[Object]:
         """The objects of a bucket whose keys begin so, in the order of their bytes; each as it was at some moment of the call."""
 
-        def find(store: Store) -> list[Object]:
-            found = (object_of(bucket, held) for held in store.all())
+        def find(every: Iterable[Held]) -> list[Object]:
+            found = (object_of(bucket, held) for held in every)
             return sorted((each for each in found if each and each.key.startswith(prefix)), key=lambda each: each.key.encode())
 
-        return await self.gateway.look(bucket, find)
+        return await self.gateway.all(find)
 
     async def list_objects(self, asked: Asked) -> web.Response:
         """200. 400 InvalidArgument, 404 NoSuchBucket."""
@@ -123,7 +124,7 @@ class Listings(Operations):
         await self.gateway.need_bucket(asked.bucket)
         query, place, coding = asked.query, f"{UPLOADS}{asked.bucket}/", coding_of(asked)
         prefix, delimiter, most = query.get("prefix", ""), query.get("delimiter", ""), asked.number("max-uploads", 1_000, 1_000)
-        held = await self.gateway.look("", lambda store: [(each.name[len(place) :], of_words(each.words)) for each in store.all() if each.name.startswith(place)])
+        held = await self.gateway.all(lambda every: [(upload_of(each.name), of_words(each.words)) for each in every if each.name.startswith(place)])
         uploads = sorted((values.get("k", ""), upload, int(values.get("i", 0))) for upload, values in held)
         marker = (query["key-marker"], query.get("upload-id-marker", "\uffff")) if "key-marker" in query else None
         rows: list[str] = []

@@ -4,6 +4,7 @@ from prometheus_client import CollectorRegistry, Counter, Gauge, Histogram, gene
 
 from gridfs_client.pages import length_of_lines
 
+from .grids import Grids
 from .sessions import Pool
 
 KIND = "text/plain; version=0.0.4; charset=utf-8"
@@ -16,10 +17,10 @@ seconds = Histogram("gridfs_s3_request_seconds", "From a request's head to the e
 waits = Histogram("gridfs_s3_wait_seconds", "Until a request had a session", TENANT, registry=registry, buckets=(0.001, 0.01, 0.1, 1, 10, 60))
 taken = Counter("gridfs_s3_received_bytes", "Bytes of contents that were put", TENANT, registry=registry)
 given = Counter("gridfs_s3_sent_bytes", "Bytes of contents that were got", TENANT, registry=registry)
-room = Gauge("gridfs_s3_slot_bytes", "Bytes of the slots of this gateway's sessions, as far as they are known", ["tenant", "state"], registry=registry)
-pages = Gauge("gridfs_s3_fullest_page_ratio", "How full the fullest page is that is known: at 1 a put is refused", TENANT, registry=registry)
-sessions = Gauge("gridfs_s3_sessions", "Sessions: all, busy, or with a home that is silent", ["tenant", "state"], registry=registry)
-waiting = Gauge("gridfs_s3_waiting", "Requests that wait for a session", TENANT, registry=registry)
+room = Gauge("gridfs_s3_slot_bytes", "Bytes of the slots of this gateway's sessions, as far as they are known", ["tenant", "state", "grid"], registry=registry)
+pages = Gauge("gridfs_s3_fullest_page_ratio", "How full the fullest page is that is known: at 1 a put is refused", ["tenant", "grid"], registry=registry)
+sessions = Gauge("gridfs_s3_sessions", "Sessions: all, busy, or with a home that is silent", ["tenant", "state", "grid"], registry=registry)
+waiting = Gauge("gridfs_s3_waiting", "Requests that wait for a session", ["tenant", "grid"], registry=registry)
 
 
 def room_of(pool: Pool) -> tuple[int, int]:
@@ -32,18 +33,20 @@ def room_of(pool: Pool) -> tuple[int, int]:
 def fullest(pool: Pool) -> float:
     """How full the fullest page is of those that are known."""
     lengths = [length_of_lines(known.page.lines) for known in list(pool.shared.pages.values())]
-    return max(lengths, default=0) / pool.layout.contents_room
+    return max(lengths, default=0) / pool.layout.contents_room if pool.is_open else 0
 
 
-def text(tenant: str, pool: Pool) -> bytes:
+def text(tenant: str, grids: Grids) -> bytes:
     """All that is counted, in Prometheus' form."""
-    used, left = room_of(pool)
-    room.labels(tenant, "used").set(used)
-    room.labels(tenant, "left").set(left)
-    pages.labels(tenant).set(fullest(pool))
-    workers = pool.workers.values()
-    sessions.labels(tenant, "busy").set(sum(worker.is_busy for worker in workers))
-    sessions.labels(tenant, "silent").set(sum(worker.is_silent for worker in workers))
-    sessions.labels(tenant, "all").set(len(workers))
-    waiting.labels(tenant).set(len(pool.waiting))
+    for grid, pool in grids.pools.items():
+        used, left = room_of(pool)
+        room.labels(tenant, "used", grid).set(used)
+        room.labels(tenant, "left", grid).set(left)
+        pages.labels(tenant, grid).set(fullest(pool))
+        workers = pool.workers.values()
+        sessions.labels(tenant, "busy", grid).set(sum(worker.is_busy for worker in workers))
+        sessions.labels(tenant, "silent", grid).set(sum(worker.is_silent for worker in workers))
+        sessions.labels(tenant, "lent", grid).set(sum(worker.is_lent for worker in workers))
+        sessions.labels(tenant, "all", grid).set(len(workers))
+        waiting.labels(tenant, grid).set(len(pool.waiting))
     return generate_latest(registry)

@@ -215,7 +215,7 @@ class Objects(Operations):
             def put(store: Store) -> Held:
                 return store.put_object(name, source, lambda: {**values, "m": source.digest()}, condition)
 
-            held = await self.gateway.change(name, put, HELPERS if body.told_size >= MANY else 0)
+            held = await self.gateway.change(name, put, HELPERS if body.told_size >= MANY else 0, condition=condition)
         return answer(headers={"ETag": f'"{Object(asked.key, held).etag}"'})
 
     async def delete_object(self, asked: Asked) -> web.Response:
@@ -226,7 +226,7 @@ class Objects(Operations):
         return answer(status=204)
 
     async def delete(self, name: str, condition: Condition | None = None) -> None:
-        await self.gateway.change(name, lambda store: store.delete(name, condition))
+        await self.gateway.change(name, lambda store: store.delete(name, condition), condition=condition)
 
     async def delete_objects(self, asked: Asked) -> web.Response:
         """200, with what was told of each key. 400 MalformedXML, BadDigest; 404 NoSuchBucket."""
@@ -239,7 +239,7 @@ class Objects(Operations):
             raise S3Error("MalformedXML")
         if any(each.told("VersionId") not in (None, "", "null") for each in wanted.all("Object")):
             raise S3Error("NotImplemented", "There are no versions here.")
-        at_once = asyncio.Semaphore(len(self.pool.workers))
+        at_once = asyncio.Semaphore(max(1, self.grids.workers))
         removed: Callable[[str], str | None] = lambda key: None if wanted.told("Quiet") == "true" else many("Deleted", element("Key", key))
 
         async def one(key: str) -> str | None:

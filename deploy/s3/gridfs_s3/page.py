@@ -13,6 +13,8 @@ from botocore.auth import S3SigV4QueryAuth
 from botocore.awsrequest import AWSRequest
 from botocore.credentials import Credentials
 from gridfs_client.asking import ask_all
+from gridfs_client.buckets import Held
+from gridfs_client.errors import Unanswered
 
 from . import metrics
 from .errors import S3Error
@@ -21,6 +23,8 @@ from .keys import Key
 from .listing import Cut, Listings
 from .places import BUCKETS, KEYS, Object, check_bucket
 from .requests import Asked
+from .sessions import Pool
+from .workers import Worker
 
 GOOD_FOR = 900  # seconds of a link to an object
 MOST = 500  # rows of a page
@@ -92,28 +96,32 @@ class Page:
         return web.Response(text=text, content_type="text/html", charset="utf-8", headers=HEADERS)
 
     async def all(self, key: Key) -> str:
-        helds = await self.gateway.look("", lambda store: list(store.all()))
-        rows = []
+        helds: list[Held] = []
+        silent, rows = "", list[str]()
+        try:
+            helds = await self.gateway.all(lambda every: list(every))
+        except Unanswered as fault:
+            silent = f"<p>Names are not told: {escape(str(fault))}.</p>"
         for name in sorted(held.name[len(BUCKETS) :] for held in helds if held.name.startswith(BUCKETS)):
             if key.sees(name):
                 sizes = [held.content.size for held in helds if held.name.startswith((f"{name}/", f"{KEYS}{name}/"))]
                 link = f'<a href="/-/{quote(name)}/">{escape(name)}</a>'
                 rows.append(f'<tr><td class="k">{link}</td><td class="n">{len(sizes)}</td><td class="n">{size_of(sum(sizes))}</td></tr>')
-        buckets = table('<tr><th>Bucket</th><th class="n">Objects</th><th class="n">Size</th></tr>', rows, "There are no buckets.")
-        await asyncio.gather(*(self.load(number) for number in list(self.gateway.pool.workers)))
-        used, left = metrics.room_of(self.gateway.pool)
+        buckets = silent or table('<tr><th>Bucket</th><th class="n">Objects</th><th class="n">Size</th></tr>', rows, "There are no buckets.")
+        pools = list(self.gateway.grids.pools.values())
+        await asyncio.gather(*(self.load(pool, worker) for pool in pools for worker in list(pool.workers.values())))
+        used, left = map(sum, zip(*map(metrics.room_of, pools)))
         room = f'<p>Room: <meter max="{used + left or 1}" value="{used}"></meter> {size_of(used)} used, {size_of(left)} left.</p>'
-        return f"<h1>{escape(self.gateway.tenant)}</h1>{room}{buckets}<h2>Nodes</h2>{await self.nodes()}"
+        nodes = [f"<h2>{escape(f'Nodes of {pool.grid}' if pool.grid else 'Nodes')}</h2>{await self.nodes(pool)}" for pool in pools]
+        return f"<h1>{escape(self.gateway.tenant)}</h1>{room}{buckets}{''.join(nodes)}"
 
-    async def load(self, number: int) -> None:
+    async def load(self, pool: Pool, worker: Worker) -> None:
         """Has a session know its table of slots, where it has the time."""
-        worker = self.gateway.pool.workers[number]
-        if worker.store.writer.keeper.table is None and self.gateway.pool.is_idle(worker):
-            await self.gateway.pool.run(await self.gateway.lease(number), lambda store: store.writer.keeper.load())
+        if worker.store.writer.keeper.table is None and pool.is_idle(worker):
+            await pool.run(await pool.lease(worker.number), lambda store: store.writer.keeper.load())
 
-    async def nodes(self) -> str:
-        """The nodes in their rows and columns, with those that don't answer."""
-        pool = self.gateway.pool
+    async def nodes(self, pool: Pool) -> str:
+        """The nodes of a grid in their rows and columns, with those that don't answer."""
         nodes = None
         if pool.carrier:
             # (one at a time: what nodes tell of no session is kept for one who asks)

@@ -3,7 +3,8 @@
     BUCKET/KEY                the object, where that is a name: 1 to 255 bytes of UTF-8, no control character, no / at the end
     .s3/key/BUCKET/DIGEST     any other object: DIGEST is SHA-256 of the key, in 43 letters of base64url; the words have the key
     .s3/bucket/BUCKET         the bucket is there
-    .s3/up/BUCKET/ID          an upload in parts that is under way: what was uploaded, in the order of the parts
+    .s3/up/BUCKET/ID/=DIGEST  an upload in parts that is under way: what was uploaded, in the order of the parts. DIGEST is SHA-256 of the object's
+                              name, so that both are in the same page, at the same grid
 
 A bucket's name begins with a letter or digit, so none of these are in each other's way. The words of a line are KEY=VALUE with & between, each
 quoted as in a URL:
@@ -54,8 +55,13 @@ def name_of(bucket: str, key: str) -> str:
         return f"{KEYS}{bucket}/{digest_of(key.encode())}"
 
 
-def upload_name(bucket: str, upload: str) -> str:
-    return f"{UPLOADS}{bucket}/{upload}"
+def upload_name(bucket: str, upload: str, object_name: str) -> str:
+    return f"{UPLOADS}{bucket}/{upload}/={digest_of(object_name.encode())}"
+
+
+def upload_of(name: str) -> str:
+    """The ID in the name of an upload."""
+    return name.removeprefix(UPLOADS).split("/")[1]
 
 
 def to_words(values: Values) -> str:

@@ -48,19 +48,20 @@ async def serve(asked: argparse.Namespace) -> None:
 
     from .errors import tell
     from .gateway import Gateway
+    from .grids import Grids
     from .keys import BadKeys, read_keys
     from .routes import Endpoint, Server
-    from .sessions import Pool
 
     loop = asyncio.get_running_loop()
     try:
-        settings = Settings.gather({"config": asked.config, "timeout": asked.timeout or os.environ.get("GRIDFS_TIMEOUT") or "20"}, os.environ)
-        keys = read_keys(asked.keys, settings.tenant)
-        pool = Pool(settings)
-        await loop.run_in_executor(None, pool.open)
+        timeout = asked.timeout or os.environ.get("GRIDFS_TIMEOUT") or "20"
+        grids = Grids(Settings.gather({"config": asked.config, "map": asked.map, "timeout": timeout}, os.environ))
+        tenant = grids.tenant
+        keys = read_keys(asked.keys, tenant)
+        await grids.open()
     except (ClientError, BadKeys) as fault:
         raise SystemExit(f"gridfs-s3: {fault}") from None
-    gateway = Gateway(pool, settings.tenant, keys, asked.region, asked.domain)
+    gateway = Gateway(grids, tenant, keys, asked.region, asked.domain)
     endpoint = Endpoint(gateway)
     try:
         listening = Listener(asked.listen).open()
@@ -69,13 +70,14 @@ async def serve(asked: argparse.Namespace) -> None:
     server = await loop.create_server(Server(endpoint), sock=listening, backlog=1024) if listening.family != socket.AF_UNIX else await loop.create_unix_server(
         Server(endpoint), sock=listening, backlog=1024
     )  # fmt: skip
-    rest = "" if pool.has_all else " (not all of the tenant: no conditional puts)"
-    tell(f"{settings.tenant} at {asked.listen}, sessions {', '.join(map(str, pool.workers))}{rest}")
-    pool.spawn(pool.tidy())
+    rest = "" if grids.has_all else " (not all of the tenant: no conditional puts)"
+    sessions = "; ".join(f"{pool.grid} {', '.join(map(str, pool.workers))}".strip() for pool in grids.pools.values())
+    tell(f"{tenant} at {asked.listen}, sessions {sessions}{rest}")
+    following = loop.create_task(gateway.follow_maps()) if grids.map else None
 
     def read_again() -> None:
         try:
-            gateway.keys = read_keys(asked.keys, settings.tenant)
+            gateway.keys = read_keys(asked.keys, tenant)
             tell(f"{asked.keys} is read again: {len(gateway.keys)} keys")
         except BadKeys as fault:
             tell(f"{fault}; the keys stay as they were")
@@ -86,13 +88,16 @@ async def serve(asked: argparse.Namespace) -> None:
     loop.add_signal_handler(signal.SIGHUP, read_again)
     await ended.wait()
     server.close()
+    if following:
+        following.cancel()
     await drained(endpoint, asked.drain)
     try:
-        await asyncio.wait_for(pool.flush(), 3)
+        await asyncio.wait_for(asyncio.gather(*(pool.flush() for pool in grids.pools.values())), 3)
     except asyncio.TimeoutError:
         pass
     # What is under way at sessions is left as where the process is killed: a session's next change settles it.
-    pool.close()
+    for pool in grids.pools.values():
+        pool.close()
     os._exit(0)
 
 

@@ -13,9 +13,11 @@ from gridfs_client.layout import Layout
 from gridfs_client.names import BEGINNINGS, NamedFiles, read_piece
 from gridfs_client.pieces import head, without_head
 from gridfs_client.sessions import Files
+from gridfs_client.ways import Ground
 from gridfs_client.writers import Writer
 
 from .shared import Shared, SharedWriter
+from .trips import Elsewhere, Trip
 
 
 @dataclass(frozen=True)
@@ -33,10 +35,11 @@ class Span:
 class Reader(NamedFiles):
     """What names hold, by one session, and by others that can be had; by one thread at a time."""
 
-    def __init__(self, session: Files, layout: Layout, shared: Shared):
-        super().__init__(session, layout)
-        self.shared = shared
-        self.writer = SharedWriter(shared, session, layout)
+    def __init__(self, session: Files, layout: Layout, shared: Shared, ground: Ground | None = None):
+        super().__init__(session, layout, ground=ground)
+        self.shared, self.grid = shared, ground.grid if ground else ""
+        self.writer: SharedWriter = SharedWriter(shared, session, layout, ground)
+        self.trip: Trip | None = None  # what is done now is about a name over several grids
         # Gives other sessions for as long as what is done now lasts: those that are idle, or all.
         self.more: Callable[[bool], Sequence[Reader]] = lambda _: ()
 
@@ -54,12 +57,14 @@ class Reader(NamedFiles):
 
     def end_turn(self) -> None:
         """Others are given back."""
-        self.helpers, self.writer.lenders, self.more = {}, {}, lambda _: ()
+        self.helpers, self.writer.lenders, self.more, self.trip = {}, {}, lambda _: (), None
 
     # Looks
 
     def look(self, name: str) -> Held | None:
         """What a name holds."""
+        if self.trip:
+            return self.trip.look(name)
         bucket = self.bucket(name)
         bucket.refresh()
         return bucket.held(name)
@@ -132,6 +137,8 @@ class Reader(NamedFiles):
             held = self.look(name)
             first, end = choose(held)
             assert held
+            if held.version.grid != self.grid:
+                raise Elsewhere(held.version.grid)
             parts = self.content(held, first, end)
             try:
                 return held, parts, next(parts, b"")

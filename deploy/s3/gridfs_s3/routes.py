@@ -129,7 +129,7 @@ class Endpoint:
             asked.operation = "Metrics"
             if "x-forwarded-for" in asked.headers:
                 raise S3Error("AccessDenied", "Metrics are for this machine alone.")
-            return answer(metrics.text(self.tenant, self.gateway.pool), kind=metrics.KIND)
+            return answer(metrics.text(self.tenant, self.gateway.grids), kind=metrics.KIND)
         if asked.path == "/-" or asked.path.startswith("/-/"):
             asked.operation = "Page"
             return await self.page.show(asked)

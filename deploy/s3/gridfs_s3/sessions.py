@@ -1,47 +1,54 @@
-"""The sessions of a tenant, which this gateway has for itself, and who works by which."""
+"""The sessions of a tenant at one grid, which this gateway has for itself, and who works by which."""
 
 import asyncio
 import time
-from collections.abc import AsyncIterator, Callable
+from collections.abc import Callable, Sequence
 from concurrent.futures import ThreadPoolExecutor
-from contextlib import asynccontextmanager
+from contextlib import suppress
 from dataclasses import replace
 from typing import Any, TypeVar
 
 from gridfs_client.asking import ask_plan
 from gridfs_client.carriers import Carrier
-from gridfs_client.errors import CarrierFault, ClientError, SessionTaken, Unanswered
+from gridfs_client.core import Page
+from gridfs_client.errors import BadSettings, CarrierFault, ClientError, SessionTaken, Unanswered
 from gridfs_client.layout import Layout, layout_of
 from gridfs_client.opening import SOON
 from gridfs_client.settings import Settings
+from gridfs_client.ways import Ground
 
 from .errors import tell
-from .shared import Shared
+from .shared import Shared, Turns
 from .store import Store
-from .workers import Crowded, Turn, Wanted, Worker
+from .trips import Trip
+from .workers import Crowded, Gathering, Lending, Turn, Wanted, Worker
 
 Told = TypeVar("Told")
 MOST_HELPERS = 3
 TIDY = 30.0  # seconds
 TRIES = 60  # of settling a page by a session whose home is silent
+LOOK = 0.05  # seconds between looks at what other commands want
 RETRY = 1.0  # seconds until a session whose home is silent, or a carrier that has ended, is tried again
 
 
 class Pool:
-    """All workers. Whoever waits for one gets it by turns; those whose homes are silent are left out as long as there are others."""
+    """All workers. Whoever waits for one gets it by turns; those whose homes are silent are left out as long as there are others. Where another command of
+    this machine waits for a session, it is lent to that."""
 
-    def __init__(self, settings: Settings):
-        self.settings, self.shared = settings, Shared()
+    def __init__(self, settings: Settings, gathering: Gathering, lending: Lending, turns: Turns, ground: Ground | None = None):
+        self.settings, self.shared, self.ground, self.lending = settings, Shared(turns), ground, lending
+        self.grid = ground.grid if ground else ""
         self.workers: dict[int, Worker] = {}
         self.waiting: list[Wanted] = []
         self.begun: dict[int, asyncio.Task[None]] = {}  # pages on which something is changed, each with what settles it before
         self.carrier: Carrier | None = None
         self.layout: Layout  # once it is opened
-        self.has_all = False  # whether all sessions of the tenant are here
-        self.gathering, self.gatherers = asyncio.Lock(), 0  # of who waits for several workers, and how many have it or wait for it
+        self.sessions = 0  # of the tenant, once it is opened
+        self.gathering = gathering
         self.threads = ThreadPoolExecutor(32, thread_name_prefix="session")
         self.loop = asyncio.get_running_loop()
         self.tasks: set[asyncio.Task[None]] = set()
+        self.lends: set[int] = set()  # numbers of sessions that are lent, or are to be
 
     # Beginning
 
@@ -51,28 +58,64 @@ class Pool:
         try:
             told = ask_plan(carrier, self.settings.pace())
             self.layout = layout_of(told)
-            numbers = self.settings.session_numbers(told.sessions)
-            for number in numbers:
-                known = self.workers.get(number)
-                lock = known.lock if known else self.settings.lock(number)
-                if lock is None:
-                    continue
-                session = Turn(carrier, number, told.home_of(number), self.settings.pace())
-                worker = known or Worker(session, lock)
-                worker.session = session
-                self.renew(worker)
-                self.workers[number] = worker
+            for number in self.settings.session_numbers(told.sessions):
+                self.add(carrier, number, told.home_of(number))
         except BaseException:
             carrier.close()
             raise
         if not self.workers:
             carrier.close()
             raise SessionTaken("other clients use all sessions that the settings name")
-        self.carrier, self.has_all = carrier, len(self.workers) == told.sessions
+        self.carrier, self.sessions = carrier, told.sessions
+
+    def add(self, carrier: Carrier, number: int, home: int) -> Worker | None:
+        """A worker of a session, or one that is there by this carrier; None where another client has it."""
+        known = self.workers.get(number)
+        lock = known.lock if known else self.settings.lock(number)
+        if lock is None:
+            return None
+        session = Turn(carrier, number, home, self.settings.pace())
+        worker = known or Worker(session, lock)
+        worker.session = session
+        self.renew(worker)
+        self.workers[number] = worker
+        return worker
+
+    async def begin(self) -> None:
+        """Opens it, or has it opened as soon as that can be done; then what goes on side by side with requests. Faults of settings are raised."""
+        try:
+            await self.loop.run_in_executor(self.threads, self.open)
+        except BadSettings:
+            raise
+        except ClientError as fault:
+            tell(f"{self.named()}{fault}: it is tried again")
+            self.spawn(self.open_again())
+        self.spawn(self.tidy())
+        self.spawn(self.lend_on())
+
+    def named(self) -> str:
+        return f"{self.grid}: " if self.grid else ""
+
+    @property
+    def is_open(self) -> bool:
+        return self.sessions > 0
+
+    @property
+    def has_all(self) -> bool:
+        """Whether all sessions of the tenant are here."""
+        return self.is_open and len(self.workers) == self.sessions
 
     def renew(self, worker: Worker) -> None:
         """Forgets all that the worker knows of files."""
-        worker.store = Store(worker.session, self.layout, self.shared)
+        worker.store = Store(worker.session, self.layout, self.shared, self.ground)
+
+    def known_pages(self, name: str) -> list[Page]:
+        """The pages that may have lines of a name, as they were seen last."""
+        if not self.is_open:
+            return []
+        number = self.layout.page_of(name)
+        found = (self.shared.pages.get((session, number)) for session in range(1, self.sessions + 1))
+        return [known.page for known in found if known]
 
     # Taking turns
 
@@ -84,7 +127,7 @@ class Pool:
         if number is not None and number not in self.workers:
             raise KeyError(number)
         if number is not None and self.workers[number].is_silent or all(each.is_silent for each in self.workers.values()):
-            raise Unanswered("the homes of the sessions are silent")
+            raise Unanswered(f"{self.named()}the homes of the sessions are silent")
         wanted = number if number is not None else preferred
         found = self.workers.get(wanted) if wanted is not None else None
         if (found is None or not self.is_idle(found)) and number is None:
@@ -123,13 +166,14 @@ class Pool:
 
     async def others(self, mine: list[Worker]) -> list[Worker]:
         """All other workers, each once it is free: what needs the room of all waits for it. Crowded where somebody gathers already."""
-        if self.gatherers:
+        if self.gathering.count:
             raise Crowded
         found: list[Worker] = []
-        async with self.gather():
+        async with self.gathering:
             try:
-                for number in self.workers:
-                    if self.workers[number] not in [*mine, *found] and not self.workers[number].is_silent:
+                for number in list(self.workers):
+                    other = self.workers[number]
+                    if other not in [*mine, *found] and not other.is_silent and not other.is_lent:
                         found.append(await self.lease(number))
             except BaseException:
                 for worker in found:
@@ -137,26 +181,51 @@ class Pool:
                 raise
         return found
 
-    @asynccontextmanager
-    async def gather(self) -> AsyncIterator[None]:
-        """One at a time waits for several workers. (Whether the lock is taken tells too little: one that is free may be another's next.)"""
-        self.gatherers += 1
-        try:
-            async with self.gathering:
-                yield
-        finally:
-            self.gatherers -= 1
+    # Lending
 
-    async def pair(self, number: int | None, preferred: int) -> tuple[Worker, Worker]:
-        """Two workers, the second of this number where there is one."""
-        async with self.gather():
-            first = preferred if preferred != number else next(each for each in self.workers if each != number)
-            one = await self.lease(first)
+    async def lend_on(self) -> None:
+        """Lends a session to a command that waits for it, and takes those that other commands had before."""
+        while True:
+            await asyncio.sleep(LOOK)
             try:
-                return one, await self.lease(number if number is not None else next(each for each in self.workers if each != first))
-            except BaseException:
-                self.release(one)
-                raise
+                for number, worker in list(self.workers.items()):
+                    if number not in self.lends and not worker.is_silent and self.settings.is_wanted(number):
+                        self.lends.add(number)
+                        self.spawn(self.lend(worker))
+                if self.carrier and len(self.workers) < self.sessions:
+                    self.take_more(self.carrier)
+            except OSError as fault:
+                tell(f"{self.named()}{fault.filename or 'locks'}: {fault.strerror}: no session is lent")
+                await asyncio.sleep(TIDY)
+
+    def take_more(self, carrier: Carrier) -> None:
+        for number in self.settings.session_numbers(self.sessions):
+            if number not in self.workers and not self.settings.is_wanted(number) and carrier.told:
+                if worker := self.add(carrier, number, carrier.told.home_of(number)):
+                    self.release(worker)
+
+    async def lend(self, worker: Worker) -> None:
+        """Gives a session up once it is free, and has it again once the command is done. What is known of files is forgotten, and no page is settled by it
+        any more."""
+        async with self.lending.lend():
+            worker.is_lent = True
+            try:
+                await self.lease(worker.number)
+                self.renew(worker)
+                worker.lock.close()
+                lock = None
+                while lock is None:
+                    await asyncio.sleep(LOOK)
+                    with suppress(OSError):  # (which is told elsewhere)
+                        lock = None if self.settings.is_wanted(worker.number) else self.settings.lock(worker.number)
+                worker.lock = lock
+                worker.session.forget()
+                self.release(worker)
+            except Unanswered:
+                pass
+            finally:
+                worker.is_lent = False
+                self.lends.discard(worker.number)
 
     # Working
 
@@ -168,10 +237,12 @@ class Pool:
         keep: bool = False,
         besides: tuple[Worker, ...] = (),
         is_soon: bool = False,
+        trip: "Trip | None" = None,
+        others: "Sequence[tuple[Pool, Worker]]" = (),
     ) -> Told:
         """Has a leased worker do some work in a thread, and releases it then, unless it is kept. It may take so many idle ones besides; where its own
         slots don't suffice, all but those that its caller has besides (or Crowded, and nothing of a content was read). Where others can do it too, it
-        is told soon that the home is silent."""
+        is told soon that the home is silent. With a trip it has other workers, each of another grid, which are released with it."""
         borrowed: list[Worker] = self.idle(min(helpers, MOST_HELPERS)) if helpers else []
 
         async def rest() -> None:
@@ -183,25 +254,30 @@ class Pool:
             return [each.store for each in borrowed]
 
         def begin() -> Told:
-            store, session = worker.store, worker.session
-            store.more = more
-            session.begin(is_soon)
+            store = worker.store
+            store.more, store.trip = more, trip
+            for _, each in every:
+                each.session.begin(is_soon)
             try:
                 return work(store)
             finally:
-                session.end()
-                store.end_turn()
+                for _, each in every:
+                    each.session.end()
+                    each.store.end_turn()
 
         def end(future: "asyncio.Future[Told]") -> None:
             fault = None if future.cancelled() else future.exception()
-            self.look_at(worker, fault)
+            for pool, each in [(pool, each) for pool, each in every if each.session.has_failed] or every:
+                pool.look_at(each, fault)
             for each in borrowed:
                 if isinstance(fault, (Unanswered, SessionTaken)):
                     self.probe(each)
                 self.release(each)
             if not keep:
-                self.release(worker)
+                for pool, each in every:
+                    pool.release(each)
 
+        every: list[tuple[Pool, Worker]] = [(self, worker), *others]
         future = self.loop.run_in_executor(self.threads, begin)
         future.add_done_callback(end)
         return await asyncio.shield(future)
@@ -254,7 +330,7 @@ class Pool:
         """Opens the carrier anew, once, and as often as it takes."""
         carrier, self.carrier = self.carrier, None
         if carrier:
-            tell(f"{why}: it is tried again")
+            tell(f"{self.named()}{why}: it is tried again")
             carrier.close()
             for worker in self.workers.values():
                 worker.is_silent = True
@@ -274,17 +350,26 @@ class Pool:
                 break
             except ClientError:
                 continue
-        tell("the carrier is there again")
+        tell(f"{self.named()}the carrier is there again")
         for worker in self.workers.values():
             worker.is_silent = False
             self.release(worker)
 
     # Pages
 
+    async def settle_before(self, name: str) -> None:
+        """Before the first change on a page: what an earlier gateway left under way there ends, where its session's home answers."""
+        page = self.layout.page_of(name)
+        if page not in self.begun:
+            self.begun[page] = self.loop.create_task(self.settle(page))
+        if not self.begun[page].done():
+            with suppress(ClientError):
+                await asyncio.shield(self.begun[page])
+
     async def settle(self, page: int) -> None:
-        """Sees that nothing that earlier clients of these sessions wrote can come into a page any more: by each whose home answers, side by side.
-        A fault is raised where there is one, once all have ended."""
-        wanted = [worker for worker in self.workers.values() if page not in worker.store.settled and not worker.is_silent]
+        """Sees that nothing that earlier clients of these sessions wrote can come into a page any more: by each that is here and whose home answers, side by
+        side. A fault is raised where there is one, once all have ended."""
+        wanted = [worker for worker in self.workers.values() if page not in worker.store.settled and not worker.is_silent and not worker.is_lent]
         found = await asyncio.gather(*(self.settle_by(worker.number, page) for worker in wanted), return_exceptions=True)
         for fault in found:
             if isinstance(fault, BaseException):
@@ -302,7 +387,7 @@ class Pool:
         """Has lines go from a page: by two changes of no name of each session that answers."""
         self.shared.swept[page] = time.monotonic()
         for _ in range(2):
-            for number in list(self.workers):
+            for number in [number for number, worker in self.workers.items() if not worker.is_lent]:
                 try:
                     await self.run(await self.lease(number), lambda store: store.sweep_own(page))
                 except ClientError:
@@ -311,6 +396,8 @@ class Pool:
     async def tidy(self) -> None:
         """Sees after a start to what earlier clients left, page by page, so that nobody waits for long; and from then on, where nobody waits, to
         slots that sessions lent to contents that are gone."""
+        while not self.is_open:
+            await asyncio.sleep(RETRY)
         await asyncio.gather(*(self.tidy_session(number) for number in list(self.workers)))
         while True:
             await asyncio.sleep(TIDY)

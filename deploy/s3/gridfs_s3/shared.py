@@ -1,4 +1,4 @@
-"""What the sessions of a gateway share: pages that one of them has read, turns at a name, and the clock."""
+"""What the sessions of a gateway share: turns at a name and the clock, and pages of their grid that one of them has read."""
 
 import threading
 import time
@@ -12,20 +12,17 @@ from gridfs_client.buckets import Bucket, Held
 from gridfs_client.core import Known
 from gridfs_client.layout import Layout
 from gridfs_client.sessions import Files
+from gridfs_client.ways import Ground
 from gridfs_client.writers import Writer
 
 
-class Shared:
-    """Pages, turns and the clock of all sessions of a gateway. Each call may come from any thread."""
+class Turns:
+    """Turns and the clock of all sessions of a gateway, at whichever grid. Each call may come from any thread."""
 
     def __init__(self) -> None:
         self.guard = threading.Lock()
         self.locks: dict[str, tuple[threading.Lock, int]] = {}
-        self.pages: dict[tuple[int, int], Known] = {}  # by session and number, as it was seen last by any session
-        self.held: dict[int, tuple[tuple[Tag, ...], list[Held]]] = {}  # of each bucket of pages what its names hold, with the tags of these pages
         self.unsure: dict[str, int] = {}  # names, and the number of a version that may still take effect, since nobody answered
-        self.swept: dict[int, float] = {}  # pages that were swept, and when
-        self.searched: dict[int, float] = {}  # sessions all of whose pages were searched for room, and when
         self.last = 0  # the last time that was given
 
     @contextmanager
@@ -66,6 +63,17 @@ class Shared:
                 self.unsure.pop(next(iter(self.unsure)))
             self.unsure[name] = max(number, self.unsure.pop(name, 0))
 
+
+class Shared:
+    """Pages of all sessions of a gateway at one grid. Each call may come from any thread."""
+
+    def __init__(self, turns: Turns | None = None) -> None:
+        self.turns = turns or Turns()
+        self.pages: dict[tuple[int, int], Known] = {}  # by session and number, as it was seen last by any session
+        self.held: dict[int, tuple[tuple[Tag, ...], list[Held]]] = {}  # of each bucket of pages what its names hold, with the tags of these pages
+        self.swept: dict[int, float] = {}  # pages that were swept, and when
+        self.searched: dict[int, float] = {}  # sessions all of whose pages were searched for room, and when
+
     def keep(self, session: int, number: int, known: Known) -> None:
         before = self.pages.get((session, number))
         if before is None or before.tag < known.tag:
@@ -84,8 +92,8 @@ class SharedBucket(Bucket):
     """A bucket that reads no page that another session of the gateway has read since it was written. A tag tells one content of a file: so a page with
     the tag that is listed is the page that would be read."""
 
-    def __init__(self, shared: Shared, session: Files, layout: Layout, number: int):
-        super().__init__(session, layout, number)
+    def __init__(self, shared: Shared, session: Files, layout: Layout, number: int, ground: Ground | None = None):
+        super().__init__(session, layout, number, ground)
         self.shared = shared
         self.listed: tuple[Tag, ...] = ()
 
@@ -115,11 +123,11 @@ class SharedBucket(Bucket):
 class SharedWriter(Writer):
     """A writer whose buckets share what they read."""
 
-    def __init__(self, shared: Shared, session: Files, layout: Layout):
+    def __init__(self, shared: Shared, session: Files, layout: Layout, ground: Ground | None = None):
         super().__init__(session, layout)
-        self.shared = shared
+        self.shared, self.ground = shared, ground
 
     def bucket(self, page: int) -> Bucket:
         if page not in self.buckets:
-            self.buckets[page] = SharedBucket(self.shared, self.session, self.layout, page)
+            self.buckets[page] = SharedBucket(self.shared, self.session, self.layout, page, self.ground)
         return self.buckets[page]

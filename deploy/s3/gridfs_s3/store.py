@@ -10,19 +10,22 @@ from gridfs_client.buckets import Bucket, Held
 from gridfs_client.contents import Content, Inline, InSlots, Joined
 from gridfs_client.core import Line, Version
 from gridfs_client.errors import CarrierFault, NoRoom, NoSuchName, SessionTaken, Unanswered
+from gridfs_client.fleet import spool
 from gridfs_client.layout import Layout
-from gridfs_client.names import no_words, present
+from gridfs_client.names import no_words
 from gridfs_client.pages import check_words
 from gridfs_client.pieces import choose
 from gridfs_client.placing import Placing
 from gridfs_client.sessions import Files
 from gridfs_client.streams import Source
+from gridfs_client.ways import Ground
 from gridfs_client.writers import Writer
 
 from .errors import S3Error
 from .places import Part, Values, of_words, parts_of, to_words, upload_name
 from .reading import Reader
 from .shared import Shared
+from .trips import Elsewhere
 
 Condition = Callable[[Held | None], None]  # judges what a name holds, right before it is changed
 AGAIN = 60.0  # seconds until a page that is full of removals is swept again, and all pages of a session are searched for room
@@ -68,8 +71,8 @@ class FewSearches(Placing):
 class Store(Reader):
     """The names of one session, as objects; by one thread at a time."""
 
-    def __init__(self, session: Files, layout: Layout, shared: Shared):
-        super().__init__(session, layout, shared)
+    def __init__(self, session: Files, layout: Layout, shared: Shared, ground: Ground | None = None):
+        super().__init__(session, layout, shared, ground)
         self.settled: set[int] = set()  # pages of the session into which nothing can come that an earlier client, or an unanswered change, wrote
 
     def make_room(self, bucket: Bucket, line: Line) -> None:
@@ -116,14 +119,27 @@ class Store(Reader):
         What the condition raises, NoRoom, S3Error of the content: nothing was changed. Unanswered, SessionTaken, CarrierFault: it may take effect
         until this session has changed the page again.
         """
+        held, bucket = self.look_for_change(name), self.bucket(name)
+        if condition:
+            condition(held)  # (before a long content is moved)
+        self.make_room(bucket, Line(name, bucket.new_version().number, Inline(b"") if values else None, self.words_at(values, STAMP)))
+        placed = content(bucket, held)
+        with self.shared.turns.turn(name):
+            return self.commit_in_turn(bucket, name, placed, values, condition, besides)
+
+    def look_for_change(self, name: str) -> Held | None:
+        """What a name holds, for a change by this session. Elsewhere where the change is another grid's."""
+        if self.trip:
+            return self.trip.look_for_change(name, self.grid)
         bucket = self.bucket(name)
         bucket.look(own=True)
-        if condition:
-            condition(bucket.held(name))  # (before a long content is moved)
-        self.make_room(bucket, Line(name, bucket.new_version().number, Inline(b"") if values else None, self.words_at(values, STAMP)))
-        placed = content(bucket, bucket.held(name))
-        with self.shared.turn(name):
-            return self.commit_in_turn(bucket, name, placed, values, condition, besides)
+        return bucket.held(name)
+
+    def look_again(self, name: str, is_wanted: bool) -> Held | None:
+        """What it holds right before the change; where that is wanted, by one more look."""
+        if self.trip:
+            return self.trip.look_again(name, self.grid, is_wanted)
+        return self.look_for_change(name) if is_wanted else self.bucket(name).held(name)
 
     def words_at(self, values: Callable[[], Values] | None, stamp: str) -> str:
         words = to_words({"t": stamp, **values()}) if values else ""
@@ -134,13 +150,12 @@ class Store(Reader):
         self, bucket: Bucket, name: str, content: Content | None, values: Callable[[], Values] | None, condition: Condition | None, besides: frozenset[str]
     ) -> Held:
         try:
+            before = self.look_again(name, condition is not None)
             if condition:
-                bucket.look(own=True)
-                condition(bucket.held(name))
-            before = bucket.held(name)
-            stamp = self.shared.time_after(int(of_words(before.words).get("t", 0)) if before else 0)
+                condition(before)
+            stamp = self.shared.turns.time_after(int(of_words(before.words).get("t", 0)) if before else 0)
             words = self.words_at(values, str(stamp))
-            version = Version(self.shared.number_for(name, bucket.new_version().number), self.me)
+            version = Version(self.shared.turns.number_for(name, bucket.new_version().number), self.me, self.grid)
             journal = self.writer.announcement(bucket, Line(name, version.number, content, words), besides)
             if journal is None:
                 raise NoRoom(f"{name}: page {bucket.number} of session {self.me} has no room for one more line")
@@ -150,7 +165,7 @@ class Store(Reader):
         try:
             self.writer.change(bucket, journal)
         except (Unanswered, SessionTaken, CarrierFault):
-            self.shared.is_unsure(name, version.number)
+            self.shared.turns.is_unsure(name, version.number)
             self.settled.clear()
             raise
         self.settled.add(bucket.number)
@@ -169,8 +184,9 @@ class Store(Reader):
     def delete(self, name: str, condition: Condition | None = None) -> bool:
         """Takes a name away; whether it held something. Where it holds nothing, nothing is changed."""
 
-        def expect(bucket: Bucket, _: Held | None) -> None:
-            present(bucket, name)
+        def expect(_: Bucket, held: Held | None) -> None:
+            if not held:
+                raise NoSuchName(name)
 
         try:
             self.change(name, expect, None, condition)
@@ -179,7 +195,10 @@ class Store(Reader):
             return False
 
     def touch(self, name: str, seen: Held, values: Callable[[], Values]) -> Held | None:
-        """Gives a content other words where it stands, in slots of this session or in the line; None where the name holds another one by now."""
+        """Gives a content other words where it is, in slots of this session or in the line; None where the name holds another one by now, or it is at another
+        grid."""
+        if seen.version.grid != self.grid:
+            return None
 
         class Changed(Exception):
             pass
@@ -205,7 +224,7 @@ class Store(Reader):
             self.writer.tidy(bucket, anew=True)
             self.settled.add(page)
             times = [int(of_words(held.words).get("t", 0)) for held in self.shared.held_in(bucket)]
-            self.shared.is_later_than(max(times, default=0))
+            self.shared.turns.is_later_than(max(times, default=0))
 
     def sweep_own(self, page: int) -> int:
         """Has this session's lines go from a page that can, and says that it was made beside the removals of others."""
@@ -233,26 +252,62 @@ class Store(Reader):
 
     def begin_upload(self, bucket_name: str, object_name: str, values: Values) -> str:
         """Begins an upload; its ID, which has the number of this session."""
-        while True:
-            upload = f"{self.me}.{secrets.token_hex(12)}"
-            name = upload_name(bucket_name, upload)
-            if self.layout.page_of(name) == self.layout.page_of(object_name):
-                break
-        self.change(name, lambda *_: Inline(b""), lambda: values)
+        upload = f"{self.me}.{secrets.token_hex(12)}"
+        self.change(upload_name(bucket_name, upload, object_name), lambda *_: Inline(b""), lambda: values)
         return upload
 
-    def upload(self, bucket_name: str, upload: str) -> Held:
+    def upload(self, name: str) -> Held:
         """What was uploaded until now; NoSuchUpload (404)."""
-        return found_upload(self.look(upload_name(bucket_name, upload)))
+        return found_upload(self.look(name))
 
-    def put_part(self, bucket_name: str, upload: str, number: int, body: Body, now: int) -> str:
+    def own_upload(self, name: str) -> Held:
+        """An upload that this session has at the last grid of its way, to which it is brought where its slice is moved. NoSuchUpload (404), or Elsewhere for
+        what another session has."""
+        found = found_upload(self.look_for_change(name))
+        if found.version.grid != self.grid:
+            return self.bring(name, found)
+        self.expect_own(found)
+        return found
+
+    def expect_own(self, held: Held) -> None:
+        if (held.version.grid, held.version.session) != (self.grid, self.me):
+            raise Elsewhere(held.version.grid, held.version.session)
+
+    def bring(self, name: str, held: Held) -> Held:
+        """Puts an upload that is at an earlier grid anew, with the same parts."""
+        assert self.trip
+        source, words = self.trip.grid(held.version.grid), values_beside(held)
+
+        def is_the_same(now: Held | None) -> None:
+            if not now or now.version != held.version:
+                raise Elsewhere(self.grid)
+
+        def placed(bucket: Bucket, _: Held | None) -> Content:
+            parts: list[InSlots] = []
+            try:
+                for part in held.content.parts:
+                    with spool() as room:
+                        if source.copy_part(held, part, room) is not None:
+                            raise Elsewhere(self.grid)  # (it was replaced meanwhile)
+                        room.seek(0)
+                        parts.append(self.in_slots(bucket, name, Source(room), lambda: self.words_at(lambda: words, STAMP)))
+            except BaseException:
+                self.unplace(bucket, joined(parts))
+                raise
+            return joined(parts)
+
+        return self.change(name, placed, lambda: words, is_the_same)
+
+    def put_part(self, name: str, number: int, body: Body, now: int) -> str:
         """Adds a part, or puts another one in its place; its MD5. NoSuchUpload (404)."""
-        name, bucket = upload_name(bucket_name, upload), self.bucket(upload_name(bucket_name, upload))
+        bucket = self.bucket(name)
         body.rewind()
         values: Values = {}
+        if self.trip:
+            self.own_upload(name)
 
         def placed(_: Bucket, held: Held | None) -> Content:
-            found_upload(held)
+            self.expect_own(found_upload(held))
             source = Source(cast(IO[bytes], body))
             added: InSlots | None = None
             if source.size:
@@ -262,7 +317,7 @@ class Store(Reader):
             now_held = found_upload(bucket.held(name))
             parts = {part.number: (part, slots) for part, slots in self.uploaded(now_held)}
             parts[number] = Part(number, body.digest(), added.size if added else 0, now), added
-            values.update({key: value for key, value in of_words(now_held.words).items() if key != "t"})
+            values.update(values_beside(now_held))
             values["p"] = ",".join(parts[each][0].text() for each in sorted(parts))
             return joined([parts[each][1] for each in sorted(parts)])
 
@@ -274,11 +329,11 @@ class Store(Reader):
         slots = iter(held.content.parts)
         return [(part, next(slots) if part.size else None) for part in parts_of(of_words(held.words))]
 
-    def complete(
-        self, bucket_name: str, upload: str, object_name: str, values: Values, chosen: Sequence[InSlots | None], condition: Condition | None
-    ) -> Held:
-        """Gives the object the parts as they stand, and has the upload go, in one change."""
-        return self.change(object_name, lambda *_: joined(chosen), lambda: values, condition, frozenset([upload_name(bucket_name, upload)]))
+    def complete(self, name: str, object_name: str, values: Values, chosen: Sequence[InSlots | None], condition: Condition | None) -> Held:
+        """Gives the object the parts as they are, and has the upload go, in one change. Over several grids the upload stays, and has to be removed: another grid
+        may still have an older line of it. (Both lines are in one page, so slots that one of them names stay.)"""
+        besides = frozenset[str]() if self.trip else frozenset([name])
+        return self.change(object_name, lambda *_: joined(chosen), lambda: values, condition, besides)
 
     # What there is room for
 
@@ -287,6 +342,11 @@ class Store(Reader):
         taken = self.writer.keeper.needed().taken()
         used = sum(slot.room for number, slot in self.writer.keeper.slots.items() if number in taken)
         return used, sum(slot.room for slot in self.writer.keeper.slots.values()) - used
+
+
+def values_beside(held: Held) -> Values:
+    """What is kept beside an upload, but for the time."""
+    return {key: value for key, value in of_words(held.words).items() if key != "t"}
 
 
 def found_upload(held: Held | None) -> Held:

@@ -6,11 +6,12 @@ import re
 from aiohttp import web
 
 from gridfs_client.buckets import Held
+from gridfs_client.errors import ClientError
 
 from . import markup
 from .bodies import body_of
 from .copying import Copies, range_to_copy
-from .errors import S3Error
+from .errors import S3Error, tell
 from .gateway import LONGEST_XML, Operations, let_body_come
 from .markup import document, element, many
 from .objects import HELPERS, LONGEST_PUT, MANY, Objects, values_of
@@ -41,13 +42,17 @@ class Uploads(Operations):
         self.objects, self.copies = objects, copies
 
     def session_of(self, asked: Asked) -> int:
-        """The session that has the upload. 404 NoSuchUpload; 503 ServiceUnavailable where another gateway has it."""
+        """The session that has the upload, if its slice was not moved. 404 NoSuchUpload."""
         found = UPLOAD.fullmatch(asked.query["uploadId"])
-        if not found or not 1 <= int(found[1]) <= self.pool.layout.sessions:
+        if not found or not 1 <= int(found[1]) <= self.grids.sessions:
             raise S3Error("NoSuchUpload")
-        if int(found[1]) not in self.pool.workers:
-            raise S3Error("ServiceUnavailable", "Another gateway of the tenant has this upload.")
         return int(found[1])
+
+    def name_of(self, asked: Asked) -> str:
+        """The name of the upload that is asked for. 404 NoSuchUpload."""
+        if not UPLOAD.fullmatch(asked.query["uploadId"]):
+            raise S3Error("NoSuchUpload")
+        return upload_name(asked.bucket, asked.query["uploadId"], name_of(asked.bucket, asked.key))
 
     async def create_multipart_upload(self, asked: Asked) -> web.Response:
         """200. 400 KeyTooLongError, MetadataTooLarge; 404 NoSuchBucket; 507 InsufficientStorage."""
@@ -63,7 +68,7 @@ class Uploads(Operations):
         number, session, body = part_number(asked), self.session_of(asked), body_of(asked)
         if body.told_size > LONGEST_PUT:
             raise S3Error("EntityTooLarge")
-        put = PutPart(asked, number)
+        put = PutPart(asked, self.name_of(asked), number)
         async with self.objects.source_of(asked, body) as source:
             md5 = await self.gateway.change(put.name, lambda store: put(store, source), HELPERS if body.told_size >= MANY else 0, session)
         return answer(headers={"ETag": f'"{md5}"'})
@@ -72,7 +77,7 @@ class Uploads(Operations):
         """200. 400 InvalidArgument; 404 NoSuchBucket, NoSuchKey, NoSuchUpload; 412 PreconditionFailed; 416 InvalidRange."""
         await self.gateway.need_bucket(asked.bucket)
         number, session = part_number(asked), self.session_of(asked)
-        text, put = asked.headers.get("x-amz-copy-source-range"), PutPart(asked, number)
+        text, put = asked.headers.get("x-amz-copy-source-range"), PutPart(asked, self.name_of(asked), number)
         md5 = await self.copies.copied(
             asked, lambda store, source, _: put(store, source), lambda found: range_to_copy(text, found.size), put.name, session
         )
@@ -91,12 +96,12 @@ class Uploads(Operations):
         numbers = [int(number) for number, _ in wanted]
         if any(one >= two for one, two in zip(numbers, numbers[1:])):
             raise S3Error("InvalidPartOrder")
-        name, upload = name_of(asked.bucket, asked.key), asked.query["uploadId"]
+        name, upload, place = name_of(asked.bucket, asked.key), asked.query["uploadId"], self.name_of(asked)
         condition = await self.gateway.condition_of(asked, name)
 
         def finish(store: Store) -> Held:
             try:
-                held = store.upload(asked.bucket, upload)
+                held = store.own_upload(place)
             except S3Error:
                 # (asked again by who did not hear the answer)
                 if (done := store.look(name)) and of_words(done.words).get("u") == upload:
@@ -112,19 +117,28 @@ class Uploads(Operations):
                 values["k"] = asked.key
             md5 = hashlib.md5(b"".join(bytes.fromhex(found[number][0].md5) for number in numbers)).hexdigest()
             values |= {"m": md5, "n": str(len(numbers)), "u": upload}
-            return store.complete(asked.bucket, upload, name, values, [found[number][1] for number in numbers], condition)
+            return store.complete(place, name, values, [found[number][1] for number in numbers], condition)
 
-        held = await self.gateway.change(name, finish, number=session)
+        held = await self.gateway.change(name, finish, number=session, condition=condition)
+        if self.grids.map:
+            await self.remove(place)
         inner = [element("Location", f"/{asked.bucket}/{asked.key}"), element("Bucket", asked.bucket), element("Key", asked.key)]
         return answer(document("CompleteMultipartUploadResult", *inner, element("ETag", f'"{Object(asked.key, held).etag}"')))
+
+    async def remove(self, name: str) -> None:
+        """Has an upload go whose object is there. (Where that fails it is told to whoever runs the gateway, since the completion was done.)"""
+        try:
+            await self.gateway.change(name, lambda store: store.delete(name))
+        except (ClientError, S3Error) as fault:
+            tell(f"{name} stays: {fault}")
 
     async def abort_multipart_upload(self, asked: Asked) -> web.Response:
         """204. 404 NoSuchBucket, NoSuchUpload."""
         await self.gateway.need_bucket(asked.bucket)
-        session, name = self.session_of(asked), upload_name(asked.bucket, asked.query["uploadId"])
+        session, name = self.session_of(asked), self.name_of(asked)
 
         def give_up(store: Store) -> None:
-            expect_key(asked, store.upload(asked.bucket, asked.query["uploadId"]))
+            expect_key(asked, store.upload(name))
             store.delete(name)
 
         await self.gateway.change(name, give_up, number=session)
@@ -134,9 +148,8 @@ class Uploads(Operations):
         """200. 400 InvalidArgument; 404 NoSuchBucket, NoSuchUpload."""
         await self.gateway.need_bucket(asked.bucket)
         most, after = asked.number("max-parts", 1_000, 1_000), asked.number("part-number-marker", 0, 99_999)
-        if not UPLOAD.fullmatch(asked.query["uploadId"]):
-            raise S3Error("NoSuchUpload")
-        held = await self.gateway.look("", lambda store: store.upload(asked.bucket, asked.query["uploadId"]))
+        name = self.name_of(asked)
+        held = await self.gateway.look(name, lambda store: store.upload(name))
         expect_key(asked, held)
         parts = [part for part in parts_of(of_words(held.words)) if part.number > after]
         rows = [
@@ -167,12 +180,10 @@ class Uploads(Operations):
 class PutPart:
     """Puts one part of an upload, whose key has to be the one that is asked for."""
 
-    def __init__(self, asked: Asked, number: int):
-        self.asked, self.number = asked, number
-        self.upload = asked.query["uploadId"]
-        self.name = upload_name(asked.bucket, self.upload)
+    def __init__(self, asked: Asked, name: str, number: int):
+        self.asked, self.name, self.number = asked, name, number
 
     def __call__(self, store: Store, source: Body) -> str:
         """The part's MD5."""
-        expect_key(self.asked, store.upload(self.asked.bucket, self.upload))
-        return store.put_part(self.asked.bucket, self.upload, self.number, source, now_ms())
+        expect_key(self.asked, store.upload(self.name))
+        return store.put_part(self.name, self.number, source, now_ms())

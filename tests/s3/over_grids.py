@@ -1,0 +1,336 @@
+#!/usr/bin/python3
+"""The gateway over several grids, whose slices a mover moves from one to another all the time, from a map that it began with.
+
+    over_grids.py histories SECONDS KILLS       puts, gets, heads, removals and uploads in parts, by two gateways that share the sessions (kills.py)
+    over_grids.py conditions SECONDS KILLS      conditional puts, by one gateway that has all sessions (kills.py)
+    over_grids.py operations                    each operation, at each stage of three moves, by a gateway that follows maps and one that does not
+    over_grids.py silent                        what a gateway answers while a grid does not
+    over_grids.py once                          the same of one move, by one that does not
+
+Each grid is a stand-in. Gateways and movers are killed (kill -9), and begun again; a mover has its sessions from the gateways. The status is 1 where something
+is wrong, and where fewer than two moves ended.
+"""
+
+import contextlib
+import os
+import random
+import signal
+import subprocess
+import sys
+import tempfile
+import threading
+import time
+
+sys.path.insert(0, os.path.dirname(os.path.abspath(__file__)))
+import code_of_s3
+import endpoint
+import kills
+from gridfs_client.fleet import sign
+from gridfs_client.fleet_map import read_map
+from gridfs_client.moving import Mover
+from gridfs_client.open_grids import OpenGrids
+from gridfs_client.settings import Settings
+from gridfs_client.ways import SLICES, slice_of
+
+LABELS = ["east", "west", "south"]
+STAGES = 5  # of a move
+FLEET = [sys.executable, "-B", os.path.join(code_of_s3.CLIENT, "gridfs-fleet")]
+
+
+class Fleet:
+    """Grids with a map, and a mover."""
+
+    def __init__(self, room, labels):
+        self.room, self.labels, self.map, self.log = room, labels, os.path.join(room, "map"), os.path.join(room, "log.mover")
+        self.settings = os.path.join(room, "carol.ini")
+        with open(self.settings, "w", encoding="ascii") as out:
+            out.write(f"[gridfs]\nmap = {self.map}\n")
+        for label in labels:
+            with open(os.path.join(room, f"{label}.ini"), "w", encoding="ascii") as out:
+                out.write(f"[gridfs]\ntenant = carol\nsocket = {room}/{label}/socket\nlocks = {room}/locks.{label}\n")
+        self.tell("begin", labels[0], f"{labels[0]}.ini")
+        for label in labels[1:]:
+            self.tell("add", label, f"{label}.ini")
+        self.mover, self.is_over, self.statuses = None, False, []
+
+    def tell(self, *words):
+        with open(self.log, "ab") as log:
+            subprocess.run([*FLEET, "--map", self.map, *words], check=True, stdout=log, stderr=log)
+
+    def move_on(self, draw, kills):
+        """Moves slices until it is over; so many movers are killed."""
+        while not self.is_over:
+            now = read_map(self.map)
+            words = ["move"]
+            if not now.moves:
+                each = draw.choice(now.ranges)
+                first = draw.choice([each.first, draw.randint(each.first, each.last)])
+                words = ["move", f"{first}-{each.last}", draw.choice([label for label in self.labels if label != each.grid])]
+            with open(self.log, "ab") as log:
+                self.mover = subprocess.Popen([*FLEET, "--map", self.map, "--timeout", "20", *words], stdout=log, stderr=log)
+            if kills and draw.random() < 0.5:
+                kills -= 1
+                time.sleep(draw.uniform(0.3, 2))
+                self.mover.kill()
+            self.statuses.append(self.mover.wait())
+
+    @property
+    def moves(self):
+        now = read_map(self.map)
+        return now.last_move - len(now.moves)
+
+
+@contextlib.contextmanager
+def fleet(labels=LABELS):
+    with contextlib.ExitStack() as grids:
+        room, processes = grids.enter_context(tempfile.TemporaryDirectory(prefix="gridfs-s3-")), {}
+        for label in labels:
+            grids.enter_context(endpoint.stand_in(folder=os.path.join(room, label), processes=processes))
+        found = Fleet(room, labels)
+        found.processes = {label: processes[os.path.join(room, label)] for label in labels}
+        yield found
+
+
+def tried(kind, count, seconds, kills_of_each):
+    """A trial of kills.py while slices move; what is wrong, and what was done."""
+    draw = random.Random()
+    with fleet() as found:
+        begun = threading.Thread(target=found.move_on, args=(draw, kills_of_each))
+
+        class Moved(kind):
+            def run(self):
+                begun.start()
+                try:
+                    return super().run()
+                finally:
+                    found.is_over = True
+                    begun.join()
+
+        wrong, told = kills.tried(Moved, found.settings, seconds, kills_of_each, count, draw.randrange(1 << 30), found.room)
+        if found.moves < 2:
+            with open(found.log, encoding="utf-8") as log:
+                wrong.append(f"{found.moves} moves have ended: {log.read()[-1500:]}")
+        statuses = {status: found.statuses.count(status) for status in sorted(set(found.statuses))}
+        return wrong, f"{told}, {found.moves} moves, statuses of movers {statuses}"
+
+
+class Model:
+    """What a bucket has to hold, and each operation on it."""
+
+    def __init__(self, s3):
+        self.s3, self.objects, self.draw, self.uploads, self.wrong, self.stage = s3, {}, random.Random(1), {}, [], "before"
+        self.beside, self.condition = {}, {}  # metadata; headers of the next put
+        s3.meta.events.register("before-sign.s3.PutObject", lambda request, **_: [request.headers.__setitem__(*each) for each in self.condition.items()])
+        s3.create_bucket(Bucket="moved")
+        for key in ("short", "long", "copied", "touched", "removed", "odd/", "given/a", "given/b"):
+            self.put(key)
+        for key in ("from the beginning", *(f"begun {number}" for number in range(STAGES))):
+            self.begin(key)
+
+    def expect(self, what, found, wanted):
+        if found != wanted:
+            self.wrong.append(f"{self.stage}: {what}: {str(found)[:200]} in place of {str(wanted)[:200]}")
+
+    def body(self, key):
+        return self.draw.randbytes({"long": 2_500_000, "touched": 100_000}.get(key) or self.draw.choice((10, 5_000)))
+
+    def put(self, key, **condition):
+        body = self.body(key)
+        self.condition = condition
+        self.s3.put_object(Bucket="moved", Key=key, Body=body, Metadata={"of": key.strip("/")})
+        self.condition, self.objects[key], self.beside[key] = {}, body, key.strip("/")
+
+    def begin(self, key):
+        self.uploads[key] = self.s3.create_multipart_upload(Bucket="moved", Key=key, Metadata={"of": key})["UploadId"], []
+        self.part(key)
+
+    def part(self, key):
+        upload, parts = self.uploads[key]
+        body = self.draw.randbytes(self.draw.choice((200, 300_000)))
+        told = self.s3.upload_part(Bucket="moved", Key=key, UploadId=upload, PartNumber=len(parts) + 1, Body=body)
+        parts.append((body, told["ETag"]))
+
+    def complete(self, key):
+        upload, parts = self.uploads.pop(key)
+        wanted = [{"PartNumber": number, "ETag": etag} for number, (_, etag) in enumerate(parts, 1)]
+        told = self.s3.list_parts(Bucket="moved", Key=key, UploadId=upload)["Parts"]
+        self.expect("parts of an upload", [(each["Size"], each["ETag"]) for each in told], [(len(body), etag) for body, etag in parts])
+        self.s3.complete_multipart_upload(Bucket="moved", Key=key, UploadId=upload, MultipartUpload={"Parts": wanted})
+        self.objects[key], self.beside[key] = b"".join(body for body, _ in parts), key
+
+    def refused(self, work, *codes, **words):
+        try:
+            work(Bucket="moved", **words)
+            self.expect(f"{work.__name__} of {words['Key']}", "done", codes)
+        except kills.ClientError as fault:
+            self.expect(f"{work.__name__} of {words['Key']}", kills.code_of(fault) in codes or kills.code_of(fault), True)
+
+    def use(self, stage):
+        """Each operation once; and what is there then."""
+        self.stage, s3 = stage, self.s3
+        self.look()
+        for key in ("short", "long", f"new {stage}"):
+            self.put(key)
+        s3.copy_object(Bucket="moved", Key="copied", CopySource={"Bucket": "moved", "Key": "long"})
+        self.objects["copied"], self.beside["copied"] = self.objects["long"], "long"
+        s3.copy_object(Bucket="moved", Key="touched", CopySource={"Bucket": "moved", "Key": "touched"}, MetadataDirective="REPLACE", Metadata={"of": "touched", "at": stage})
+        s3.delete_object(Bucket="moved", Key="removed")
+        self.objects.pop("removed", None)
+        self.refused(s3.get_object, "NoSuchKey", Key="removed")
+        self.condition = {"If-None-Match": "*"}
+        self.refused(s3.put_object, "PreconditionFailed", Key="short", Body=b"x")
+        self.put("removed", **{"If-None-Match": "*"})
+        self.put("short", **{"If-Match": s3.head_object(Bucket="moved", Key="short")["ETag"]})
+        told = s3.delete_objects(Bucket="moved", Delete={"Objects": [{"Key": "given/a"}, {"Key": "given/b"}]})
+        self.expect("removals", len(told["Deleted"]), 2)
+        self.objects = {key: body for key, body in self.objects.items() if not key.startswith("given/")}
+        self.put("given/a")
+        self.part("from the beginning")
+        for key in [key for key in self.uploads if key.startswith("upload")] + [key for key in self.uploads if key.startswith("begun")][:1]:
+            self.part(key)
+            self.complete(key)
+        self.begin(f"upload {stage}")
+        self.begin("given up")
+        upload, _ = self.uploads.pop("given up")
+        s3.abort_multipart_upload(Bucket="moved", Key="given up", UploadId=upload)
+        self.refused(s3.list_parts, "NoSuchUpload", Key="given up", UploadId=upload)
+        self.look()
+
+    def look(self):
+        for key, body in self.objects.items():
+            found = self.s3.get_object(Bucket="moved", Key=key)
+            self.expect(f"the content of {key}", found["Body"].read(), body)
+            self.expect(f"what is beside {key}", (found["Metadata"].get("of"), found["ContentLength"]), (self.beside[key], len(body)))
+            self.expect(f"a range of {key}", self.s3.get_object(Bucket="moved", Key=key, Range="bytes=3-8")["Body"].read(), body[3:9])
+        told = self.s3.list_objects_v2(Bucket="moved").get("Contents", [])
+        self.expect("a listing", {each["Key"]: each["Size"] for each in told}, {key: len(body) for key, body in self.objects.items()})
+        told = self.s3.list_multipart_uploads(Bucket="moved").get("Uploads", [])
+        self.expect("uploads", {each["Key"]: each["UploadId"] for each in told}, {key: upload for key, (upload, _) in self.uploads.items()})
+        self.expect("buckets", [each["Name"] for each in self.s3.list_buckets()["Buckets"]], ["moved"])
+
+
+def at_each_stage(is_following, count=3):
+    """Each operation at each stage of moves there, and of a part back, by a gateway that finds later maps, or has none but the first."""
+    with fleet(LABELS[:2]) as found:
+        first, settings = os.path.join(found.room, "first"), os.path.join(found.room, "first.ini")
+        with open(first, "w", encoding="ascii") as out:
+            out.write(read_map(found.map).text())
+        with open(settings, "w", encoding="ascii") as out:
+            out.write(f"[gridfs]\nmap = {found.map if is_following else first}\n")
+        gateway = endpoint.Gateway(settings, found.room)
+        try:
+            model = Model(gateway.client())
+            for number, (slices, target) in enumerate((((0, SLICES - 1), "west"), ((0, 40_000), "east"), ((20_000, 60_000), "west"))[:count]):
+                for part in [each for each in read_map(found.map).ranges if each.grid != target]:
+                    if max(part.first, slices[0]) <= min(part.last, slices[1]):
+                        stages(found, model, read_map(found.map).begun(max(part.first, slices[0]), min(part.last, slices[1]), target), f"move {number}")
+            model.complete("from the beginning")
+            model.look()
+            gateway.kill()
+            gateway.settings = found.settings
+            gateway.start()
+            model.stage = "by the last map"
+            model.look()
+            return model.wrong + (["a traceback"] if "Traceback" in gateway.told() else [])
+        except kills.FAULTS as fault:
+            return [*model.wrong, f"{model.stage}: {fault}"]
+        finally:
+            gateway.kill()
+
+
+def while_one_is_silent():
+    """A grid does not answer: requests for its names and listings get 503, and others go on. A gateway that begins then does so too; all is there once the grid
+    answers again."""
+    wrong = []
+
+    def told(what, work, code):
+        try:
+            work()
+            found = None
+        except kills.FAULTS as fault:
+            found = kills.code_of(fault)
+        if found != code:
+            wrong.append(f"{what}: {found} in place of {code}")
+
+    with fleet(LABELS[:2]) as found:
+        gateway = endpoint.Gateway(found.settings, found.room)
+        try:
+            s3, keys = gateway.client(), {}
+            s3.create_bucket(Bucket="moved")
+            for number in range(12):
+                s3.put_object(Bucket="moved", Key=f"key {number}", Body=b"%d" % number)
+            at_west = slice_of(".s3/bucket/moved") < SLICES // 2
+            found.tell("move", f"{SLICES // 2}-{SLICES - 1}" if at_west else f"0-{SLICES // 2 - 1}", "west")  # (the bucket itself stays)
+            now = read_map(found.map)
+            keys = {f"key {number}": now.stop(slice_of(f"moved/key {number}")).grid for number in range(12)}
+            if set(keys.values()) != {"east", "west"}:
+                wrong.append(f"all keys are at one grid: {keys}")
+            for is_begun_anew in (False, True):
+                found.processes["west"].send_signal(signal.SIGSTOP)
+                if is_begun_anew:
+                    gateway.kill()
+                    gateway.start()
+                for key, grid in keys.items():
+                    code = None if grid == "east" else "ServiceUnavailable"
+                    told(f"a get of {key} at {grid}", lambda key=key: s3.get_object(Bucket="moved", Key=key), code)
+                    told(f"a put of {key} at {grid}", lambda key=key: s3.put_object(Bucket="moved", Key=key, Body=key.split()[1].encode()), code)
+                told("a listing", lambda: s3.list_objects_v2(Bucket="moved"), "ServiceUnavailable")
+                found.processes["west"].send_signal(signal.SIGCONT)
+                until = time.monotonic() + 60
+                while time.monotonic() < until:
+                    with contextlib.suppress(*kills.FAULTS):
+                        if len(s3.list_objects_v2(Bucket="moved")["Contents"]) == len(keys):
+                            break
+                    time.sleep(0.5)
+                for key, grid in keys.items():
+                    told(f"a put of {key} at {grid} that answers again", lambda key=key: s3.put_object(Bucket="moved", Key=key, Body=key.split()[1].encode()), None)
+                    if s3.get_object(Bucket="moved", Key=key)["Body"].read() != key.split()[1].encode():
+                        wrong.append(f"{key} has another content")
+            return wrong + (["a traceback"] if "Traceback" in gateway.told() else [])
+        finally:
+            found.processes["west"].send_signal(signal.SIGCONT)
+            gateway.kill()
+
+
+def stages(found, model, now, word):
+    """A move, with all operations between its steps."""
+    now.save()
+    move = now.moves[-1]
+    with contextlib.closing(OpenGrids(now, Settings({"timeout": "20", "helpers": "0", "session": "all"}))) as grids:
+        mover = Mover(now, move, grids.session, grids.layout, lambda change: change(now))
+        for session, page in mover.lacking()[::3]:
+            with mover.files(move.source, [session]) as files:
+                sign(files, files.writer.bucket(page), move.signpost)
+        model.use(f"{word}, some pages are signed")
+        mover.sign_all()
+        model.use(f"{word}, all pages are signed")
+        mover.copy_all()
+        model.use(f"{word}, all is copied")
+        now = now.come(move)
+        now.save()
+        mover.map = now
+        model.use(f"{word}, the map has changed")
+        mover.clear_all()
+        now.ended(move).save()
+        model.use(f"{word}, it has ended")
+
+
+def main(words):
+    if words[0] == "silent":
+        os.environ["GRIDFS_TIMEOUT"] = "4"
+        wrong = while_one_is_silent()
+        print("".join(f"{line}\n" for line in wrong) + f"{len(wrong)} wrong")
+        return bool(wrong)
+    if words[0] in ("operations", "once"):
+        runs = [(True, 3), (False, 3)] if words[0] == "operations" else [(False, 1)]
+        wrong = [f"{text} (later maps: {run[0]})" for run in runs for text in at_each_stage(*run)]
+        print("".join(f"{line}\n" for line in wrong[:20]) + f"{len(wrong)} wrong")
+        return bool(wrong)
+    kind, count = {"histories": (kills.Trial, 2), "conditions": (kills.Conditional, 1)}[words[0]]
+    wrong, told = tried(kind, count, float(words[1]), int(words[2]))
+    print("".join(f"{line}\n" for line in wrong) + told)
+    return bool(wrong)
+
+
+if __name__ == "__main__":
+    sys.exit(main(sys.argv[1:]))
