@@ -30,7 +30,8 @@ FAULTS = (ClientError, BotoCoreError, OSError)
 
 
 def code_of(fault):
-    return fault.response["Error"]["Code"] if isinstance(fault, ClientError) else type(fault).__name__
+    """S3's word for a fault, or the fault's own. (An answer 200 of a completion that was cut off is a fault to botocore, without a word.)"""
+    return fault.response.get("Error", {"Code": "CutOff"})["Code"] if isinstance(fault, ClientError) else type(fault).__name__
 
 
 def body_of(word, draw):
