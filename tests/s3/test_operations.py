@@ -27,6 +27,7 @@ import endpoint
 
 URL, SECRET = os.environ.get("GRIDFS_S3", ""), os.environ.get("GRIDFS_S3_SECRET", endpoint.SECRET)
 ACCESS = os.environ.get("GRIDFS_S3_ACCESS", "carol")
+RACES = 12
 ROOM = None  # the folder of a stand-in
 MOST = int(os.environ.get("GRIDFS_S3_MOST", 1 << 30))  # bytes of the longest contents, for a grid that is slow
 IS_BEHIND = "GRIDFS_S3_FRONT" in os.environ  # nginx, which answers for itself where no tenant is meant
@@ -189,14 +190,15 @@ class Objects(Case):
         with ThreadPoolExecutor(8) as pool:
             def attempt(number):
                 try:
-                    once.put_object(Bucket=self.bucket, Key="race", Body=b"%d" % number)
+                    once.put_object(Bucket=self.bucket, Key=f"race {number // 16}", Body=b"%d" % number)
                     return number
                 except ClientError as fault:
                     self.assertEqual(fault.response["Error"]["Code"], "PreconditionFailed")
 
-            won = [each for each in pool.map(attempt, range(16)) if each is not None]
-        self.assertEqual(len(won), 1)
-        self.assertEqual(self.get("race")["Body"].read(), b"%d" % won[0])
+            won = [each for each in pool.map(attempt, range(16 * RACES)) if each is not None]
+        self.assertEqual([each // 16 for each in won], list(range(RACES)))
+        for each in won:
+            self.assertEqual(self.get(f"race {each // 16}")["Body"].read(), b"%d" % each)
 
     def test_removals(self):
         self.put("r", b"hi")
