@@ -367,6 +367,26 @@ class Listings(unittest.TestCase):
         with mock.patch.object(Listing, "is_in_order", unordered):
             self.assertIsNone(self.copied_amid())
 
+    def test_ways_in_other_orders(self):
+        """Slices have gone from the first grid to the third by the second one, and others the other way round, since the map that the listing has."""
+        grids, middle = Grids(labels=("east", "west", "south")), SLICES // 2
+        names = [f"name {number}" for number in range(8)]
+        for name in names:
+            grids.files(1).put(name, name.encode())
+        grids.begin(middle, SLICES - 1, "south")
+        grids.end()
+        before = grids.map
+        for first, last, target in ((0, middle - 1, "west"), (middle, SLICES - 1, "west"), (0, middle - 1, "south"), (middle, SLICES - 1, "east")):
+            grids.begin(first, last, target)
+            grids.end()
+        self.assertTrue(0 < sum(slice_of(name) < middle for name in names) < len(names))
+        listing = Listing(before)
+        files = grids.files(1, before)
+        while wanted := sorted(listing.wanted):
+            listing.looked({grid: files.all_buckets(grid) for grid in wanted})
+            self.assertLess(listing.count, 12)
+        self.assertEqual([told.held.name for told in listing.told()], sorted(names))
+
     def test_looks_again(self):
         self.assertNotEqual(self.removed_amid(), hashlib.sha256(b"old").hexdigest())
         with mock.patch.object(Listing, "follow", unconfirmed):

@@ -6,6 +6,7 @@ import hashlib
 import http.client
 import io
 import os
+import subprocess
 import sys
 import time
 import unittest
@@ -26,6 +27,8 @@ import endpoint
 
 URL, SECRET = os.environ.get("GRIDFS_S3", ""), os.environ.get("GRIDFS_S3_SECRET", endpoint.SECRET)
 ACCESS = os.environ.get("GRIDFS_S3_ACCESS", "carol")
+RACES = 12
+ROOM = None  # the folder of a stand-in
 MOST = int(os.environ.get("GRIDFS_S3_MOST", 1 << 30))  # bytes of the longest contents, for a grid that is slow
 IS_BEHIND = "GRIDFS_S3_FRONT" in os.environ  # nginx, which answers for itself where no tenant is meant
 IS_ONE_OF_SEVERAL = "GRIDFS_S3_SEVERAL" in os.environ  # gateways of the tenant
@@ -33,10 +36,10 @@ is_long = unittest.skipIf(MOST < 10_000_000, "contents of several MB are left ou
 
 
 def setUpModule():
-    global URL
+    global URL, ROOM
     if not URL:
-        room = unittest.enterModuleContext(endpoint.stand_in())
-        (gateway,) = unittest.enterModuleContext(endpoint.gateways(room))
+        ROOM = unittest.enterModuleContext(endpoint.stand_in())
+        (gateway,) = unittest.enterModuleContext(endpoint.gateways(ROOM))
         URL = gateway.url
 
 
@@ -187,14 +190,15 @@ class Objects(Case):
         with ThreadPoolExecutor(8) as pool:
             def attempt(number):
                 try:
-                    once.put_object(Bucket=self.bucket, Key="race", Body=b"%d" % number)
+                    once.put_object(Bucket=self.bucket, Key=f"race {number // 16}", Body=b"%d" % number)
                     return number
                 except ClientError as fault:
                     self.assertEqual(fault.response["Error"]["Code"], "PreconditionFailed")
 
-            won = [each for each in pool.map(attempt, range(16)) if each is not None]
-        self.assertEqual(len(won), 1)
-        self.assertEqual(self.get("race")["Body"].read(), b"%d" % won[0])
+            won = [each for each in pool.map(attempt, range(16 * RACES)) if each is not None]
+        self.assertEqual([each // 16 for each in won], list(range(RACES)))
+        for each in won:
+            self.assertEqual(self.get(f"race {each // 16}")["Body"].read(), b"%d" % each)
 
     def test_removals(self):
         self.put("r", b"hi")
@@ -496,6 +500,31 @@ class Requests(Case):
         self.assertRegex(text, r'gridfs_s3_requests_total\{operation="PutObject",status="200",tenant="\w+"\} \d+')
         self.assertRegex(text, r'gridfs_s3_slot_bytes\{grid="",state="left",tenant="\w+"\} [1-9]')
         self.assertEqual(self.ask("GET", "/metrics", sign=False, headers={"X-Forwarded-For": "1.2.3.4"})[0], 403)
+
+
+class Lent(Case):
+    def command(self, *words, given=None):
+        client = os.path.join(endpoint.HERE, "..", "..", "clients", "python", "gridfs-client")
+        settings = ["--config", f"{ROOM}/carol.ini", "--locks", f"{ROOM}/locks"]
+        return subprocess.run([sys.executable, "-B", client, *settings, *words], input=given, capture_output=True, timeout=60, check=True).stdout
+
+    def test_a_command_on_the_same_machine(self):
+        """The gateway has all sessions, and lends one; then it judges conditions again."""
+        if not ROOM:
+            self.skipTest("the sessions of a stand-in are wanted")
+        condition = {}
+        self.s3.meta.events.register("before-sign.s3.PutObject", lambda request, **_: [request.headers.__setitem__(*each) for each in condition.items()])
+        for number in range(4):
+            content = b"%d" % number * 50_000
+            self.command("put", "-", f"{self.bucket}/key", given=content)
+            told = self.s3.get_object(Bucket=self.bucket, Key="key")
+            self.assertEqual(told["Body"].read(), content)
+            condition.update({"If-Match": told["ETag"]})
+            self.s3.put_object(Bucket=self.bucket, Key="key", Body=content + b"x")
+            with self.assertRaises(ClientError):
+                self.s3.put_object(Bucket=self.bucket, Key="key", Body=b"y")
+            self.assertEqual(self.command("get", f"{self.bucket}/key"), content + b"x")
+            condition.clear()
 
 
 if __name__ == "__main__":

@@ -2,7 +2,7 @@
 
 All grids of the map are looked at side by side, each page of each. Then, as in the walk of one name (ways.py), each grid of a way has to be looked at after
 the one before it; and a line that counts and is at a grid before the last one has to be there still in a look at the end. So some grids are looked at
-again, for all such names together.
+again, for all such names together. Ways that go through the same grids in other orders are followed one after another.
 
     listing = Listing(fleet_map)
     while grids := listing.wanted:
@@ -20,7 +20,7 @@ from .fleet_map import FleetMap
 from .layout import page_among
 from .ways import Found, Stop, slice_of
 
-MOST_LOOKS = 40  # at the same grids, while names go on and on
+MOST_LOOKS = 1_000  # while names go on and on
 
 
 @dataclass(frozen=True)
@@ -38,19 +38,20 @@ class Listing:
     def __init__(self, fleet_map: FleetMap, prefix: str = ""):
         self.map, self.prefix = fleet_map, prefix
         self.wanted = {each.grid for each in fleet_map.ranges}
+        self.needs: dict[tuple[str, ...], str] = {}  # of each way that is not followed yet the grid that is to be looked at next
         self.silent: dict[str, ClientError] = {}
         self.seen: dict[str, Sequence[Knows]] = {}  # what was seen last of each grid's buckets
         self.latest: dict[str, int] = {}  # in which look
         self.count = 0
         self.signposts: dict[str, set[Signpost]] = {}  # of all pages of a grid
         self.followed: set[int] = set()  # first slices of those whose grids were looked at one after another, whether a name was shown or not
-        self.confirms: dict[str, Found] = {}  # lines that are looked for once more
+        self.confirms: dict[str, tuple[Found, int]] = {}  # lines that are looked for once more, after this look
         self.done: dict[str, Told | None] = {}
 
     def looked(self, found: Mapping[str, Sequence[Knows] | ClientError]) -> None:
         """What came of the looks at the grids that were wanted."""
         self.count += 1
-        self.wanted = set()
+        self.needs = {}
         for grid, seen in found.items():
             if isinstance(seen, ClientError):
                 self.silent[grid] = seen
@@ -63,9 +64,18 @@ class Listing:
         for name, lines in self.by_name().items():
             if name not in self.done:
                 self.follow(name, lines)
-        self.wanted -= self.silent.keys()
+        self.wanted = self.next_looks()
         if self.count > MOST_LOOKS and self.wanted:
             raise Replaced(f"names go to other grids on and on: {len(self.confirms)} are not told")
+
+    def next_looks(self) -> set[str]:
+        """What ways need, but for what would have another one to be followed anew: so the first of them goes on."""
+        wanted, passed = set[str](), set[str]()
+        for way, grid in sorted(self.needs.items()):
+            if grid in wanted or grid not in passed:
+                wanted.add(grid)
+                passed.update(way)
+        return wanted
 
     def firsts(self) -> set[int]:
         """The first slices of those that have one way."""
@@ -78,7 +88,7 @@ class Listing:
             if grid in self.silent:
                 return False
             if grid not in self.seen or number and self.latest[grid] <= self.latest[grids[number - 1]]:
-                self.wanted.add(grid)
+                self.needs[tuple(grids)] = grid
                 return False
         return True
 
@@ -95,12 +105,13 @@ class Listing:
         """Tells the name, or wants another look."""
         grids = list(self.way(slice_of(name), lambda grid: self.shown_to(name, grid)))
         found = max((line for line in lines if line.grid in grids), key=ways.version_in, default=None)
-        if self.confirms.pop(name, None) != found or found is None or found.grid == grids[-1]:
+        confirmed, since = self.confirms.pop(name, (None, 0))
+        if found is None or found != confirmed or self.latest[found.grid] <= since:
             if not self.is_in_order(grids):
                 return
             if found and found.grid != grids[-1]:
-                self.confirms[name] = found
-                self.wanted.add(found.grid)
+                self.confirms[name] = found, self.count
+                self.needs[tuple(grids)] = found.grid
                 return
         held = held_of(found)
         looks = [self.latest[grid] for grid in grids]

@@ -57,6 +57,7 @@ class Gateway:
     def __init__(self, grids: Grids, tenant: str, keys: Mapping[str, Key], region: str, domain: str | None):
         self.grids, self.tenant, self.keys, self.region, self.domain = grids, tenant, keys, region, domain
         self.known_buckets: dict[str, float] = {}
+        self.map_fault = ""  # what was the matter when a later map was looked for last
 
     # Sessions
 
@@ -144,8 +145,11 @@ class Gateway:
             later = max(latest, key=lambda each: each.age)
             if later.age > before.age:
                 await self.grids.adopt(later)
+            self.map_fault = ""
         except (ClientError, S3Error, UnicodeDecodeError) as fault:
-            tell(f"{before.path}: {fault}")
+            if str(fault) != self.map_fault:
+                tell(f"a later map is not found: {fault}")
+            self.map_fault = str(fault)
 
     async def follow_maps(self) -> None:
         while True:

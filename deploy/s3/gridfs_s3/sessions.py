@@ -27,7 +27,7 @@ Told = TypeVar("Told")
 MOST_HELPERS = 3
 TIDY = 30.0  # seconds
 TRIES = 60  # of settling a page by a session whose home is silent
-LOOK = 0.05  # seconds between looks at what other commands want
+LOOK = 0.1  # seconds between looks at what other commands want
 RETRY = 1.0  # seconds until a session whose home is silent, or a carrier that has ended, is tried again
 
 
