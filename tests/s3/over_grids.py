@@ -1,14 +1,14 @@
 #!/usr/bin/python3
-"""The gateway over several grids, whose slices a mover moves from one to another all the time, from a map that it began with.
+"""The gateway over several grids, whose slices a mover moves from one to another all the time.
 
-    over_grids.py histories SECONDS KILLS       puts, gets, heads, removals and uploads in parts, by two gateways that share the sessions (kills.py)
-    over_grids.py conditions SECONDS KILLS      conditional puts, by one gateway that has all sessions (kills.py)
-    over_grids.py operations                    each operation, at each stage of three moves, by a gateway that follows maps and one that does not
-    over_grids.py silent                        what a gateway answers while a grid does not
-    over_grids.py once                          the same of one move, by one that does not
+    over_grids.py histories SECONDS KILLS [GRIDFS]     puts, gets, heads, removals and uploads in parts, by two gateways that share the sessions (kills.py)
+    over_grids.py conditions SECONDS KILLS [GRIDFS]    conditional puts, by one gateway that has all sessions (kills.py)
+    over_grids.py operations                           each operation at each stage of three moves, by a gateway that follows maps and one that does not
+    over_grids.py once                                 the same of one move, by one that does not
+    over_grids.py silent                               what a gateway answers while a grid does not
 
-Each grid is a stand-in. Gateways and movers are killed (kill -9), and begun again; a mover has its sessions from the gateways. The status is 1 where something
-is wrong, and where fewer than two moves ended.
+Each grid is a stand-in, or four nodes where a program is named. Gateways and movers are killed (kill -9), and begun again. A mover has its sessions from the
+gateways. The status is 1 where something is wrong, and where fewer than two moves ended.
 """
 
 import contextlib
@@ -81,20 +81,35 @@ class Fleet:
 
 
 @contextlib.contextmanager
-def fleet(labels=LABELS):
+def nodes(program, folder):
+    """A grid of four nodes, in place of a stand-in."""
+    words = [os.path.join(code_of_s3.TOP, "examples", "grid"), "--serve", "--plan", endpoint.PLAN, "--program", program, folder]
+    with open(f"{folder}.log", "wb") as log:
+        process = subprocess.Popen(words, stdin=subprocess.DEVNULL, stdout=log, stderr=log)
+    try:
+        endpoint.wait(lambda: os.path.exists(f"{folder}/carol.ini") and os.path.exists(f"{folder}/socket"), process, f"{folder}.log")
+        yield
+    finally:
+        process.send_signal(signal.SIGINT)
+        process.wait(60)
+
+
+@contextlib.contextmanager
+def fleet(labels=LABELS, program=None):
     with contextlib.ExitStack() as grids:
         room, processes = grids.enter_context(tempfile.TemporaryDirectory(prefix="gridfs-s3-")), {}
         for label in labels:
-            grids.enter_context(endpoint.stand_in(folder=os.path.join(room, label), processes=processes))
+            folder = os.path.join(room, label)
+            grids.enter_context(nodes(program, folder) if program else endpoint.stand_in(folder=folder, processes=processes))
         found = Fleet(room, labels)
-        found.processes = {label: processes[os.path.join(room, label)] for label in labels}
+        found.processes = {os.path.basename(folder): process for folder, process in processes.items()}
         yield found
 
 
-def tried(kind, count, seconds, kills_of_each):
+def tried(kind, count, seconds, kills_of_each, program=None):
     """A trial of kills.py while slices move; what is wrong, and what was done."""
     draw = random.Random()
-    with fleet() as found:
+    with fleet(LABELS[:2] if program else LABELS, program) as found:
         begun = threading.Thread(target=found.move_on, args=(draw, kills_of_each))
 
         class Moved(kind):
@@ -327,7 +342,7 @@ def main(words):
         print("".join(f"{line}\n" for line in wrong[:20]) + f"{len(wrong)} wrong")
         return bool(wrong)
     kind, count = {"histories": (kills.Trial, 2), "conditions": (kills.Conditional, 1)}[words[0]]
-    wrong, told = tried(kind, count, float(words[1]), int(words[2]))
+    wrong, told = tried(kind, count, float(words[1]), int(words[2]), *words[3:])
     print("".join(f"{line}\n" for line in wrong) + told)
     return bool(wrong)
 
