@@ -5,6 +5,7 @@
     over_grids.py conditions SECONDS KILLS [GRIDFS]    conditional puts, by one gateway that has all sessions (kills.py)
     over_grids.py operations                           each operation at each stage of three moves, by a gateway that follows maps and one that does not
     over_grids.py once                                 the same of one move, by one that does not
+    over_grids.py apart                                moves by a mover that can't have the sessions of the gateway
     over_grids.py silent                               what a gateway answers while a grid does not
 
 Each grid is a stand-in, or four nodes where a program is named. Gateways and movers are killed (kill -9), and begun again. A mover has its sessions from the
@@ -14,6 +15,7 @@ gateways. The status is 1 where something is wrong, and where no move ended.
 import contextlib
 import os
 import random
+import shutil
 import signal
 import subprocess
 import sys
@@ -310,6 +312,38 @@ def while_one_is_silent():
             gateway.kill()
 
 
+def on_two_machines():
+    """A mover that can have two sessions of each grid, and a gateway that has the others, and neither sees what the other locks."""
+    with fleet(LABELS[:2]) as found:
+        other = os.path.join(found.room, "other")
+        os.mkdir(other)
+        for label in found.labels:
+            with open(os.path.join(found.room, f"{label}.ini"), encoding="ascii") as file:
+                text = file.read()
+            with open(os.path.join(other, f"{label}.ini"), "w", encoding="ascii") as out:
+                out.write(text.replace("/locks.", "/other/locks."))
+            with open(os.path.join(found.room, f"{label}.ini"), "a", encoding="ascii") as out:
+                out.write("session = 7-8\n")
+        shutil.copy(found.map, other)
+        with open(os.path.join(other, "carol.ini"), "w", encoding="ascii") as out:
+            out.write(f"[gridfs]\nmap = {other}/map\n")
+        gateway = endpoint.Gateway(os.path.join(other, "carol.ini"), other, "1-6")
+        try:
+            s3, wrong = gateway.client(), []
+            s3.create_bucket(Bucket="moved")
+            for number in range(12):
+                s3.put_object(Bucket="moved", Key=f"key {number}", Body=b"%d" % number)
+            for slices, target in (("0-65535", "west"), ("0-40000", "east")):
+                done = subprocess.run([*FLEET, "--map", found.map, "--timeout", "30", "move", slices, target], capture_output=True, text=True, check=False)
+                wrong += [f"the move to {target}: {done.stdout}{done.stderr}"] if done.returncode else []
+                for number in range(12):
+                    if s3.get_object(Bucket="moved", Key=f"key {number}")["Body"].read() != b"%d" % number:
+                        wrong.append(f"key {number} has another content")
+            return wrong + (["a traceback"] if "Traceback" in gateway.told() else [])
+        finally:
+            gateway.kill()
+
+
 def stages(found, model, now, word):
     """A move, with all operations between its steps."""
     now.save()
@@ -334,9 +368,9 @@ def stages(found, model, now, word):
 
 
 def main(words):
-    if words[0] == "silent":
+    if words[0] in ("silent", "apart"):
         os.environ["GRIDFS_TIMEOUT"] = "4"
-        wrong = while_one_is_silent()
+        wrong = while_one_is_silent() if words[0] == "silent" else on_two_machines()
         print("".join(f"{line}\n" for line in wrong) + f"{len(wrong)} wrong")
         return bool(wrong)
     if words[0] in ("operations", "once"):

@@ -74,6 +74,12 @@ def alone(path: str) -> Iterator[None]:
         yield
 
 
+def save(now: FleetMap, settings: Settings) -> None:
+    now.save()
+    if fault := publish(now, settings):
+        complain(f"the map was not put into the fleet: {fault}")
+
+
 class Moves:
     """Moves of a map that go on side by side."""
 
@@ -83,9 +89,7 @@ class Moves:
     def change_map(self, change: Callable[[FleetMap], FleetMap]) -> FleetMap:
         with self.guard:
             self.now = change(self.now)
-            self.now.save()
-            if fault := publish(self.now, self.settings):
-                complain(f"the map was not put into the fleet: {fault}")
+            save(self.now, self.settings)
             return self.now
 
     def end(self, moves: Sequence[Move]) -> None:
@@ -101,7 +105,7 @@ class Moves:
             print(f"move {move.number}: {text}", flush=True)
 
         tell(f"slices {move.first}-{move.last} from {move.source} to {move.target}")
-        Mover(self.now, move, grids.session, grids.layout, self.change_map, tell).run()
+        Mover(self.now, move, grids.session, grids.layout, self.change_map, tell, self.settings.seconds("timeout")).run()
         tell("ended")
 
 
@@ -185,12 +189,12 @@ def run(words: list[str]) -> int:
             if not (first.isdecimal() and last.isdecimal() and args.grid):
                 raise BadSettings(f"{args.slices}: FIRST-LAST and a grid are wanted")
             begun = now.begun(int(first), int(last), args.grid)
-            begun.save()
+            save(begun, settings)
             Moves(begun, settings).end(begun.moves[-1:])
         else:
             now = end_moves(now, settings)
             while args.word == "spread" and (begun := now.spread()).moves:
-                begun.save()
+                save(begun, settings)
                 now = end_moves(begun, settings)
     return 0
 
