@@ -74,10 +74,11 @@ def alone(path: str) -> Iterator[None]:
         yield
 
 
-def save(now: FleetMap, settings: Settings) -> None:
-    now.save()
-    if fault := publish(now, settings):
-        complain(f"the map was not put into the fleet: {fault}")
+def begin(begun: FleetMap, settings: Settings) -> FleetMap:
+    """Writes the map with moves that begin. (What hinders it from coming into the fleet hinders the moves, which say so.)"""
+    begun.save()
+    publish(begun, settings)
+    return begun
 
 
 class Moves:
@@ -89,7 +90,9 @@ class Moves:
     def change_map(self, change: Callable[[FleetMap], FleetMap]) -> FleetMap:
         with self.guard:
             self.now = change(self.now)
-            save(self.now, self.settings)
+            self.now.save()
+            if fault := publish(self.now, self.settings):
+                complain(f"the map was not put into the fleet: {fault}", "gridfs-fleet")
             return self.now
 
     def end(self, moves: Sequence[Move]) -> None:
@@ -188,14 +191,12 @@ def run(words: list[str]) -> int:
             first, _, last = args.slices.partition("-")
             if not (first.isdecimal() and last.isdecimal() and args.grid):
                 raise BadSettings(f"{args.slices}: FIRST-LAST and a grid are wanted")
-            begun = now.begun(int(first), int(last), args.grid)
-            save(begun, settings)
+            begun = begin(now.begun(int(first), int(last), args.grid), settings)
             Moves(begun, settings).end(begun.moves[-1:])
         else:
             now = end_moves(now, settings)
             while args.word == "spread" and (begun := now.spread()).moves:
-                save(begun, settings)
-                now = end_moves(begun, settings)
+                now = end_moves(begin(begun, settings), settings)
     return 0
 
 
