@@ -3,7 +3,7 @@
 
     over_grids.py histories SECONDS KILLS [GRIDFS]     puts, gets, heads, removals and uploads in parts, by two gateways that share the sessions (kills.py)
     over_grids.py conditions SECONDS KILLS [GRIDFS]    conditional puts, by one gateway that has all sessions (kills.py)
-    over_grids.py operations                           each operation at each stage of three moves, by a gateway that follows maps and one that does not
+    over_grids.py operations [MOVES]                   each operation at each stage of moves, by a gateway that follows maps and one that does not
     over_grids.py once                                 the same of one move, by one that does not
     over_grids.py apart                                moves by a mover that can't have the sessions of the gateway
     over_grids.py silent                               what a gateway answers while a grid does not
@@ -374,7 +374,8 @@ def main(words):
         print("".join(f"{line}\n" for line in wrong) + f"{len(wrong)} wrong")
         return bool(wrong)
     if words[0] in ("operations", "once"):
-        runs = [(True, 3), (False, 3)] if words[0] == "operations" else [(False, 1)]
+        count = int(words[1]) if words[1:] else 3
+        runs = [(True, count), (False, count)] if words[0] == "operations" else [(False, 1)]
         wrong = [f"{text} (later maps: {run[0]})" for run in runs for text in at_each_stage(*run)]
         print("".join(f"{line}\n" for line in wrong[:20]) + f"{len(wrong)} wrong")
         return bool(wrong)
