@@ -1,19 +1,21 @@
 #!/usr/bin/python3
-"""The gateway over several grids, whose slices a mover moves from one to another all the time, from a map that it began with.
+"""The gateway over several grids, whose slices a mover moves from one to another all the time.
 
-    over_grids.py histories SECONDS KILLS       puts, gets, heads, removals and uploads in parts, by two gateways that share the sessions (kills.py)
-    over_grids.py conditions SECONDS KILLS      conditional puts, by one gateway that has all sessions (kills.py)
-    over_grids.py operations                    each operation, at each stage of three moves, by a gateway that follows maps and one that does not
-    over_grids.py silent                        what a gateway answers while a grid does not
-    over_grids.py once                          the same of one move, by one that does not
+    over_grids.py histories SECONDS KILLS [GRIDFS]     puts, gets, heads, removals and uploads in parts, by two gateways that share the sessions (kills.py)
+    over_grids.py conditions SECONDS KILLS [GRIDFS]    conditional puts, by one gateway that has all sessions (kills.py)
+    over_grids.py operations [MOVES]                   each operation at each stage of moves, by a gateway that follows maps and one that does not
+    over_grids.py once                                 the same of one move, by one that does not
+    over_grids.py apart                                moves by a mover that can't have the sessions of the gateway
+    over_grids.py silent                               what a gateway answers while a grid does not
 
-Each grid is a stand-in. Gateways and movers are killed (kill -9), and begun again; a mover has its sessions from the gateways. The status is 1 where something
-is wrong, and where fewer than two moves ended.
+Each grid is a stand-in, or four nodes where a program is named. Gateways and movers are killed (kill -9), and begun again. A mover has its sessions from the
+gateways. The status is 1 where something is wrong, and where no move ended.
 """
 
 import contextlib
 import os
 import random
+import shutil
 import signal
 import subprocess
 import sys
@@ -81,20 +83,35 @@ class Fleet:
 
 
 @contextlib.contextmanager
-def fleet(labels=LABELS):
+def nodes(program, folder):
+    """A grid of four nodes, in place of a stand-in."""
+    words = [os.path.join(code_of_s3.TOP, "examples", "grid"), "--serve", "--plan", endpoint.PLAN, "--program", program, folder]
+    with open(f"{folder}.log", "wb") as log:
+        process = subprocess.Popen(words, stdin=subprocess.DEVNULL, stdout=log, stderr=log)
+    try:
+        endpoint.wait(lambda: os.path.exists(f"{folder}/carol.ini") and os.path.exists(f"{folder}/socket"), process, f"{folder}.log")
+        yield
+    finally:
+        process.send_signal(signal.SIGINT)
+        process.wait(60)
+
+
+@contextlib.contextmanager
+def fleet(labels=LABELS, program=None):
     with contextlib.ExitStack() as grids:
         room, processes = grids.enter_context(tempfile.TemporaryDirectory(prefix="gridfs-s3-")), {}
         for label in labels:
-            grids.enter_context(endpoint.stand_in(folder=os.path.join(room, label), processes=processes))
+            folder = os.path.join(room, label)
+            grids.enter_context(nodes(program, folder) if program else endpoint.stand_in(folder=folder, processes=processes))
         found = Fleet(room, labels)
-        found.processes = {label: processes[os.path.join(room, label)] for label in labels}
+        found.processes = {os.path.basename(folder): process for folder, process in processes.items()}
         yield found
 
 
-def tried(kind, count, seconds, kills_of_each):
+def tried(kind, count, seconds, kills_of_each, program=None):
     """A trial of kills.py while slices move; what is wrong, and what was done."""
     draw = random.Random()
-    with fleet() as found:
+    with fleet(LABELS[:2] if program else LABELS, program) as found:
         begun = threading.Thread(target=found.move_on, args=(draw, kills_of_each))
 
         class Moved(kind):
@@ -103,11 +120,14 @@ def tried(kind, count, seconds, kills_of_each):
                 try:
                     return super().run()
                 finally:
+                    until = time.monotonic() + endpoint.PATIENCE
+                    while found.moves < 1 and time.monotonic() < until:
+                        time.sleep(0.2)
                     found.is_over = True
                     begun.join()
 
         wrong, told = kills.tried(Moved, found.settings, seconds, kills_of_each, count, draw.randrange(1 << 30), found.room)
-        if found.moves < 2:
+        if found.moves < 1:
             with open(found.log, encoding="utf-8") as log:
                 wrong.append(f"{found.moves} moves have ended: {log.read()[-1500:]}")
         statuses = {status: found.statuses.count(status) for status in sorted(set(found.statuses))}
@@ -292,6 +312,38 @@ def while_one_is_silent():
             gateway.kill()
 
 
+def on_two_machines():
+    """A mover that can have two sessions of each grid, and a gateway that has the others, and neither sees what the other locks."""
+    with fleet(LABELS[:2]) as found:
+        other = os.path.join(found.room, "other")
+        os.mkdir(other)
+        for label in found.labels:
+            with open(os.path.join(found.room, f"{label}.ini"), encoding="ascii") as file:
+                text = file.read()
+            with open(os.path.join(other, f"{label}.ini"), "w", encoding="ascii") as out:
+                out.write(text.replace("/locks.", "/other/locks."))
+            with open(os.path.join(found.room, f"{label}.ini"), "a", encoding="ascii") as out:
+                out.write("session = 7-8\n")
+        shutil.copy(found.map, other)
+        with open(os.path.join(other, "carol.ini"), "w", encoding="ascii") as out:
+            out.write(f"[gridfs]\nmap = {other}/map\n")
+        gateway = endpoint.Gateway(os.path.join(other, "carol.ini"), other, "1-6")
+        try:
+            s3, wrong = gateway.client(), []
+            s3.create_bucket(Bucket="moved")
+            for number in range(12):
+                s3.put_object(Bucket="moved", Key=f"key {number}", Body=b"%d" % number)
+            for slices, target in (("0-65535", "west"), ("0-40000", "east")):
+                done = subprocess.run([*FLEET, "--map", found.map, "--timeout", "30", "move", slices, target], capture_output=True, text=True, check=False)
+                wrong += [f"the move to {target}: {done.stdout}{done.stderr}"] if done.returncode else []
+                for number in range(12):
+                    if s3.get_object(Bucket="moved", Key=f"key {number}")["Body"].read() != b"%d" % number:
+                        wrong.append(f"key {number} has another content")
+            return wrong + (["a traceback"] if "Traceback" in gateway.told() else [])
+        finally:
+            gateway.kill()
+
+
 def stages(found, model, now, word):
     """A move, with all operations between its steps."""
     now.save()
@@ -316,18 +368,19 @@ def stages(found, model, now, word):
 
 
 def main(words):
-    if words[0] == "silent":
+    if words[0] in ("silent", "apart"):
         os.environ["GRIDFS_TIMEOUT"] = "4"
-        wrong = while_one_is_silent()
+        wrong = while_one_is_silent() if words[0] == "silent" else on_two_machines()
         print("".join(f"{line}\n" for line in wrong) + f"{len(wrong)} wrong")
         return bool(wrong)
     if words[0] in ("operations", "once"):
-        runs = [(True, 3), (False, 3)] if words[0] == "operations" else [(False, 1)]
+        count = int(words[1]) if words[1:] else 3
+        runs = [(True, count), (False, count)] if words[0] == "operations" else [(False, 1)]
         wrong = [f"{text} (later maps: {run[0]})" for run in runs for text in at_each_stage(*run)]
         print("".join(f"{line}\n" for line in wrong[:20]) + f"{len(wrong)} wrong")
         return bool(wrong)
     kind, count = {"histories": (kills.Trial, 2), "conditions": (kills.Conditional, 1)}[words[0]]
-    wrong, told = tried(kind, count, float(words[1]), int(words[2]))
+    wrong, told = tried(kind, count, float(words[1]), int(words[2]), *words[3:])
     print("".join(f"{line}\n" for line in wrong) + told)
     return bool(wrong)
 

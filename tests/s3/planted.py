@@ -33,6 +33,7 @@ BUGS = {
     "an upload is left where its slice is moved": ("over_grids.py once", "store.py", "            return self.bring(name, found)\n", "            raise S3Error(\"NoSuchUpload\")\n"),
     "a completion over several grids leaves the upload": ("over_grids.py once", "uploads.py", "        if self.grids.map:\n            await self.remove(place)\n", ""),
     "a session that was lent goes on with its last number": ("over_grids.py once", "sessions.py", "                worker.session.forget()\n", ""),
+    "a gateway has no share in a move": ("over_grids.py apart", "gateway.py", "            await self.share_in_moves()\n", ""),
     "no session is lent": ("test_operations.py Lent", "sessions.py", "self.settings.is_wanted(number):\n                        self.lends", "False:\n                        self.lends"),
     "a bucket is looked for by another name's grid": ("over_grids.py silent", "gateway.py", "self.look(BUCKETS + bucket, lambda", "self.look(bucket, lambda"),
     "a copy onto itself minds no grid": ("over_grids.py once", "store.py", "        if seen.version.grid != self.grid:\n            return None\n", ""),

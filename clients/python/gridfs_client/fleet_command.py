@@ -74,6 +74,13 @@ def alone(path: str) -> Iterator[None]:
         yield
 
 
+def begin(begun: FleetMap, settings: Settings) -> FleetMap:
+    """Writes the map with moves that begin. (What hinders it from coming into the fleet hinders the moves, which say so.)"""
+    begun.save()
+    publish(begun, settings)
+    return begun
+
+
 class Moves:
     """Moves of a map that go on side by side."""
 
@@ -85,7 +92,7 @@ class Moves:
             self.now = change(self.now)
             self.now.save()
             if fault := publish(self.now, self.settings):
-                complain(f"the map was not put into the fleet: {fault}")
+                complain(f"the map was not put into the fleet: {fault}", "gridfs-fleet")
             return self.now
 
     def end(self, moves: Sequence[Move]) -> None:
@@ -101,7 +108,7 @@ class Moves:
             print(f"move {move.number}: {text}", flush=True)
 
         tell(f"slices {move.first}-{move.last} from {move.source} to {move.target}")
-        Mover(self.now, move, grids.session, grids.layout, self.change_map, tell).run()
+        Mover(self.now, move, grids.session, grids.layout, self.change_map, tell, self.settings.seconds("timeout")).run()
         tell("ended")
 
 
@@ -184,14 +191,12 @@ def run(words: list[str]) -> int:
             first, _, last = args.slices.partition("-")
             if not (first.isdecimal() and last.isdecimal() and args.grid):
                 raise BadSettings(f"{args.slices}: FIRST-LAST and a grid are wanted")
-            begun = now.begun(int(first), int(last), args.grid)
-            begun.save()
+            begun = begin(now.begun(int(first), int(last), args.grid), settings)
             Moves(begun, settings).end(begun.moves[-1:])
         else:
             now = end_moves(now, settings)
             while args.word == "spread" and (begun := now.spread()).moves:
-                begun.save()
-                now = end_moves(begun, settings)
+                now = end_moves(begin(begun, settings), settings)
     return 0
 
 

@@ -11,8 +11,9 @@ It has a session for a page at a time. What it can't have of a session, its own 
 machine.
 """
 
+import time
 from collections.abc import Callable, Collection
-from contextlib import AbstractContextManager
+from contextlib import AbstractContextManager, suppress
 
 from . import core, ways
 from .buckets import Bucket, Held, held_of
@@ -31,6 +32,7 @@ from .ways import Ground, Stop, slice_of
 # Gives the files of one of these sessions of a grid, or of any, as long as they are used. SessionTaken where none can be had.
 OpenSession = Callable[[str, Collection[int], Ground], AbstractContextManager[NamedFiles]]
 LayoutOf = Callable[[str], Layout]
+AGAIN = 0.5  # seconds after which it is looked again what others have done
 
 
 # Changes the map as it is then, which other moves may have changed meanwhile, and gives it.
@@ -48,9 +50,10 @@ class Mover:
         layout_of: LayoutOf,
         change_map: ChangeMap,
         tell: Callable[[str], None] = lambda _: None,
+        patience: float = 0,
     ):
         self.map, self.move, self.open_session, self.layout_of, self.change_map, self.tell = fleet_map, move, open_session, layout_of, change_map, tell
-        self.copied = 0
+        self.copied, self.patience = 0, patience
 
     def run(self) -> FleetMap:
         """Ends the move; the map behind it."""
@@ -84,7 +87,7 @@ class Mover:
                     count += sign(files, files.writer.bucket(page), self.move.signpost)
             except SessionTaken:
                 taken.add(session)
-        left = sorted({session for session, _ in self.lacking()}) if lacking else []
+        left = sorted({session for session, _ in self.waited(self.lacking)}) if lacking else []
         if left:
             raise SessionTaken(f"sessions {listed(left)} of {self.move.source} lack signposts: run it where they are used, or once they are free")
         self.tell(f"{count} pages have got the signpost")
@@ -97,6 +100,13 @@ class Mover:
                 for session, known in enumerate(bucket.client.seen, 1)
                 if self.move.signpost not in known.page.signposts
             ]
+
+    def waited(self, lacking: Callable[[], list[tuple[int, int]]]) -> list[tuple[int, int]]:
+        """Pages that lack something still, once those who have their sessions had some time for it."""
+        until = time.monotonic() + self.patience
+        while (found := lacking()) and time.monotonic() < until:
+            time.sleep(AGAIN)
+        return found
 
     # Copies
 
@@ -122,15 +132,16 @@ class Mover:
         return found.session - 1 if found and count == self.layout_of(self.move.source).sessions else turn_of(name, count)
 
     def copy_some(self, source: NamedFiles, turn: int, names: list[str]) -> None:
-        """By the session of the new grid whose turn it is for these names, as clients have them, or by another one whose page has room."""
-        sessions = self.sessions(self.move.target)
+        """By the session of the new grid whose turn it is for these names, as clients have them, or by another one that can be had and whose page has room."""
+        sessions, last = self.sessions(self.move.target), None
         for number in (*sessions[turn:], *sessions[:turn]):
             try:
                 with self.files(self.move.target, [number]) as target:
                     self.copy_names(source, target, names)
                 return
-            except NoRoom as fault:
-                last = fault
+            except (NoRoom, SessionTaken) as fault:
+                last = last if isinstance(last, NoRoom) else fault
+        assert last
         raise last
 
     def copy_names(self, source: NamedFiles, target: NamedFiles, names: list[str]) -> None:
@@ -200,10 +211,10 @@ class Mover:
     def clear_all(self) -> None:
         count = 0
         for session, page in self.left():
-            with self.files(self.move.source, [session]) as files:
-                count += self.clear(files, page)
+            with suppress(SessionTaken), self.files(self.move.source, [session]) as files:
+                count += clear(files, page, self.move)
                 files.close()
-        if self.left():
+        if self.waited(self.left):
             raise SessionTaken(f"lines are left at {self.move.source}: run it again")
         self.tell(f"{count} lines are gone from {self.move.source}")
 
@@ -217,17 +228,19 @@ class Mover:
                 if any(self.move.has(slice_of(line.name)) for line in known.page.lines)
             ]
 
-    def clear(self, files: NamedFiles, page: int) -> int:
-        bucket = files.writer.bucket(page)
-        bucket.look(own=True)
-        names = {line.name for line in bucket.journal.lines if self.move.has(slice_of(line.name))}
-        journal = ways.cleared(bucket.client, self.move.signpost, names, bucket.keeps)
-        if journal is None:
-            if not bucket.client.seen[files.me - 1].page.lines == bucket.journal.lines:
-                files.writer.change(bucket, core.changed(bucket.client, None, keeps=bucket.keeps))  # (its journal has let them go)
-            return 0
-        files.writer.change(bucket, journal)
-        return len(names)
+
+def clear(files: NamedFiles, page: int, move: Move) -> int:
+    """Has the lines of a move's slices go from a page of this session at the old grid; how many."""
+    bucket = files.writer.bucket(page)
+    bucket.look(own=True)
+    names = {line.name for line in bucket.journal.lines if move.has(slice_of(line.name))}
+    journal = ways.cleared(bucket.client, move.signpost, names, bucket.keeps)
+    if journal is None:
+        if not bucket.client.seen[files.me - 1].page.lines == bucket.journal.lines:
+            files.writer.change(bucket, core.changed(bucket.client, None, keeps=bucket.keeps))  # (its journal has let them go)
+        return 0
+    files.writer.change(bucket, journal)
+    return len(names)
 
 
 def joined(parts: list[InSlots]) -> Content:

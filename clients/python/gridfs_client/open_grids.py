@@ -9,6 +9,7 @@ from .asking import ask_plan
 from .errors import BadSettings, CarrierFault, ClientError, NoSuchName, SessionTaken, Unanswered
 from .fleet import MAP_NAME, FleetFiles, in_threads
 from .fleet_map import FleetMap, parse_map
+from .grid import listed
 from .layout import Layout, layout_of
 from .names import NamedFiles, Progress
 from .opening import AGAIN, OpenSessions
@@ -41,6 +42,8 @@ class OpenGrid:
         machine may use none of them."""
         may_use = self.settings.session_numbers(self.told.sessions)
         wanted = [number for number in numbers or may_use if number in may_use]
+        if not wanted:
+            raise SessionTaken(f"the settings name other sessions than {listed(numbers)} of {self.settings.tenant}")
         number, lock = self.lock(wanted)
         try:
             session = Session(self.carrier, number, self.told.home_of(number), self.settings.pace())
@@ -56,7 +59,7 @@ class OpenGrid:
                 for number in numbers:
                     if lock := self.settings.lock(number):
                         return number, lock
-                if not numbers or time.monotonic() > until:
+                if time.monotonic() > until:
                     raise SessionTaken(f"sessions {', '.join(map(str, numbers))} of {self.settings.tenant} are used by other commands")
                 waits.close()
                 waits.enter_context(self.settings.want(numbers[0]))

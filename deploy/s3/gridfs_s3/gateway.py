@@ -3,7 +3,7 @@
 import asyncio
 import time
 from collections.abc import AsyncIterator, Callable, Iterable, Mapping
-from contextlib import AsyncExitStack, asynccontextmanager
+from contextlib import AsyncExitStack, asynccontextmanager, suppress
 from typing import TypeVar
 
 from gridfs_client.buckets import Held
@@ -155,6 +155,16 @@ class Gateway:
         while True:
             await asyncio.sleep(MAP_AGAIN)
             await self.look_for_map()
+            await self.share_in_moves()
+
+    async def share_in_moves(self) -> None:
+        """Does for moves that are under way what is its own sessions', so that a mover on another machine need not have these."""
+        assert self.grids.map
+        for move in self.grids.map.moves:
+            pool = self.grids.pools[move.source]
+            for number, page in pool.pages_lacking(move):
+                with suppress(ClientError):
+                    await pool.run(await pool.lease(number), lambda store, move=move, page=page: store.share_in(move, page))  # type: ignore[misc]
 
     # Pages that are settled
 

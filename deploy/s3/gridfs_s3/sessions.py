@@ -12,10 +12,11 @@ from gridfs_client.asking import ask_plan
 from gridfs_client.carriers import Carrier
 from gridfs_client.core import Page
 from gridfs_client.errors import BadSettings, CarrierFault, ClientError, SessionTaken, Unanswered
+from gridfs_client.fleet_map import Move
 from gridfs_client.layout import Layout, layout_of
 from gridfs_client.opening import SOON
 from gridfs_client.settings import Settings
-from gridfs_client.ways import Ground
+from gridfs_client.ways import Ground, slice_of
 
 from .errors import tell
 from .shared import Shared, Turns
@@ -116,6 +117,12 @@ class Pool:
         number = self.layout.page_of(name)
         found = (self.shared.pages.get((session, number)) for session in range(1, self.sessions + 1))
         return [known.page for known in found if known]
+
+    def pages_lacking(self, move: Move) -> list[tuple[int, int]]:
+        """The sessions that are here, each with its pages that may not be yet as a move wants them, as they were seen last."""
+        numbers = [number for number, worker in self.workers.items() if not worker.is_lent and not worker.is_silent]
+        pages = [(number, page, self.shared.pages.get((number, page))) for number in numbers for page in range(self.layout.pages)]
+        return [(number, page) for number, page, known in pages if known is None or not is_shared(known.page, move)]
 
     # Taking turns
 
@@ -434,6 +441,11 @@ class Pool:
         self.threads.shutdown(wait=False, cancel_futures=True)
         if self.carrier:
             self.carrier.close()
+
+
+def is_shared(page: Page, move: Move) -> bool:
+    """Whether a page of the old grid is as a move wants it."""
+    return not any(move.has(slice_of(line.name)) for line in page.lines) if move.is_there else move.signpost in page.signposts
 
 
 def now_ms() -> int:

@@ -10,8 +10,10 @@ from gridfs_client.buckets import Bucket, Held
 from gridfs_client.contents import Content, Inline, InSlots, Joined
 from gridfs_client.core import Line, Version
 from gridfs_client.errors import CarrierFault, NoRoom, NoSuchName, SessionTaken, Unanswered
-from gridfs_client.fleet import spool
+from gridfs_client.fleet import sign, spool
+from gridfs_client.fleet_map import Move
 from gridfs_client.layout import Layout
+from gridfs_client.moving import clear
 from gridfs_client.names import no_words
 from gridfs_client.pages import check_words
 from gridfs_client.pieces import choose
@@ -225,6 +227,13 @@ class Store(Reader):
             self.settled.add(page)
             times = [int(of_words(held.words).get("t", 0)) for held in self.shared.held_in(bucket)]
             self.shared.turns.is_later_than(max(times, default=0))
+
+    def share_in(self, move: Move, page: int) -> None:
+        """What a move wants of this session at the old grid: that its page has the signpost, and later that the lines of the slices go."""
+        if not move.is_there:
+            sign(self, self.writer.bucket(page), move.signpost)
+        else:
+            clear(self, page, move)
 
     def sweep_own(self, page: int) -> int:
         """Has this session's lines go from a page that can, and says that it was made beside the removals of others."""
