@@ -33,7 +33,8 @@ examples:
   gridfs-fleet --map fleet status                   of each grid its slices, nodes and room, and how far moves are
 
 The settings of a grid are a file as gridfs-client reads it, beside the map. A move may be killed at any moment: `spread` or `move` without words ends
-it. An older map is as right as the last one, and a copy of that stands in the fleet under the name `.fleet`."""
+it. An older map is as right as the last one, if it names all grids: so copy the map and the settings of a new grid to all clients before slices are moved to
+it. A copy of the last one is in the fleet, under the name `.fleet`."""
 
 
 def parser() -> argparse.ArgumentParser:
