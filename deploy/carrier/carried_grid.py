@@ -78,6 +78,7 @@ class CarriedGrid:
         self.told_before = {}  # of each process, how long its log was when it was started
         self.lock = None  # the handle of the folder's lock, where it was taken
         self.metrics = None  # the folder of the carriers' metrics, if they are wanted
+        self.name = ""  # the grid's, where several are on this machine, or at one broker
 
     # What an engine has
 
@@ -139,8 +140,12 @@ class CarriedGrid:
         self.nodes, self.shape = nodes_of(text), shape_of(text)
         self.count = len(self.nodes)
 
+    def in_words(self, number):
+        """How a node is told from those of other grids."""
+        return f"{self.name}-{number}" if self.name else str(number)
+
     def metrics_of(self, number):
-        return os.path.join(self.metrics, f"gridfs-{number}.prom")
+        return os.path.join(self.metrics, f"gridfs-{self.in_words(number)}.prom")
 
     def has_journal(self, number):
         return os.path.exists(journal_of(self.folder, number))
@@ -178,8 +183,9 @@ class CarriedGrid:
         """Starts a node with its carrier. A journal is begun at the grid's first start alone: a node whose journal is lost must not start."""
         journal = journal_of(self.folder, number)
         node = [self.program, "node", str(number), "--plan", self.plan, "--journal", journal]
-        metrics = ["--metrics", self.metrics_of(number)] if self.metrics else []
-        self.run(number, [self.carry, *self.carrier_words(number), "--plan", self.plan, *metrics, str(number), "--", *node] + ["--new"] * is_new)
+        words = ["--metrics", self.metrics_of(number)] if self.metrics else []
+        words += ["--grid", self.name] if self.name else []
+        self.run(number, [self.carry, *self.carrier_words(number), "--plan", self.plan, *words, str(number), "--", *node] + ["--new"] * is_new)
 
     def start(self, new=None):
         """Starts all nodes, of which one may begin in the place of one that was lost, and waits until each takes lines. Those whose

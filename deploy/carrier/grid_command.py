@@ -2,6 +2,7 @@
 
 import argparse
 import os
+import re
 import shutil
 import subprocess
 import sys
@@ -17,6 +18,7 @@ from one_machine import DEFAULT_PLAN, STAY_DOWN, NotStarted, begin, end, how_end
 TRIES = 3  # starts of a node that ends with status 1 before it is ready: its journal may be in use by a process that is about to end
 DAY = 86_400  # seconds
 CLIENT = os.path.join(TOP, "clients", "python", "gridfs-client")
+GRID = r"[a-z][a-z0-9]{0,15}"
 
 
 def text_of(path):
@@ -70,6 +72,7 @@ class GridCommand:
         parser.add_argument("--port", type=int, default=self.PORT)
         parser.add_argument("--replace", type=int)
         parser.add_argument("--metrics")
+        parser.add_argument("--grid", default="")
         self.add_words(parser)
         parser.add_argument("folder", nargs="?")
         asked = parser.parse_args(words)
@@ -78,6 +81,8 @@ class GridCommand:
             sys.exit(0)
         if not asked.folder:
             parser.error("a folder is wanted, or the word try")
+        if asked.grid and not re.fullmatch(GRID, asked.grid):
+            parser.error(f"--grid {asked.grid}: a letter a to z, and up to 15 more letters or digits")
         return asked
 
     # The start
@@ -99,7 +104,7 @@ class GridCommand:
         look_at(asked.program)
         try:
             grid = self.new_grid(asked, os.path.abspath(folder), self.built(), port)
-            grid.metrics = asked.metrics and os.path.abspath(asked.metrics)
+            grid.metrics, grid.name = asked.metrics and os.path.abspath(asked.metrics), asked.grid
             os.makedirs(grid.folder, exist_ok=True)
             grid.take()
             before = text_of(grid.plan)

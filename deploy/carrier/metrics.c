@@ -21,6 +21,7 @@ void metric(const char *name, const char *type, const char *help) {
 /* (Values of labels are numbers and words of letters: there is nothing in them to escape.) */
 void sample(const char *label, const char *value, double number) {
     fprintf(out, "gridfs_%s{node=\"%s\"", current, me);
+    if (*grid) fprintf(out, ",grid=\"%s\"", grid);
     if (label) fprintf(out, ",%s=\"%s\"", label, value);
     fprintf(out, "} %.15g\n", number);
 }

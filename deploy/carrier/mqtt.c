@@ -1,5 +1,5 @@
-/* The engine over a broker of MQTT. A message's topic is gridfs/TO/FROM, its payload BODY lines parted by LF. FROM is taken from the topic alone: so
-   the broker's access list decides who may speak as whom. Nothing here waits for the broker or for a host's address. */
+/* The engine over a broker of MQTT. A message's topic is gridfs/TO/FROM, or gridfs/GRID/TO/FROM, its payload BODY lines parted by LF. FROM is taken from
+   the topic alone: so the broker's access list decides who may speak as whom. Nothing here waits for the broker or for a host's address. */
 #define _GNU_SOURCE
 #include "metrics.h"
 #include "node.h"
@@ -19,7 +19,9 @@ enum { KEEPALIVE = 5 };         /* seconds */
 
 static const char *place, *host, *password_file, *ca_file, *certificate, *key;
 static int port;
-static char prefix[sizeof "gridfs/NNN/"];        /* of topics of lines to the node */
+static char topics[NAME + sizeof "gridfs//"];    /* how all of the grid begin */
+static char prefix[sizeof topics + sizeof "NNN/"];       /* of topics of lines to the node */
+static char user[NAME + sizeof "-NNN"];
 static const double NEVER = 1e18;
 
 static struct queue to[NAMES];                  /* lines that wait for the broker; the head of each is a topic */
@@ -39,8 +41,9 @@ static char why[300], told[300];
 
 const char engine_words_usage[] = "--broker HOST:PORT [--ca-file FILE] [--certificate FILE --key FILE] --password-file FILE";
 const char engine_usage[] =
-    "Over an MQTT broker: with TLS where --ca-file says whom to trust; as the user NUMBER with the first line of the\n"
-    "password file (not wanted with a certificate). Status 1 also: the broker or TLS refuses the first connection.\n";
+    "Over an MQTT broker, by the topics gridfs/TO/FROM, or gridfs/GRID/TO/FROM: with TLS where --ca-file says whom to trust; as the user\n"
+    "NUMBER, or GRID-NUMBER, with the first line of the password file (not wanted with a certificate). Status 1 also: the broker or TLS\n"
+    "refuses the first connection.\n";
 const struct word engine_words[] = {{"--broker", &place}, {"--ca-file", &ca_file}, {"--certificate", &certificate},
                                     {"--key", &key}, {"--password-file", &password_file}, {NULL, NULL}};
 
@@ -55,7 +58,7 @@ static struct queue *queue_to(const char *name, size_t length) {
     if (!empty) return NULL;
     memset(empty->name, 0, sizeof empty->name);
     memcpy(empty->name, name, length);
-    snprintf(empty->head, sizeof empty->head, "gridfs/%s/%s", empty->name, me);
+    snprintf(empty->head, sizeof empty->head, "%s%s/%s", topics, empty->name, me);
     return empty;
 }
 
@@ -163,7 +166,7 @@ static const char *set_password(void) {
     else if (kind.st_mode & (S_IROTH | S_IWOTH)) wrong = "others may read or write it";
     else if (!length || length >= sizeof line - 1) wrong = "no password on its first line";
     line[length] = 0;
-    if (!wrong && mosquitto_username_pw_set(broker, me, line)) wrong = strerror(ENOMEM);
+    if (!wrong && mosquitto_username_pw_set(broker, user, line)) wrong = strerror(ENOMEM);
     fclose(file);
     return wrong;
 }
@@ -243,7 +246,7 @@ static void on_usr2(int number) { (void)number; }
 bool engine_begin(void) {
     const char *files[] = {ca_file, certificate, key}, *wrong = NULL;
     char name[40];
-    snprintf(name, sizeof name, "gridfs-%s", me);
+    snprintf(name, sizeof name, "gridfs-%s", user);
     struct sigaction action = {.sa_handler = on_usr2};
     sigaction(SIGUSR2, &action, NULL);          /* of `look` */
     signal(SIGHUP, SIG_DFL);
@@ -272,7 +275,9 @@ static void set_host(const char *word) {
 void engine_read_words(void) {
     if (!place) wrong("--broker", "is wanting");
     set_host(place);
-    snprintf(prefix, sizeof prefix, "gridfs/%s/", me);
+    snprintf(topics, sizeof topics, "gridfs/%s%s", grid, *grid ? "/" : "");
+    snprintf(prefix, sizeof prefix, "%s%s/", topics, me);
+    snprintf(user, sizeof user, "%s%s%s", grid, *grid ? "-" : "", me);
     if (!certificate != !key || (certificate && !ca_file)) wrong("--certificate", "goes with --key and --ca-file");
     if (!password_file && !certificate) wrong("--password-file", "is wanting");
 }

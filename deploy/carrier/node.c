@@ -26,7 +26,7 @@ enum {
     METRICS = 10                /* seconds between two writes of the metrics */
 };
 
-const char *me;
+const char *me, *grid = "";
 size_t longest = LONGEST, bound = 1 << 20;
 int fault;
 struct counts count;
@@ -85,6 +85,11 @@ bool is_name(const char *text, size_t length) {
     while (digits < length && text[digits] >= '0' && text[digits] <= '9') digits++;
     if (digits) return digits == length && (length == 1 || (length <= 3 && *text != '0'));
     return letters && letters == length && length <= NAME;
+}
+
+static bool is_grid(const char *text) {
+    size_t length = strspn(text, "abcdefghijklmnopqrstuvwxyz0123456789");
+    return *text >= 'a' && length <= NAME && !text[length];
 }
 
 static struct tally *tally_of(const char *name, size_t length) {
@@ -389,11 +394,12 @@ static void flush(const sigset_t *open_mask) {
 }
 
 static const char usage[] =
-    "             [--tick SECONDS] [--plan FILE | --longest BYTES] [--metrics FILE] NUMBER -- COMMAND [ARG ..]\n"
+    "             [--grid GRID] [--tick SECONDS] [--plan FILE | --longest BYTES] [--metrics FILE] NUMBER -- COMMAND [ARG ..]\n"
     "Runs COMMAND as node NUMBER and carries its lines. It gives a tick each 0.25 s, and carries lines of at most 4095\n"
     "bytes without their end. If the plan, or --longest, has longer lines, it carries these, and ticks come less often:\n"
     "each 2.25 s for lines of 2 MiB. SIGTERM ends the command's input, and waits for its end; SIGUSR1 prints the counts.\n"
-    "FILE gets metrics for Prometheus each ten seconds, at SIGUSR1 and at the end.\n"
+    "FILE gets metrics for Prometheus each ten seconds, at SIGUSR1 and at the end. GRID is a name for the grid, where several share\n"
+    "a machine or a broker: a letter a to z, and up to 15 more letters or digits. It is a label of the metrics.\n"
     "Status: the command's, or 128 and the number of the signal that ended it; 1: a file can't be used; 2: a wrong word;\n"
     "3: out of memory.\n";
 
@@ -430,7 +436,7 @@ static size_t longest_of(const char *plan) {
 
 static char **read_words(char **at) {
     const char *tick = NULL, *length = NULL, *plan = NULL;
-    struct word words[] = {{"--tick", &tick}, {"--longest", &length}, {"--plan", &plan}, {"--metrics", &metrics_file}, {NULL, NULL}};
+    struct word words[] = {{"--tick", &tick}, {"--longest", &length}, {"--plan", &plan}, {"--metrics", &metrics_file}, {"--grid", &grid}, {NULL, NULL}};
     for (at++; *at && !strncmp(*at, "--", 2); at += 2) {
         const struct word *found = words;
         if (!strcmp(*at, "--help")) exit(show_usage(stdout));
@@ -446,6 +452,7 @@ static char **read_words(char **at) {
     if (!at[0] || !at[1] || strcmp(at[1], "--") || !at[2]) wrong("NUMBER -- COMMAND", "is wanting");
     me = at[0], own = strlen(me);
     if (metrics_file && !*metrics_file) metrics_file = NULL;
+    if (*grid && !is_grid(grid)) wrong("--grid", grid);
     for (char **word = at + 2; *word; word++)
         if (!strcmp(*word, "--journal")) journal = word[1];
     if (is_tenant(me) || !is_name(me, own)) wrong("NUMBER", me);

@@ -20,7 +20,7 @@ struct tally {                  /* what a tenant has brought, for the metrics */
 };
 
 struct queue {                  /* whole lines from one name that wait for the node */
-    char name[NAME + 1], head[2 * NAME];    /* head: `NUMBER FROM ` */
+    char name[NAME + 1], head[3 * NAME];    /* head: `NUMBER FROM `, or a topic */
     char *bytes;
     size_t first, end, room;
     double paid_until;          /* how much of its rate a tenant has used */
@@ -30,6 +30,7 @@ struct queue {                  /* whole lines from one name that wait for the n
 };
 
 extern const char *me;          /* the node's number */
+extern const char *grid;        /* its grid's name; empty where it has none */
 extern size_t longest, bound;   /* bytes of a line; bytes that wait from one name, or for one */
 extern int fault;               /* our own status, if it is not 0 */
 struct counts { long in, out, lost, full, slow, too_long, strange, memory, connected; };

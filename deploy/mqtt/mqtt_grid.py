@@ -20,15 +20,23 @@ class Grid(CarriedGrid):
         self.tls, self.port, self.inner = tls, port or free_ports(), free_ports()
         self.broker_folder = os.path.join(folder, "broker")
         self.SERVERS = ("broker", "front") if tls == "front" else ("broker",)
+        self.grids = [self]  # at this broker, each with a name where there are several
+
+    def use_broker_of(self, other):
+        """Has that grid's broker be this one's too: `set_up` of that one is for both, and it has to be started first."""
+        self.tls, self.port, self.inner, self.broker_folder, self.SERVERS = other.tls, other.port, other.inner, other.broker_folder, ()
+        other.grids.append(self)
 
     def set_up(self, *words):
-        """Makes the broker's folder from the plan, or makes it again."""
-        self.read_plan()
+        """Makes the broker's folder from the plans, or makes it again."""
+        for grid in self.grids:
+            grid.read_plan()
         self.words = words
         words += ("--tls", self.tls, "--port", str(self.port), "--inner", str(self.inner))
         words += () if self.tls == "none" else ("--test-authority",)
         words += ("--user", "root") if os.getuid() == 0 else ()
-        done = subprocess.run([os.path.join(HERE, "setup"), *words, self.broker_folder, self.plan], stderr=subprocess.PIPE, text=True)
+        plans = [f"{grid.name}={grid.plan}" if grid.name else grid.plan for grid in self.grids]
+        done = subprocess.run([os.path.join(HERE, "setup"), *words, self.broker_folder, *plans], stderr=subprocess.PIPE, text=True)
         if done.returncode:
             raise NotStarted(done.stderr.strip())
 
@@ -50,9 +58,11 @@ class Grid(CarriedGrid):
         self.run("front", ["nginx", "-e", "stderr", "-p", self.broker_folder, "-c", os.path.join(self.broker_folder, "nginx.conf")])
 
     def settings(self, name):
-        port = self.port + (not str(name).isdecimal())
+        is_node = str(name).isdecimal()
         trusted = {} if self.tls == "none" else {"ca-file": os.path.join(self.broker_folder, "ca.crt")}
-        return {"broker": f"localhost:{port}", **trusted, "password-file": os.path.join(self.broker_folder, "secret", str(name))}
+        named = {"grid-name": self.name} if self.name and not is_node else {}
+        secret = os.path.join(self.broker_folder, "secret", self.in_words(name) if is_node else name)
+        return {"broker": f"localhost:{self.port + (not is_node)}", **named, **trusted, "password-file": secret}
 
     def is_connected(self, number, told):
         return "connected to" in told

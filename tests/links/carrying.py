@@ -791,13 +791,13 @@ def metrics_are_whole(program, folder):
 
 def metrics_as_prometheus_reads(program, folder):
     path = os.path.join(folder, "0.prom")
-    carry = fresh(program, folder, PLAN, NODE, "--metrics", path)
+    carry = fresh(program, folder, PLAN, NODE, "--metrics", path, "--grid", "east")
     try:
         with come(carry, "ann") as ann:
             ann.sendall(b"plan\n")
-            told = carry.tells(path, lambda told: told.of("carrier_lines_in_total") == 1, "ann's line is not told")
+            told = carry.tells(path, lambda told: told.of("carrier_lines_in_total", 'grid="east"') == 1, "ann's line is not told")
         seen = metrics.as_prometheus_reads(path)
-        check(seen.keys() == told.keys() and seen[("carrier_lines_in_total", "")] == 1, f"{seen} and not {told}")
+        check(seen.keys() == told.keys() and seen[("carrier_lines_in_total", 'grid="east"')] == 1, f"{seen} and not {told}")
     finally:
         carry.end()
 

@@ -83,6 +83,7 @@ def words(checked):
     bad += [good + [number, "--", "cat"] for number in ("1000", "ann", "00", "067", "-1", "")]
     bad += [["--broker", place] + password + rest for place in ("localhost", ":1", "x:65536", "x:0", "x:1x")]
     bad += [good + ["--tick", word] + rest for word in ("0", "nan", "x")] + [good + ["--longest", word] + rest for word in ("100", "5000x")]
+    bad += [good + ["--grid", word] + rest for word in ("East", "1a", "a-b", "a" * 17)]
     bad += [good + ["--key", "k"] + rest, good + ["--certificate", "c"] + rest, broker + rest, good + ["--user", "ann"] + rest]
     for each in bad:
         done = run(*each)
@@ -133,6 +134,22 @@ def into(checked):
     checked.held(sorted(got()) == sorted([*wanted, b"0 7 from 7", b"0 131 from 131", b"0 abcdefghijklmnop from p", b""]), "lines are whole, and others nothing")
     checked.held([line for line in got() if line.startswith(b"0 ann")] == wanted, "in their order")
     checked.held(carry.stop() == 0 and carry.counts()["long"] == 2 and carry.counts()["in"] == 12, f"status 0, and counts: {carry.counts()}")
+
+
+@check
+def of_a_grid(checked):
+    """One grid of several at a broker, whose name is in all topics and in its metrics."""
+    broker = checked.broker()
+    carry = checked.carry(broker.port, node(COPY + "    put(b'1 0 out\\n')\n"), *NO_TICKS, "--grid", "east", "--metrics", "0.prom")
+    checked.held(wait_for(lambda: broker.subscribed), "connects and subscribes")
+    for topic in (b"gridfs/0/ann", b"gridfs/west/0/ann", b"gridfs/east/1/ann", b"gridfs/east/ann", b"gridfs/east/0/east/ann", b"east/0/ann"):
+        broker.tells(topic, b"wrong")
+    broker.tells(b"gridfs/east/0/ann", b"right")
+    checked.held(wait_for(lambda: got() == [b"0 ann right", b""]), f"takes the lines of its grid alone: {got()}")
+    checked.held(wait_for(lambda: broker.lines("gridfs/east/1/0") == [b"out"]), f"and carries the node's lines to it: {broker.said}")
+    checked.held(carry.stop() == 0 and {topic for topic, _ in broker.said} == {"gridfs/east/0/0", "gridfs/east/1/0"}, "it says nothing under other topics")
+    samples = metrics.read("0.prom")
+    checked.held(samples and all('grid="east"' in labels for _, labels in samples), f"its name is in each sample: {samples}")
 
 
 @check

@@ -12,6 +12,7 @@ from typing import IO, NamedTuple
 from .carriers import Carrier, ProcessCarrier, SocketCarrier
 from .errors import BadSettings
 from .grid import Shape
+from .pages import GRID
 from .sessions import Pace
 
 SECTION = "gridfs"
@@ -28,6 +29,7 @@ class Setting(NamedTuple):
 SETTINGS: dict[str, Setting] = {
     "tenant": Setting(None, "NAME", "the tenant's name"),
     "broker": Setting("localhost:8884", "HOST:PORT", "the MQTT broker, by its port for tenants"),
+    "grid-name": Setting(None, "GRID", "the grid's name, where the broker has several"),
     "ca-file": Setting(None, "FILE", "certificates of authorities: use TLS, and trust these"),
     "password-file": Setting(None, "FILE", "its first line is the tenant's password; others may not read it"),
     "hosts": Setting(None, "FILE", "where each node is: links to the nodes, in place of a broker"),
@@ -149,6 +151,14 @@ class Settings:
             raise BadSettings(f"tenant: {name!r} is no name: 1 to 16 letters from a to z, and not the word server")
         return name
 
+    @property
+    def grid_name(self) -> str:
+        """The grid's name at its broker; none where that has one grid."""
+        name = self.values.get("grid-name", "")
+        if name and not re.fullmatch(GRID, name):
+            raise BadSettings(f"grid-name: {name!r} is no name: a letter a to z, and up to 15 more letters or digits")
+        return name
+
     def pace(self) -> Pace:
         return Pace(timeout=self.seconds("timeout"))
 
@@ -177,7 +187,7 @@ class Settings:
         except ImportError:
             raise BadSettings("a broker wants the library paho-mqtt (Debian: python3-paho-mqtt)") from None
         password = read_password(self.values["password-file"]) if "password-file" in self.values else None
-        return MqttCarrier(tenant, self.need("broker"), password, self.values.get("ca-file"), patience)
+        return MqttCarrier(tenant, self.need("broker"), password, self.values.get("ca-file"), patience, self.grid_name)
 
     def session_numbers(self, sessions: int) -> range:
         """The sessions that may be used, of so many."""
