@@ -14,7 +14,7 @@ import time
 
 import metrics
 from link_grid import free_ports
-from processes import Wrong
+from processes import Wrong, check
 
 HERE = os.path.dirname(os.path.abspath(__file__))
 DEPLOY = os.path.join(HERE, "..", "..", "deploy", "links")
@@ -25,11 +25,6 @@ ROOM = "grid 1 2\nroom 20000\ntenant ann 16384 16 1 16384\ngo\n"
 SOON = 5  # seconds in which what is to come has come
 NODE = "exec 3<&0; cat <&3 >{folder}/in.{number} & exec cat {folder}/out.{number}"
 STILL = "exec cat {folder}/out.{number}"
-
-
-def check(holds, what):
-    if not holds:
-        raise Wrong(what)
 
 
 def wait_for(holds, what, seconds=SOON):

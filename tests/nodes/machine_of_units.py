@@ -14,6 +14,7 @@ TOP = os.path.join(HERE, "..", "..")
 CLIENT = os.path.join(TOP, "clients", "python")
 sys.path[:0] = [HERE, os.path.join(TOP, "deploy", "carrier")]
 import metrics
+from processes import check
 
 PLAN = "grid 2 2\nblocks 4096\ntenant ann 2000 4 1000\ngo\n" + "ann open 16 16\n" * 4 + "ann open 64 4\n"
 GRIDS, NODES, SECONDS = ("east", "west"), 4, 60
@@ -105,35 +106,41 @@ class Machine:
         done = subprocess.run([os.path.join(CLIENT, command), "--map", f"{self.folder}/map", *words], input=given, capture_output=True, timeout=SECONDS)
         return done.returncode, done.stdout, done.stderr.decode()
 
+    def succeeds(self, command, *words, given=None):
+        """What a command tells that has to succeed."""
+        status, told, why = self.run(command, *words, given=given)
+        check(status == 0, f"{command} {' '.join(words)}: status {status}: {why}")
+        return told
+
 
 def told(machine):
     """All nodes of both grids run, and their metrics can be collected together; names are spread over both; `status` has a node of one grid that was
     stopped, whose names are got."""
     single = machine.words_of("3")
-    assert single[-1].endswith("lib/3/journal") and single[single.index("--grid") + 1] == "", single
+    check(single[-1].endswith("lib/3/journal") and single[single.index("--grid") + 1] == "", f"the words of a node of one grid: {single}")
     try:
         for grid in GRIDS:
             for node in range(NODES):
                 machine.run_unit(f"{grid}-{node}", machine.words_of(f"{grid}-{node}"))
-        assert machine.run("gridfs-fleet", "begin", "east", "east.ini")[0] == 0
-        assert machine.run("gridfs-fleet", "add", "west", "west.ini")[0] == 0
+        machine.succeeds("gridfs-fleet", "begin", "east", "east.ini")
+        machine.succeeds("gridfs-fleet", "add", "west", "west.ini")
         until = time.monotonic() + SECONDS
         while (told := machine.run("gridfs-fleet", "status"))[1].count(b"all 4 nodes answer") < 2:
-            assert time.monotonic() < until, told
+            check(time.monotonic() < until, f"not all nodes answer: {told}")
         contents = {f"name {number}": b"%d" % number * 9 for number in range(8)}
         for name, content in contents.items():
-            assert machine.run("gridfs-client", "put", "-", name, given=content)[0] == 0
-        told = machine.run("gridfs-fleet", "spread")
-        assert told[0] == 0, told
+            machine.succeeds("gridfs-client", "put", "-", name, given=content)
+        machine.succeeds("gridfs-fleet", "spread")
         machine.stop("west-1")
         status, told, why = machine.run("gridfs-fleet", "status")
-        assert (status, why) == (0, "") and re.fullmatch(rb"east: 32768 slices, all 4 nodes .*\nwest: 32768 slices, node 1 is silent, .*\n", told), (status, told, why)
+        is_told = re.fullmatch(rb"east: 32768 slices, all 4 nodes .*\nwest: 32768 slices, node 1 is silent, .*\n", told)
+        check((status, why) == (0, "") and is_told, f"with a node that was stopped: {status} {told} {why}")
         for name, content in contents.items():
-            assert machine.run("gridfs-client", "get", name)[:2] == (0, content), name
-        listed = json.loads(machine.run("gridfs-client", "ls", "--json")[1])
-        assert [each["name"] for each in listed] == sorted(contents), listed
+            check(machine.succeeds("gridfs-client", "get", name) == content, f"{name} has another content")
+        listed = json.loads(machine.succeeds("gridfs-client", "ls", "--json"))
+        check([each["name"] for each in listed] == sorted(contents), f"listed are {listed}")
     finally:
         machine.end()
     collected = [(node, *sample) for node in range(NODES) for grid in GRIDS for sample in metrics.read(f"{machine.folder}/run/{grid}-{node}.prom", node)]
-    assert collected and len(collected) == len(set(collected)), "two samples with the same labels: a collector drops one"
+    check(collected and len(collected) == len(set(collected)), "two samples with the same labels: a collector drops one")
     return f"{len(contents)} names over {len(GRIDS)} grids of {NODES} nodes", []

@@ -22,6 +22,11 @@ class Wrong(Exception):
     """Something is not as it has to be."""
 
 
+def check(holds, what):
+    if not holds:
+        raise Wrong(what)
+
+
 # What comes about where a node does not keep to its forms.
 WRONG = (Wrong, OSError, ValueError, LookupError, subprocess.TimeoutExpired)
 
