@@ -10,7 +10,6 @@ one goes on is drawn at each step. A session has one client at a time; a client 
 import argparse
 import collections
 import contextlib
-import dataclasses
 import functools
 import os
 import random
@@ -23,11 +22,11 @@ sys.dont_write_bytecode = True
 HERE = os.path.dirname(os.path.abspath(__file__))
 sys.path[:0] = [HERE, os.path.join(HERE, "..", "names")]
 from histories import History, Killed
+from maps import Maps
 from memory import Memory, MemorySession
 
 from gridfs_client import ClientError, NamedFiles, OneByOne, core, ways
 from gridfs_client.fleet import FleetFiles, sign
-from gridfs_client.fleet_map import new_map
 from gridfs_client.moving import Mover, moves_to_end
 from gridfs_client.ways import SLICES, slice_of
 
@@ -86,20 +85,12 @@ class Actor:
         return kind(MemorySession(memory, self.take(grid, numbers), self.step), memory.layout, team=OneByOne(), ground=ground)
 
 
-class Fleet:
+class Fleet(Maps):
     def __init__(self, draw, labels, sessions, pages, slots, page_blocks):
+        super().__init__(labels)
         self.draw, self.sessions, self.held = draw, sessions, set()
         self.memories = {label: Memory(sessions, pages, page_blocks, slots, 2) for label in labels}
-        self.map = dataclasses.replace(new_map("east", "-"), grids=dict.fromkeys(labels, "-"))
-        self.maps, self.counts = [self.map], collections.Counter()
-
-    def save(self, fleet_map):
-        self.map = fleet_map
-        self.maps.append(fleet_map)
-
-    def change_map(self, change):
-        self.save(change(self.map))
-        return self.map
+        self.counts = collections.Counter()
 
     def all(self):
         return range(1, self.sessions + 1)

@@ -13,6 +13,7 @@ from unittest import mock
 HERE = os.path.dirname(os.path.abspath(__file__))
 sys.path[:0] = [os.path.join(HERE, "..", "names")]
 from histories import Killed
+from maps import Maps
 from memory import Memory, MemorySession
 
 from gridfs_client import BadSettings, NamedFiles, NoSuchName, OneByOne, Unanswered, command, core, fleet_command, ways
@@ -31,13 +32,13 @@ LONG = bytes(range(200))
 SETTINGS = "[gridfs]\ntenant = ann\nsocket = none\n"
 
 
-class Grids:
+class Grids(Maps):
     """Grids of memory, and a map by which all names are at `east`, or go from there to `west`."""
 
     def __init__(self, sessions=2, slots=8, pages=1, labels=("east", "west"), page_blocks=16):
+        super().__init__(labels)
         self.memories = {label: Memory(sessions, pages, page_blocks, slots, 2) for label in labels}
-        self.map = dataclasses.replace(new_map("east", "-"), grids=dict.fromkeys(labels, "-"))
-        self.maps, self.steps, self.at_step = [self.map], 0, lambda _: None
+        self.steps, self.at_step = 0, lambda _: None
         self.held = []  # sessions that the mover has
 
     def step(self, _):
@@ -50,14 +51,6 @@ class Grids:
 
     def files(self, number, fleet_map=None, watched=False):
         return FleetFiles(fleet_map or self.map, lambda label, ground: self.named(label, number, ground, watched))
-
-    def save(self, fleet_map):
-        self.map = fleet_map
-        self.maps.append(fleet_map)
-
-    def change_map(self, change):
-        self.save(change(self.map))
-        return self.map
 
     def begin(self, first, last, target):
         self.save(self.map.begun(first, last, target))
