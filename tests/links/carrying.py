@@ -756,7 +756,9 @@ def metrics_are_whole(program, folder):
         check(told("No such file or directory") == 1, f"a folder that is not there: {carry.told()}")
         os.mkdir(at)
         asks(2)
-        check(os.listdir(at) == ["0.prom"] and os.stat(path).st_mode & 0o777 == 0o644, f"what is there: {os.listdir(at)}")
+        is_alone = lambda: os.listdir(at) == ["0.prom"]  # (a file that is being written stands beside it; it is written after what was asked for is told)
+        wait_for(is_alone, f"what is there: {os.listdir(at)}")
+        check(os.stat(path).st_mode & 0o777 == 0o644, "others can't read it, or can write it")
         until, seen = time.monotonic() + 2, 0
         while time.monotonic() < until:
             carry.process.send_signal(signal.SIGUSR1)
@@ -770,14 +772,15 @@ def metrics_are_whole(program, folder):
         resource.prlimit(carry.process.pid, resource.RLIMIT_FSIZE, (3000, resource.RLIM_INFINITY))
         asks(3)
         check(told("File too large") == 1, f"a disk that is full: {carry.told()}")
+        wait_for(is_alone, f"what could not be written stays: {os.listdir(at)}")
         with open(path, "rb") as file:
-            check(file.read() == whole and os.listdir(at) == ["0.prom"], "what was there is gone")
+            check(file.read() == whole, "what was there is gone")
         resource.prlimit(carry.process.pid, resource.RLIMIT_FSIZE, (resource.RLIM_INFINITY, resource.RLIM_INFINITY))
         with come(carry, "ann") as ann:
             ann.sendall(b"plan\n")
             carry.gets(b"0 ann plan")
         carry.tells(path, lambda told: told.of("carrier_lines_in_total") == 1, "metrics are not written again")
-        shutil.rmtree(at)
+        os.rename(at, f"{at}.gone")  # (at once: a file may be under way)
         asks(1)
         check(told("No such file or directory") == 1, f"what is wrong again is not told: {carry.told()}")
     finally:
