@@ -40,8 +40,8 @@ class Trial:
         self.grids, self.clients, self.mover = {}, {}, None
         self.count = collections.Counter()
 
-    def start_grid(self, label):
-        names_trial.write_plan(f"{self.folder}/{label}.plan", tenant=TENANT, sessions=SESSIONS, each=2)
+    def start_grid(self, label, **plan):
+        names_trial.write_plan(f"{self.folder}/{label}.plan", tenant=TENANT, **{"sessions": SESSIONS, "each": 2, **plan})
         words = [os.path.join(TOP, "examples", "grid"), "--plan", f"{self.folder}/{label}.plan", "--program", self.program, "--tick", "0.1", f"{self.folder}/{label}"]
         self.grids[label] = subprocess.Popen(words, stdin=subprocess.PIPE, stdout=self.log, stderr=self.log, text=True, bufsize=1)
         until = time.monotonic() + STARTED
