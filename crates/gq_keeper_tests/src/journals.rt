@@ -5,7 +5,6 @@ use gq_journal::{can_be_sealed, first_batch, has_right_batch, is_batch_line, sea
 use gq_memory::{GrowCopies, GrowVec};
 use std::alloc::Global;
 use std::process::Abort;
-use std::test::Fail;
 
 const FIRST: &str = "numbered ann 1 7\nsync 1 17 1293ef1db4f78f4e\n";
 
@@ -47,51 +46,52 @@ fn turned(rt: &impl Abort, alloc: Global, bytes: &[u8], place: usize) -> Vec<u8>
     out
 }
 
-#[test]
-fn seals_as_another_program_does(rt: HostRuntime) -> Result<(), Fail> {
-    let alloc = rt.alloc();
-    let text = journal(&rt, alloc);
-    let mut want = Vec::new(alloc);
-    want.grow_by(FIRST.as_bytes())?;
-    want.grow_by(SECOND.as_bytes())?;
-    assert_eq!(rt;
-        std::str::from_utf8(text.as_slice()).ok(),
-        std::str::from_utf8(want.as_slice()).ok()
-    );
-    let (count, rest) = read(&rt, alloc, text.as_slice());
-    assert_eq!(rt; count, 2);
-    assert_eq!(rt; rest.len(), 0);
-    Ok(())
+fn is_text(rt: &impl Abort, bytes: &[u8], text: &str) {
+    assert_eq!(rt; std::str::from_utf8(bytes).ok(), Some(text));
 }
 
 #[test]
-fn passes_over_a_torn_end(rt: HostRuntime) -> Result<(), Fail> {
+fn seals_as_another_program_does(rt: HostRuntime) {
+    let alloc = rt.alloc();
+    let text = journal(&rt, alloc);
+    let text = text.as_slice();
+    let end = FIRST.len().min(text.len());
+    is_text(&rt, &text[..end], FIRST);
+    is_text(&rt, &text[end..], SECOND);
+    let (count, rest) = read(&rt, alloc, text);
+    assert_eq!(rt; (count, rest.len()), (2, 0));
+}
+
+// A text begins with so many right batches; behind these is a right one, or none.
+fn has_batches(rt: &impl Abort, alloc: Global, text: &[u8], count: u64, behind: bool) {
+    let (seen, rest) = read(rt, alloc, text);
+    assert_eq!(rt; seen, count);
+    let found = has_right_batch(alloc, rest).ok();
+    assert_eq!(rt; found, Some(behind));
+}
+
+#[test]
+fn passes_over_a_torn_end(rt: HostRuntime) {
     let alloc = rt.alloc();
     let text = journal(&rt, alloc);
     for end in 0..text.len() {
-        let (count, rest) = read(&rt, alloc, &text[..end]);
-        let want = if end < FIRST.len() { 0 } else { 1 };
-        assert_eq!(rt; count, want, "{end}");
-        assert!(rt; !has_right_batch(alloc, rest)?, "{end}");
+        let count = if end < FIRST.len() { 0 } else { 1 };
+        has_batches(&rt, alloc, &text[..end], count, false);
     }
-    Ok(())
 }
 
 #[test]
-fn sees_damage_before_a_right_batch(rt: HostRuntime) -> Result<(), Fail> {
+fn sees_damage_before_a_right_batch(rt: HostRuntime) {
     let alloc = rt.alloc();
     let text = journal(&rt, alloc);
     for place in 0..FIRST.len() {
         let bytes = turned(&rt, alloc, text.as_slice(), place);
-        let (count, rest) = read(&rt, alloc, bytes.as_slice());
-        assert_eq!(rt; count, 0, "{place}");
-        assert!(rt; has_right_batch(alloc, rest)?, "{place}");
+        has_batches(&rt, alloc, bytes.as_slice(), 0, true);
     }
-    Ok(())
 }
 
 #[test]
-fn tells_which_lines_stand_in_a_batch(rt: HostRuntime) -> Result<(), Fail> {
+fn tells_which_lines_stand_in_a_batch(rt: HostRuntime) {
     let cases: [(&str, bool); 6] = [
         ("began ann 1 1", true),
         ("", true),
@@ -107,5 +107,4 @@ fn tells_which_lines_stand_in_a_batch(rt: HostRuntime) -> Result<(), Fail> {
     assert!(rt; can_be_sealed(b""));
     assert!(rt; !can_be_sealed(b"began ann 1 1"));
     assert!(rt; !can_be_sealed(b"began ann 1 1\nsync 1 0 0\n"));
-    Ok(())
 }

@@ -28,35 +28,36 @@ fn node_plan(rt: &impl Abort, alloc: Global, number: u16, text: &[u8]) -> NodePl
     made.expect(rt, "memory").expect(rt, "a text for a journal")
 }
 
-// Whether the setup opens so, in this order: for which tenant, files and blocks.
-fn opens(read: &Setup, openings: &[(u8, u32, u32)]) -> bool {
+// The setup opens so, in this order: for which tenant, files and blocks.
+fn opens(rt: &impl Abort, read: &Setup, openings: &[(u8, u32, u32)]) {
+    assert!(rt; read.openings().len() == openings.len());
     for (opening, (tenant, files, blocks)) in read.openings().iter().zip(openings) {
         let wanted = Opening {
             tenant: *tenant,
             files: *files,
             blocks: *blocks,
         };
-        if *opening != wanted {
-            return false;
-        }
+        assert!(rt; *opening == wanted, "{opening:?}");
     }
-    read.openings().len() == openings.len()
 }
 
-// Whether this is the text of the plan of the node of this number.
-fn writes(rt: &impl Abort, alloc: Global, number: u16, text: &[u8], want: &[u8]) -> bool {
-    node_plan(rt, alloc, number, text).text() == want
+// This is the text of the plan of the node of this number.
+fn writes(rt: &impl Abort, alloc: Global, number: u16, text: &[u8], want: &[u8]) {
+    assert!(rt;
+        node_plan(rt, alloc, number, text).text() == want,
+        "{number}"
+    );
 }
 
 #[test]
 fn reads_and_writes_a_setup(rt: HostRuntime) {
     let alloc = rt.alloc();
-    assert!(rt; setup(&rt, alloc, TEXT).plan().tenants() == 2);
-    let openings = [(0, 2, 1), (1, 1, 2), (0, 1, 1)];
-    assert!(rt; opens(&setup(&rt, alloc, TEXT), &openings));
-    assert!(rt; writes(&rt, alloc, 3, TEXT, NODE_TEXT));
+    let read = setup(&rt, alloc, TEXT);
+    assert!(rt; read.plan().tenants() == 2);
+    opens(&rt, &read, &[(0, 2, 1), (1, 1, 2), (0, 1, 1)]);
+    writes(&rt, alloc, 3, TEXT, NODE_TEXT);
     // the last line may lack its newline
-    assert!(rt; writes(&rt, alloc, 3, &TEXT[..TEXT.len() - 1], NODE_TEXT));
+    writes(&rt, alloc, 3, &TEXT[..TEXT.len() - 1], NODE_TEXT);
 }
 
 // Whether the setup is that of LOSSES.
@@ -71,7 +72,7 @@ fn has_losses(read: &Setup) -> bool {
 fn reads_and_writes_losses(rt: HostRuntime) {
     let alloc = rt.alloc();
     assert!(rt; has_losses(&setup(&rt, alloc, LOSSES)));
-    assert!(rt; writes(&rt, alloc, 131, LOSSES, NODE_LOSSES));
+    writes(&rt, alloc, 131, LOSSES, NODE_LOSSES);
 }
 
 fn has_these_nodes(rt: &impl Abort, read: &Setup) {
@@ -104,12 +105,16 @@ fn plan_of_a_journal(rt: &impl Abort, alloc: Global, text: &[u8]) -> Option<Setu
     read_node_plan(alloc, text).ok().expect(rt, "memory")
 }
 
+fn is_of_no_node(rt: &impl Abort, alloc: Global, text: &[u8]) {
+    assert!(rt; plan_of_a_journal(rt, alloc, text).is_none());
+}
+
 #[test]
 fn reads_a_plan_of_a_journal(rt: HostRuntime) {
     let alloc = rt.alloc();
-    assert!(rt; plan_of_a_journal(&rt, alloc, TEXT).is_none());
-    let read = plan_of_a_journal(&rt, alloc, NODE_LOSSES);
-    assert!(rt; has_losses(&read.expect(&rt, "a setup")));
+    is_of_no_node(&rt, alloc, TEXT);
+    let read = plan_of_a_journal(&rt, alloc, NODE_LOSSES).expect(&rt, "a setup");
+    assert!(rt; has_losses(&read));
 }
 
 // The plan of one tenant with so many losses at each of the first places, in turn.
@@ -136,26 +141,29 @@ fn fault_of(rt: &impl Abort, alloc: Global, text: &[u8]) -> Vec<u8> {
         .expect(rt, "memory")
 }
 
-// Whether this is told of too many losses.
-fn refuses(rt: &impl Abort, alloc: Global, times: u32, places: u32, want: &[u8]) -> bool {
+// This is told of too many losses.
+fn refuses(rt: &impl Abort, alloc: Global, times: u32, places: u32, want: &[u8]) {
     let text = text_of_losses(rt, alloc, times, places);
-    fault_of(rt, alloc, text.as_slice()).as_slice() == want
+    assert!(rt; fault_of(rt, alloc, text.as_slice()).as_slice() == want);
 }
 
-fn losses(rt: &impl Abort, alloc: Global, times: u32, places: u32) -> Setup {
+// So many losses are read, and this node is the last.
+fn takes(rt: &impl Abort, alloc: Global, times: u32, places: u32, losses: usize, last: u32) {
     let text = text_of_losses(rt, alloc, times, places);
-    setup(rt, alloc, text.as_slice())
+    let read = setup(rt, alloc, text.as_slice());
+    assert!(rt; read.lost().places().len() == losses);
+    assert!(rt; read.has_node(last));
 }
 
 #[test]
 fn tells_too_many_losses(rt: HostRuntime) {
     let alloc = rt.alloc();
     // at one place 14 nodes may be lost
-    assert!(rt; losses(&rt, alloc, 14, 1).has_node(896));
-    assert!(rt; refuses(&rt, alloc, 15, 1, b"line 19: replace"));
+    takes(&rt, alloc, 14, 1, 14, 896);
+    refuses(&rt, alloc, 15, 1, b"line 19: replace");
     // and 255 in all
-    assert!(rt; losses(&rt, alloc, 5, 51).lost().places().len() == 255);
-    assert!(rt; refuses(&rt, alloc, 4, 64, b"line 260: replace"));
+    takes(&rt, alloc, 5, 51, 255, 370);
+    refuses(&rt, alloc, 4, 64, b"line 260: replace");
 }
 
 #[test]
@@ -228,100 +236,70 @@ fn tells_the_first_line_at_fault(rt: HostRuntime) {
     }
 }
 
+// The plan goes on from a journal of which each of these is the last plan, or from none of them.
+fn goes_on(rt: &impl Abort, plan: &NodePlan, last: &[&str], goes: bool) {
+    for last in last {
+        let told = plan.goes_on(last.as_bytes()).ok();
+        assert!(rt; told == Some(goes), "{last}");
+    }
+}
+
+// Last plans from which the plan of TEXT goes on.
+const BEFORE_TEXT: [&str; 5] = [
+    "node 3 of 2 by 2\ngrid 2 2\nblocks 16\ntenant ann 6 2 10\ngo\n",
+    "x\ngrid 2 2\nblocks 16\ntenant ann 6 2 10\ntenant bob 4 1 10\ngo\n",
+    "x\ngrid 2 2\nblocks 16\ntenant ann 5 2 10\ntenant bob 4 1 99\ngo\nbob open 1 2\nann open 2 1\n",
+    "x\ngrid 2 2\nblocks 16\ntenant ann 6 2 10\ngo\nann open 2 1\nann open 1 1\n",
+    // fewer blocks
+    "x\ngrid 2 2\nblocks 15\ntenant ann 6 2 10\ngo\n",
+];
+
+// Some from which it does not.
+const NOT_BEFORE_TEXT: [&str; 13] = [
+    // a volume more, another volume, another order
+    "x\ngrid 2 2\nblocks 16\ntenant ann 6 2 10\ngo\nann open 2 1\nann open 1 1\nann open 1 1\n",
+    "x\ngrid 2 2\nblocks 16\ntenant ann 6 2 10\ngo\nann open 1 2\n",
+    "x\ngrid 2 2\nblocks 16\ntenant ann 6 2 10\ngo\nann open 1 1\nann open 2 1\n",
+    // a larger share, other sessions, another name, another place, a tenant more
+    "x\ngrid 2 2\nblocks 16\ntenant ann 7 2 10\ngo\n",
+    "x\ngrid 2 2\nblocks 16\ntenant ann 6 1 10\ngo\n",
+    "x\ngrid 2 2\nblocks 16\ntenant eve 6 2 10\ngo\n",
+    "x\ngrid 2 2\nblocks 16\ntenant bob 4 1 10\ntenant ann 6 2 10\ngo\n",
+    "x\ngrid 2 2\nblocks 16\ntenant ann 6 2 10\ntenant bob 4 1 10\ntenant eve 1 1 10\ngo\n",
+    // another grid, more blocks, no setup
+    "x\ngrid 2 3\nblocks 16\ntenant ann 6 2 10\ngo\n",
+    "x\ngrid 2 2\nblocks 17\ntenant ann 6 2 10\ngo\n",
+    "x\ngrid 2 2\nblocks 16\ntenant ann 6 2 10\ngo\nann volumes\n",
+    "x",
+    "",
+];
+
 #[test]
 fn goes_on_where_no_home_and_no_volume_moves(rt: HostRuntime) {
-    let alloc = rt.alloc();
-    let plan = node_plan(&rt, alloc, 3, TEXT);
-    // each of these is the text of the journal's last plan
-    for (last, goes) in [
-        (
-            b"node 3 of 2 by 2\ngrid 2 2\nblocks 16\ntenant ann 6 2 10\ngo\n".as_slice(),
-            true,
-        ),
-        (
-            b"x\ngrid 2 2\nblocks 16\ntenant ann 6 2 10\ntenant bob 4 1 10\ngo\n",
-            true,
-        ),
-        (
-            b"x\ngrid 2 2\nblocks 16\ntenant ann 5 2 10\ntenant bob 4 1 99\ngo\nbob open 1 2\nann open 2 1\n",
-            true,
-        ),
-        (
-            b"x\ngrid 2 2\nblocks 16\ntenant ann 6 2 10\ngo\nann open 2 1\nann open 1 1\n",
-            true,
-        ),
-        // a volume more, another volume, another order
-        (
-            b"x\ngrid 2 2\nblocks 16\ntenant ann 6 2 10\ngo\nann open 2 1\nann open 1 1\nann open 1 1\n",
-            false,
-        ),
-        (
-            b"x\ngrid 2 2\nblocks 16\ntenant ann 6 2 10\ngo\nann open 1 2\n",
-            false,
-        ),
-        (
-            b"x\ngrid 2 2\nblocks 16\ntenant ann 6 2 10\ngo\nann open 1 1\nann open 2 1\n",
-            false,
-        ),
-        // a larger share, other sessions, another name, another place, a tenant more
-        (b"x\ngrid 2 2\nblocks 16\ntenant ann 7 2 10\ngo\n", false),
-        (b"x\ngrid 2 2\nblocks 16\ntenant ann 6 1 10\ngo\n", false),
-        (b"x\ngrid 2 2\nblocks 16\ntenant eve 6 2 10\ngo\n", false),
-        (
-            b"x\ngrid 2 2\nblocks 16\ntenant bob 4 1 10\ntenant ann 6 2 10\ngo\n",
-            false,
-        ),
-        (
-            b"x\ngrid 2 2\nblocks 16\ntenant ann 6 2 10\ntenant bob 4 1 10\ntenant eve 1 1 10\ngo\n",
-            false,
-        ),
-        // fewer blocks
-        (b"x\ngrid 2 2\nblocks 15\ntenant ann 6 2 10\ngo\n", true),
-        // another grid, more blocks, no setup
-        (b"x\ngrid 2 3\nblocks 16\ntenant ann 6 2 10\ngo\n", false),
-        (b"x\ngrid 2 2\nblocks 17\ntenant ann 6 2 10\ngo\n", false),
-        (
-            b"x\ngrid 2 2\nblocks 16\ntenant ann 6 2 10\ngo\nann volumes\n",
-            false,
-        ),
-        (b"x", false),
-        (b"", false),
-    ] {
-        let told = plan.goes_on(last);
-        assert!(rt; matches!(&told, Ok(told) if *told == goes), "{last:?}");
-    }
-    let own = matches!(plan.goes_on(NODE_TEXT), Ok(true));
-    assert!(rt; own);
+    let plan = node_plan(&rt, rt.alloc(), 3, TEXT);
+    goes_on(&rt, &plan, &BEFORE_TEXT, true);
+    goes_on(&rt, &plan, &NOT_BEFORE_TEXT, false);
+    let own = plan.goes_on(NODE_TEXT).ok();
+    assert!(rt; own == Some(true));
 }
+
+// Last plans from which the plan of LOSSES goes on.
+const BEFORE_LOSSES: [&str; 2] = [
+    "x\ngrid 2 2\nblocks 16\ntenant replace 6 1 10\ngo\nreplace open 2 1\n",
+    "x\ngrid 2 2\nblocks 16\ntenant replace 6 1 10\ngo\nreplace 3\nreplace 0\n",
+];
+
+// Some from which it does not.
+const NOT_BEFORE_LOSSES: [&str; 3] = [
+    // other losses, another order, one more
+    "x\ngrid 2 2\nblocks 16\ntenant replace 6 1 10\ngo\nreplace 2\n",
+    "x\ngrid 2 2\nblocks 16\ntenant replace 6 1 10\ngo\nreplace 0\nreplace 3\n",
+    "x\ngrid 2 2\nblocks 16\ntenant replace 6 1 10\ngo\nreplace 3\nreplace 0\nreplace 3\nreplace 3\n",
+];
 
 #[test]
 fn goes_on_with_more_losses(rt: HostRuntime) {
-    let alloc = rt.alloc();
-    let plan = node_plan(&rt, alloc, 131, LOSSES);
-    for (last, goes) in [
-        (
-            b"x\ngrid 2 2\nblocks 16\ntenant replace 6 1 10\ngo\nreplace open 2 1\n".as_slice(),
-            true,
-        ),
-        (
-            b"x\ngrid 2 2\nblocks 16\ntenant replace 6 1 10\ngo\nreplace 3\nreplace 0\n",
-            true,
-        ),
-        // other losses, another order, one more
-        (
-            b"x\ngrid 2 2\nblocks 16\ntenant replace 6 1 10\ngo\nreplace 2\n",
-            false,
-        ),
-        (
-            b"x\ngrid 2 2\nblocks 16\ntenant replace 6 1 10\ngo\nreplace 0\nreplace 3\n",
-            false,
-        ),
-        (
-            b"x\ngrid 2 2\nblocks 16\ntenant replace 6 1 10\ngo\nreplace 3\nreplace 0\nreplace 3\nreplace 3\n",
-            false,
-        ),
-    ] {
-        let told = plan.goes_on(last);
-        assert!(rt; matches!(&told, Ok(told) if *told == goes), "{last:?}");
-    }
+    let plan = node_plan(&rt, rt.alloc(), 131, LOSSES);
+    goes_on(&rt, &plan, &BEFORE_LOSSES, true);
+    goes_on(&rt, &plan, &NOT_BEFORE_LOSSES, false);
 }

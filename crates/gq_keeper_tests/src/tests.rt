@@ -133,23 +133,32 @@ fn writes_the_first_journal(rt: HostRuntime) {
     assert!(rt; journal.sure_bytes() == FIRST);
 }
 
+// A start from what is left holds the line.
+fn holds(rt: &impl Abort, alloc: Global, left: &[u8], line: &[u8]) {
+    assert!(rt; whole(rt, alloc, left, b"").held() == line);
+}
+
+// A run over what is left shows this, and leaves this journal, synced.
+fn gives(rt: &impl Abort, alloc: Global, left: &[u8], text: &[u8], shown: &[u8], journal: &[u8]) {
+    let run = whole(rt, alloc, left, text);
+    assert!(rt; run.shown.bytes() == shown);
+    assert!(rt; run.journal.bytes() == journal);
+    assert!(rt; run.journal.sure_bytes() == journal);
+}
+
 #[test]
 fn keeps_what_it_tells(rt: HostRuntime) {
     let alloc = rt.alloc();
-    let first = whole(&rt, alloc, FIRST, b"put a\nnode x\nput b\n");
-    assert!(rt; first.shown.bytes() == b" ?\nput a\nput b\n".as_slice());
     let two = joined(&rt, alloc, &[FIRST, SECOND]);
-    assert!(rt; first.journal.bytes() == two.as_slice());
-    assert!(rt; first.journal.sure_bytes() == two.as_slice());
+    let two = two.as_slice();
+    let text = b"put a\nnode x\nput b\n";
+    gives(&rt, alloc, FIRST, text, b" ?\nput a\nput b\n", two);
+    holds(&rt, alloc, two, b"put b\n");
     // a line without facts appends nothing
-    let none = whole(&rt, alloc, two.as_slice(), b"node x\nsync 1\n");
-    assert!(rt; none.shown.bytes() == b" ?\n".as_slice());
-    assert!(rt; none.journal.bytes() == two.as_slice());
-    assert!(rt; none.held() == b"put b\n".as_slice());
-    let more = whole(&rt, alloc, two.as_slice(), b"put c\nput d");
-    assert!(rt; more.shown.bytes() == b" ?\nput c\n".as_slice());
+    gives(&rt, alloc, two, b"node x\nsync 1\n", b" ?\n", two);
     let three = joined(&rt, alloc, &[FIRST, SECOND, THIRD]);
-    assert!(rt; more.journal.bytes() == three.as_slice());
+    let text = b"put c\nput d";
+    gives(&rt, alloc, two, text, b" ?\nput c\n", three.as_slice());
 }
 
 // The lines `put 0` up to `put 5`, each of them one read.
@@ -164,16 +173,24 @@ fn held_after(shown: &[u8]) -> &[u8] {
 }
 
 // A start from what a crash left holds what was told, or the line behind it.
-fn starts_again(rt: &impl Abort, alloc: Global, left: &[u8], told: &[u8]) {
+fn holds_what_was_told(rt: &impl Abort, alloc: Global, left: &[u8], told: &[u8]) {
     let again = whole(rt, alloc, left, b"");
     let _ = again.cut(rt);
     let next = &LINES[..(told.len() + 6).min(LINES.len())];
     assert!(rt; again.held() == held_after(told) || again.held() == held_after(next));
-    // the journal goes on
+}
+
+// The journal goes on.
+fn goes_on(rt: &impl Abort, alloc: Global, left: &[u8]) {
     let on = whole(rt, alloc, left, b"put x\n");
     let _ = on.cut(rt);
     assert!(rt; on.shown.bytes() == b" ?\nput x\n".as_slice());
-    assert!(rt; whole(rt, alloc, on.journal.bytes(), b"").held() == b"put x\n".as_slice());
+    holds(rt, alloc, on.journal.bytes(), b"put x\n");
+}
+
+fn starts_again(rt: &impl Abort, alloc: Global, left: &[u8], told: &[u8]) {
+    holds_what_was_told(rt, alloc, left, told);
+    goes_on(rt, alloc, left);
 }
 
 #[test]
@@ -217,53 +234,47 @@ fn shows_nothing_behind_a_failed_write(rt: HostRuntime) {
     }
 }
 
+// Of a run over these lines in reads of so many bytes the watcher is told so many turns, and that the register held a line in so many.
+fn has_turns(rt: &impl Abort, alloc: Global, text: &[u8], each: usize, all: usize, holding: usize) {
+    let took = run(rt, alloc, FIRST, text, PLAN, each, MANY, MANY);
+    assert!(rt; (took.turns.all, took.turns.holding) == (all, holding));
+}
+
 #[test]
 fn tells_the_watcher_of_each_turn(rt: HostRuntime) {
     let alloc = rt.alloc();
     // two reads to a line: one that ends no line is no turn
-    let took = run(&rt, alloc, FIRST, LINES, PLAN, 3, MANY, MANY);
-    assert!(rt; (took.turns.all, took.turns.holding) == (6, 6));
+    has_turns(&rt, alloc, LINES, 3, 6, 6);
     // several lines of one read are one turn, those without facts too
-    let took = run(
-        &rt,
-        alloc,
-        FIRST,
-        b"node x\nput a\nput b\n",
-        PLAN,
-        7,
-        MANY,
-        MANY,
-    );
-    assert!(rt; (took.turns.all, took.turns.holding) == (3, 2));
-    let took = whole(&rt, alloc, FIRST, LINES);
-    assert!(rt; (took.turns.all, took.turns.holding) == (1, 1));
-    let took = whole(&rt, alloc, FIRST, b"put a");
-    assert!(rt; took.turns.all == 0);
+    has_turns(&rt, alloc, b"node x\nput a\nput b\n", 7, 3, 2);
+    has_turns(&rt, alloc, LINES, MANY, 1, 1);
+    has_turns(&rt, alloc, b"put a", MANY, 0, 0);
+}
+
+// The journal's first and last plan are these.
+fn finds(rt: &impl Abort, alloc: Global, journal: &[u8], first: &[u8], last: &[u8]) {
+    let found = first_plan(alloc, journal).ok().expect(rt, "memory");
+    assert!(rt; found == first, "{journal:?}");
+    let found = last_plan(alloc, journal).ok().expect(rt, "memory");
+    assert!(rt; found == last, "{journal:?}");
 }
 
 #[test]
 fn finds_the_first_and_the_last_plan(rt: HostRuntime) {
     let alloc = rt.alloc();
+    finds(&rt, alloc, FIRST, PLAN, PLAN);
     let grown = joined(&rt, alloc, &[FIRST, SECOND, LONGER_THIRD]);
+    finds(&rt, alloc, grown.as_slice(), PLAN, LONGER);
+    // what is behind the right batches counts nothing
     let torn = joined(&rt, alloc, &[FIRST, b"put"]);
+    finds(&rt, alloc, torn.as_slice(), PLAN, PLAN);
+    // no right batch is at the front
+    finds(&rt, alloc, &FIRST[..FIRST.len() - 1], b"", b"");
+    finds(&rt, alloc, SECOND, b"", b"");
+    finds(&rt, alloc, b"", b"", b"");
+    // a journal of facts
     let facts = b"put a\nsync 1 6 8317e0b9939e9f2d\n";
-    for (journal, first, last) in [
-        (FIRST, PLAN, PLAN),
-        (grown.as_slice(), PLAN, LONGER),
-        // what is behind the right batches counts nothing
-        (torn.as_slice(), PLAN, PLAN),
-        // no right batch is at the front
-        (&FIRST[..FIRST.len() - 1], b"".as_slice(), b"".as_slice()),
-        (SECOND, b"", b""),
-        (b"", b"", b""),
-        // a journal of facts
-        (facts, b"put a\n", b""),
-    ] {
-        let found = first_plan(alloc, journal).ok().expect(&rt, "memory");
-        assert!(rt; found == first, "{journal:?}");
-        let found = last_plan(alloc, journal).ok().expect(&rt, "memory");
-        assert!(rt; found == last, "{journal:?}");
-    }
+    finds(&rt, alloc, facts, b"put a\n", b"");
 }
 
 // A start from a journal with an end that is not right, behind the third batch's beginning: it is cut off.
@@ -331,28 +342,34 @@ fn refuses_a_strange_line(rt: HostRuntime) {
     assert!(rt; started.shown.bytes().is_empty());
 }
 
+// A run by this plan takes the journal for that of another.
+fn is_another(rt: &impl Abort, alloc: Global, left: &[u8], plan: &[u8]) {
+    let other = run(rt, alloc, left, b"put c\n", plan, MANY, MANY, MANY);
+    assert!(rt; matches!(&other.lived, Ok(Lived::Another)));
+    assert!(rt; other.journal.bytes() == left);
+    assert!(rt; other.shown.bytes().is_empty());
+}
+
+// A run by the longer plan notes it in the journal.
+fn takes_the_longer_plan(rt: &impl Abort, alloc: Global, left: &[u8], journal: &[u8]) {
+    let grown = run(rt, alloc, left, b"", LONGER, MANY, MANY, MANY);
+    assert!(rt; grown.cut(rt).is_none());
+    assert!(rt; grown.journal.sure_bytes() == journal);
+    assert!(rt; grown.held() == b"put b\n".as_slice());
+}
+
 #[test]
 fn goes_on_from_its_plan(rt: HostRuntime) {
     let alloc = rt.alloc();
     let two = joined(&rt, alloc, &[FIRST, SECOND]);
-    let grown = run(&rt, alloc, two.as_slice(), b"", LONGER, MANY, MANY, MANY);
-    assert!(rt; grown.cut(&rt).is_none());
-    assert!(rt;
-        grown.journal.sure_bytes() == joined(&rt, alloc, &[FIRST, SECOND, LONGER_THIRD]).as_slice()
-    );
-    assert!(rt; grown.held() == b"put b\n".as_slice());
+    let two = two.as_slice();
+    let grown = joined(&rt, alloc, &[FIRST, SECOND, LONGER_THIRD]);
+    takes_the_longer_plan(&rt, alloc, two, grown.as_slice());
     // the shorter one doesn't go on from the longer one
-    for (left, plan) in [
-        (grown.journal.bytes(), PLAN),
-        (two.as_slice(), b"node 1 of 1 by 2\nann\nbob\n".as_slice()),
-        (two.as_slice(), b"node 0 of 1 by 1\nbob\n"),
-        (b"", PLAN),
-    ] {
-        let other = run(&rt, alloc, left, b"put c\n", plan, MANY, MANY, MANY);
-        assert!(rt; matches!(&other.lived, Ok(Lived::Another)));
-        assert!(rt; other.journal.bytes() == left);
-        assert!(rt; other.shown.bytes().is_empty());
-    }
+    is_another(&rt, alloc, grown.as_slice(), PLAN);
+    is_another(&rt, alloc, two, b"node 1 of 1 by 2\nann\nbob\n");
+    is_another(&rt, alloc, two, b"node 0 of 1 by 1\nbob\n");
+    is_another(&rt, alloc, b"", PLAN);
 }
 
 // A text of so many equal bytes and a newline.
@@ -403,8 +420,7 @@ fn long_text(rt: &impl Abort, alloc: Global) -> Vec<u8> {
 fn is_short(rt: &impl Abort, alloc: Global, took: &Stopped, text: &[u8]) {
     assert!(rt; took.shown.bytes().len() == text.len().saturating_add(3));
     assert!(rt; took.journal.bytes().len() < 400_000);
-    let again = whole(rt, alloc, took.journal.bytes(), b"");
-    assert!(rt; again.held() == line_of(text, 270));
+    holds(rt, alloc, took.journal.bytes(), line_of(text, 270));
 }
 
 // A start from what is left behind that many calls has the last line that was told, or the one behind the next read.

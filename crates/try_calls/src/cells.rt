@@ -141,6 +141,19 @@ fn set_up<L: Ledger>(cell: &mut Cell<L>, out: &mut Vec<u8>) -> Result<(), Fault>
     Ok(())
 }
 
+// The server serves, and stops and returns.
+fn use_cell<L: Ledger>(
+    alloc: Global,
+    cell: &mut Cell<L>,
+    share: &mut Share<L>,
+    out: &mut Vec<u8>,
+) -> Result<(), Fault>
+    requires { cell.old.server ≡ 0 }
+{
+    serve(alloc, cell, share, out)?;
+    set_up(cell, out)
+}
+
 // The calls of a new cell. False where memory is refused to that one itself.
 fn on_a_new_cell<L: Ledger>(
     alloc: Global,
@@ -166,8 +179,7 @@ fn on_a_new_cell<L: Ledger>(
         &(cell.journal(), cell.last(), cell.up()),
         cell.add_files(0, 2, 2)
     );
-    serve(alloc, &mut cell, &mut one, out)?;
-    set_up(&mut cell, out)?;
+    use_cell(alloc, &mut cell, &mut one, out)?;
     tell(out, &(one.count(), two.count(), cell.close(one, two)));
     Ok(true)
 }
@@ -183,19 +195,29 @@ fn on_a_cell(alloc: Global, plan: &Plan, out: &mut Vec<u8>) -> Result<bool, Faul
     on_a_new_cell::<Brand>(alloc, plan, out, Blank::new(2))
 }
 
-/// A cell.
-pub fn cell(alloc: Global, out: &mut Vec<u8>) -> Result<(), Fault> {
-    let plan = plan(alloc)?;
-    tell(out, &plan);
-    if on_a_cell(alloc, &plan, out)? {
+fn on_cells(alloc: Global, plan: &Plan, out: &mut Vec<u8>) -> Result<(), Fault>
+    requires { plan.now ≡ record {
+      grid = record { rows = 1; cols = 1 };
+      blocks = 4;
+      rows = record { name = 97 ∷ []; share = 4; sessions = 1; steps = 10; most_blocks = 16 } ∷ [];
+    } }
+{
+    tell(out, plan);
+    if on_a_cell(alloc, plan, out)? {
         return Ok(());
     }
     tell_refused(out, "Cell::new");
-    tell(out, &plan);
-    if on_a_cell(alloc, &plan, out)? {
+    tell(out, plan);
+    if on_a_cell(alloc, plan, out)? {
         return Ok(());
     }
     Err(Fault::Memory)
+}
+
+/// A cell.
+pub fn cell(alloc: Global, out: &mut Vec<u8>) -> Result<(), Fault> {
+    let plan = plan(alloc)?;
+    on_cells(alloc, &plan, out)
 }
 
 // The server stops or returns on the board.

@@ -1,12 +1,13 @@
 //! A live run, and what it recorded of its sessions.
 
-ghost use Rattle.std.specs.Prelude.{◌≡◌, All, true};
+ghost use Rattle.std.specs.Prelude.{◌≡◌, All, IfOk, true};
 ghost use Rattle.gq_model.specs.Events.{IsIn};
+ghost use Rattle.gq_session.specs.Fitting.{FitsPlan};
 
 use crate::{End, Fault};
 use gq_desk::Plan;
 use gq_inspect::inspect;
-use gq_live::{Gate, GaveUp, OpenGate, Records, Said, SessionEntry, live, sessions_of};
+use gq_live::{Gate, GaveUp, OpenGate, Programs, Records, Said, SessionEntry, live, sessions_of};
 use gq_memory::{GrowCopies, OutOfMemory};
 use gq_model::{Answer, Event, Line};
 use gq_runs::read_programs;
@@ -131,26 +132,42 @@ fn put_run(alloc: Global, plan: &Plan, records: &Records, out: &mut Vec<u8>) -> 
     Ok(())
 }
 
+// The plan and the programs of an input that is not too long.
+fn read(alloc: Global, input: &[u8]) -> Result<(Plan, Programs), End>
+    ensures { IfOk result (λ read. FitsPlan read.0 read.1) }
+{
+    if input.len() > MOST_INPUT {
+        return Err(End::Call(Fault::Usage));
+    }
+    Ok(read_programs(alloc, input)?)
+}
+
+// The text of a run of the programs in threads.
+fn text_of_run<R: Threads + Wait + Sync>(
+    rt: &R,
+    alloc: Global,
+    plan: &Plan,
+    programs: &Programs,
+) -> Result<Vec<u8>, End>
+    requires { FitsPlan plan.now programs.now }
+{
+    let records = live(rt, alloc, plan, programs, &OpenGate)?;
+    let mut out = Vec::new(alloc);
+    put_run(alloc, plan, &records, &mut out)?;
+    Ok(out)
+}
+
 /// Runs the programs of an input in threads, and has the records inspected. It gives the run's script, a line `answers`, and
 /// then for each session a line `session TENANT SESSION`, the tenant by its place in the plan, and what the session was told,
 /// the messages of each answer being numbered from 0.
 pub fn run<R: Threads + Wait + Sync>(rt: &R, alloc: Global, input: &[u8]) -> Result<Vec<u8>, End> {
-    if input.len() > MOST_INPUT {
-        return Err(End::Call(Fault::Usage));
-    }
-    let (plan, programs) = read_programs(alloc, input)?;
-    let records = live(rt, alloc, &plan, &programs, &OpenGate)?;
-    let mut out = Vec::new(alloc);
-    put_run(alloc, &plan, &records, &mut out)?;
-    Ok(out)
+    let (plan, programs) = read(alloc, input)?;
+    text_of_run(rt, alloc, &plan, &programs)
 }
 
 /// Runs the programs of an input in threads under a gate that gives up. It gives nothing but the fault, if there is one.
 pub fn run_shut<R: Threads + Wait + Sync>(rt: &R, alloc: Global, input: &[u8]) -> Result<(), End> {
-    if input.len() > MOST_INPUT {
-        return Err(End::Call(Fault::Usage));
-    }
-    let (plan, programs) = read_programs(alloc, input)?;
+    let (plan, programs) = read(alloc, input)?;
     live(rt, alloc, &plan, &programs, &Shut)?;
     Ok(())
 }

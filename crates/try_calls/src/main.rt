@@ -353,6 +353,28 @@ fn shards<R: Threads + Sync>(rt: &HostRuntime, threads: &R, count: usize) -> Res
     Ok(run_in_shards(threads, rt.alloc(), count, 0, &mut reader, &mut writer)?)
 }
 
+fn play_input(rt: &HostRuntime, out: &mut Vec<u8>) -> Result<(), End> {
+    *out = play::play(rt.alloc(), input(rt)?.as_slice())?;
+    Ok(())
+}
+
+fn live_run<R: Threads + Wait + Sync>(
+    rt: &HostRuntime,
+    threads: &R,
+    out: &mut Vec<u8>,
+) -> Result<(), End> {
+    *out = live::run(threads, rt.alloc(), input(rt)?.as_slice())?;
+    Ok(())
+}
+
+fn live_run_shut<R: Threads + Wait + Sync>(rt: &HostRuntime, threads: &R) -> Result<(), End> {
+    live::run_shut(threads, rt.alloc(), input(rt)?.as_slice())
+}
+
+fn make_calls(rt: &HostRuntime, part: &str, out: &mut Vec<u8>) -> Result<(), End> {
+    Ok(calls::make(rt.alloc(), part, input(rt)?.as_slice(), out)?)
+}
+
 // Goes the way that the words name, and gives what is printed.
 fn go<R: Threads + Wait + Sync>(
     rt: &HostRuntime,
@@ -365,27 +387,13 @@ fn go<R: Threads + Wait + Sync>(
     };
     match (way.as_str(), rest) {
         ("run", []) => run_script(rt),
-        ("play", []) => {
-            *out = play::play(rt.alloc(), input(rt)?.as_slice())?;
-            Ok(())
-        }
-        ("live", []) => {
-            *out = live::run(threads, rt.alloc(), input(rt)?.as_slice())?;
-            Ok(())
-        }
-        ("live", [gate]) if gate.as_str() == "shut" => {
-            live::run_shut(threads, rt.alloc(), input(rt)?.as_slice())
-        }
-        ("calls", [part]) => {
-            calls::make(rt.alloc(), part.as_str(), input(rt)?.as_slice(), out)?;
-            Ok(())
-        }
+        ("play", []) => play_input(rt, out),
+        ("live", []) => live_run(rt, threads, out),
+        ("live", [gate]) if gate.as_str() == "shut" => live_run_shut(rt, threads),
+        ("calls", [part]) => make_calls(rt, part.as_str(), out),
         ("stream", words) => stream(rt, threads, words, out),
         ("shards", [count]) => shards(rt, threads, number(count)?),
-        (way, [most]) => {
-            store::make(rt.alloc(), way, number(most)?, out)?;
-            Ok(())
-        }
+        (way, [most]) => Ok(store::make(rt.alloc(), way, number(most)?, out)?),
         _ => Err(End::Call(Fault::Usage)),
     }
 }

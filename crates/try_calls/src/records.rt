@@ -84,6 +84,38 @@ fn is_for(message: &Message, server: u8) -> bool
     message.server == server && message.to_server()
 }
 
+// The message of a step of one, as a letter.
+fn letter_of(alloc: Global, outbox: Outbox) -> Result<Option<Letter>, Fault> {
+    let Outbox {
+        stamp,
+        messages,
+        ..
+    } = outbox;
+    let message = messages.to_vec(alloc)?.pop();
+    Ok(message.map(|message| Letter {
+        place: 0,
+        stamp,
+        index: 0,
+        message,
+    }))
+}
+
+// The server replies to a letter that is for it.
+fn served<L: Ledger>(
+    cell: &mut Cell<L>,
+    share: &mut Share<L>,
+    letter: &Letter,
+) -> Result<Letter, Fault> {
+    if !is_for(&letter.message, cell.server()) {
+        return Err(Fault::Other);
+    }
+    match cell.serve(share, letter) {
+        Ok(Served::Reply(reply)) => Ok(reply),
+        Err(CellRefused::Memory(_)) => Err(Fault::Memory),
+        _ => Err(Fault::Other),
+    }
+}
+
 // The server replies to the one message of a step, and the session hears that: its next step. None where nothing was sent.
 fn go_on<L: Ledger>(
     alloc: Global,
@@ -93,29 +125,11 @@ fn go_on<L: Ledger>(
     session: &mut Session,
     outbox: Outbox,
 ) -> Result<Option<Outbox>, Fault> {
-    let Outbox {
-        stamp,
-        messages,
-        ..
-    } = outbox;
-    let mut sent = messages.to_vec(alloc)?;
-    let Some(message) = sent.pop() else {
+    let Some(letter) = letter_of(alloc, outbox)? else {
         return Ok(None);
     };
-    if !is_for(&message, cell.server()) {
-        return Err(Fault::Other);
-    }
-    let letter = Letter {
-        place: 0,
-        stamp,
-        index: 0,
-        message,
-    };
-    match cell.serve(share, &letter) {
-        Ok(Served::Reply(reply)) => Ok(Some(session.hear(schedule, reply)?)),
-        Err(CellRefused::Memory(_)) => Err(Fault::Memory),
-        _ => Err(Fault::Other),
-    }
+    let reply = served(cell, share, &letter)?;
+    Ok(Some(session.hear(schedule, reply)?))
 }
 
 // The session asks all its requests, one after another.
@@ -139,6 +153,31 @@ fn ask_all<L: Ledger>(
     Err(Fault::Other)
 }
 
+// A session with these requests.
+fn session_of(alloc: Global, number: u8, content: Option<&[u8]>) -> Result<Session, Fault> {
+    let mut volumes = Vec::new(alloc);
+    volumes.grow(VolumeRow {
+        files: 1,
+        blocks: 1,
+    })?;
+    let own = lines(alloc, u32::from(number), content)?;
+    Ok(Session::new(alloc, grid()?, 0, number, volumes, own))
+}
+
+// What the session noted of these requests.
+fn entries_of(
+    alloc: Global,
+    session: Session,
+    number: u8,
+    content: Option<&[u8]>,
+) -> Result<Entries, Fault> {
+    let asked = lines(alloc, u32::from(number), content)?;
+    match session.close(asked.as_slice()) {
+        Some(items) => Ok(Entries { items }),
+        None => Err(Fault::Other),
+    }
+}
+
 // The next change of the servers, and then all of a session's steps.
 fn attend<L: Ledger>(
     alloc: Global,
@@ -149,19 +188,9 @@ fn attend<L: Ledger>(
     content: Option<&[u8]>,
 ) -> Result<Entries, Fault> {
     change_cell(schedule, cell)?;
-    let mut volumes = Vec::new(alloc);
-    volumes.grow(VolumeRow {
-        files: 1,
-        blocks: 1,
-    })?;
-    let own = lines(alloc, u32::from(number), content)?;
-    let mut session = Session::new(alloc, grid()?, 0, number, volumes, own);
+    let mut session = session_of(alloc, number, content)?;
     ask_all(alloc, schedule, cell, share, &mut session)?;
-    let asked = lines(alloc, u32::from(number), content)?;
-    match session.close(asked.as_slice()) {
-        Some(items) => Ok(Entries { items }),
-        None => Err(Fault::Other),
-    }
+    entries_of(alloc, session, number, content)
 }
 
 // The steps of a session for each of the contents.
@@ -227,6 +256,24 @@ fn records<L: Ledger>(
     })
 }
 
+// Has the records of a run of the plan inspected.
+fn inspect_records(
+    alloc: Global,
+    plan: &Plan,
+    records: &Records,
+    out: &mut Vec<u8>,
+) -> Result<(), Fault> {
+    let events = retry!(
+        out,
+        "inspect",
+        records,
+        inspect(alloc, plan, records),
+        Mismatch::Memory(_)
+    );
+    tell(out, &events);
+    Ok(())
+}
+
 // Has the records of such a run inspected.
 fn inspected(
     alloc: Global,
@@ -239,15 +286,7 @@ fn inspected(
 {
     let plan = plan(alloc, contents.len() as u32)?;
     let records = records::<Brand>(alloc, &plan, contents, changes, Blank::new(2))?;
-    let events = retry!(
-        out,
-        "inspect",
-        &records,
-        inspect(alloc, &plan, &records),
-        Mismatch::Memory(_)
-    );
-    tell(out, &events);
-    Ok(())
+    inspect_records(alloc, &plan, &records, out)
 }
 
 /// Has the records of the smallest run inspected, and of one in which the server stops and returns.
