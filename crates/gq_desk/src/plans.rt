@@ -1,8 +1,8 @@
 //! The plan: a grid, the blocks of a server, and the tenants' rows.
 
-ghost use Rattle.std.specs.Prelude.{◌≡◌, ◌≤◌, ◌<◌, ◌≢◌, Some, None, true, false, IfOk, IfErr, IfSome, IfNone, OnOk, length, slice_get};
+ghost use Rattle.std.specs.Prelude.{◌≡◌, [], ◌≤◌, ◌<◌, ◌≢◌, Some, None, true, false, IfOk, IfErr, IfSome, IfNone, OnOk, length, slice_get};
 ghost use Rattle.std.specs.List.{list_all, list_any, position_from};
-ghost use Rattle.gq_desk.specs.Plans.{number_fault, row_fault, rows_fault, plan_fault, shares, is_of, is_in, is_named, IsSound};
+ghost use Rattle.gq_desk.specs.Plans.{number_fault, row_fault, rows_fault, table_fault, plan_fault, shares, is_of, is_in, is_named, IsSound};
 
 use crate::likely::Likely;
 use crate::limits::{MOST_BLOCKS, MOST_FILE_BLOCKS, MOST_SESSIONS, MOST_STEPS, MOST_TENANTS};
@@ -142,6 +142,44 @@ fn shares(rows: &[TenantRow]) -> u64
     sum
 }
 
+// Takes the rows in order, up to the first that has a fault.
+fn take_all(held: &mut Rows, rows: &[TenantRow]) -> Result<(), PlanFault>
+    requires { held.old ≡ [] }
+    ensures all { OnOk result (held.new ≡ rows.now) }
+    ensures none { OnOk result (rows_fault [] rows.now ≡ None) }
+    ensures few { OnOk result (length rows.now ≤ MOST_TENANTS) }
+    ensures named { OnOk result (list_all is_named rows.now ≡ true) }
+    ensures fault { IfErr result (λ fault. fault ≢ PlanFault.Memory tt → rows_fault [] rows.now ≡ Some fault) }
+{
+    for row in rows {
+        if let Some(fault) = row_fault(held, row) {
+            return Err(fault);
+        }
+        if let Err(refused) = held.push(*row) {
+            return Err(PlanFault::Memory(refused));
+        }
+    }
+    Ok(())
+}
+
+// The fault of the rows as a whole.
+fn table_fault(blocks: u32, rows: &[TenantRow]) -> Option<PlanFault>
+    requires { length rows.now ≤ MOST_TENANTS }
+    ensures fault { result ≡ table_fault blocks rows.now }
+    ensures some { IfNone result (1 ≤ length rows.now) }
+    ensures within { IfNone result (shares rows.now ≤ blocks) }
+{
+    if rows.is_empty() {
+        return Some(PlanFault::NoTenant);
+    }
+    let sum = shares(rows);
+    if sum > u64::from(blocks) {
+        Some(PlanFault::OverBlocks { sum, blocks })
+    } else {
+        None
+    }
+}
+
 impl Plan {
     /// The plan of these rows, of servers of `blocks` blocks each. The rows are tested in order, each for `TooMany`,
     /// `SameName`, `ZeroShare`, `Sessions`, `Steps` and `Most`, and then all together for `NoTenant` and `OverBlocks`; the
@@ -159,20 +197,9 @@ impl Plan {
         ensures fault { IfErr result (λ fault. fault ≢ PlanFault.Memory tt → plan_fault blocks rows.now ≡ Some fault) }
     {
         let mut held = Rows::new(alloc);
-        for row in rows {
-            if let Some(fault) = row_fault(&held, row) {
-                return Err(fault);
-            }
-            if let Err(refused) = held.push(*row) {
-                return Err(PlanFault::Memory(refused));
-            }
-        }
-        if held.as_slice().is_empty() {
-            return Err(PlanFault::NoTenant);
-        }
-        let sum = shares(held.as_slice());
-        if sum > u64::from(blocks) {
-            return Err(PlanFault::OverBlocks { sum, blocks });
+        take_all(&mut held, rows)?;
+        if let Some(fault) = table_fault(blocks, held.as_slice()) {
+            return Err(fault);
         }
         let likely = Likely::of(held.as_slice());
         Ok(Plan {

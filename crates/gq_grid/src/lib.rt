@@ -53,14 +53,14 @@ pub struct Choice {
 }
 
 /// A row (numbered from 0) and all its servers.
-#[derive(Clone, Copy, Debug, PartialEq, Eq)]
+#[derive(Clone, Copy, PartialEq, Eq)]
 pub struct RowChoice {
     pub row: usize,
     pub servers: ServerSet,
 }
 
 /// A column (numbered from 0) and all its servers.
-#[derive(Clone, Copy, Debug, PartialEq, Eq)]
+#[derive(Clone, Copy, PartialEq, Eq)]
 pub struct ColumnChoice {
     pub col: usize,
     pub servers: ServerSet,

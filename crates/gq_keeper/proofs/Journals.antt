@@ -73,7 +73,6 @@ grown_sealed seen synced number ls text new_seen new_synced next s is fits short
     sum = omega (arith, length-append (batches_of synced) (batches_for ls))
 
 -- where nothing was appended there were no lines
-pub nothing_kept : (n : ℕ) (synced text : List ℕ) → synced ++ kept_text n text ≡ synced → text ≡ []
-nothing_kept n synced [] same = refl
-nothing_kept n synced (x ∷ text) same =
-    absurd (omega (arith, ap length same, length-append synced (kept_text n (x ∷ text)), length-append (x ∷ text) (ended_line (seal n (x ∷ text)))))
+pub nothing_in : (n : ℕ) (text : List ℕ) → kept_text n text ≡ [] → text ≡ []
+nothing_in n [] none = refl
+nothing_in n (x ∷ text) none = cc

@@ -1,16 +1,17 @@
 -- The loop, one read behind another.
-use Rattle.std.proofs.Common.{◌≡◌, arith, ℕ, Bool, List, [], ◌++◌, length, take, Option, Some, None, refl, sym, ap, ◌∙◌, subst, append_assoc, append-nil, ⊎_elim}
+use Rattle.std.proofs.Common.{◌≡◌, ◌⊎◌, arith, ℕ, Bool, List, [], ◌∷◌, ◌++◌, length, take, drop, get_or, Option, Some, None, refl, sym, ap, ◌∙◌, subst, append_assoc, append-nil, inl, inr, ⊎_elim}
 use Rattle.std.specs.Prelude.{IfSome}
 use Rattle.std.proofs.Math.Seq.{take-append_seam}
 use Rattle.std.specs.Io.KnownBytes.{Consumes, IsAtEnd}
 use Rattle.gq_journal.specs.Batches.{Line, whole_lines}
+use Rattle.gq_journal.specs.Laws.{Begins}
 use Rattle.gq_keeper.specs.Lines.{short_lines}
 use Rattle.gq_keeper.specs.Runs.{Did, Runs}
 use Rattle.gq_keeper.specs.Crashes.{Leaves, Elapses}
 use Rattle.gq_keeper.specs.Restarting.{Restarts, RestartsAsEither, RestartsAsOne}
 use Rattle.gq_keeper.specs.Durable.{AllSealed, Durable}
 use Rattle.gq_wire.specs.Texts.{first_text}
-use Rattle.gq_keeper.proofs.Ends.{none_behind}
+use Rattle.gq_keeper.proofs.Ends.{kept_none, none_behind}
 use Rattle.gq_keeper.proofs.Running.{runs_append}
 use Rattle.gq_keeper.proofs.Restarts.{restarts_found, sealed_left}
 use Rattle.gq_keeper.proofs.Durability.{durable_none, durable_then, durable_renewed}
@@ -89,15 +90,62 @@ served_longer longest steps recalls readable blank rests first now plan base syn
     (λ more. ap (λ ls. ls ++ short_lines longest ((held ++ block) ++ more)) (sym lines))
     none same
 
+-- ---- a beginning of the input
+
+pub begins_nothing : (known : Option (List ℕ)) → IfSome known (Begins [])
+begins_nothing None = tt
+begins_nothing (Some all) = (all, refl)
+
+begins_consumed : (before later : Option (List ℕ)) (taken rest : List ℕ) → Consumes before later (taken ++ rest) → IfSome before (Begins taken)
+begins_consumed None later taken rest x = tt
+begins_consumed (Some a) None taken rest x = absurd x
+begins_consumed (Some a) (Some b) taken rest x = (rest ++ b, x ∙ append_assoc taken rest b)
+
+-- where two texts are one, the second part begins behind the first one's, or amid it
+seams : (a b c d : List ℕ) → a ++ b ≡ c ++ d → ((m : List ℕ) × (c ≡ a ++ m) × (b ≡ m ++ d)) ⊎ ((m : List ℕ) × (a ≡ c ++ m))
+seams [] b c d e = inl (c, refl, e)
+seams (x ∷ a) b [] d e = inr (x ∷ a, refl)
+seams (x ∷ a) b (y ∷ c) d e =
+    let same : x ≡ y = ap (λ l. get_or l 0 0) e in
+    ⊎_elim (λ s. inl (s.0, ap (λ h. h ∷ c) (sym same) ∙ ap (λ l. x ∷ l) s.1, s.2)) (λ s. inr (s.0, ap (λ h. h ∷ a) same ∙ ap (λ l. y ∷ l) s.1)) (seams a b c d (ap (drop 1) e))
+
+-- a beginning of the input whose lines are those so far, and these
+abbrev pub TakesMore : (longest : ℕ) (before : Option (List ℕ)) (so_far front : List ℕ) → Type 0
+TakesMore longest before so_far front = (taken : List ℕ) × IfSome before (Begins taken) × (short_lines longest taken ≡ short_lines longest so_far ++ short_lines longest front)
+
+-- what was taken of the input, with lines of one read more
+pub taken_more : {M : Type 0} (longest : ℕ) (steps : M → List ℕ → List (List ℕ) → List ℕ → M → Type 0) (recalls : M → List ℕ → M → Type 0) (readable : M → List ℕ → Bool) (blank : List Line → M → M → Type 0) (rests : M → M → Type 0) (first now : M) (plan : List Line) (base synced shown : List ℕ) (before after later : Option (List ℕ)) (held block front behind : List ℕ) →
+    (s : Served longest steps recalls readable blank rests first now plan base synced shown before after held) → Consumes after later block → held ++ block ≡ front ++ behind → TakesMore longest before s.taken front
+taken_more {M} longest steps recalls readable blank rests first now plan base synced shown before after later held block front behind s read is = ⊎_elim past within (seams held block front behind is)
+  where
+    past : ((m : List ℕ) × (front ≡ held ++ m) × (block ≡ m ++ behind)) → TakesMore longest before s.taken front
+    past m = (
+      s.taken ++ m.0,
+      begins_consumed before later (s.taken ++ m.0) behind (subst (λ b. Consumes before later b) (ap (λ b. s.taken ++ b) m.2 ∙ sym (append_assoc s.taken m.0 behind)) (consumes_more before after later s.taken block s.input read)),
+      s.goes_on m.0 ∙ ap (λ t. short_lines longest s.taken ++ short_lines longest t) (sym m.1),
+    )
+
+    within : ((m : List ℕ) × (held ≡ front ++ m)) → TakesMore longest before s.taken front
+    within m =
+        let none : whole_lines front ≡ [] = ap whole_lines (sym (ap (take (length front)) m.1 ∙ take-append_seam front m.0)) ∙ kept_none (length front) held s.none in (
+          s.taken,
+          begins_consumed before after s.taken [] (subst (λ b. Consumes before after b) (sym (append-nil s.taken)) s.input),
+          sym (append-nil (short_lines longest s.taken)) ∙ ap (λ ls. short_lines longest s.taken ++ ls) (sym (no_short longest front none)),
+        )
+
 -- ---- what a crash leaves
 
 pub as_one : {M : Type 0} (steps : M → List ℕ → List (List ℕ) → List ℕ → M → Type 0) (recalls : M → List ℕ → M → Type 0) (readable : M → List ℕ → Bool) (blank : List Line → M → M → Type 0) (rests : M → M → Type 0) (plan : List Line) (first now : M) (dids : List Did) (left : List ℕ) → Runs steps first dids now → Restarts recalls readable blank rests plan now left → RestartsAsOne steps recalls readable blank rests plan first left
 as_one steps recalls readable blank rests plan first now dids left runs r = (now, dids, runs, r)
 
-pub of_turn : {M : Type 0} (steps : M → List ℕ → List (List ℕ) → List ℕ → M → Type 0) (recalls : M → List ℕ → M → Type 0) (readable : M → List ℕ → Bool) (blank : List Line → M → M → Type 0) (rests : M → M → Type 0) (plan own : List Line) (first now next : M) (dids : List Did) (left : List ℕ) → Runs steps first dids now → own ≡ plan → RestartsAsEither steps recalls readable blank rests own now next left → RestartsAsOne steps recalls readable blank rests plan first left
-of_turn steps recalls readable blank rests plan own first now next dids left runs same e =
+pub of_batch : {M : Type 0} (steps : M → List ℕ → List (List ℕ) → List ℕ → M → Type 0) (recalls : M → List ℕ → M → Type 0) (readable : M → List ℕ → Bool) (blank : List Line → M → M → Type 0) (rests : M → M → Type 0) (plan own : List Line) (first now next : M) (dids : List Did) (left : List ℕ) → Runs steps first dids now → own ≡ plan → RestartsAsEither steps recalls readable blank rests own now next left → RestartsAsOne steps recalls readable blank rests plan first left
+of_batch steps recalls readable blank rests plan own first now next dids left runs same e =
     ⊎_elim (λ old. as_one steps recalls readable blank rests plan first now dids left runs (subst (λ p. Restarts recalls readable blank rests p now left) same old))
     (λ new. as_one steps recalls readable blank rests plan first next (dids ++ new.0) left (runs_append steps first now next dids new.0 runs new.1) (subst (λ p. Restarts recalls readable blank rests p next left) same new.2)) e
+
+pub of_turn : {M : Type 0} (steps : M → List ℕ → List (List ℕ) → List ℕ → M → Type 0) (recalls : M → List ℕ → M → Type 0) (readable : M → List ℕ → Bool) (blank : List Line → M → M → Type 0) (rests : M → M → Type 0) (plan own : List Line) (first now : M) (dids : List Did) (left : List ℕ) → Runs steps first dids now → own ≡ plan → RestartsAsOne steps recalls readable blank rests own now left → RestartsAsOne steps recalls readable blank rests plan first left
+of_turn steps recalls readable blank rests plan own first now dids left runs same e =
+    as_one steps recalls readable blank rests plan first e.0 (dids ++ e.1) left (runs_append steps first now e.0 dids e.1 runs e.2) (subst (λ p. Restarts recalls readable blank rests p e.0 left) same e.3)
 
 -- at any instant since the beginning
 pub at_any : {M : Type 0} (steps : M → List ℕ → List (List ℕ) → List ℕ → M → Type 0) (recalls : M → List ℕ → M → Type 0) (readable : M → List ℕ → Bool) (blank : List Line → M → M → Type 0) (rests : M → M → Type 0) (plan : List Line) (first : M) (before now : ℕ) (past since : ℕ → List ℕ → Type 0) (seen synced : List ℕ) (number : ℕ) →

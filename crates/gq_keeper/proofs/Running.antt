@@ -1,11 +1,13 @@
 -- Steps one after another.
-use Rattle.std.proofs.Common.{◌≡◌, ℕ, List, [], ◌∷◌, ◌++◌, true, false, refl, sym, ap, ◌∙◌, subst, append_assoc, append-nil}
+use Rattle.std.proofs.Common.{◌≡◌, ◌⊎◌, ◌<◌, ℕ, List, [], ◌∷◌, ◌++◌, length, true, false, refl, sym, ap, ◌∙◌, subst, append_assoc, append-nil, arith, inl, inr, ⊎_elim, length-append}
 use Rattle.std.specs.Prelude.{filter}
+use Rattle.std.proofs.lemmas.Bool.{cases_lt}
 use Rattle.std.proofs.lemmas.Grind.{flat_map-append}
+use Rattle.std.proofs.lemmas.List.{length_push, take_at, take-append-le}
 use Rattle.gq_journal.specs.Batches.{Line, ended_line, lines_text, whole_lines, is_one_line}
 use Rattle.gq_journal.proofs.Lines.{ended_then}
 use Rattle.gq_keeper.specs.Lines.{is_short, short_lines}
-use Rattle.gq_keeper.specs.Runs.{Did, lines_of, facts_of, told_of, Runs, Takes, Took}
+use Rattle.gq_keeper.specs.Runs.{Did, lines_of, facts_of, told_of, Runs, StopsAt, Takes, Took}
 
 pub runs_append : {M : Type 0} (steps : M → List ℕ → List (List ℕ) → List ℕ → M → Type 0) (a b c : M) (ds es : List Did) → Runs steps a ds b → Runs steps b es c → Runs steps a (ds ++ es) c
 runs_append steps a b c [] es x y = subst (λ m. Runs steps m es c) (sym x) y
@@ -38,54 +40,72 @@ kept longest line lines short = rw short refl
 passed : (longest : ℕ) (line : Line) (lines : List Line) → is_short longest line ≡ false → filter (is_short longest) (line ∷ lines) ≡ filter (is_short longest) lines
 passed longest line lines long = rw long refl
 
-next_line : (rest line after more : List ℕ) → rest ≡ ended_line line ++ after → is_one_line line ≡ true → whole_lines (rest ++ more) ≡ line ∷ whole_lines (after ++ more)
-next_line rest line after more cut one = ap (λ r. whole_lines (r ++ more)) cut ∙ ap whole_lines (append_assoc (ended_line line) after more) ∙ ended_then line (after ++ more) one
+stops_none : (most : ℕ) → StopsAt most []
+stops_none most = record { facts = λ n before. absurd (omega arith); told = λ n before. absurd (omega arith) }
 
-pub took_none : {M : Type 0} (longest : ℕ) (steps : M → List ℕ → List (List ℕ) → List ℕ → M → Type 0) (old : M) (text facts told : List ℕ) → Took longest steps old text text facts facts told told old
-took_none longest steps old text facts told = record { dids = []; runs = refl; front = []; cut = refl; took = λ more. refl; facts = sym (append-nil facts); told = sym (append-nil told) }
-
-pub took_from_none : {M : Type 0} (longest : ℕ) (steps : M → List ℕ → List (List ℕ) → List ℕ → M → Type 0) (old new : M) (text rest f0 f1 t0 t1 : List ℕ) → f0 ≡ [] → t0 ≡ [] →
-    Took longest steps old text rest f0 f1 t0 t1 new → Took longest steps old text rest [] f1 [] t1 new
-took_from_none longest steps old new text rest f0 f1 t0 t1 f t took = record {
-  dids = took.dids;
-  runs = took.runs;
-  front = took.front;
-  cut = took.cut;
-  took = took.took;
-  facts = took.facts ∙ ap (λ x. x ++ lines_text (facts_of took.dids)) f;
-  told = took.told ∙ ap (λ x. x ++ told_of took.dids) t;
+stops_more : (most : ℕ) (dids : List Did) (did : Did) → StopsAt most dids → length (lines_text (facts_of dids)) < most → length (told_of dids) < most → StopsAt most (dids ++ did ∷ [])
+stops_more most dids did few facts told = record {
+  facts = λ n before. elim (cases_lt n (length dids)) [
+    | inl early ↦ subst (λ (ds : List Did). length (lines_text (facts_of ds)) < most) (sym (take-append-le n dids (did ∷ []) (omega arith))) (few.facts n early)
+    | inr late ↦ subst (λ (ds : List Did). length (lines_text (facts_of ds)) < most) (sym (take_at dids (did ∷ []) n (omega (arith, length_push dids did)))) facts
+  ];
+  told = λ n before. elim (cases_lt n (length dids)) [
+    | inl early ↦ subst (λ (ds : List Did). length (told_of ds) < most) (sym (take-append-le n dids (did ∷ []) (omega arith))) (few.told n early)
+    | inr late ↦ subst (λ (ds : List Did). length (told_of ds) < most) (sym (take_at dids (did ∷ []) n (omega (arith, length_push dids did)))) told
+  ];
 }
+
+pub took_none : {M : Type 0} (longest most : ℕ) (steps : M → List ℕ → List (List ℕ) → List ℕ → M → Type 0) (old : M) (text given shown : List ℕ) → given ≡ [] → shown ≡ [] → Took longest most steps old text text given shown old
+took_none longest most steps old text given shown no_facts untold = record { dids = []; runs = refl; front = []; cut = refl; took = λ more. refl; facts = no_facts; told = untold; few = stops_none most }
 
 front_more : (front rest line after text : List ℕ) → text ≡ front ++ rest → rest ≡ ended_line line ++ after → text ≡ (front ++ ended_line line) ++ after
 front_more front rest line after text is cut = is ∙ ap (λ r. front ++ r) cut ∙ sym (append_assoc front (ended_line line) after)
 
 -- a line that is too long was passed over
-pub took_past : {M : Type 0} (longest : ℕ) (steps : M → List ℕ → List (List ℕ) → List ℕ → M → Type 0) (old m : M) (text rest line after f0 f1 t0 t1 : List ℕ) →
-    Took longest steps old text rest f0 f1 t0 t1 m → rest ≡ ended_line line ++ after → is_one_line line ≡ true → is_short longest line ≡ false → Took longest steps old text after f0 f1 t0 t1 m
-took_past longest steps old m text rest line after f0 f1 t0 t1 so cut one long = record {
+pub took_past : {M : Type 0} (longest most : ℕ) (steps : M → List ℕ → List (List ℕ) → List ℕ → M → Type 0) (old m : M) (text rest line after given shown : List ℕ) →
+    Took longest most steps old text rest given shown m → rest ≡ ended_line line ++ after → is_one_line line ≡ true → is_short longest line ≡ false → Took longest most steps old text after given shown m
+took_past longest most steps old m text rest line after given shown so cut one long = record {
   dids = so.dids;
   runs = so.runs;
   front = so.front ++ ended_line line;
   cut = front_more so.front rest line after text so.cut cut;
-  took = λ more. so.took more ∙ ap (λ ls. lines_of so.dids ++ ls) (ap (filter (is_short longest)) (next_line rest line after more cut one) ∙ passed longest line (whole_lines (after ++ more)) long);
+  took = λ more. ap (short_lines longest) (append_assoc so.front (ended_line line) more) ∙ so.took (ended_line line ++ more)
+      ∙ ap (λ ls. lines_of so.dids ++ ls) (ap (filter (is_short longest)) (ended_then line more one) ∙ passed longest line (whole_lines more) long);
   facts = so.facts;
   told = so.told;
+  few = so.few;
 }
 
-pub took_more : {M : Type 0} (longest : ℕ) (steps : M → List ℕ → List (List ℕ) → List ℕ → M → Type 0) (old m n : M) (text rest line after f0 f1 f2 t0 t1 t2 : List ℕ) →
-    Took longest steps old text rest f0 f1 t0 t1 m → rest ≡ ended_line line ++ after → is_one_line line ≡ true → is_short longest line ≡ true → Takes steps m line f1 f2 t1 t2 n → Took longest steps old text after f0 f2 t0 t2 n
-took_more {M} longest steps old m n text rest line after f0 f1 f2 t0 t1 t2 so cut one short takes = record {
+pub took_more : {M : Type 0} (longest most : ℕ) (steps : M → List ℕ → List (List ℕ) → List ℕ → M → Type 0) (old m n : M) (text rest line after f1 f2 t1 t2 : List ℕ) →
+    Took longest most steps old text rest f1 t1 m → length f1 < most → length t1 < most → rest ≡ ended_line line ++ after → is_one_line line ≡ true → is_short longest line ≡ true → Takes steps m line f1 f2 t1 t2 n → Took longest most steps old text after f2 t2 n
+took_more {M} longest most steps old m n text rest line after f1 f2 t1 t2 so few_facts few_told cut one short takes = record {
   dids = so.dids ++ did ∷ [];
   runs = runs_append steps old m n so.dids (did ∷ []) so.runs (n, takes.step, refl);
   front = so.front ++ ended_line line;
   cut = front_more so.front rest line after text so.cut cut;
-  took = λ more. so.took more ∙ ap (λ ls. lines_of so.dids ++ ls) (ap (filter (is_short longest)) (next_line rest line after more cut one) ∙ kept longest line (whole_lines (after ++ more)) short)
-      ∙ sym (append_assoc (lines_of so.dids) (line ∷ []) (short_lines longest (after ++ more))) ∙ ap (λ ls. ls ++ short_lines longest (after ++ more)) (sym (lines_append so.dids (did ∷ [])));
-  facts = takes.facts ∙ ap (λ x. x ++ lines_text takes.lines) so.facts ∙ append_assoc f0 (lines_text (facts_of so.dids)) (lines_text takes.lines)
-      ∙ ap (λ x. f0 ++ x) (sym (text_append (facts_of so.dids) takes.lines) ∙ ap lines_text (ap (λ x. facts_of so.dids ++ x) (sym (append-nil takes.lines)) ∙ sym (facts_append so.dids (did ∷ []))));
-  told = takes.told ∙ ap (λ x. x ++ takes.text) so.told ∙ append_assoc t0 (told_of so.dids) takes.text
-      ∙ ap (λ x. t0 ++ x) (ap (λ x. told_of so.dids ++ x) (sym (append-nil takes.text)) ∙ sym (told_append so.dids (did ∷ [])));
+  took = λ more. ap (short_lines longest) (append_assoc so.front (ended_line line) more) ∙ so.took (ended_line line ++ more)
+      ∙ ap (λ ls. lines_of so.dids ++ ls) (ap (filter (is_short longest)) (ended_then line more one) ∙ kept longest line (whole_lines more) short)
+      ∙ sym (append_assoc (lines_of so.dids) (line ∷ []) (short_lines longest more)) ∙ ap (λ ls. ls ++ short_lines longest more) (sym (lines_append so.dids (did ∷ [])));
+  facts = takes.facts ∙ ap (λ x. x ++ lines_text takes.lines) so.facts
+      ∙ sym (text_append (facts_of so.dids) takes.lines) ∙ ap lines_text (ap (λ x. facts_of so.dids ++ x) (sym (append-nil takes.lines)) ∙ sym (facts_append so.dids (did ∷ [])));
+  told = takes.told ∙ ap (λ x. x ++ takes.text) so.told
+      ∙ ap (λ x. told_of so.dids ++ x) (sym (append-nil takes.text)) ∙ sym (told_append so.dids (did ∷ []));
+  few = stops_more most so.dids did so.few (subst (λ x. length x < most) so.facts few_facts) (subst (λ x. length x < most) so.told few_told);
 }
   where
     did : Did
     did = record { line = line; facts = takes.lines; told = takes.text }
+
+-- what is behind a line is less than the text
+pub less_behind : (text rest line after : List ℕ) → (rest ≡ text) ⊎ (length rest < length text) → rest ≡ ended_line line ++ after → length after < length text
+less_behind text rest line after so cut =
+    let less : length after < length rest = omega (arith, ap length cut, length-append (ended_line line) after, length_push line 10) in
+    ⊎_elim (λ same. omega (arith, less, ap length same)) (λ fewer. omega (arith, less, fewer)) so
+
+-- ---- the lines in front of the rest
+
+pub took_front : {M : Type 0} (longest most : ℕ) (steps : M → List ℕ → List (List ℕ) → List ℕ → M → Type 0) (old new : M) (text rest given shown : List ℕ) (t : Took longest most steps old text rest given shown new) → lines_of t.dids ≡ short_lines longest t.front
+took_front longest most steps old new text rest given shown t = sym (ap (short_lines longest) (sym (append-nil t.front)) ∙ t.took [] ∙ append-nil (lines_of t.dids))
+
+pub took_apart : {M : Type 0} (longest most : ℕ) (steps : M → List ℕ → List (List ℕ) → List ℕ → M → Type 0) (old new : M) (text rest given shown : List ℕ) (t : Took longest most steps old text rest given shown new) → (more : List ℕ) → short_lines longest (t.front ++ more) ≡ short_lines longest t.front ++ short_lines longest more
+took_apart longest most steps old new text rest given shown t more = t.took more ∙ ap (λ ls. ls ++ short_lines longest more) (took_front longest most steps old new text rest given shown t)

@@ -2,7 +2,8 @@
 use Rattle.std.specs.Prelude.{◌≡◌, ℕ, ◌+◌, Bool, List, [], ◌∷◌, ◌++◌, length}
 use Rattle.gq_journal.specs.Batches.{Line, ended_line, seal, batches_of, journal_text}
 use Rattle.gq_journal.specs.Laws.{FitBatches, Begins}
-use Rattle.gq_keeper.specs.Runs.{Did, Runs, lines_of, told_of}
+use Rattle.gq_keeper.specs.Lines.{most_held, short_lines}
+use Rattle.gq_keeper.specs.Runs.{Did, Runs, StopsAt, lines_of, told_of}
 use Rattle.gq_keeper.specs.Restarting.{Restarts}
 
 -- all that was written is synced, and is whole batches; the next one has this number
@@ -22,6 +23,24 @@ pub record Durable {M : Type 0} (steps : M → List ℕ → List (List ℕ) → 
   pub took : lines_of dids ≡ lines
   pub told : shown ≡ base ++ told_of dids
   pub restarts : Restarts recalls readable blank rests plan last synced
+
+-- Of the text the lines before the rest were taken, but for those that are longer: what these steps told is shown, and durable. Whatever
+-- comes behind these lines, it is taken on its own.
+pub record TakenBefore {M : Type 0} (longest : ℕ) (steps : M → List ℕ → List (List ℕ) → List ℕ → M → Type 0) (recalls : M → List ℕ → M → Type 0) (readable : M → List ℕ → Bool) (blank : List Line → M → M → Type 0) (rests : M → M → Type 0) (first last : M) (plan : List Line) (text rest base synced shown : List ℕ) : Type 0 where
+  pub front : List ℕ
+  pub cut : text ≡ front ++ rest
+  pub apart : (more : List ℕ) → short_lines longest (front ++ more) ≡ short_lines longest front ++ short_lines longest more
+  pub durable : Durable steps recalls readable blank rests first last plan (short_lines longest front) base synced shown
+
+-- The same of lines that are kept and shown at once: none was taken once those before it had given facts, or told text, as long as the
+-- longest line and at least a mebibyte. So facts and text are no longer than that, and what one line adds.
+pub record TakenAtOnce {M : Type 0} (longest : ℕ) (steps : M → List ℕ → List (List ℕ) → List ℕ → M → Type 0) (recalls : M → List ℕ → M → Type 0) (readable : M → List ℕ → Bool) (blank : List Line → M → M → Type 0) (rests : M → M → Type 0) (first last : M) (plan : List Line) (text rest base synced shown : List ℕ) : Type 0 where
+  pub taken : TakenBefore longest steps recalls readable blank rests first last plan text rest base synced shown
+  pub few : StopsAt (most_held longest) taken.durable.dids
+
+-- what is synced has grown, or it was left alone
+abbrev pub Grows : (before after : List ℕ) → (alone : Type 0) → Type 0
+Grows before after alone = (more : List ℕ) × (after ≡ before ++ more) × (more ≡ [] → alone)
 
 -- what is appended for the text of facts: nothing where there are none
 abbrev pub kept_text : ℕ → List ℕ → List ℕ

@@ -1,5 +1,5 @@
 -- Steps of a machine one after another.
-use Rattle.std.specs.Prelude.{◌≡◌, List, [], ◌∷◌, ◌++◌, ℕ, map, true}
+use Rattle.std.specs.Prelude.{◌≡◌, ◌<◌, List, [], ◌∷◌, ◌++◌, ℕ, length, take, map, true}
 use Rattle.std.specs.List.{flat_map}
 use Rattle.gq_journal.specs.Batches.{Line, lines_text, are_batch_lines}
 use Rattle.gq_keeper.specs.Lines.{short_lines}
@@ -33,13 +33,19 @@ pub record Takes {M : Type 0} (steps : M → List ℕ → List (List ℕ) → Li
   pub told : told_after ≡ told_before ++ text
   pub opened : are_batch_lines lines ≡ true
 
--- Steps took the lines of the text before the rest, but for those that are longer: what they gave was appended. Whatever
--- comes behind the text, the lines that are not taken yet are those of the rest with it.
-pub record Took {M : Type 0} (longest : ℕ) (steps : M → List ℕ → List (List ℕ) → List ℕ → M → Type 0) (old : M) (text rest facts_before facts_after told_before told_after : List ℕ) (new : M) : Type 0 where
+-- No step was taken once those before it had given facts, or told text, of so many bytes.
+pub record StopsAt (most : ℕ) (dids : List Did) : Type 0 where
+  pub facts : (n : ℕ) → n < length dids → length (lines_text (facts_of (take n dids))) < most
+  pub told : (n : ℕ) → n < length dids → length (told_of (take n dids)) < most
+
+-- Steps took the lines of the text before the rest, but for those that are longer: this is what they gave and told. Whatever comes
+-- behind these lines, it is taken on its own.
+pub record Took {M : Type 0} (longest most : ℕ) (steps : M → List ℕ → List (List ℕ) → List ℕ → M → Type 0) (old : M) (text rest given shown : List ℕ) (new : M) : Type 0 where
   pub dids : List Did
   pub runs : Runs steps old dids new
   pub front : List ℕ
   pub cut : text ≡ front ++ rest
-  pub took : (more : List ℕ) → short_lines longest (text ++ more) ≡ lines_of dids ++ short_lines longest (rest ++ more)
-  pub facts : facts_after ≡ facts_before ++ lines_text (facts_of dids)
-  pub told : told_after ≡ told_before ++ told_of dids
+  pub took : (more : List ℕ) → short_lines longest (front ++ more) ≡ lines_of dids ++ short_lines longest more
+  pub facts : given ≡ lines_text (facts_of dids)
+  pub told : shown ≡ told_of dids
+  pub few : StopsAt most dids

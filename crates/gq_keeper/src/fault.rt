@@ -6,7 +6,7 @@ ghost use Rattle.gq_keeper.specs.declared.fault.Fault.TheVariants.{Memory};
 use gq_memory::OutOfMemory;
 
 /// Why a machine ends.
-#[derive(Debug, Drop)]
+#[derive(Drop)]
 pub enum Fault {
     /// Memory was wanting.
     Memory(OutOfMemory),

@@ -25,6 +25,6 @@ pub use notes::Notes;
 pub use output::Output;
 pub use plan::{Plan, is_plan_text};
 pub use renewing::renew;
-pub use serving::{Watch, serve, take_text};
+pub use serving::{ALWAYS_HELD, Watch, serve, take_batch, take_text};
 pub use starting::{Recovered, Started, first_plan, last_plan, start};
 pub use stream::{Promise, Stream};

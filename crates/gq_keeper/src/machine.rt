@@ -12,7 +12,7 @@ use crate::Fault;
 use gq_memory::OutOfMemory;
 
 /// Why a line of an earlier run is not read.
-#[derive(Debug, Drop)]
+#[derive(Drop)]
 pub enum Unread {
     /// Memory was wanting.
     Memory(OutOfMemory),

@@ -1,15 +1,16 @@
 //! The loop: lines are taken, their facts are synced, and then what rests on them is shown.
 
-ghost use Rattle.std.specs.Prelude.{◌≡◌, ◌⊎◌, ◌+◌, ◌++◌, ◌≤◌, ℕ, List, [], true, length, min, replicate, IfOk, IfSome, OnOk};
+ghost use Rattle.std.specs.Prelude.{◌≡◌, ◌⊎◌, ◌+◌, ◌++◌, ◌<◌, ◌≤◌, ℕ, List, [], true, false, length, min, replicate, IfOk, IfSome, OnOk};
 ghost use Rattle.std.specs.Io.{ReadsAtMost};
 ghost use Rattle.std.specs.Io.KnownBytes.{ReadConsumes};
-ghost use Rattle.gq_journal.specs.Batches.{Line, whole_lines, batches_of};
-ghost use Rattle.gq_keeper.specs.Lines.{short_lines};
+ghost use Rattle.gq_journal.specs.Batches.{whole_lines, batches_of};
+ghost use Rattle.gq_journal.specs.Laws.{Begins};
+ghost use Rattle.gq_keeper.specs.Lines.{most_held, short_lines};
 ghost use Rattle.gq_keeper.specs.Plans.{IsPlan, last_plan};
 ghost use Rattle.gq_keeper.specs.Runs.{Took};
 ghost use Rattle.gq_keeper.specs.Crashes.{Elapses};
 ghost use Rattle.gq_keeper.specs.Restarting.{Restarts, RestartsAsEither, RestartsAsOne};
-ghost use Rattle.gq_keeper.specs.Durable.{AllSealed, Durable};
+ghost use Rattle.gq_keeper.specs.Durable.{AllSealed, Durable, Grows, TakenAtOnce};
 ghost use Rattle.gq_wire.specs.Texts.{first_text};
 
 use crate::keeping::keep;
@@ -24,29 +25,96 @@ use std::io::Read;
 // The most bytes of one read.
 const MOST_READ: usize = 65_536;
 
-// Takes the lines of the text, but for those that are longer, and answers what is behind them.
+/// So many bytes of facts, and of what is told, are kept and shown at once, however short the longest line is.
+pub const ALWAYS_HELD: usize = 1_048_576;
+
+// How many bytes of facts, or of what is told, are enough to be kept and shown before a further line is taken.
+fn most_held(longest: usize) -> usize
+    ensures held { result ≡ most_held longest }
+    ensures some { 0 < result }
+{
+    longest.max(ALWAYS_HELD)
+}
+
+// Whether facts or what is told have so many bytes.
+fn is_enough(most: usize, facts: &[u8], told: &[u8]) -> bool
+    ensures facts { result ≡ false → length facts.now < most }
+    ensures told { result ≡ false → length told.now < most }
+{
+    facts.len() >= most || told.len() >= most
+}
+
+// Takes lines of the text, but for those that are longer, until none is left, or they gave or told so much that it has to be kept
+// and shown first. Answers what is behind them.
 fn take_lines<'x, M: Machine>(
     longest: usize,
+    most: usize,
     machine: &mut M,
     text: &'x [u8],
     facts: &mut Vec<u8>,
     told: &mut Vec<u8>,
 ) -> Result<&'x [u8], Fault>
-    ensures took { IfOk result (λ rest. Took longest M.steps machine.old text.now rest.now facts.old.items facts.new.items told.old.items told.new.items machine.new) }
-    ensures rest { IfOk result (λ rest. whole_lines rest.now ≡ []) }
+    requires some { 0 < most }
+    requires facts { facts.old.items ≡ [] }
+    requires told { told.old.items ≡ [] }
+    ensures took { IfOk result (λ rest. Took longest most M.steps machine.old text.now rest.now facts.new.items told.new.items machine.new) }
+    ensures on { IfOk result (λ rest. (whole_lines text.now ≡ []) ⊎ (length rest.now < length text.now)) }
 {
     let mut rest = text;
     while let Some((line, after)) = first_whole_line(rest) {
-        if line.len() <= longest {
-            machine.take(line, facts, told)?;
-        }
         rest = after;
+        if line.len() > longest {
+            continue;
+        }
+        machine.take(line, facts, told)?;
+        if is_enough(most, facts.as_slice(), told.as_slice()) {
+            return Ok(rest);
+        }
     }
     Ok(rest)
 }
 
-/// Takes the lines of a text: their steps are done, the facts of all of them are appended as one batch and synced, and only then is
-/// shown what they told. Answers what is behind the lines. Lines without facts leave the journal alone.
+/// Takes lines of a text: their steps are done, the facts of all of them are appended as one batch and synced, and only then is shown
+/// what they told. Answers what is behind them, which is less where there was a line (`on`). `few`: no line is taken once those before
+/// it gave or told so much that it has to be kept and shown first. Lines without facts leave the journal alone.
+pub fn take_batch<'x, M: Lasting, L: Log, O: Output>(
+    alloc: Global,
+    longest: usize,
+    machine: &mut M,
+    log: &mut L,
+    out: &mut O,
+    number: &mut u64,
+    text: &'x [u8],
+) -> Result<&'x [u8], Fault>
+    requires sealed { AllSealed (L.seen log.old) (L.synced log.old) number.old }
+    requires restarts { Restarts M.recalls M.readable M.blank M.rests (last_plan [] (batches_of (L.synced log.old))) machine.old (L.synced log.old) }
+    requires may { (last : M) (front behind synced shown : List ℕ) → text.now ≡ front ++ behind → Durable M.steps M.recalls M.readable M.blank M.rests machine.old last (last_plan [] (batches_of (L.synced log.old))) (short_lines longest front) (O.shown out.old) synced shown → O.allows synced shown }
+    ensures sealed { OnOk result (AllSealed (L.seen log.new) (L.synced log.new) number.new) }
+    ensures few { IfOk result (λ rest. TakenAtOnce longest M.steps M.recalls M.readable M.blank M.rests machine.old machine.new (last_plan [] (batches_of (L.synced log.old))) text.now rest.now (O.shown out.old) (L.synced log.new) (O.shown out.new)) }
+    ensures on { IfOk result (λ rest. (whole_lines text.now ≡ []) ⊎ (length rest.now < length text.now)) }
+    ensures idle { OnOk result (Grows (L.synced log.old) (L.synced log.new) (log.new ≡ log.old)) }
+    ensures crash { Elapses (L.instant log.old) (L.instant log.new) (L.left_since log.old) (L.left_since log.new)
+        (RestartsAsEither M.steps M.recalls M.readable M.blank M.rests (last_plan [] (batches_of (L.synced log.old))) machine.old machine.new) }
+{
+    // its range is a fact once it is read
+    let _number = *number;
+    let mut facts = Vec::new(alloc);
+    let mut told = Vec::new(alloc);
+    let rest = take_lines(
+        longest,
+        most_held(longest),
+        machine,
+        text,
+        &mut facts,
+        &mut told,
+    )?;
+    keep(log, number, &mut facts)?;
+    out.show(log, told.as_slice())?;
+    Ok(rest)
+}
+
+/// Takes the lines of a text, batch after batch (`take_batch`). Answers what is behind the lines. Lines without facts leave the
+/// journal alone.
 pub fn take_text<'x, M: Lasting, L: Log, O: Output>(
     alloc: Global,
     longest: usize,
@@ -58,7 +126,7 @@ pub fn take_text<'x, M: Lasting, L: Log, O: Output>(
 ) -> Result<&'x [u8], Fault>
     requires sealed { AllSealed (L.seen log.old) (L.synced log.old) number.old }
     requires restarts { Restarts M.recalls M.readable M.blank M.rests (last_plan [] (batches_of (L.synced log.old))) machine.old (L.synced log.old) }
-    requires may { (last : M) (lines : List Line) (synced shown : List ℕ) → Durable M.steps M.recalls M.readable M.blank M.rests machine.old last (last_plan [] (batches_of (L.synced log.old))) lines (O.shown out.old) synced shown → O.allows synced shown }
+    requires may { (last : M) (front behind synced shown : List ℕ) → text.now ≡ front ++ behind → Durable M.steps M.recalls M.readable M.blank M.rests machine.old last (last_plan [] (batches_of (L.synced log.old))) (short_lines longest front) (O.shown out.old) synced shown → O.allows synced shown }
     ensures sealed { OnOk result (AllSealed (L.seen log.new) (L.synced log.new) number.new) }
     ensures durable { OnOk result (Durable M.steps M.recalls M.readable M.blank M.rests machine.old machine.new (last_plan [] (batches_of (L.synced log.old))) (short_lines longest text.now) (O.shown out.old) (L.synced log.new) (O.shown out.new)) }
     ensures idle { OnOk result (L.synced log.new ≡ L.synced log.old → log.new ≡ log.old) }
@@ -66,15 +134,12 @@ pub fn take_text<'x, M: Lasting, L: Log, O: Output>(
     ensures left { IfOk result (λ rest. whole_lines rest.now ≡ []) }
     ensures behind { IfOk result (λ rest. (more : List ℕ) → short_lines longest (text.now ++ more) ≡ short_lines longest text.now ++ short_lines longest (rest.now ++ more)) }
     ensures crash { Elapses (L.instant log.old) (L.instant log.new) (L.left_since log.old) (L.left_since log.new)
-        (RestartsAsEither M.steps M.recalls M.readable M.blank M.rests (last_plan [] (batches_of (L.synced log.old))) machine.old machine.new) }
+        (RestartsAsOne M.steps M.recalls M.readable M.blank M.rests (last_plan [] (batches_of (L.synced log.old))) machine.old) }
 {
-    // its range is a fact once it is read
-    let _number = *number;
-    let mut facts = Vec::new(alloc);
-    let mut told = Vec::new(alloc);
-    let rest = take_lines(longest, machine, text, &mut facts, &mut told)?;
-    keep(log, number, &mut facts)?;
-    out.show(log, told.as_slice())?;
+    let mut rest = text;
+    'batches: while !ends_no_line(rest) {
+        rest = take_batch(alloc, longest, machine, log, out, number, rest)?;
+    }
     Ok(rest)
 }
 
@@ -107,7 +172,8 @@ fn kept_end(alloc: Global, longest: usize, end: &[u8]) -> Result<Vec<u8>, OutOfM
 
 // Whether no newline is among the bytes.
 fn ends_no_line(bytes: &[u8]) -> bool
-    ensures { result ≡ true → whole_lines bytes.now ≡ [] }
+    ensures none { result ≡ true → whole_lines bytes.now ≡ [] }
+    ensures some { result ≡ false → ¬ (whole_lines bytes.now ≡ []) }
 {
     first_whole_line(bytes).is_none()
 }
@@ -150,8 +216,8 @@ pub trait Watch<M> {
 
 /// Takes the lines of the input to its end, but for those that are longer, of which no more is held than shows it. At
 /// each write to the output, `O.allows` is all that is known of what may be shown; the premise `may` says that it is
-/// allowed where it is durable: what is shown is what steps told, and a start from what is synced reads the machine
-/// that they left. Whenever it is killed, a start reads a machine that steps left. `watch` sees the machine behind each
+/// allowed where it is durable: what is shown is what steps told that took the lines of a beginning of the input, and a start
+/// from what is synced reads the machine that they left. Whenever it is killed, a start reads a machine that steps left. `watch` sees the machine behind each
 /// write but the first, which greets: before the journal is written anew, if that is due.
 pub fn serve<M: Lasting, R: Read, D: Disk, O: Output, W: Watch<M>>(
     alloc: Global,
@@ -168,10 +234,12 @@ pub fn serve<M: Lasting, R: Read, D: Disk, O: Output, W: Watch<M>>(
     requires plan { IsPlan plan.now }
     requires of_plan { M.is_of (whole_lines plan.now) machine.old }
     requires restarts { Restarts M.recalls M.readable M.blank M.rests (whole_lines plan.now) machine.old (D.synced disk.old) }
-    requires may { (last : M) (lines : List Line) (synced shown : List ℕ) → Durable M.steps M.recalls M.readable M.blank M.rests machine.old last (whole_lines plan.now) lines (O.shown out.old ++ first_text) synced shown → O.allows synced shown }
+    requires may { (last : M) (taken synced shown : List ℕ) → IfSome (R.remaining input.old) (Begins taken) → Durable M.steps M.recalls M.readable M.blank M.rests machine.old last (whole_lines plan.now) (short_lines longest taken) (O.shown out.old ++ first_text) synced shown → O.allows synced shown }
     ensures durable { OnOk result ((taken : List ℕ) × IfSome (R.remaining input.old) (λ all. all ≡ taken)
         × Durable M.steps M.recalls M.readable M.blank M.rests machine.old machine.new (whole_lines plan.now) (short_lines longest taken) (O.shown out.old ++ first_text) (D.synced disk.new) (O.shown out.new)) }
     ensures any_time { (left : List ℕ) → D.left_since disk.new (D.instant disk.old) left → RestartsAsOne M.steps M.recalls M.readable M.blank M.rests (whole_lines plan.now) machine.old left }
+    ensures crash { Elapses (D.instant disk.old) (D.instant disk.new) (D.left_since disk.old) (D.left_since disk.new)
+        (RestartsAsOne M.steps M.recalls M.readable M.blank M.rests (whole_lines plan.now) machine.old) }
 {
     let mut number = first;
     let mut due = 0;

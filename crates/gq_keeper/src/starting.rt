@@ -18,7 +18,7 @@ use gq_memory::{OutOfMemory, slice_copied};
 use std::alloc::Global;
 
 /// What was read of a journal.
-#[derive(Debug, Drop)]
+#[derive(Drop)]
 pub struct Recovered {
     /// The number of the next batch.
     pub number: u64,
@@ -27,7 +27,7 @@ pub struct Recovered {
 }
 
 /// What a start finds.
-#[derive(Debug, Drop)]
+#[derive(Drop)]
 pub enum Started {
     /// The journal is read.
     Ready(Recovered),

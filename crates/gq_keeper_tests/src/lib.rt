@@ -3,23 +3,32 @@
 //! can be met. Tests stand apart, since a crate with tests is proved a second time with them.
 #![tactic(auto)]
 
-mod living;
-mod register;
-mod shown;
-mod terms;
-mod turns;
-
-pub use living::{LONGEST, Lived, begin, live, read_and_start};
-pub use register::Register;
-pub use shown::Shown;
-pub use terms::Terms;
-pub use turns::Turns;
-
 #[cfg(test)]
 mod facts;
 #[cfg(test)]
 mod journals;
 #[cfg(test)]
+mod living;
+#[cfg(test)]
+mod register;
+#[cfg(test)]
 mod setups;
 #[cfg(test)]
+mod shown;
+#[cfg(test)]
+mod terms;
+#[cfg(test)]
 mod tests;
+#[cfg(test)]
+mod turns;
+
+#[cfg(test)]
+pub use living::{LONGEST, Lived, begin, live, read_and_start};
+#[cfg(test)]
+pub use register::Register;
+#[cfg(test)]
+pub use shown::Shown;
+#[cfg(test)]
+pub use terms::Terms;
+#[cfg(test)]
+pub use turns::Turns;

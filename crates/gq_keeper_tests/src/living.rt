@@ -16,7 +16,7 @@ use std::alloc::Global;
 use std::io::Read;
 
 /// How a register was started.
-#[derive(Debug, Drop)]
+#[derive(Drop)]
 pub enum Lived {
     /// It took its input. A wrong end may have been cut off at this place.
     Served(Option<usize>),

@@ -1,5 +1,5 @@
 -- How an operation ended is told again, at any nodes.
-use Rattle.std.proofs.Common.{◌≡◌, ◌∙◌, ◌⊎◌, ℕ, ◌≤◌, Bool, true, false, List, [], ◌∷◌, ◌++◌, refl, sym, ap, subst, append-nil, Option, Some, None, arith, inl, inr}
+use Rattle.std.proofs.Common.{◌≡◌, ◌∙◌, ◌⊎◌, ℕ, ◌+◌, ◌<◌, ◌≤◌, Bool, true, false, List, [], ◌∷◌, ◌++◌, refl, sym, ap, subst, append-nil, Option, Some, None, arith, inl, inr}
 use Rattle.std.specs.Prelude.{◌&&◌, ◌||◌, ◌==◌, not, is_some, fold, if◌then◌else◌}
 use Rattle.std.specs.List.{list_any}
 use Rattle.std.proofs.lemmas.Bool.{cases_Bool, and_parts, eqb-true, eq-eqb, ne_eqb, true≢false}
@@ -14,7 +14,7 @@ use Rattle.gq_cluster.specs.Facts.{OwnFact, Begun, Numbered, Kept, Had}
 use Rattle.gq_replace.specs.Keeping.{KeptFiles, files_of_part, with_fleet_fact}
 use Rattle.gq_replace.specs.Plans.{place_of}
 use Rattle.gq_node.specs.declared.output.Answer.{Answer}
-use Rattle.gq_node.specs.Again.{TellsEnd, is_start, begun_at, NoneBegins, forgotten, end_after, AllEndsToldAgain}
+use Rattle.gq_node.specs.Again.{TellsEnd, is_start, begun_at, NoneBegins, forgotten, end_after, AllEndsToldAgain, AllBeginLater}
 use Rattle.gq_node.specs.Bridge.{AtHome}
 use Rattle.gq_node.specs.Inputs.{Input, Asked, AskedPlan, Brought, Ticked, Looked, Joined, Fetching, Fetched, does}
 use Rattle.gq_node.specs.Joining.{tells_joined, hears_joined, all_joined, next_peer, asks_peer, looks, is_peer, has_file, gives, takes}
@@ -23,10 +23,11 @@ use Rattle.gq_node.specs.Nodes.{first_plan_in, NodeWorld, site_in, site_at, plan
 use Rattle.gq_node.specs.Once.{begun_by}
 use Rattle.gq_node.specs.Resting.{IsBare, begun_local, recall_one, recall_all}
 use Rattle.gq_node.specs.Sites.{Site, has_session}
+use Rattle.gq_node.proofs.Beginning.{Steps, moved_steps, none_begins, begun_next, begun_is}
 use Rattle.gq_node.proofs.Beginnings.{idle_is, ops_are, floors_are}
 use Rattle.gq_node.proofs.Bridging.{all_requests_act, all_letters_act, all_ticks_act}
 use Rattle.gq_node.proofs.Journal.{FactIn, KeepsBy, Keeps, does_keep, stays_bare}
-use Rattle.gq_node.proofs.Moves.{AllNamed, end_of, HasEnded, ended_tells, Moves, moved_named, moved_ended, moved_reserved, moved_tells, asks_quiet, all_move}
+use Rattle.gq_node.proofs.Moves.{AllNamed, end_of, HasEnded, ended_tells, Moves, moved_named, moved_ended, begun_here, moved_reserved, moved_tells, asks_quiet, all_move}
 use Rattle.gq_node.proofs.Recalling.{recalls_fits, recalls_not}
 use Rattle.gq_node.proofs.Using.{AllUsed, bridged_used, rests_used, all_of, AllIdle, idle_home}
 
@@ -487,3 +488,143 @@ all_ends_told_again w before event between k op answer line is tells none has it
     let at : EndedAt w (view told) n k op last answer = record { some = h.ended.some; low = omega (arith, low, used); facts = sym ((also n).ops k h.has); ended = λ inside. h.ended } in
     let end : EndedAt w (view later) n k op last (end_after n k op last between answer) = events_ended w between told n k op last answer also none at in
     ended_tells (site_at w later n) (later.local n) op line k (end_after n k op last between answer) (record { inside = has; home = h.home }) (end.ended has) its
+
+-- ---- what begins later
+
+-- operation op of session k is behind the node: its facts reserve that number; and where the plan has the session, its last number is no lower
+record IsPast (w : NodeWorld) (v : View) (n k op : ℕ) : Type 0 where
+  facts : op ≤ last_begun k (v.facts n)
+  session : has_session (site_in w (v.last_plan n) n) k ≡ true → op ≤ ((v.local n).residents k).session.op
+
+grows : (op last after : ℕ) → op ≤ last → Steps last after → op ≤ after
+grows op last after low (inl same) = omega arith
+grows op last after low (inr next) = omega arith
+
+does_past : (w : NodeWorld) (nodes : Nodes) (m : ℕ) (input : Input) (n k op : ℕ) → AllSound w (view nodes) → IsPast w (view nodes) n k op → IsPast w (view (after_doing w nodes m (does input (site_at w nodes m) (nodes.local m)))) n k op
+does_past w nodes m input n k op sound past = elim (cases_Bool (n == m)) [
+  | inr other ↦ (record { facts = rw other past.facts; session = rw other past.session })
+  | inl same ↦ (subst (λ x. IsPast w (view (after_doing w nodes m doing)) x k op) (sym (eqb-true n m same)) (at (subst (λ x. IsPast w (view nodes) x k op) (eqb-true n m same) past)))
+]
+  where
+    site : Site
+    site = site_at w nodes m
+
+    doing : Doing
+    doing = does input site (nodes.local m)
+
+    goes_up : has_session site k ≡ true → IsPast w (view nodes) m k op → op ≤ (doing.local.residents k).session.op
+    goes_up inside its = grows op ((nodes.local m).residents k).session.op (doing.local.residents k).session.op (its.session inside) (moved_steps site (nodes.local m) doing k (all_move input site (nodes.local m)))
+
+    reserves : IsPast w (view nodes) m k op → (b : Bool) → has_session site k ≡ b → op ≤ last_begun k (nodes.facts m ++ fact_list doing.fact)
+    reserves its true inside =
+        let new : IsSound site doing.local (nodes.facts m ++ fact_list doing.fact) = does_sound site input (nodes.local m) (nodes.facts m) (sound m) in
+        let low = goes_up inside its in
+        let used = (new.used k).op in
+        let is = new.ops k inside in
+        omega (arith, low, used, is)
+    reserves its false outside =
+        subst (λ x. op ≤ x) (sym (keeps_outside site (nodes.local m) doing.fact (part_in doing.local) (nodes.facts m) k outside (does_keep input site (nodes.local m) (sound m).bare))) its.facts
+
+    at : IsPast w (view nodes) m k op → IsPast w (view (after_doing w nodes m doing)) m k op
+    at its =
+        let here : (m == m) ≡ true = eq-eqb m m refl in
+        record { facts = rw here (reserves its (has_session site k) refl); session = rw here (λ inside. goes_up inside its) }
+
+start_past : (w : NodeWorld) (nodes : Nodes) (m plan n k op : ℕ) → IsPast w (view nodes) n k op → IsPast w (view (after_event w nodes (Started m plan))) n k op
+start_past w nodes m plan n k op past = elim (cases_Bool (n == m)) [
+  | inr other ↦ (record { facts = past.facts; session = rw other past.session })
+  | inl same ↦ (
+      let e : n ≡ m = eqb-true n m same in
+      let low : op ≤ last_begun k (nodes.facts m) = subst (λ x. op ≤ last_begun k (nodes.facts x)) e past.facts in
+      record {
+        facts = past.facts;
+        session = rw same (subst (λ x. has_session (site_in w plan x) k ≡ true → op ≤ ((started w (first_of nodes m plan) plan m (nodes.facts m)).residents k).session.op) (sym e) (here low));
+      })
+]
+  where
+    first : ℕ
+    first = first_of nodes m plan
+
+    here : op ≤ last_begun k (nodes.facts m) → has_session (site_in w plan m) k ≡ true → op ≤ ((started w first plan m (nodes.facts m)).residents k).session.op
+    here low inside =
+        let number : ((started w first plan m (nodes.facts m)).residents k).session.op ≡ last_begun k (nodes.facts m) = ops_are w first plan m (nodes.facts m) k ∙ (started_sound w first plan m (nodes.facts m)).ops k inside in
+        omega (arith, low, number)
+
+event_past : (w : NodeWorld) (nodes : Nodes) (event : Event) (n k op : ℕ) → AllSound w (view nodes) → IsPast w (view nodes) n k op → IsPast w (view (after_event w nodes event)) n k op
+event_past w nodes (Started m plan) n k op sound past = start_past w nodes m plan n k op past
+event_past w nodes (Came m input) n k op sound past = subst (λ v. IsPast w v n k op) (sym (input_view w nodes m input)) (does_past w nodes m input n k op sound past)
+event_past w nodes (AskedToJoin m from losses) n k op sound past = subst (λ v. IsPast w v n k op) (sym (join_view w nodes m from losses)) past
+
+events_past : (w : NodeWorld) (events : List Event) (nodes : Nodes) (n k op : ℕ) → AllSound w (view nodes) → IsPast w (view nodes) n k op → IsPast w (view (nodes_after w nodes events)) n k op
+events_past w [] nodes n k op sound past = past
+events_past w (event ∷ events) nodes n k op sound past = events_past w events (after_event w nodes event) n k op (event_sound w nodes event sound) (event_past w nodes event n k op sound past)
+
+-- operation op begins by the step that leads to this: its session is of the node's plan, and the number is its next one
+record HasBegun (w : NodeWorld) (nodes : Nodes) (v : View) (n k op : ℕ) : Type 0 where
+  inside : has_session (site_at w nodes n) k ≡ true
+  next : op ≡ ((nodes.local n).residents k).session.op + 1
+  past : IsPast w v n k op
+
+does_begin : (w : NodeWorld) (nodes : Nodes) (m : ℕ) (input : Input) (n k op : ℕ) → AllSound w (view nodes) → begun_by k (nodes.local n) ((after_doing w nodes m (does input (site_at w nodes m) (nodes.local m))).local n) ≡ Some op →
+    HasBegun w nodes (view (after_doing w nodes m (does input (site_at w nodes m) (nodes.local m)))) n k op
+does_begin w nodes m input n k op sound is = elim (cases_Bool (n == m)) [
+  | inr other ↦ (absurd (none_begins k op (nodes.local n) (rw other at is)))
+  | inl same ↦ (
+      let e : n ≡ m = eqb-true n m same in
+      let here : begun_by k (nodes.local n) doing.local ≡ Some op = rw same at is in
+      subst (λ x. HasBegun w nodes (view (after_doing w nodes m doing)) x k op) (sym e) (at (subst (λ x. begun_by k (nodes.local x) doing.local ≡ Some op) e here)))
+]
+  where
+    site : Site
+    site = site_at w nodes m
+
+    doing : Doing
+    doing = does input site (nodes.local m)
+
+    at : begun_by k (nodes.local m) doing.local ≡ Some op → HasBegun w nodes (view (after_doing w nodes m doing)) m k op
+    at begun =
+        let last : ℕ = ((nodes.local m).residents k).session.op in
+        let after : ℕ = (doing.local.residents k).session.op in
+        let own : (m == m) ≡ true = eq-eqb m m refl in
+        let within : has_session site k ≡ true = begun_here site (nodes.local m) doing k op (all_move input site (nodes.local m)) begun in
+        let new : IsSound site doing.local (nodes.facts m ++ fact_list doing.fact) = does_sound site input (nodes.local m) (nodes.facts m) (sound m) in
+        let number : after ≡ op = begun_is last after op begun in
+        let used = (new.used k).op in
+        let reserved = new.ops k within in
+        let low : op ≤ last_begun k (nodes.facts m ++ fact_list doing.fact) = omega (arith, number, used, reserved) in
+        let up : op ≤ after = omega (arith, number) in
+        record {
+          inside = within;
+          next = begun_next last after op (moved_steps site (nodes.local m) doing k (all_move input site (nodes.local m))) begun;
+          past = record { facts = rw own low; session = rw own (λ inside. up) };
+        }
+
+start_begins_none : (w : NodeWorld) (nodes : Nodes) (m plan n k op : ℕ) → begun_at w nodes n k (Started m plan) ≡ Some op → ⊥
+start_begins_none w nodes m plan n k op is = elim (cases_Bool (m == n)) [
+  | inl same ↦ (let e = rw same at is in cc)
+  | inr other ↦ (
+      let away : (n == m) ≡ false = ne_eqb n m (λ e. let f = sym other ∙ eq-eqb m n (sym e) in absurd (cc)) in
+      none_begins k op (nodes.local n) (rw (other, away) at is))
+]
+
+event_begins : (w : NodeWorld) (nodes : Nodes) (event : Event) (n k op : ℕ) → AllSound w (view nodes) → begun_at w nodes n k event ≡ Some op → HasBegun w nodes (view (after_event w nodes event)) n k op
+event_begins w nodes (Started m plan) n k op sound is = absurd (start_begins_none w nodes m plan n k op is)
+event_begins w nodes (Came m input) n k op sound is =
+    let same = input_view w nodes m input in
+    subst (λ v. HasBegun w nodes v n k op) (sym same) (does_begin w nodes m input n k op sound (subst (λ (v : View). begun_by k (nodes.local n) (v.local n) ≡ Some op) same is))
+event_begins w nodes (AskedToJoin m from losses) n k op sound is =
+    absurd (none_begins k op (nodes.local n) (subst (λ (v : View). begun_by k (nodes.local n) (v.local n) ≡ Some op) (join_view w nodes m from losses) is))
+
+pub all_begin_later : AllBeginLater
+all_begin_later w before event between again n k op next is later_is =
+    let nodes : Nodes = nodes_after w (new_nodes w) before in
+    let told : Nodes = after_event w nodes event in
+    let later : Nodes = nodes_after w told between in
+    let sound : AllSound w (view nodes) = all_sound w before (new_nodes w) (new_all_sound w) in
+    let also : AllSound w (view told) = event_sound w nodes event sound in
+    let one : HasBegun w nodes (view told) n k op = event_begins w nodes event n k op sound is in
+    let at : IsPast w (view later) n k op = events_past w between told n k op also one.past in
+    let two : HasBegun w later (view (after_event w later again)) n k next = event_begins w later again n k next (all_sound w between told also) later_is in
+    let low = at.session two.inside in
+    let up = two.next in
+    omega (arith, low, up)

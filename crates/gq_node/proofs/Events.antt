@@ -7,7 +7,7 @@ use Rattle.gq_grid.specs.Grid.{with_server}
 use Rattle.gq_replace.specs.Fleet.{Fleet, FleetStep, Hears, new_fleet, after_fleet_step, AllMayHappen}
 use Rattle.gq_replace.specs.Keeping.{KeptFiles}
 use Rattle.gq_replace.specs.Plans.{place_of}
-use Rattle.gq_replace.proofs.Following.{all_right}
+use Rattle.gq_replace.proofs.Following.{all_follow, all_right}
 use Rattle.gq_node.specs.Bridge.{request_act, request_answer, letter_act, tick_act}
 use Rattle.gq_node.specs.Inputs.{Input, Asked, AskedPlan, Brought, Ticked, Looked, Joined, Fetching, Fetched, does}
 use Rattle.gq_node.specs.Joining.{hears_joined}
@@ -155,4 +155,5 @@ all_nodes_follow w events chain stay many small can = follows w (record { chain 
 pub all_nodes_serve : AllNodesServe
 all_nodes_serve grid row home opens plans sessions is_of_plan first_home events stand chain stay many small can enough =
     let w : NodeWorld = nodes_of grid row home opens plans sessions is_of_plan first_home in
-    all_right grid row home opens plans (all_steps w (new_nodes w) events) stand chain enough (all_nodes_follow w events chain stay many small can).may
+    let may = (all_nodes_follow w events chain stay many small can).may in
+    (all_follow grid row home opens plans (all_steps w (new_nodes w) events) stand chain enough may, all_right grid row home opens plans (all_steps w (new_nodes w) events) stand chain enough may)

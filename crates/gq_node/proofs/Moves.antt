@@ -363,6 +363,22 @@ moved_ended site local doing k op answer (Goes_on j n told turns) none at = elim
   | inr other ↦ (subst (HasEnded k op answer) (sym (turns.others k other)) at)
 ]
 
+-- a session in which one begins is of this node
+pub begun_here : (site : Site) (local : Local) (doing : Doing) (k next : ℕ) → Moves site local doing → begun_by k local doing.local ≡ Some next → has_session site k ≡ true
+begun_here site local doing k next (Stays still) is =
+    let same : (doing.local.residents k).session.op ≡ (local.residents k).session.op = (still.each k).number in
+    let none : ((doing.local.residents k).session.op == (local.residents k).session.op) ≡ true = eq-eqb _ _ same in
+    let e = rw none at is in
+    absurd (cc)
+begun_here site local doing k next (Goes_on j n told turns) is = elim (cases_Bool (j == k)) [
+  | inl same ↦ (subst (λ x. has_session site x ≡ true) (eqb-true j k same) turns.here.inside)
+  | inr other ↦ (
+      let same : (doing.local.residents k).session.op ≡ (local.residents k).session.op = ap (λ (r : Resident). r.session.op) (turns.others k other) in
+      let none : ((doing.local.residents k).session.op == (local.residents k).session.op) ≡ true = eq-eqb _ _ same in
+      let e = rw none at is in
+      absurd (cc))
+]
+
 -- and reserves nothing
 pub moved_reserved : (site : Site) (local : Local) (doing : Doing) (k : ℕ) → Moves site local doing → begun_by k local doing.local ≡ None → (doing.local.residents k).reserved.op ≡ (local.residents k).reserved.op
 moved_reserved site local doing k (Stays still) none = ap (λ (z : Reserved). z.op) (still.reserved k)

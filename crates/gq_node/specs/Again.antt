@@ -1,5 +1,5 @@
 -- What is told of a request that comes again.
-use Rattle.std.specs.Prelude.{◌≡◌, ℕ, List, [], ◌∷◌, Bool, true, false, ◌==◌, ◌||◌, not, nat_lt, Option, Some, None, is_some, ⊤, if◌then◌else◌}
+use Rattle.std.specs.Prelude.{◌≡◌, ℕ, ◌<◌, List, [], ◌∷◌, Bool, true, false, ◌==◌, ◌||◌, not, nat_lt, Option, Some, None, is_some, ⊤, if◌then◌else◌}
 use Rattle.std.specs.List.{list_any}
 use Rattle.gq_phase.specs.declared.Outcome.{Outcome}
 use Rattle.gq_phase.specs.declared.Outcome.TheVariants.{Wrote, Gave, Listed}
@@ -90,3 +90,13 @@ AllEndsToldAgain = (w : NodeWorld) (before : List Event) (event : Event) (betwee
     (doing_of w nodes event).answer ≡ Some answer → TellsEnd k op answer →
     NoneBegins w told n k between → has_session (site_at w later n) k ≡ true → asker line ≡ Some k →
     (doing_of w later (Came n (Asked op line))).answer ≡ Some (end_after n k op ((told.local n).residents k).reserved.op between answer)
+
+-- ---- what begins later
+
+-- Of any nodes, with any plans, whatever comes to them: an operation that begins in a session at a node has a greater number than each that began in
+-- it there before, whether or not the node was started again between.
+abbrev pub AllBeginLater : Type 0
+AllBeginLater = (w : NodeWorld) (before : List Event) (event : Event) (between : List Event) (again : Event) (n k op next : ℕ) →
+    let nodes : Nodes = nodes_after w (new_nodes w) before in
+    let later : Nodes = nodes_after w (after_event w nodes event) between in
+    begun_at w nodes n k event ≡ Some op → begun_at w later n k again ≡ Some next → op < next

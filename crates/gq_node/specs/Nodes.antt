@@ -11,7 +11,7 @@ use Rattle.gq_model.specs.Trace.{Session, limit_at}
 use Rattle.gq_cluster.specs.Cluster.{Setting, Part, Act, everyone, copy_in, step_of, session_named}
 use Rattle.gq_cluster.specs.Facts.{OwnFact}
 use Rattle.gq_replace.specs.Fleet.{World, Fleet, Posted, Fetched as HasFetched, FleetStep, Begins, StartsAgain, Does, Answers, Hears, Gives, Takes, new_fleet, after_fleet_step, AllMayHappen, all_node_steps}
-use Rattle.gq_replace.specs.Laws.{world_of, HomesStand, IsRight}
+use Rattle.gq_replace.specs.Laws.{world_of, HomesStand, IsRight, Follows as FleetFollows}
 use Rattle.gq_cluster.specs.Laws.{setting_of, StepsEnough}
 use Rattle.gq_replace.specs.Keeping.{files_of_part}
 use Rattle.gq_replace.specs.Plans.{Plan, IsChain, place_of, node_at, has_node as plan_has, is_replaced, most_places}
@@ -361,13 +361,13 @@ AllNodesFollow = (w : NodeWorld) (events : List Event) → IsChain w.world.plans
 abbrev pub nodes_of : Grid → TenantRow → (home : ℕ → ℕ) → (opens : List VolumeRow) → (plans : ℕ → Plan) → (sessions : ℕ → ℕ) → (is_of_plan : ℕ → ℕ → Bool) → (first_home : ℕ → ℕ) → NodeWorld
 nodes_of grid row home opens plans sessions is_of_plan first_home = record { world = world_of grid row home opens plans; sessions = sessions; is_of_plan = is_of_plan; first_home = first_home }
 
--- whatever comes to the nodes is served in the model, where it gives the tenant steps enough, and each file is one register
+-- whatever comes to the nodes is served in the model, where it gives the tenant steps enough: what is told and sent is what is told and sent in the cluster, and each file is one register
 abbrev pub AllNodesServe : Type 0
 AllNodesServe = (grid : Grid) (row : TenantRow) (home : ℕ → ℕ) (opens : List VolumeRow) (plans : ℕ → Plan) (sessions : ℕ → ℕ) (is_of_plan : ℕ → ℕ → Bool) (first_home : ℕ → ℕ) (events : List Event) →
     let w : NodeWorld = nodes_of grid row home opens plans sessions is_of_plan first_home in
     let steps : List FleetStep = all_steps w (new_nodes w) events in
     HomesStand grid home → IsChain plans → SessionsStay w → 1 < grid.rows * grid.cols → grid.rows * grid.cols ≤ most_places → AllCanCome w (new_nodes w) events →
-    StepsEnough row opens (all_node_steps w.world new_fleet steps) → IsRight grid row home opens (all_node_steps w.world new_fleet steps)
+    StepsEnough row opens (all_node_steps w.world new_fleet steps) → FleetFollows w.world steps × IsRight grid row home opens (all_node_steps w.world new_fleet steps)
 
 -- each of the volumes may be opened behind those before it
 abbrev pub AllOpen : TenantRow → (before opens : List VolumeRow) → Type 0

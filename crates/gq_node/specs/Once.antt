@@ -1,6 +1,7 @@
 -- A request takes effect once, however often it comes.
 use Rattle.std.specs.Prelude.{◌≡◌, ℕ, ◌+◌, List, [], ◌∷◌, length, Bool, true, false, ◌&&◌, ◌==◌, nat_le, Option, Some, None, if◌then◌else◌}
 use Rattle.std.specs.List.{range_with_len}
+use Rattle.gq_model.specs.declared.events.Line.{Line}
 use Rattle.gq_node.specs.Inputs.{Input, Asked, does, after_one, after_all, doings}
 use Rattle.gq_node.specs.Local.{Local, Doing, asker, begins}
 use Rattle.gq_node.specs.Sites.{Site}
@@ -72,3 +73,7 @@ abbrev pub AllBeginOnce : Type 0
 AllBeginOnce = (site : Site) (local : Local) (inputs : List Input) (k : ℕ) →
     let numbers : List ℕ = numbers_begun k local (doings site local inputs) in
     numbers ≡ range_with_len ((local.residents k).session.op + 1) (length numbers)
+
+-- and it is the number of the request by which it begins
+abbrev pub AllBeginNamed : Type 0
+AllBeginNamed = (site : Site) (local : Local) (op : ℕ) (line : Line) (k n : ℕ) → begins line ≡ true → begun_by k local (does (Asked op line) site local).local ≡ Some n → n ≡ op

@@ -1,8 +1,8 @@
 //! The laws, as clauses of functions that do nothing.
 
-ghost use Rattle.gq_node.specs.Again.{AllToldAgain, AllEndsToldAgain};
+ghost use Rattle.gq_node.specs.Again.{AllBeginLater, AllToldAgain, AllEndsToldAgain};
 ghost use Rattle.gq_node.specs.Nodes.{AllNodesFollow, AllNodesServe, AllVolumesOpen};
-ghost use Rattle.gq_node.specs.Once.{AllAgainLeave, AllTakeOnce, AllBeginOnce};
+ghost use Rattle.gq_node.specs.Once.{AllAgainLeave, AllTakeOnce, AllBeginNamed, AllBeginOnce};
 ghost use Rattle.gq_node.specs.Apart.{AllCallsByParts, AllTenantsApart};
 ghost use Rattle.gq_node.specs.Progress.{AllRowsAreTried, AllColumnsAreTried};
 ghost use Rattle.gq_node.specs.Aims.{AllAimsHaveQuorums, AllRequestsHaveQuorums};
@@ -52,12 +52,15 @@ pub fn tenants_apart()
 
 /// A request takes effect once, however often it comes. One that comes again, its number not being above that of the
 /// session's last operation, leaves all as it is: nothing is sent, and nothing is to be kept. So all else that is done,
-/// of a list in which each request comes any number of times, is what is done without those that come again. And the
-/// numbers of the operations that begin in a session rise by one, so that each begins once.
+/// of a list in which each request comes any number of times, is what is done without those that come again. An operation
+/// that begins by a request has its number, and these numbers rise by one, so that each begins once; a start may pass over
+/// some of them, and takes none again.
 pub fn requests_once()
     ensures again { AllAgainLeave }
     ensures once { AllTakeOnce }
     ensures begin { AllBeginOnce }
+    ensures named { AllBeginNamed }
+    ensures later { AllBeginLater }
 {}
 
 /// What is told of a request that comes again. While its operation goes on nothing is; once it is done its outcome, or

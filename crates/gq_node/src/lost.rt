@@ -22,7 +22,7 @@ pub const NODE_NUMBERS: u32 = 960;
 pub const MOST_NUMBERS: u32 = 240;
 
 /// The places of a grid whose nodes were lost, in the order of the losses. So a place stands there once for each node that was lost there.
-#[derive(Debug, Drop)]
+#[derive(Drop)]
 pub struct Lost {
     places: Vec<u8>,
     // how often each place stands there

@@ -15,7 +15,7 @@ use std::alloc::Global;
 use std::marker::Model;
 
 /// What a tenant has.
-#[derive(Debug, Drop)]
+#[derive(Drop)]
 pub struct Holding {
     /// How many servers the grid has.
     pub servers: u8,
@@ -34,7 +34,7 @@ pub struct Holding {
 }
 
 /// Numbers of nodes.
-#[derive(Debug, Drop)]
+#[derive(Drop)]
 pub struct NodeNumbers {
     pub items: Vec<u16>,
 }
@@ -48,7 +48,7 @@ impl Model for NodeNumbers {
 }
 
 /// What a node tells a tenant. Each answer to a request names the session and the number of the operation that it is of.
-#[derive(Debug, Drop)]
+#[derive(Drop)]
 pub enum Answer {
     /// An operation is done.
     Done(Outcome),
@@ -106,7 +106,7 @@ pub(crate) enum Admission {
 
 /// What must not be forgotten. A session's numbers are reserved ahead, a run of them by one fact, and a start goes on behind all that
 /// are reserved, used or not.
-#[derive(Debug, Drop)]
+#[derive(Drop)]
 pub enum Fact {
     /// The session's operations may have the numbers up to this one.
     Began {
@@ -133,7 +133,7 @@ pub enum Fact {
 }
 
 /// What goes between a new node and a node of its column, so that the new one gets the files that its server lacks.
-#[derive(Debug, Drop)]
+#[derive(Drop)]
 pub enum Transfer {
     /// The node `to` is asked for its copy of the file.
     Wants {
@@ -150,7 +150,7 @@ pub enum Transfer {
 
 /// What a step gives: what the tenant is told, the letters and the transfer that go out, and what must not be forgotten. What
 /// goes out rests on the fact: nothing of it may leave before the fact is safe.
-#[derive(Debug, Drop)]
+#[derive(Drop)]
 pub struct Output {
     pub answer: Option<Answer>,
     pub letters: Vec<Message>,
@@ -292,7 +292,7 @@ pub(crate) fn heard_output(
 }
 
 /// Why it can't be told what a start needs.
-#[derive(Debug, Drop)]
+#[derive(Drop)]
 pub enum NeedRefused {
     /// Memory was wanting.
     Memory(OutOfMemory),

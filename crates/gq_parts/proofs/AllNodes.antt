@@ -7,16 +7,17 @@ use Rattle.std.proofs.lemmas.Nat.{div-mul-add, mod-mul-add}
 use Rattle.std.proofs.Math.Nat.{mod-lt, mul-le-mul_left, mul-le-mul_right}
 use Rattle.gq_desk.specs.CheckedPlan.{CheckedPlan, row_at}
 use Rattle.gq_text.specs.Canonical.{IsPlan}
-use Rattle.gq_grid.specs.Grid.{Grid}
 use Rattle.gq_desk.specs.declared.plans.TenantRow.{TenantRow}
 use Rattle.gq_desk.specs.declared.volumes.VolumeRow.{VolumeRow}
 use Rattle.gq_cluster.specs.Laws.{setting_of, StepsEnough}
-use Rattle.gq_replace.specs.Laws.{HomesStand, IsRight}
+use Rattle.gq_replace.specs.Fleet.{new_fleet, all_node_steps}
+use Rattle.gq_replace.specs.Laws.{HomesStand, IsRight, Follows as FleetFollows}
 use Rattle.gq_replace.specs.Plans.{most_places, times, place_of, generation, node_at}
+use Rattle.gq_node.specs.declared.lost.TheConstants.{MOST_NUMBERS}
 use Rattle.gq_node.specs.Inputs.{Input, Asked, AskedPlan, Brought, Ticked, Looked, Joined as HeardJoined, Fetching, Fetched as WasFetched, does, after_all}
 use Rattle.gq_node.specs.Joining.{all_joined, tells_joined}
 use Rattle.gq_node.specs.Local.{Local, Doing}
-use Rattle.gq_node.specs.Nodes.{NodeWorld, Nodes, Event, Came, Started, site_in, site_at, new_nodes, takes_word, with_ready, after_word, after_doing, after_start, after_event, nodes_after, started, first_of as law_first, fact_list, AllCanCome, AllOpen, SessionsStay}
+use Rattle.gq_node.specs.Nodes.{NodeWorld, Nodes, Event, Came, Started, site_in, site_at, new_nodes, takes_word, with_ready, after_word, after_doing, after_start, after_event, nodes_after, started, first_of as law_first, fact_list, all_steps, AllCanCome, AllOpen, SessionsStay}
 use Rattle.gq_node.specs.Resting.{recall_all, those_of, begun_local}
 use Rattle.gq_node.specs.Sites.{Here, Site, site_of, numbered, plan_in, session_state_place, session_generation, home_place, home_of, is_of_plan}
 use Rattle.gq_node.specs.Tables.{Agrees}
@@ -30,9 +31,10 @@ use Rattle.gq_parts.specs.Texts.{own_facts, facts_by}
 use Rattle.gq_parts.specs.Recalls.{facts_said}
 use Rattle.gq_parts.specs.Resting.{IsNodeOf}
 use Rattle.gq_parts.specs.Steps.{AllAgree}
-use Rattle.gq_parts.specs.AllNodes.{first_in, GridPlans, here_in, volumes_in, plans_of, world_with, world_at, steps_with, AreSound, AllNodes, Happening, Took, Starts, StartsBy, first_of, TakesStep, TakesStart, Stays, Happens, AllHappen, came_events, events_of, events_from, all_events, nodes_at, InputsCanCome, IncomingCanCome, HappeningCanCome, LinesCanCome, AreNodes, TellsAt, TellsAll, AllByLaw}
+use Rattle.gq_parts.specs.AllNodes.{first_in, GridPlans, here_in, volumes_in, plans_of, world_with, world_at, AreSound, AllNodes, Happening, Took, Starts, StartsBy, first_of, TakesStep, TakesStart, Stays, Happens, AllHappen, came_events, events_of, events_from, all_events, nodes_at, InputsCanCome, IncomingCanCome, HappeningCanCome, LinesCanCome, AreNodes, TellsAt, TellsAll, fleet_steps, cluster_steps, row_for, IsOneRegister, FollowsLaw, AllByLaw}
 use Rattle.gq_parts.specs.Within.{taken}
 use Rattle.gq_parts.proofs.Within.{can_more, taken_can}
+use Rattle.gq_parts.proofs.Uncounted.{same_can, same_steps, same_node_steps, same_open}
 use Rattle.gq_parts.proofs.Apart.{StepByParts, step_by_parts}
 use Rattle.gq_parts.proofs.Reading.{those-append, said-append, said_back, those-by, same_node, all_recalled}
 
@@ -375,40 +377,61 @@ home_is plan t k is many =
     let few : home_place plan t (session_state_place k) < most_places = omega (arith, home_within plan t (session_state_place k) many, few_places plan is) in
     record { place = mod-mul-add (session_generation k) most_places (home_place plan t (session_state_place k)) few; hop = div-mul-add (session_generation k) most_places (home_place plan t (session_state_place k)) few }
 
+some_servers : (g : GridPlans) → AreSound g → 1 < g.plan.grid.rows * g.plan.grid.cols
+some_servers g sound = let servers = sound.servers in omega (arith, servers)
+
 homes_stand : (g : GridPlans) (t : ℕ) → AreSound g → HomesStand g.plan.grid (home_of g.plan t)
 homes_stand g t sound k =
-    subst (λ n. n < g.plan.grid.rows * g.plan.grid.cols) (sym (home_is g.plan t k sound.plan sound.servers).place) (home_within g.plan t (session_state_place k) sound.servers)
+    subst (λ n. n < g.plan.grid.rows * g.plan.grid.cols) (sym (home_is g.plan t k sound.plan (some_servers g sound)).place) (home_within g.plan t (session_state_place k) (some_servers g sound))
 
 -- a session of a plan is one of a later plan that has its home
 sessions_stay : (g : GridPlans) (t : ℕ) → AreSound g → SessionsStay (world_at g t)
 sessions_stay g t sound p q k later has is =
-    let home : HomeIs g.plan t k = home_is g.plan t k sound.plan sound.servers in
+    let home : HomeIs g.plan t k = home_is g.plan t k sound.plan (some_servers g sound) in
     let inside : nat_lt (session_state_place k) (row_at g.plan t).sessions ≡ true = (and_parts _ _ is).0 in
     let hop : session_generation k ≡ times (plans_of g t q) (home_place g.plan t (session_state_place k)) =
     sym home.hop ∙ eqb-true (generation (home_of g.plan t k)) (times (plans_of g t q) (place_of (home_of g.plan t k))) has ∙ ap (times (plans_of g t q)) home.place in
     rw (inside, eq-eqb (session_generation k) (times (plan_in (g.lost q)) (home_place g.plan t (session_state_place k))) hop) refl
 
--- each file is one register
-is_right : (g : GridPlans) (t : ℕ) (events : List Event) → AreSound g → AllCanCome (world_at g t) (new_nodes (world_at g t)) events → AllOpen (numbered (row_at g.plan t)) [] (g.opens t) →
-    StepsEnough (numbered (row_at g.plan t)) (g.opens t) (steps_with g t (g.opens t) events) → IsRight g.plan.grid (numbered (row_at g.plan t)) (home_of g.plan t) (g.opens t) (steps_with g t (g.opens t) events)
-is_right g t events sound can opens enough = subst P volumes served can enough
+-- each file is one register, in a service that gives the tenant as many steps as the run can take
+one_register : (g : GridPlans) (t : ℕ) (events : List Event) → AreSound g → AllCanCome (world_at g t) (new_nodes (world_at g t)) events → AllOpen (row_at g.plan t) [] (g.opens t) → IsOneRegister g t events
+one_register g t events sound can opens =
+    let w : NodeWorld = world_at g t in
+    let may : AllCanCome its (new_nodes its) events = same_can many w (new_nodes w) events can in
+    let all : FleetFollows its.world (all_steps its (new_nodes its) events) × IsRight g.plan.grid row (home_of g.plan t) (g.opens t) (all_node_steps its.world new_fleet (all_steps its (new_nodes its) events)) =
+    subst P volumes served may (subst (StepsEnough row (g.opens t)) (sym same) (omega arith)) in
+    record {
+      follows = subst (FleetFollows its.world) (same_steps many w (new_nodes w) events) all.0;
+      right = subst (IsRight g.plan.grid row (home_of g.plan t) (g.opens t)) same all.1;
+    }
   where
-    grid : Grid
-    grid = g.plan.grid
-
     row : TenantRow
-    row = numbered (row_at g.plan t)
+    row = row_for g t events
+
+    many : ℕ
+    many = row.steps
+
+    its : NodeWorld
+    its = world_with g t row (g.opens t)
+
+    same : all_node_steps its.world new_fleet (all_steps its (new_nodes its) events) ≡ cluster_steps g t events
+    same =
+        ap (all_node_steps its.world new_fleet) (same_steps many (world_at g t) (new_nodes (world_at g t)) events)
+        ∙ same_node_steps many (world_at g t).world new_fleet (fleet_steps g t events)
 
     P : List VolumeRow → Type 0
-    P vs = AllCanCome (world_with g t vs) (new_nodes (world_with g t vs)) events → StepsEnough row (g.opens t) (steps_with g t vs events) → IsRight grid row (home_of g.plan t) (g.opens t) (steps_with g t vs events)
+    P vs =
+        let v : NodeWorld = world_with g t row vs in
+        AllCanCome v (new_nodes v) events → StepsEnough row (g.opens t) (all_node_steps v.world new_fleet (all_steps v (new_nodes v) events)) →
+        FleetFollows v.world (all_steps v (new_nodes v) events) × IsRight g.plan.grid row (home_of g.plan t) (g.opens t) (all_node_steps v.world new_fleet (all_steps v (new_nodes v) events))
 
-    volumes : (setting_of grid row (home_of g.plan t) (g.opens t)).volumes ≡ g.opens t
-    volumes = all_volumes_open grid row (home_of g.plan t) (g.opens t) opens (omega (arith, enough))
+    volumes : (setting_of g.plan.grid row (home_of g.plan t) (g.opens t)).volumes ≡ g.opens t
+    volumes = all_volumes_open g.plan.grid row (home_of g.plan t) (g.opens t) (same_open many (row_at g.plan t) [] (g.opens t) MOST_NUMBERS opens) (omega arith)
 
-    served : P (setting_of grid row (home_of g.plan t) (g.opens t)).volumes
-    served may many =
-        all_nodes_serve grid row (home_of g.plan t) (g.opens t) (plans_of g t) (λ p. (row_at g.plan t).sessions) (λ p k. is_of_plan g.plan (here_in g p 0) t k) (λ p. home_place g.plan t 0) events
-        (homes_stand g t sound) (sound.chain t) (sessions_stay g t sound) sound.servers (few_places g.plan sound.plan) may many
+    served : P (setting_of g.plan.grid row (home_of g.plan t) (g.opens t)).volumes
+    served may enough =
+        all_nodes_serve g.plan.grid row (home_of g.plan t) (g.opens t) (plans_of g t) (λ p. (row_at g.plan t).sessions) (λ p k. is_of_plan g.plan (here_in g p 0) t k) (λ p. home_place g.plan t 0) events
+        (homes_stand g t sound) (sound.chain t) (sessions_stay g t sound) (some_servers g sound) (few_places g.plan sound.plan) may enough
 
 -- ---- where what comes by lines can come, all can
 
@@ -447,6 +470,13 @@ all_can g t nodes (h ∷ hs) can =
 
 -- ---- the whole
 
+-- of a tenant to which what comes by lines can come
+pub follows_law : (g : GridPlans) (hs : List Happening) (t : ℕ) → AreSound g → LinesCanCome g t (new_nodes (world_at g t)) hs → FollowsLaw g hs t
+follows_law g hs t sound can = record {
+  follows = all_nodes_follow (world_at g t) (all_events g t hs) (sound.chain t) (sessions_stay g t sound) (some_servers g sound) (few_places g.plan sound.plan) (all_can g t (new_nodes (world_at g t)) hs can);
+  right = λ opens. one_register g t (all_events g t hs) sound (all_can g t (new_nodes (world_at g t)) hs can) opens;
+}
+
 pub all_by_law : AllByLaw
 all_by_law g first last hs sound new happen =
     let start : Holds g [] first = record {
@@ -460,11 +490,4 @@ all_by_law g first last hs sound new happen =
       };
     } in
     let all : AllHold g [] hs last = all_hold g hs [] first last sound.plan start happen in
-    record {
-      told = all.told;
-      nodes = all.holds.are;
-      follow = λ t within can. record {
-        follows = all_nodes_follow (world_at g t) (all_events g t hs) (sound.chain t) (sessions_stay g t sound) sound.servers (few_places g.plan sound.plan) (all_can g t (new_nodes (world_at g t)) hs can);
-        right = λ opens enough. is_right g t (all_events g t hs) sound (all_can g t (new_nodes (world_at g t)) hs can) opens enough;
-      };
-    }
+    record { told = all.told; nodes = all.holds.are; follow = λ t within can. follows_law g hs t sound can }

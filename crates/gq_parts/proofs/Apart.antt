@@ -1,6 +1,9 @@
 -- A run of a node, by its tenants' parts.
-use Rattle.std.proofs.Common.{◌≡◌, ◌∙◌, ℕ, ◌<◌, List, [], ◌∷◌, ◌++◌, length, refl, sym, ap, subst}
-use Rattle.std.specs.Prelude.{All}
+use Rattle.std.proofs.Common.{◌≡◌, ◌∙◌, ℕ, ◌<◌, Bool, true, false, List, [], ◌∷◌, ◌++◌, length, refl, sym, ap, subst}
+use Rattle.std.specs.Prelude.{All, filter, ◌==◌, if◌then◌else◌}
+use Rattle.gq_wire.specs.declared.incoming.Incoming.{Incoming}
+use Rattle.gq_wire.specs.declared.incoming.Incoming.TheVariants.{Request, Plan, Bad, Letter, Joins, Joined, Fetch, Fetched, Tick, Nothing}
+use Rattle.gq_wire.specs.Incoming.{incoming_of}
 use Rattle.gq_desk.specs.CheckedPlan.{CheckedPlan}
 use Rattle.gq_keeper.specs.Runs.{lines_of}
 use Rattle.gq_node.specs.Inputs.{Input}
@@ -9,11 +12,11 @@ use Rattle.gq_node.specs.Local.{Local}
 use Rattle.gq_node.specs.Sites.{Here, site_of}
 use Rattle.gq_node.specs.Tables.{Tables, Agrees}
 use Rattle.gq_facts.specs.Laws.{FitsFact}
-use Rattle.gq_parts.specs.Inputs.{line_inputs, lines_inputs}
+use Rattle.gq_parts.specs.Inputs.{alone, is_for, inputs_of, line_inputs, lines_inputs}
 use Rattle.gq_parts.specs.Texts.{written_for, written_by, facts_by, parts_after, line_text_of}
 use Rattle.gq_parts.specs.Steps.{AllAgree, fact_lines, TakesAll, StepsTo}
 use Rattle.gq_parts.specs.Resting.{IsNodeOf}
-use Rattle.gq_parts.specs.Laws.{GoesByParts, AllRunsByParts, AllTextsByParts, AllTenantsApart}
+use Rattle.gq_parts.specs.Laws.{GoesByParts, AllRunsByParts, AllTextsByParts, AllTenantsApart, AllOthersLeftOut, is_line_for}
 use Rattle.gq_parts.proofs.Taking.{after_taken_more, written_more}
 
 -- one step, of a node of this plan and number
@@ -67,3 +70,29 @@ texts_by_parts plan here t local (line ∷ lines) =
 pub tenants_apart : AllTenantsApart
 tenants_apart plan here t local ones twos same =
     texts_by_parts plan here t local ones ∙ ap (written_for plan here t local) same ∙ sym (texts_by_parts plan here t local twos)
+
+-- ---- the lines of others
+
+others_none : (plan : CheckedPlan) (here : Here) (t : ℕ) (incoming : Incoming) → is_for t incoming ≡ false → inputs_of plan here incoming t ≡ []
+others_none plan here t (Request tenant op line) is = rw is refl
+others_none plan here t (Plan tenant) is = rw is refl
+others_none plan here t (Bad tenant) is = rw is refl
+others_none plan here t (Letter from m) is = rw is refl
+others_none plan here t (Joins from losses) is = absurd (cc)
+others_none plan here t (Joined from losses) is = absurd (cc)
+others_none plan here t (Fetch from file) is = rw is refl
+others_none plan here t (Fetched from file copy) is = rw is refl
+others_none plan here t Tick is = absurd (cc)
+others_none plan here t Nothing is = absurd (cc)
+
+more_inputs : (plan : CheckedPlan) (here : Here) (t : ℕ) (line : List ℕ) (lines : List (List ℕ)) (b : Bool) → is_line_for plan here t line ≡ b →
+    lines_inputs plan here (filter (is_line_for plan here t) lines) t ≡ lines_inputs plan here lines t → lines_inputs plan here (filter (is_line_for plan here t) (line ∷ lines)) t ≡ lines_inputs plan here (line ∷ lines) t
+more_inputs plan here t line lines true is rest = rw is (ap (λ inputs. line_inputs plan here line t ++ inputs) rest)
+more_inputs plan here t line lines false is rest = rw is (rest ∙ sym (ap (λ inputs. inputs ++ lines_inputs plan here lines t) (others_none plan here t (incoming_of plan here.node line) is)))
+
+same_inputs : (plan : CheckedPlan) (here : Here) (t : ℕ) (lines : List (List ℕ)) → lines_inputs plan here (filter (is_line_for plan here t) lines) t ≡ lines_inputs plan here lines t
+same_inputs plan here t [] = refl
+same_inputs plan here t (line ∷ lines) = more_inputs plan here t line lines (is_line_for plan here t line) refl (same_inputs plan here t lines)
+
+pub others_left_out : AllOthersLeftOut
+others_left_out plan here t local lines = tenants_apart plan here t local (filter (is_line_for plan here t) lines) lines (same_inputs plan here t lines)

@@ -8,4 +8,8 @@ pub mod Readable
 pub mod Reading
 pub mod Resting
 pub mod Taking
+pub mod Uncounted
 pub mod AllNodes
+pub mod Worked
+pub mod Replacing
+pub mod Writing

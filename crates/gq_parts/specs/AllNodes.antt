@@ -1,15 +1,16 @@
 -- All nodes of a grid, as lines come to them and as they start, with plans by which nodes are lost and replaced and volumes are opened.
-use Rattle.std.specs.Prelude.{◌≡◌, ◌≢◌, ℕ, ◌*◌, ◌<◌, List, [], ◌∷◌, ◌++◌, Bool, true, false, length, map, take, ⊤, if◌then◌else◌}
+use Rattle.std.specs.Prelude.{◌≡◌, ◌≢◌, ℕ, ◌+◌, ◌*◌, ◌<◌, List, [], ◌∷◌, ◌++◌, Bool, true, false, length, map, take, ⊤, if◌then◌else◌}
 use Rattle.gq_desk.specs.CheckedPlan.{CheckedPlan, row_at}
+use Rattle.gq_desk.specs.declared.plans.TenantRow.{TenantRow}
 use Rattle.gq_desk.specs.declared.volumes.VolumeRow.{VolumeRow}
 use Rattle.gq_text.specs.Canonical.{IsPlan}
 use Rattle.gq_keeper.specs.Runs.{Did}
 use Rattle.gq_keeper.specs.Starting.{RecallsAll}
 use Rattle.gq_cluster.specs.Cluster.{NodeStep}
-use Rattle.gq_cluster.specs.Laws.{StepsEnough}
-use Rattle.gq_replace.specs.Fleet.{new_fleet, all_node_steps}
-use Rattle.gq_replace.specs.Laws.{IsRight}
+use Rattle.gq_replace.specs.Fleet.{FleetStep, new_fleet, all_node_steps}
+use Rattle.gq_replace.specs.Laws.{IsRight, Follows as FleetFollows}
 use Rattle.gq_replace.specs.Plans.{Plan, IsChain}
+use Rattle.gq_node.specs.declared.lost.TheConstants.{MOST_NUMBERS}
 use Rattle.gq_node.specs.Nodes.{NodeWorld, Nodes, Event, Came, AskedToJoin, Started, site_at, new_nodes, nodes_after, all_steps, CanCome, Follows, AllOpen}
 use Rattle.gq_node.specs.Resting.{FirstPlan, those_of}
 use Rattle.gq_node.specs.Inputs.{Input}
@@ -50,17 +51,17 @@ first_in g p t = record { volumes = g.count p t; losses = length (g.lost p) }
 abbrev pub plans_of : GridPlans → (t : ℕ) → ℕ → Plan
 plans_of g t p = record { lost = g.lost p; volumes = g.count p t }
 
--- the tenant at place t, as the law has it, with these volumes, and with its own
-abbrev pub world_with : GridPlans → (t : ℕ) → List VolumeRow → NodeWorld
-world_with g t volumes = record {
-  world = record { setting = record { grid = g.plan.grid; row = numbered (row_at g.plan t); home = home_of g.plan t; volumes = volumes }; plans = plans_of g t };
+-- the tenant at place t, as the law has it, with this row and these volumes; and with its own
+abbrev pub world_with : GridPlans → (t : ℕ) → TenantRow → List VolumeRow → NodeWorld
+world_with g t row volumes = record {
+  world = record { setting = record { grid = g.plan.grid; row = row; home = home_of g.plan t; volumes = volumes }; plans = plans_of g t };
   sessions = λ p. (row_at g.plan t).sessions;
   is_of_plan = λ p k. is_of_plan g.plan (here_in g p 0) t k;
   first_home = λ p. home_place g.plan t 0;
 }
 
 abbrev pub world_at : GridPlans → (t : ℕ) → NodeWorld
-world_at g t = world_with g t (g.opens t)
+world_at g t = world_with g t (numbered (row_at g.plan t)) (g.opens t)
 
 -- The plan is sound, and of a grid of two servers or more, since nobody could give a copy to the only one. No plan takes back what an earlier one says.
 pub record AreSound (g : GridPlans) : Type 0 where
@@ -214,16 +215,28 @@ abbrev pub TellsAll : GridPlans → (before hs : List Happening) → Type 0
 TellsAll g before [] = Unit {0}
 TellsAll g before (h ∷ hs) = TellsAt g before h × TellsAll g (before ++ h ∷ []) hs
 
--- the steps that the law makes of all that, where the tenant has these volumes
-abbrev pub steps_with : GridPlans → (t : ℕ) → List VolumeRow → List Event → List NodeStep
-steps_with g t volumes events = all_node_steps (world_with g t volumes).world new_fleet (all_steps (world_with g t volumes) (new_nodes (world_with g t volumes)) events)
+-- the steps that the law of nodes makes of the tenant's events, and those that the law of clusters makes of these
+abbrev pub fleet_steps : GridPlans → (t : ℕ) → List Event → List FleetStep
+fleet_steps g t events = all_steps (world_at g t) (new_nodes (world_at g t)) events
+
+abbrev pub cluster_steps : GridPlans → (t : ℕ) → List Event → List NodeStep
+cluster_steps g t events = all_node_steps (world_at g t).world new_fleet (fleet_steps g t events)
+
+-- Nodes count no steps, but the service does. So there the tenant has as many as this run can take: one for each of its volumes, and for each step of
+-- the cluster as many as it has sessions, and one more.
+abbrev pub row_for : GridPlans → (t : ℕ) → List Event → TenantRow
+row_for g t events = record (numbered (row_at g.plan t)) { steps = length (g.opens t) + length (cluster_steps g t events) * (MOST_NUMBERS + 1) }
+
+-- what is told and sent is what is told and sent in the cluster; and that is a run of the service, in which each file is one register
+pub record IsOneRegister (g : GridPlans) (t : ℕ) (events : List Event) : Type 0 where
+  pub follows : FleetFollows (world_with g t (row_for g t events) (g.opens t)).world (fleet_steps g t events)
+  pub right : IsRight g.plan.grid (row_for g t events) (home_of g.plan t) (g.opens t) (cluster_steps g t events)
 
 -- The events of a tenant, where each letter that came by a line was written before and no node that is gone takes a step, are steps of the law of nodes that are lost and
--- replaced; and each file is one register, where each of the tenant's volumes may be opened behind those before it and the tenant has steps enough.
+-- replaced; and each file is one register, where each of the tenant's volumes may be opened behind those before it.
 pub record FollowsLaw (g : GridPlans) (hs : List Happening) (t : ℕ) : Type 0 where
   pub follows : Follows (world_at g t) (new_nodes (world_at g t)) new_fleet (all_events g t hs)
-  pub right : AllOpen (numbered (row_at g.plan t)) [] (g.opens t) → StepsEnough (numbered (row_at g.plan t)) (g.opens t) (steps_with g t (g.opens t) (all_events g t hs)) →
-      IsRight g.plan.grid (numbered (row_at g.plan t)) (home_of g.plan t) (g.opens t) (steps_with g t (g.opens t) (all_events g t hs))
+  pub right : AllOpen (row_at g.plan t) [] (g.opens t) → IsOneRegister g t (all_events g t hs)
 
 -- all lines told what the law says, all nodes are left as it says, and each tenant's events follow the law
 pub record IsByLaw (g : GridPlans) (hs : List Happening) (last : AllNodes) : Type 0 where

@@ -1,5 +1,5 @@
 -- What a line brings to each tenant's part of a node.
-use Rattle.std.specs.Prelude.{ℕ, List, [], ◌∷◌, ◌++◌, ◌==◌, map, if◌then◌else◌}
+use Rattle.std.specs.Prelude.{ℕ, List, [], ◌∷◌, ◌++◌, Bool, true, ◌==◌, map, if◌then◌else◌}
 use Rattle.std.specs.List.{flat_map, range_with_len}
 use Rattle.gq_tag.specs.Tag.{own_message, file_place}
 use Rattle.gq_desk.specs.CheckedPlan.{CheckedPlan, row_at}
@@ -35,6 +35,16 @@ inputs_of plan here (Fetch from file) t = alone file.tenant (Fetching from (file
 inputs_of plan here (Fetched from file copy) t = alone file.tenant (WasFetched from (file_place file) copy) t
 inputs_of plan here Tick t = ticks_of plan here t
 inputs_of plan here Nothing t = []
+
+-- whether the tenant at place t has to do with it: it is of this tenant, or of none
+abbrev pub is_for : ℕ → Incoming → Bool
+is_for t (Request tenant op line) = t == tenant
+is_for t (Plan tenant) = t == tenant
+is_for t (Bad tenant) = t == tenant
+is_for t (Letter from m) = t == m.tenant
+is_for t (Fetch from file) = t == file.tenant
+is_for t (Fetched from file copy) = t == file.tenant
+is_for t _ = true
 
 -- those of a line that comes to the node, and of lines
 abbrev pub line_inputs : CheckedPlan → Here → List ℕ → ℕ → List Input

@@ -1,5 +1,5 @@
 -- What a run of a node comes to, tenant by tenant.
-use Rattle.std.specs.Prelude.{◌≡◌, ℕ, ◌<◌, List, [], ◌∷◌, ◌++◌, length, All}
+use Rattle.std.specs.Prelude.{◌≡◌, ℕ, ◌<◌, List, [], ◌∷◌, ◌++◌, Bool, filter, length, All}
 use Rattle.std.specs.List.{flat_map}
 use Rattle.gq_desk.specs.CheckedPlan.{CheckedPlan}
 use Rattle.gq_text.specs.Canonical.{IsPlan}
@@ -11,7 +11,8 @@ use Rattle.gq_node.specs.Resting.{recall_all, those_of}
 use Rattle.gq_node.specs.Sites.{Here, site_of}
 use Rattle.gq_node.specs.Tables.{Tables, Agrees}
 use Rattle.gq_facts.specs.Laws.{FitsFact}
-use Rattle.gq_parts.specs.Inputs.{line_inputs, lines_inputs}
+use Rattle.gq_wire.specs.Incoming.{incoming_of}
+use Rattle.gq_parts.specs.Inputs.{is_for, line_inputs, lines_inputs}
 use Rattle.gq_parts.specs.Texts.{written_for, own_facts, written_by, facts_by, parts_after, line_text_of}
 use Rattle.gq_parts.specs.Steps.{AllAgree, fact_lines, StepsTo}
 use Rattle.gq_parts.specs.Recalls.{RecallsTo, facts_said}
@@ -62,6 +63,14 @@ AllTextsByParts = (plan : CheckedPlan) (here : Here) (t : ℕ) (local : Local) (
 abbrev pub AllTenantsApart : Type 0
 AllTenantsApart = (plan : CheckedPlan) (here : Here) (t : ℕ) (local : Local) (ones twos : List (List ℕ)) →
     lines_inputs plan here ones t ≡ lines_inputs plan here twos t → text_for plan here t local ones ≡ text_for plan here t local twos
+
+-- so the lines of other tenants can be left out
+abbrev pub is_line_for : CheckedPlan → Here → (t : ℕ) → List ℕ → Bool
+is_line_for plan here t line = is_for t (incoming_of plan here.node line)
+
+abbrev pub AllOthersLeftOut : Type 0
+AllOthersLeftOut = (plan : CheckedPlan) (here : Here) (t : ℕ) (local : Local) (lines : List (List ℕ)) →
+    text_for plan here t local (filter (is_line_for plan here t) lines) ≡ text_for plan here t local lines
 
 -- ---- starts
 

@@ -6,3 +6,4 @@ pub mod Recalls
 pub mod Resting
 pub mod Laws
 pub mod AllNodes
+pub mod Worked

@@ -1,7 +1,8 @@
 //! What a run of a node comes to, and one of all nodes of a plan.
 
 ghost use Rattle.gq_parts.specs.AllNodes.{AllByLaw};
-ghost use Rattle.gq_parts.specs.Laws.{AllFactsByParts, AllRunsByParts, AllStartsByParts, AllTenantsApart, AllTextsByParts};
+ghost use Rattle.gq_parts.specs.Worked.{AllWorked};
+ghost use Rattle.gq_parts.specs.Laws.{AllFactsByParts, AllOthersLeftOut, AllRunsByParts, AllStartsByParts, AllTenantsApart, AllTextsByParts};
 
 /// How many hops of letters from a node to itself the line takes that made the node write them. What is left after them goes by lines, as to any
 /// other node, and as stores do where a column has more servers than one. A read takes two hops, a write two, or four on a grid of one row, and a
@@ -15,6 +16,7 @@ pub fn tenants_apart()
     ensures runs { AllRunsByParts }
     ensures texts { AllTextsByParts }
     ensures apart { AllTenantsApart }
+    ensures others { AllOthersLeftOut }
 {}
 
 /// So it is with starts: what a start makes of a tenant's part is what it makes of this tenant's facts, and these are what the part
@@ -31,4 +33,10 @@ pub fn starts_apart()
 /// register.
 pub fn all_nodes()
     ensures { AllByLaw }
+{}
+
+/// A run of any length of which the law speaks: three nodes are lost at one place, one behind the other, and then a session writes as often as one
+/// likes. The plans are sound, all its lines can come, and so its file is one register; each write is done, and both servers have it.
+pub fn all_nodes_worked()
+    ensures { AllWorked }
 {}

@@ -18,7 +18,7 @@ pub struct Absence {
 }
 
 /// What an answered line does to servers.
-#[derive(Clone, Copy, Debug, PartialEq, Eq)]
+#[derive(Clone, Copy, PartialEq, Eq)]
 pub enum Effect {
     Nothing,
     /// The server goes down; it may have been down, and may be lost.

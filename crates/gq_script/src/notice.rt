@@ -8,7 +8,7 @@ pub trait Notice {
 }
 
 /// It tells nobody.
-#[derive(Clone, Copy, Debug, PartialEq, Eq)]
+#[derive(Clone, Copy, PartialEq, Eq)]
 pub struct NoNotice;
 
 impl Notice for NoNotice {

@@ -15,7 +15,7 @@ use std::io::{Read, Write};
 use thiserror::Error;
 
 /// Why an input was not read whole. It is told as the [`RunFault`] of the same name.
-#[derive(Debug, Drop)]
+#[derive(Drop)]
 pub enum ReadFault {
     /// The reader failed.
     Read,
@@ -26,7 +26,7 @@ pub enum ReadFault {
 }
 
 /// A text was not written whole: the writer failed, or took none of some bytes. It is told as [`RunFault::Write`].
-#[derive(Debug, Drop)]
+#[derive(Drop)]
 pub struct WriteFault;
 
 /// Why a run ended early. After each fault but `Write` nothing was written.

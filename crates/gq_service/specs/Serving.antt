@@ -1,11 +1,14 @@
 -- What a node's process writes, by the journal that it found and the lines that came.
-use Rattle.std.specs.Prelude.{◌≡◌, ◌*◌, ◌<◌, ℕ, ◌==◌, List, [], ◌∷◌, length, Bool, true, false, Ok, Err, Option, Some, None, IfSome, if◌then◌else◌}
+use Rattle.std.specs.Prelude.{◌≡◌, ◌⊎◌, ◌*◌, ◌<◌, ℕ, ◌==◌, List, [], ◌∷◌, length, Bool, true, false, Ok, Err, Option, Some, None, IfSome, if◌then◌else◌}
 use Rattle.std.specs.List.{list_all}
 use Rattle.gq_desk.specs.declared.volumes.VolumeRow.{VolumeRow}
 use Rattle.gq_journal.specs.Batches.{Line, whole_lines, lines_text, batches_of}
+use Rattle.gq_journal.specs.Laws.{Begins}
+use Rattle.gq_keeper.specs.Crashes.{Leaves}
 use Rattle.gq_keeper.specs.Durable.{Durable}
 use Rattle.gq_keeper.specs.Lines.{short_lines}
 use Rattle.gq_keeper.specs.Plans.{IsPlan, begins_with_plan, first_plan, last_plan, is_of}
+use Rattle.gq_keeper.specs.Restarting.{ReadsAs, RestartsAsOne}
 use Rattle.gq_keeper.specs.Starting.{RecallsAll, IsDamaged, facts_read}
 use Rattle.gq_desk.specs.CheckedPlan.{CheckedPlan}
 use Rattle.gq_replace.specs.Plans.{place_of}
@@ -76,13 +79,14 @@ pub record Serves (setup : Setup) (number : ℕ) (journal : List ℕ) (lines : L
   pub started : IsStarted setup number journal first
   pub durable : Durable MachineSteps MachineRecalls machine_reads MachineIsBlank MachineRests first last (whole_lines (node_text number setup)) lines base synced shown
 
--- At any write: the same of the node of this number, by some plan, journal and lines. Whatever was shown is told by steps whose facts
--- are synced.
-pub record IsDurable (number : ℕ) (base synced shown : List ℕ) : Type 0 where
+-- At any write: the same of the node of this number, by some plan and journal, and of the lines of a beginning of the input, of which
+-- this is known. Whatever was shown is told by steps whose facts are synced.
+pub record IsDurable (number : ℕ) (input : Option (List ℕ)) (base synced shown : List ℕ) : Type 0 where
   pub setup : Setup
   pub journal : List ℕ
-  pub lines : List Line
-  pub serves : Serves setup number journal lines base synced shown
+  pub taken : List ℕ
+  pub begins : IfSome input (Begins taken)
+  pub serves : Serves setup number journal (short_lines (longest_line setup.plan) taken) base synced shown
 
 -- what comes of an input, of which this is known: all lines of it are taken
 pub record ServesInput (setup : Setup) (number : ℕ) (journal : List ℕ) (input : Option (List ℕ)) (base synced shown : List ℕ) : Type 0 where
@@ -90,12 +94,31 @@ pub record ServesInput (setup : Setup) (number : ℕ) (journal : List ℕ) (inpu
   pub all : IfSome input (λ known. known ≡ bytes)
   pub serves : Serves setup number journal (short_lines (longest_line setup.plan) bytes) base synced shown
 
--- at the end of the input: the same, by some plan and journal
-pub record ServesSomehow (number : ℕ) (input : Option (List ℕ)) (base shown : List ℕ) : Type 0 where
+-- whether the journal is of the node of this number, and of a plan from which this setup goes on
+abbrev pub is_its_journal : Setup → (number : ℕ) → List ℕ → Bool
+is_its_journal setup number journal = is_of (λ last. goes_on_from_read (setup_of_node_text last) setup) (node_text number setup) (batches_of journal)
+
+-- at the end of the input: the same, by some plan and journal; where none was to be begun, by one that is its own
+pub record ServesSomehow (number : ℕ) (is_new : Bool) (input : Option (List ℕ)) (base shown : List ℕ) : Type 0 where
   pub setup : Setup
   pub journal : List ℕ
   pub synced : List ℕ
   pub serves : ServesInput setup number journal input base synced shown
+  pub its : is_new ≡ false → is_its_journal setup number journal ≡ true
+
+-- ---- what a crash leaves
+
+-- a start from this reads the node of this number, at rest, to which steps led from the one that started from the journal
+pub record RestartsFrom (setup : Setup) (number : ℕ) (journal left : List ℕ) : Type 0 where
+  pub first : NodeMachine
+  pub started : IsStarted setup number journal first
+  pub restarts : RestartsAsOne MachineSteps MachineRecalls machine_reads MachineIsBlank MachineRests (whole_lines (node_text number setup)) first left
+
+-- At any time from a call on a crash leaves what it could leave before; or what a start reads as the journal that was found; or what it
+-- reads as this node behind some steps.
+abbrev pub MayBeLeft : Setup → (number : ℕ) → (is_new : Bool) → (synced seen left : List ℕ) → Type 0
+MayBeLeft setup number is_new synced seen left =
+    Leaves synced seen left ⊎ (((is_new ≡ false) × ReadsAs (whole_lines (node_text number setup)) seen left) ⊎ RestartsFrom setup number (journal_found is_new seen) left)
 
 -- ---- faults
 
@@ -103,10 +126,6 @@ pub record ServesSomehow (number : ℕ) (input : Option (List ℕ)) (base shown 
 abbrev pub TellsNoServer : Setup → (number : ℕ) → NodeFault → Type 0
 TellsNoServer setup number (NoServer told) = (told ≡ setup.plan.grid.rows * setup.plan.grid.cols) × (has_node setup number ≡ false)
 TellsNoServer setup number _ = Unit {0}
-
--- whether the journal is of the node of this number, and of a plan from which this setup goes on
-abbrev pub is_its_journal : Setup → (number : ℕ) → List ℕ → Bool
-is_its_journal setup number journal = is_of (λ last. goes_on_from_read (setup_of_node_text last) setup) (node_text number setup) (batches_of journal)
 
 -- where damage is told, the journal is damaged at that place
 abbrev pub TellsDamage : (journal : List ℕ) → NodeFault → Type 0

@@ -20,7 +20,7 @@ const MEMORY: u8 = 3;
 const DAMAGED: u8 = 4;
 
 /// Why a node does not start, or ends.
-#[derive(Debug, Drop)]
+#[derive(Drop)]
 pub enum NodeFault {
     /// Memory is wanting.
     Memory,

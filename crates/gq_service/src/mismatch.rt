@@ -13,7 +13,7 @@ use gq_text::{first_word, next_word, number};
 use std::alloc::Global;
 
 /// Why a journal is not one from which a node goes on.
-#[derive(Clone, Copy, Debug, Drop)]
+#[derive(Clone, Copy, Drop)]
 pub enum Mismatch {
     /// It has no plan of a node at its front, or none that can be read.
     NoPlan,

@@ -19,7 +19,7 @@ use std::rt::Files;
 
 /// Runs the node that is asked for to the end of the input, on the files of its plan and its journal. `durable` says all that is
 /// known of what is shown, at each write: it is what the node of this number told, from some journal and by some plan, by steps
-/// whose facts are synced, so that a start reads the node which they left. At the end of the input all its lines were taken so
+/// that took the lines of a beginning of the input and whose facts are synced, so that a start reads the node which they left. At the end of the input all its lines were taken so
 /// (`served`). That the journal's file holds what [`FileDisk`](gq_keeper::FileDisk) notes of it is argued, and not proved.
 ///
 /// Faults are looked for in this order: the standard streams, the plan, the number, the lock, the journal. After one of the first four
@@ -33,8 +33,8 @@ pub fn run_node<R: Files<File = File> + Drop, I: Read, O: Output, C: Console>(
     input: &mut I,
     out: &mut O,
 ) -> Result<(), NodeFault>
-    requires durable { (synced shown : List ℕ) → IsDurable asked.now.number (O.shown out.old ++ first_text) synced shown → O.allows synced shown }
-    ensures served { OnOk result (ServesSomehow asked.now.number (I.remaining input.old) (O.shown out.old ++ first_text) (O.shown out.new)) }
+    requires durable { (synced shown : List ℕ) → IsDurable asked.now.number (I.remaining input.old) (O.shown out.old ++ first_text) synced shown → O.allows synced shown }
+    ensures served { OnOk result (ServesSomehow asked.now.number asked.now.is_new (I.remaining input.old) (O.shown out.old ++ first_text) (O.shown out.new)) }
 {
     console.check()?;
     let setup = read_plan_file(alloc, rt, asked.plan)?;

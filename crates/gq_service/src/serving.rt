@@ -1,17 +1,18 @@
 //! A node over its journal, from its start to the end of its input.
 
-ghost use Rattle.std.specs.Prelude.{◌≡◌, ◌++◌, ℕ, List, true, false, Ok, IfOk, IfErr, OnOk, if◌then◌else◌};
+ghost use Rattle.std.specs.Prelude.{◌≡◌, ◌⊎◌, ◌++◌, ℕ, List, true, false, Ok, IfOk, IfErr, OnOk, if◌then◌else◌};
 ghost use Rattle.gq_journal.specs.Batches.{whole_lines, lines_text, batches_of, has_right_batch};
+ghost use Rattle.gq_keeper.specs.Crashes.{Elapses, Leaves, LeavesSyncing};
 ghost use Rattle.gq_keeper.specs.Plans.{first_plan};
 ghost use Rattle.gq_wire.specs.Texts.{first_text};
 ghost use Rattle.gq_keeper.specs.Durable.{AllSealed};
-ghost use Rattle.gq_keeper.specs.Restarting.{Restarts};
+ghost use Rattle.gq_keeper.specs.Restarting.{ReadsAs, Restarts};
 ghost use Rattle.gq_keeper.specs.Starting.{RecallsAll, behind, facts_read};
 ghost use Rattle.gq_machine.specs.Machines.{tables_of, MachineRecalls, machine_reads, MachineIsBlank, MachineIsOf, MachineRests};
 ghost use Rattle.gq_setup.specs.Setups.{Setup};
 ghost use Rattle.gq_setup.specs.Texts.{first_read, first_of_lines};
 ghost use Rattle.gq_service.specs.Faults.{as_fault};
-ghost use Rattle.gq_service.specs.Serving.{IsNewFor, IsStarted, IsDurable, ServesInput, TellsDamage, TellsAnother, LeavesJournal, journal_found, is_its_journal};
+ghost use Rattle.gq_service.specs.Serving.{IsNewFor, IsStarted, IsDurable, MayBeLeft, ServesInput, TellsDamage, TellsAnother, LeavesJournal, journal_found, is_its_journal};
 
 use crate::console::Console;
 use crate::fault::NodeFault;
@@ -37,6 +38,8 @@ fn begin<D: Disk>(
     ensures sealed { IfOk result (λ next. AllSealed (D.seen disk.new) (D.synced disk.new) next) }
     ensures restarts { OnOk result (Restarts MachineRecalls machine_reads MachineIsBlank MachineRests (whole_lines node.now.plan.text.items) machine.now (D.synced disk.new)) }
     ensures damaged { IfErr result (λ fault. (journal : List ℕ) → TellsDamage journal fault) }
+    ensures crash { Elapses (D.instant disk.old) (D.instant disk.new) (D.left_since disk.old) (D.left_since disk.new)
+        (λ left. Leaves (D.synced disk.old) (D.seen disk.old) left ⊎ Restarts MachineRecalls machine_reads MachineIsBlank MachineRests (whole_lines node.now.plan.text.items) machine.now left) }
 {
     Ok(renew(alloc, machine, node.plan.text(), disk)?)
 }
@@ -63,6 +66,8 @@ fn go_on<D: Disk, C: Console>(
     ensures damaged { IfErr result (TellsDamage (D.seen disk.old)) }
     ensures another { IfErr result (TellsAnother node.now.plan.setup node.now.number (D.seen disk.old)) }
     ensures same { IfErr result (LeavesJournal (D.seen disk.new ≡ D.seen disk.old)) }
+    ensures crash { Elapses (D.instant disk.old) (D.instant disk.new) (D.left_since disk.old) (D.left_since disk.new)
+        (ReadsAs (whole_lines node.now.plan.text.items) (D.seen disk.old)) }
 {
     match start(alloc, machine, disk, &node.plan, journal)? {
         Started::Ready(recovered) => {
@@ -112,6 +117,8 @@ fn begin_or_go_on<D: Disk, C: Console>(
     ensures damaged { IfErr result (TellsDamage (D.seen disk.old)) }
     ensures another { is_new ≡ false → IfErr result (TellsAnother node.now.plan.setup node.now.number (D.seen disk.old)) }
     ensures same { is_new ≡ false → IfErr result (LeavesJournal (D.seen disk.new ≡ D.seen disk.old)) }
+    ensures crash { Elapses (D.instant disk.old) (D.instant disk.new) (D.left_since disk.old) (D.left_since disk.new)
+        (MayBeLeft node.now.plan.setup node.now.number is_new (D.synced disk.old) (D.seen disk.old)) }
 {
     if is_new {
         begin(alloc, node, machine, disk)
@@ -125,6 +132,9 @@ fn journal_text<D: Disk>(alloc: Global, is_new: bool, disk: &mut D) -> Result<Ve
     ensures found { is_new ≡ false → IfOk result (λ text. text.items ≡ D.seen disk.old) }
     ensures synced { is_new ≡ false → OnOk result (D.synced disk.new ≡ D.seen disk.new) }
     ensures seen { D.seen disk.new ≡ D.seen disk.old }
+    ensures alone { is_new ≡ true → D.synced disk.new ≡ D.synced disk.old }
+    ensures crash { Elapses (D.instant disk.old) (D.instant disk.new) (D.left_since disk.old) (D.left_since disk.new)
+        (λ left. (is_new ≡ false) × LeavesSyncing (D.synced disk.old) (D.seen disk.old) left) }
     ensures damaged { IfErr result (λ fault. (journal : List ℕ) → TellsDamage journal fault) }
     ensures another { IfErr result (λ fault. (setup : Setup) (number : ℕ) (journal : List ℕ) → TellsAnother setup number journal fault) }
 {
@@ -150,31 +160,36 @@ fn first_text<'x>(
     first_plan(alloc, journal)
 }
 
-// Starts the machine, which was never started, and takes the lines of the input.
+// Starts the machine, which was never started, and takes the lines of the input. The journal's text is let go of in between: it is as
+// long as all that was kept.
 fn serve_machine<D: Disk, I: Read, O: Output, C: Console>(
     alloc: Global,
     node: &ThisNode,
     is_new: bool,
-    journal: &[u8],
+    journal: Vec<u8>,
     console: &C,
     machine: &mut NodeMachine,
     disk: &mut D,
     input: &mut I,
     out: &mut O,
 ) -> Result<(), NodeFault>
-    requires read { is_new ≡ false → journal.now ≡ D.seen disk.old }
+    requires read { is_new ≡ false → journal.items ≡ D.seen disk.old }
     requires synced { is_new ≡ false → D.synced disk.old ≡ D.seen disk.old }
     requires begun { is_new ≡ true → IsNewFor node.now.plan.setup node.now.number (first_read (Ok node.now.plan.setup)) (tables_of machine.old) }
     requires found { is_new ≡ false → IsNewFor node.now.plan.setup node.now.number (first_of_lines (first_plan (batches_of (D.seen disk.old)))) (tables_of machine.old) }
     requires of_plan { MachineIsOf (whole_lines node.now.plan.text.items) machine.old }
-    requires durable { (synced shown : List ℕ) → IsDurable node.now.number (O.shown out.old ++ first_text) synced shown → O.allows synced shown }
+    requires durable { (synced shown : List ℕ) → IsDurable node.now.number (I.remaining input.old) (O.shown out.old ++ first_text) synced shown → O.allows synced shown }
     ensures served { OnOk result (ServesInput node.now.plan.setup node.now.number (journal_found is_new (D.seen disk.old)) (I.remaining input.old) (O.shown out.old ++ first_text) (D.synced disk.new) (O.shown out.new)) }
     ensures its { is_new ≡ false → OnOk result (is_its_journal node.now.plan.setup node.now.number (D.seen disk.old) ≡ true) }
     ensures whole { is_new ≡ false → OnOk result (has_right_batch (behind (D.seen disk.old)) ≡ false) }
     ensures damaged { IfErr result (TellsDamage (D.seen disk.old)) }
     ensures another { is_new ≡ false → IfErr result (TellsAnother node.now.plan.setup node.now.number (D.seen disk.old)) }
+    ensures crash { Elapses (D.instant disk.old) (D.instant disk.new) (D.left_since disk.old) (D.left_since disk.new)
+        (MayBeLeft node.now.plan.setup node.now.number is_new (D.synced disk.old) (D.seen disk.old)) }
 {
-    let number = begin_or_go_on(alloc, node, is_new, journal, console, machine, disk)?;
+    let read = journal.as_slice();
+    let number = begin_or_go_on(alloc, node, is_new, read, console, machine, disk)?;
+    drop(journal);
     let lacked = machine.lacked();
     tell_ready(console, node, machine.facts, lacked);
     let mut filling = Filling::new(console, node.number, lacked > 0);
@@ -198,7 +213,8 @@ fn serve_machine<D: Disk, I: Read, O: Output, C: Console>(
 /// the input all its lines were taken so (`served`). The node goes on only from a journal that is its own (`its`), of which no
 /// wrong batch has a right one behind it (`whole`); `Damaged` tells where the first wrong batch begins that has one. `Another`
 /// comes only where the journal is not its own, and what it tells of the last plan is so; `Strange` only where a line of the journal
-/// says no fact that fits in this node.
+/// says no fact that fits in this node. At any time, also amid the start and while the journal is written anew, a crash leaves what
+/// a start reads as the journal that was found, or as this node behind some of its steps (`any_time`).
 pub fn serve_node<D: Disk, I: Read, O: Output, C: Console>(
     alloc: Global,
     node: &ThisNode,
@@ -208,12 +224,13 @@ pub fn serve_node<D: Disk, I: Read, O: Output, C: Console>(
     input: &mut I,
     out: &mut O,
 ) -> Result<(), NodeFault>
-    requires durable { (synced shown : List ℕ) → IsDurable node.now.number (O.shown out.old ++ first_text) synced shown → O.allows synced shown }
+    requires durable { (synced shown : List ℕ) → IsDurable node.now.number (I.remaining input.old) (O.shown out.old ++ first_text) synced shown → O.allows synced shown }
     ensures served { OnOk result (ServesInput node.now.plan.setup node.now.number (journal_found is_new (D.seen disk.old)) (I.remaining input.old) (O.shown out.old ++ first_text) (D.synced disk.new) (O.shown out.new)) }
     ensures its { is_new ≡ false → OnOk result (is_its_journal node.now.plan.setup node.now.number (D.seen disk.old) ≡ true) }
     ensures whole { is_new ≡ false → OnOk result (has_right_batch (behind (D.seen disk.old)) ≡ false) }
     ensures damaged { IfErr result (TellsDamage (D.seen disk.old)) }
     ensures another { is_new ≡ false → IfErr result (TellsAnother node.now.plan.setup node.now.number (D.seen disk.old)) }
+    ensures any_time { (left : List ℕ) → D.left_since disk.new (D.instant disk.old) left → MayBeLeft node.now.plan.setup node.now.number is_new (D.synced disk.old) (D.seen disk.old) left }
 {
     let journal = match journal_text(alloc, is_new, disk) {
         Ok(journal) => journal,
@@ -226,7 +243,7 @@ pub fn serve_node<D: Disk, I: Read, O: Output, C: Console>(
         alloc,
         node,
         is_new,
-        journal.as_slice(),
+        journal,
         console,
         &mut machine,
         disk,

@@ -25,7 +25,7 @@ pub struct Schedule {
 }
 
 /// A server, and whether it is to be up.
-#[derive(Clone, Copy, Debug, PartialEq, Eq)]
+#[derive(Clone, Copy, PartialEq, Eq)]
 pub struct Change {
     pub server: u32,
     pub up: bool,

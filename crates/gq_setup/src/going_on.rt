@@ -9,7 +9,7 @@ use std::fmt;
 use std::fmt::{Display, Formatter, Write};
 
 /// What of an older setup a newer one does not keep. Places and indices are counted from 0.
-#[derive(Clone, Copy, Debug, Drop)]
+#[derive(Clone, Copy, Drop)]
 pub enum NotKept {
     /// The grid, which had so many rows and columns.
     Grid {

@@ -18,7 +18,7 @@ use std::marker::Model;
 use thiserror::Error;
 
 /// What a `put` did.
-#[derive(Clone, Copy, Debug, PartialEq, Eq)]
+#[derive(Clone, Copy, PartialEq, Eq)]
 pub enum Put {
     /// The tag was greater than that of the file's copy, which the one put replaced.
     Kept,

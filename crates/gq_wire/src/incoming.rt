@@ -25,7 +25,7 @@ pub const MOST_LINE: usize = 4095;
 const BESIDE_CONTENT: usize = 255;
 
 /// What a line is to a node.
-#[derive(Debug, Drop)]
+#[derive(Drop)]
 pub enum Incoming {
     /// What the tenant at this place in the plan asks, and the number that its operation is to have.
     Request {

@@ -15,7 +15,7 @@ use clap::{Arg, ArgAction, ArgMatches, Command, Error};
 use std::alloc::{AllocError, Global};
 
 /// What a command line asks for.
-#[derive(Clone, Copy, Debug, PartialEq, Eq)]
+#[derive(Clone, Copy, PartialEq, Eq)]
 pub enum CommandLine<'a> {
     /// To read standard input to its end, and to write what is asked for to standard output.
     Streams(Request<'a>),
@@ -24,7 +24,7 @@ pub enum CommandLine<'a> {
 }
 
 /// Which node of a grid a process is asked to be.
-#[derive(Clone, Copy, Debug, PartialEq, Eq)]
+#[derive(Clone, Copy, PartialEq, Eq)]
 pub struct NodeRequest<'a> {
     /// The number of the node, from 0.
     pub number: u32,
@@ -37,7 +37,7 @@ pub struct NodeRequest<'a> {
 }
 
 /// What is asked for between standard input and standard output.
-#[derive(Clone, Copy, Debug, PartialEq, Eq)]
+#[derive(Clone, Copy, PartialEq, Eq)]
 pub enum Request<'a> {
     /// Answer the lines of a script, by so many threads; 0 is as many as there are cores.
     Run {

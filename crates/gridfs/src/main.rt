@@ -1,8 +1,12 @@
 //! The program: the words, the standard streams and the runtime go down, and a status comes back.
 #![tactic(auto)]
 
+mod built;
+
+use built::BUILD_NOTE;
+use clap::error::ErrorKind;
+use gq_cli::carry_out;
 use gq_keeper::Stream;
-use gq_runs::carry_out;
 use gq_script::{Notice, Watched};
 use gq_service::{Durable, Standard, Told, run_node};
 use gq_words::{CommandLine, NodeRequest, Request, Usage, read_words};
@@ -113,6 +117,9 @@ fn main(rt: HostRuntime) -> ExitCode {
         Ok(CommandLine::Node(asked)) => serves(&rt, alloc, &asked),
         Err(Usage::Shown(error)) => {
             let _ = error.print(&rt);
+            if error.kind() == ErrorKind::DisplayVersion {
+                let _ = println!(rt; "{BUILD_NOTE}");
+            }
             ExitCode::from(error.exit_code() as u8)
         }
         Err(Usage::Memory) => told(&rt, &NO_MEMORY, MEMORY),

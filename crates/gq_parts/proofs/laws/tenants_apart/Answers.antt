@@ -1,4 +1,4 @@
-use Rattle.gq_parts.proofs.Apart.{runs_by_parts, texts_by_parts, tenants_apart}
+use Rattle.gq_parts.proofs.Apart.{runs_by_parts, texts_by_parts, tenants_apart, others_left_out}
 use Rattle.gq_parts.proofs.laws.tenants_apart.Goals as goal
 
 pub returns-clause-runs : goal.returns-clause-runs
@@ -9,3 +9,6 @@ returns-clause-texts c = texts_by_parts
 
 pub returns-clause-apart : goal.returns-clause-apart
 returns-clause-apart c = tenants_apart
+
+pub returns-clause-others : goal.returns-clause-others
+returns-clause-others c = others_left_out

@@ -8,6 +8,8 @@ use Rattle.gq_node.specs.Resting.{FirstPlan}
 use Rattle.gq_setup.specs.Setups.{Setup}
 use Rattle.gq_setup.specs.Texts.{first_of_lines}
 use Rattle.gq_service.specs.Serving.{IsNewFor, IsStarted, journal_found, is_its_journal}
+use Rattle.gq_keeper.proofs.Instants.{elapses_only}
+use Rattle.gq_service.proofs.Crashes.{left_beginning, left_going_on}
 use Rattle.gq_service.proofs.NewNodes.{both_ok, found_volumes}
 use Rattle.gq_service.proofs.serving.begin_or_go_on.Goals as goal
 
@@ -22,3 +24,11 @@ returns-else-is_new-clause-started g c =
     λ reads its. subst (λ journal. IsStarted setup number journal c.go_on.new.machine) (sym same)
     (record { new = c.args.machine.now; is_new = subst (λ (lost : ℕ → FirstPlan). IsNewFor setup number lost (tables_of c.args.machine.now)) (sym (found_volumes setup number seen its)) found; reads = reads }) in
     both_ok c.go_on.result started c.go_on.ensures.recalled c.go_on.ensures.its
+
+pub returns-then-is_new-clause-crash : goal.returns-then-is_new-clause-crash
+returns-then-is_new-clause-crash g c = elapses_only _ _ _ _ _ _ c.begin.ensures.crash
+    (λ left l. left_beginning c.args.node.now.plan.setup c.args.node.now.number c.args.is_new c.args.machine.now c.args.node.now.plan.text.items (g.D.Log.synced c.args.disk.now) (g.D.Log.seen c.args.disk.now) left c.if-is_new.true (c.requires.begun c.if-is_new.true) c.args.node.now.text l)
+
+pub returns-else-is_new-clause-crash : goal.returns-else-is_new-clause-crash
+returns-else-is_new-clause-crash g c = elapses_only _ _ _ _ _ _ c.go_on.ensures.crash
+    (λ left l. left_going_on c.args.node.now.plan.setup c.args.node.now.number c.args.is_new c.args.node.now.plan.text.items (g.D.Log.synced c.args.disk.now) (g.D.Log.seen c.args.disk.now) left c.if-is_new.false c.args.node.now.text l)

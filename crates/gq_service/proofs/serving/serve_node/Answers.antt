@@ -7,6 +7,7 @@ use Rattle.gq_parts.specs.Resting.{HasFirst}
 use Rattle.gq_setup.specs.Setups.{Setup}
 use Rattle.gq_setup.specs.Texts.{setup_of_node_text, first_read, first_of_lines}
 use Rattle.gq_service.specs.Serving.{IsNewFor}
+use Rattle.gq_service.proofs.Crashes.{elapses_reading, elapses_beginning, at_any}
 use Rattle.gq_service.proofs.NewNodes.{own_volumes, is_of_plan}
 use Rattle.gq_service.proofs.serving.serve_node.Goals as goal
 
@@ -31,3 +32,16 @@ serve_machine-requires-clause-of_plan g c =
     let w : Tables = c.in_ok-blank.blank.tables in
     subst (λ (w : Tables). HasFirst (first_of_lines (whole_lines c.args.node.now.plan.text.items)) w) (sym c.new-machine.ensures.node)
     (is_of_plan (whole_lines c.args.node.now.plan.text.items) setup w c.args.node.now.volumes (own_volumes setup c.args.node.now.number (first_read (setup_of_node_text c.in_ok-first.first.now)) w c.in_ok-blank.ensures))
+
+pub returns-in-Err-clause-any_time : goal.returns-in-Err-clause-any_time
+returns-in-Err-clause-any_time g c = at_any c.args.node.now.plan.setup c.args.node.now.number c.args.is_new _ _ _ _ (g.D.Log.synced c.args.disk.now) (g.D.Log.seen c.args.disk.now) (elapses_reading c.args.node.now.plan.setup c.args.node.now.number c.args.is_new _ _ _ _ (g.D.Log.synced c.args.disk.now) (g.D.Log.seen c.args.disk.now) c.journal_text.ensures.crash) (λ left may. g.met.D.Log.only_now c.args.disk.now left may)
+
+pub returns-in_err-first-clause-any_time : goal.returns-in_err-first-clause-any_time
+returns-in_err-first-clause-any_time g c = at_any c.args.node.now.plan.setup c.args.node.now.number c.args.is_new _ _ _ _ (g.D.Log.synced c.args.disk.now) (g.D.Log.seen c.args.disk.now) (elapses_reading c.args.node.now.plan.setup c.args.node.now.number c.args.is_new _ _ _ _ (g.D.Log.synced c.args.disk.now) (g.D.Log.seen c.args.disk.now) c.journal_text.ensures.crash) (λ left may. g.met.D.Log.only_now c.args.disk.now left may)
+
+pub returns-in_err-blank-clause-any_time : goal.returns-in_err-blank-clause-any_time
+returns-in_err-blank-clause-any_time g c = at_any c.args.node.now.plan.setup c.args.node.now.number c.args.is_new _ _ _ _ (g.D.Log.synced c.args.disk.now) (g.D.Log.seen c.args.disk.now) (elapses_reading c.args.node.now.plan.setup c.args.node.now.number c.args.is_new _ _ _ _ (g.D.Log.synced c.args.disk.now) (g.D.Log.seen c.args.disk.now) c.journal_text.ensures.crash) (λ left may. g.met.D.Log.only_now c.args.disk.now left may)
+
+pub returns-clause-any_time : goal.returns-clause-any_time
+returns-clause-any_time g c = at_any c.args.node.now.plan.setup c.args.node.now.number c.args.is_new _ _ _ _ (g.D.Log.synced c.args.disk.now) (g.D.Log.seen c.args.disk.now)
+    (elapses_beginning c.args.node.now.plan.setup c.args.node.now.number c.args.is_new _ _ _ _ _ _ (g.D.Log.synced c.args.disk.now) (g.D.Log.seen c.args.disk.now) (g.D.Log.synced c.journal_text.new.disk) (g.D.Log.seen c.journal_text.new.disk) c.in-Ok.ensures.seen c.in-Ok.ensures.alone c.in-Ok.ensures.synced c.journal_text.ensures.crash c.serve_machine.ensures.crash) (λ left may. g.met.D.Log.only_now c.args.disk.now left may)
