@@ -566,7 +566,7 @@ static struct host *host_of(const char *name) {
 
 /* Reads one line: a node's number and its two places. Only takes it if `is_done`. */
 static bool read_host(const char *line, bool is_done, bool *own) {
-    char name[8], place[2][300], host[256], ports[2][6];
+    char name[8], place[2][300], host[256], ports[2][6] = {{0}}; /* (compared as a whole after a reload) */
     int rest = 0;
     if (sscanf(line, "%7s %299s %299s %n", name, place[0], place[1], &rest) != 3 || line[rest] || !is_name(name, strlen(name)) || is_tenant(name)) return false;
     if (!split(place[1], host, ports[1]) || !split(place[0], host, ports[0])) return false;

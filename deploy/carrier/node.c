@@ -20,7 +20,11 @@ enum {
     WRITE = 4096,               /* bytes of writes to the node: whole lines, that a pipe takes whole (PIPE_BUF) */
     TURN = 1024,                /* bytes that one name gives to a write before the next one has its turn */
     PIPE = 8192,                /* bytes of the pipe to the node: a flood can put so many before another's line */
-    PRICE = 800,                /* bytes that each line adds to its own in a tenant's rate */
+    LINES = 16, FEW = 2,        /* the most lines of a tenant that the node has not read, where answers are short, and where they are the longest: .. */
+    AHEAD = 4 << 20,            /* .. in between so many that they make it write no more than this */
+    PRICE = 800,                /* bytes that each line adds to its own in a tenant's rate, short lines of the node that it causes among them */
+    SHORT = 255,                /* bytes of a line of the node that costs a tenant no more than that */
+    PART = 4,                   /* so many bytes of longer ones cost him as much as one of his own */
     ENDS = 10,                  /* seconds that the node has to end once it has closed its output */
     TENANTS = 64,               /* of a plan; what more of them bring is told in one sum */
     METRICS = 10                /* seconds between two writes of the metrics */
@@ -33,6 +37,8 @@ struct counts count;
 
 static size_t own, rate = 8 << 20;              /* the length of our number; bytes of a tenant in a second */
 static const double burst = 0.02;               /* seconds of its rate that a tenant may use at once */
+static size_t ahead = LINES;                    /* lines of a tenant that the node has not read */
+static const double LOOK = 0.002;               /* seconds between two looks whether the node has read a tenant's lines */
 static struct { struct queue of[NAMES]; size_t many, turn; } from;
 static struct queue *mine;                      /* the node's lines to itself */
 static struct { struct tally of[TENANTS], others; size_t many; } tallies = {.others.name = "OTHERS"};  /* (no tenant has such a name) */
@@ -114,7 +120,7 @@ struct queue *queue_of(const char *name, size_t length) {
     memset(empty->name, 0, sizeof empty->name);
     memcpy(empty->name, name, length);
     snprintf(empty->head, sizeof empty->head, "%s %s ", me, empty->name);
-    empty->dropped = 0, empty->paid_until = 0;
+    empty->dropped = 0, empty->paid_until = 0, empty->given_to = 0;
     return empty;
 }
 
@@ -205,17 +211,40 @@ static void give_lines(struct queue *queue, size_t bytes, double time) {
         if (!tick_waits) tick_end = given + chunk_held;
     }
     if (is_tenant(queue->name)) charge(queue, bytes + PRICE * count_lines(text, bytes), time);
+    queue->given_to = given + chunk_held;
     forget(queue, bytes);
 }
 
-/* Fills the next write with some whole lines of each name, by turns: so a flood of one does not stop another's lines. A tenant
-   who has used more than his rate waits, so that he can't keep the node busy alone. */
+static uint64_t read_by_node(void) {
+    int unread = 0;
+    return ioctl(node_in.fd, FIONREAD, &unread) ? given : given - (uint64_t)unread;
+}
+
+/* When the next lines of a name may be given; 0: now. A tenant who has used more than his rate waits, so that he can't keep the node busy
+   alone; and until the node has read those before, since each of them may make it write a long answer before another's line. */
+static double waits_until(const struct queue *queue, uint64_t read, double time) {
+    double rests = rests_until(queue, time);
+    return is_tenant(queue->name) && queue->given_to > read && rests < time + LOOK ? time + LOOK : rests;
+}
+
+/* Bytes of the lines that a name gives in one turn. */
+static size_t lines_of_turn(const struct queue *queue) {
+    size_t most = lines_in(queue, TURN), bytes = 0;
+    if (!is_tenant(queue->name)) return most;
+    const char *text = queue->bytes + queue->first;
+    for (size_t lines = 0; bytes < most && lines < ahead; lines++)
+        bytes = (size_t)((const char *)memchr(text + bytes, '\n', most - bytes) - text) + 1;
+    return bytes;
+}
+
+/* Fills the next write with some whole lines of each name, by turns: so a flood of one does not stop another's lines. */
 static void fill_chunk(double time) {
+    uint64_t read = read_by_node();
     chunk_at = chunk_held = 0, rested = time + 1;
     for (size_t i = 0; i < from.many; i++) {
         struct queue *queue = &from.of[from.turn % from.many];
-        double waits = held(queue) ? rests_until(queue, time) : 0;
-        size_t bytes = held(queue) && waits == 0 ? lines_in(queue, TURN) : 0;
+        double waits = held(queue) ? waits_until(queue, read, time) : 0;
+        size_t bytes = held(queue) && waits == 0 ? lines_of_turn(queue) : 0;
         if (chunk_held && chunk_held + bytes > WRITE) return;
         from.turn = (from.turn + 1) % from.many;
         if (waits > 0 && waits < rested) rested = waits;
@@ -249,13 +278,24 @@ static void node_takes(struct watch *it, uint32_t events) {
 
 /* A tick follows the node's own lines, and comes only once the node has read the tick before. */
 static void give_tick(void) {
-    int unread = 0;
-    if (node_in.fd < 0 || tick_waits) return;
-    if (ioctl(node_in.fd, FIONREAD, &unread) || given - (uint64_t)unread < tick_end) return;
+    if (node_in.fd < 0 || tick_waits || read_by_node() < tick_end) return;
     if (add(mine, mine->head, "tick", 4, &count.full)) tick_waits = held(mine), ticks++;
 }
 
 /* From the node */
+
+/* A tenant pays for what the node writes for it: answers, and letters to other nodes, which begin with his name. */
+static void charge_for(const char *to, size_t name, const char *body, size_t length) {
+    const char *space = is_tenant(to) ? NULL : memchr(body, ' ', length);
+    if (space) to = body, name = (size_t)(space - body);
+    if (name > NAME) return;
+    for (size_t i = 0; i < from.many; i++) {
+        struct queue *queue = &from.of[i];
+        if (!queue->tally || memcmp(queue->name, to, name) || queue->name[name]) continue;
+        charge(queue, length / PART, last_line);
+        return;
+    }
+}
 
 static void take_line(const char *text, size_t length) {
     const char *space = memchr(text, ' ', length);
@@ -265,6 +305,7 @@ static void take_line(const char *text, size_t length) {
         return;
     }
     bool good = is_name(text, name) && length > head && !memcmp(space + 1, me, own) && text[head - 1] == ' ';
+    if (good && length > SHORT) charge_for(text, name, text + head, length - head);
     if (length > longest) count.too_long++;
     else if (!good) count.strange++;
     else if (name == own && !memcmp(text, me, own)) for_node(mine, text + head, length - head);
@@ -458,6 +499,7 @@ static char **read_words(char **at) {
     if (is_tenant(me) || !is_name(me, own)) wrong("NUMBER", me);
     if (bound < 4 * longest) bound = 4 * longest;
     if (rate < 16 * longest) rate = 16 * longest;
+    if (ahead * longest > AHEAD) ahead = AHEAD / longest > FEW ? AHEAD / longest : FEW;
     mine = queue_of(me, own);
     mine->users = 1;
     engine_read_words();

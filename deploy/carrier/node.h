@@ -4,6 +4,7 @@
 #define NODE_H
 #include "loop.h"
 #include <stddef.h>
+#include <stdint.h>
 
 enum {
     NAME = 16,                  /* letters of a tenant's name */
@@ -24,6 +25,7 @@ struct queue {                  /* whole lines from one name that wait for the n
     char *bytes;
     size_t first, end, room;
     double paid_until;          /* how much of its rate a tenant has used */
+    uint64_t given_to;          /* where its last lines end in what was written to the node */
     int users;                  /* as long as there are some, no other name gets this queue */
     long dropped;
     struct tally *tally;        /* of a tenant; NULL for a node */

@@ -13,7 +13,7 @@ import subprocess
 import time
 
 import metrics
-from link_grid import free_ports
+from gridfs_grid.links import free_ports
 from processes import Wrong, check
 
 HERE = os.path.dirname(os.path.abspath(__file__))
@@ -22,6 +22,8 @@ DEPLOY = os.path.join(HERE, "..", "..", "deploy", "links")
 PLAN = "grid 1 2\nblocks 64\ntenant ann 8 16 1\ntenant bob 8 16 1\ngo\nann open 2 2\nbob open 2 2\n"
 THREE = "grid 1 3\nblocks 64\ntenant ann 8 16 1\ngo\nann open 2 2\n"
 ROOM = "grid 1 2\nroom 20000\ntenant ann 16384 16 1 16384\ngo\n"
+WIDE = "grid 1 2\nroom 20000\ntenant ann 4094 16 1 4094\ntenant bob 16 1 1 16\ngo\n"  # (the longest lines that don't raise the rate above 8 MiB a second)
+LONG = b"6" * 500_000  # of a line by WIDE: it costs three times what a tenant may use at once
 SOON = 5  # seconds in which what is to come has come
 NODE = "exec 3<&0; cat <&3 >{folder}/in.{number} & exec cat {folder}/out.{number}"
 STILL = "exec cat {folder}/out.{number}"
@@ -366,19 +368,74 @@ def a_still_node(program, folder):
         carry.end()
 
 
+def reader_of(carry):
+    """The process of the stand-in that reads."""
+    node = subprocess.run(["pgrep", "-P", str(carry.process.pid)], stdout=subprocess.PIPE, text=True).stdout.split()
+    return int(subprocess.run(["pgrep", "-P", node[0]], stdout=subprocess.PIPE, text=True).stdout.split()[0])
+
+
 def ticks(program, folder):
     carry = fresh(program, folder, PLAN, NODE, "--tick", "0.05")
     try:
         time.sleep(1)
         check(10 <= carry.ticks() <= 25, f"{carry.ticks()} ticks in a second")
-        reader = subprocess.run(["pgrep", "-P", str(carry.process.pid)], stdout=subprocess.PIPE, text=True).stdout.split()
-        cat = subprocess.run(["pgrep", "-P", reader[0]], stdout=subprocess.PIPE, text=True).stdout.split()
-        os.kill(int(cat[0]), signal.SIGSTOP)
+        reader = reader_of(carry)
+        os.kill(reader, signal.SIGSTOP)
         time.sleep(1.5)
         before = carry.ticks()
-        os.kill(int(cat[0]), signal.SIGCONT)
+        os.kill(reader, signal.SIGCONT)
         time.sleep(0.2)
         check(carry.ticks() - before <= 6, f"{carry.ticks() - before} ticks waited for one that stood still")
+    finally:
+        carry.end()
+
+
+def a_burst(program, folder):
+    """While the node reads nothing, few lines of ann's burst are given to it, and so bob's line comes right behind these."""
+    path = os.path.join(folder, "0.prom")
+    carry = fresh(program, folder, PLAN, NODE, "--metrics", path)
+    try:
+        with come(carry, "ann") as ann, come(carry, "bob") as bob:
+            reader = reader_of(carry)
+            os.kill(reader, signal.SIGSTOP)
+            ann.sendall(b"read 1 1 0 0\n" * 1000)
+            carry.tells(path, lambda told: told.of("tenant_lines_total", 'tenant="ann"') == 1000, "ann's lines are not taken")
+            bob.sendall(b"read 1 1 0 0\n")
+            carry.tells(path, lambda told: told.of("tenant_lines_total", 'tenant="bob"') == 1, "bob's line is not taken")
+            os.kill(reader, signal.SIGCONT)
+            carry.gets(b"0 bob read 1 1 0 0")
+            place = carry.lines().index(b"0 bob read 1 1 0 0")
+            check(place <= 32, f"{place} lines of a burst stand before another's line")  # (the reader may have had some already)
+            wait_for(lambda: len(carry.lines()) == 1001, f"{len(carry.lines())} of 1001 lines are given")
+    finally:
+        carry.end()
+
+
+def long_answers(program, folder):
+    """A tenant pays for the long lines that the node writes for it, answers and letters, and for no short ones, nor for another's."""
+    path = os.path.join(folder, "0.prom")
+    carry = fresh(program, folder, WIDE, NODE, "--metrics", path)
+    many = 192
+    over = lambda told, name: told.of("tenant_over_rate_seconds_total", f'tenant="{name}"')
+    told_so = lambda holds, what: carry.tells(path, holds, what)
+    try:
+        with come(carry, "ann") as ann, come(carry, "bob") as bob:
+            ann.sendall(b"read 1 1 0 0\n"), bob.sendall(b"read 1 1 0 0\n")
+            carry.gets(b"0 ann read 1 1 0 0", b"0 bob read 1 1 0 0")
+            carry.says(b"ann 0 done read 1 1 tag 0 0 -\n" * 10_000)
+            told = told_so(lambda told: told.of("carrier_lines_out_total") >= 10_000, "short answers are not told")
+            check((over(told, "ann"), over(told, "bob")) == (0, 0), f"somebody pays for short answers: {told}")
+            waited = 0
+            for what, line in (("answers", b"ann 0 done read 1 1 tag 0 0 "), ("letters", b"1 0 ann 1 1 2 0 0 store 1 1 ")):
+                for _ in range(many):
+                    carry.says(line + LONG + b"\n")
+                told = told_so(lambda told: over(told, "ann") > waited + 0.02, f"ann pays nothing for long {what}")
+                waited = over(told, "ann")
+            check(over(told, "bob") == 0, f"bob pays for another's: {told}")
+            begun = time.monotonic()
+            bob.sendall(b"read 1 2 0 0\n")
+            carry.gets(b"0 bob read 1 2 0 0")
+            check(time.monotonic() - begun < 0.5, "bob waits for what ann has used")
     finally:
         carry.end()
 
@@ -559,6 +616,23 @@ def hosts_amid_a_write(program, folder):
             node.end()
 
 
+def its_own_ports(program, folder):
+    """Of whatever length, it does not say that they are others where they are the same."""
+    first = next(port for port in range(9_000, 9_990) if not any(can_connect(each) for each in range(port, port + 4)))
+    set_up(folder, PLAN, "--local", str(first))
+    carry = Carry(program, folder).ready()
+    try:
+        for number in range(2):
+            with open(os.path.join(carry.links, "denied"), "w") as out:
+                out.write("odd\n" * (1 + number))
+            carry.process.send_signal(signal.SIGHUP)
+            wait_for(lambda: f"denied: line {1 + number} is no number" in carry.told(), carry.told())
+            time.sleep(0.2)
+            check("has other ports" not in carry.told(), carry.told())
+    finally:
+        carry.end()
+
+
 def another_authority(program, folder):
     carry = fresh(program, folder)
     try:
@@ -697,7 +771,7 @@ def what_a_denied_one_said(program, folder):
 
 def metrics_are_true(program, folder):
     port, path = free_ports(4), os.path.join(folder, "0.prom")
-    set_up(folder, PLAN, "--local", str(port))
+    set_up(folder, WIDE, "--local", str(port))
     nodes = [Carry(program, folder, 0, NODE, "--metrics", path), Carry(program, folder, 1)]
     carry = nodes[0]
     try:
@@ -720,10 +794,10 @@ def metrics_are_true(program, folder):
             told = carry.tells(path, lambda told: told.of("carrier_lines_out_total") == 1, "a line of the node is not told")
             dropped = {reason: told.of("carrier_lines_dropped_total", f'reason="{reason}"') for reason in ("lost", "full", "slow", "long", "strange", "memory")}
             check(dropped == {"lost": 1, "full": 0, "slow": 0, "long": 0, "strange": 1, "memory": 0}, f"of lines that were dropped: {dropped}")
-            for _ in range(50):
-                ann.sendall(b"read 1 1 0 0\n" * 1000)
-            told = carry.tells(path, lambda told: told.of("tenant_lines_total", 'tenant="ann"') == 50_010, "a flood is not told")
-            check(told.of("tenant_over_rate_seconds_total", 'tenant="ann"') > 1, f"that ann had to wait: {told}")
+            for _ in range(30):
+                ann.sendall(b"write 1 1 0 0 " + LONG + b"\n")
+            told = carry.tells(path, lambda told: told.of("tenant_lines_total", 'tenant="ann"') == 40, "a flood is not told")
+            told = carry.tells(path, lambda told: told.of("tenant_over_rate_seconds_total", 'tenant="ann"') > 1, "that ann had to wait is not told")
             ticks = told.of("node_ticks_total")
             carry.tells(path, lambda told: told.of("node_ticks_total") > ticks, "ticks are not told")
         nodes[1].process.kill()
@@ -800,5 +874,5 @@ def metrics_as_prometheus_reads(program, folder):
         carry.end()
 
 
-CHECKS = [odd_files, hosts_amid_a_write, another_authority, costly_ones, who_may_come, a_denied_one_stays_out, who_is_dialed, lines_are_whole, answers_go_home, nodes_are_linked, a_still_node, ticks, a_slow_reader, too_many, long_lines, its_end, its_words, ends_soon, a_slow_name, a_name_of_two_addresses, a_node_that_does_not_end, what_a_denied_one_said, metrics_are_true, metrics_are_whole]
+CHECKS = [odd_files, hosts_amid_a_write, its_own_ports, another_authority, costly_ones, who_may_come, a_denied_one_stays_out, who_is_dialed, lines_are_whole, answers_go_home, nodes_are_linked, a_still_node, ticks, a_burst, long_answers, a_slow_reader, too_many, long_lines, its_end, its_words, ends_soon, a_slow_name, a_name_of_two_addresses, a_node_that_does_not_end, what_a_denied_one_said, metrics_are_true, metrics_are_whole]
 LONG_CHECKS = [metrics_as_prometheus_reads]

@@ -2,17 +2,21 @@
 
 import os
 import shutil
+import signal
+import socket
+import ssl
+import struct
 import sys
 import threading
 import time
 
-from carrying import HERE, NODE, PLAN, Carry, check, fresh, set_up, wait_for
+from carrying import HERE, NODE, PLAN, Carry, check, free_ports, fresh, set_up, wait_for
 
 sys.path.insert(0, os.path.join(HERE, "..", "..", "clients", "python"))
 from gridfs_client.answers import Done, PlanTold
 from gridfs_client.asking import ask_plan
 from gridfs_client.errors import CarrierFault
-from gridfs_client.links import LinkCarrier
+from gridfs_client.links import READ, LinkCarrier
 from gridfs_client.sessions import Pace
 
 
@@ -112,4 +116,69 @@ def sessions_side_by_side(program, folder):
             carry.end()
 
 
-CHECKS = [what_a_client_is_told, sessions_side_by_side]
+def a_link_that_breaks_amid_a_send(_, folder):
+    """A node that takes no more, and then dies: the link is given up, and lines go to it once it is there again."""
+    links = set_up(folder, PLAN, "--local", str(free_ports(4)))
+    with open(os.path.join(links, "hosts"), encoding="ascii") as file:
+        port = next(int(line.rpartition(":")[2]) for line in file if line.startswith("0 "))
+    context = ssl.SSLContext(ssl.PROTOCOL_TLS_SERVER)
+    context.load_cert_chain(os.path.join(links, "secret", "0.crt"), os.path.join(links, "secret", "0.key"))
+    client = carrier(links)
+    with socket.create_server(("127.0.0.1", port)) as listener:
+
+        def come():
+            """The link's end at the node, once the client has made it."""
+            client.send(0, b"plan")
+            made = context.wrap_socket(listener.accept()[0], server_side=True)
+            wait_for(lambda: client.links[0].socket, "no link")
+            return made
+
+        for _ in range(2):
+            node = come()
+            while len(client.links[0].waits) < 2 * READ:
+                client.send(0, b"x" * READ)
+            node.setsockopt(socket.SOL_SOCKET, socket.SO_LINGER, struct.pack("ii", 1, 0))
+            node.close()
+            wait_for(lambda: client.send(0, b"y") or client.links[0].socket is None, "it holds a link that was reset")
+            wait_for(lambda: time.monotonic() > client.links[0].next_try, "it waits for ever")
+        node = come()
+        check(node.recv(4) == b"plan", "the first line by a new link")
+        node.close()
+    client.close()
+
+
+def new_certificates(program, folder):
+    """Another authority and certificates of its own: who runs goes on by them, once the node has read them too. Amid their making it goes on by the old ones."""
+    carry = fresh(program, folder, PLAN)
+    links = carrier(carry.links, patience=60)
+    try:
+        links.attach(1)
+
+        def is_given(line):
+            links.send(0, line)
+            links.receive(1, 0.05)
+            return b"0 ann " + line in carry.lines()
+
+        wait_for(lambda: is_given(b"read 1 1 0 0"), "no link")
+        key = os.path.join(carry.links, "secret", "ann.key")
+        with open(key, encoding="ascii") as file:
+            before = file.read()
+        with open(key, "w", encoding="ascii") as out:
+            out.write("no key\n")
+        with links.guard:
+            links.broken(0, "as by a node that ends")
+        wait_for(lambda: is_given(b"read 1 2 0 0"), "a key that is being written ends it")
+        with open(key, "w", encoding="ascii") as out:
+            out.write(before)
+        for name in ("ca.crt", "ca.key"):
+            os.unlink(os.path.join(carry.links, name))
+        set_up(folder)
+        carry.process.send_signal(signal.SIGHUP)
+        wait_for(lambda: links.links[0].socket is None or is_given(b"read 1 3 0 0"), "the link by the old certificate stays")
+        wait_for(lambda: is_given(b"read 1 4 0 0"), "it does not go on by the new certificate", 15)
+    finally:
+        links.close()
+        carry.end()
+
+
+CHECKS = [what_a_client_is_told, sessions_side_by_side, a_link_that_breaks_amid_a_send, new_certificates]

@@ -1,16 +1,14 @@
-"""deploy/links/grid, the command."""
+"""`./grid --over links`, the command."""
 
-import os
 import shutil
 import subprocess
 
 import grid_commands
-from carrying import DEPLOY
 from grid_commands import signed
 
 
 class Machine(grid_commands.Machine):
-    COMMAND, NAME, ENGINE, CARRIER = os.path.join(DEPLOY, "grid"), "deploy/links/grid", "links", "carry-links"
+    WAY, ENGINE, CARRIER = "links", "links", "carry-links"
     CERTIFICATES, PORTS = "its certificates end", 8
 
     def is_secret(self, name):

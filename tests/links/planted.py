@@ -23,7 +23,10 @@ FAULTS = {
     "a node may say that it is another": ("answers_go_home", "node.c", "!memcmp(space + 1, me, own) && text[head - 1]", "text[head - 1]"),
     "a link that ended is not made again": ("nodes_are_linked", "links.c", "host->link = NULL, host->next_try", "host->next_try", "links.c", "host->is_there && !host->link && atoi", "host->is_there && !host->link && host->wait < 0.15 && atoi"),
     "all is read for a node that reads nothing": ("a_still_node", "links.c", "held(queue) > bound / 2 || ", "", "links.c", "(time > 0 && rests_until(queue, time) > 0)", "false"),
-    "ticks are given to one that does not read": ("ticks", "node.c", "if (ioctl(node_in.fd, FIONREAD, &unread) || given - (uint64_t)unread < tick_end) return;", "(void)unread;"),
+    "ticks are given to one that does not read": ("ticks", "node.c", "if (node_in.fd < 0 || tick_waits || read_by_node() < tick_end) return;", "if (node_in.fd < 0 || tick_waits) return;"),
+    "a burst is given as far as the pipe takes it": ("a_burst", "node.c", "queue->given_to > read", "(int64_t)queue->given_to < 0"),
+    "a tenant pays for his own lines alone": ("long_answers", "node.c", "charge(queue, length / PART, last_line);", ""),
+    "letters cost nobody": ("long_answers", "node.c", "if (space) to = body, name = (size_t)(space - body);", "(void)space;"),
     "all waits for a slow reader": ("a_slow_reader", "links.c", "waits + length + 1 > bound", "waits + length + 1 > bound * 1000"),
     "a slow reader stays": ("a_slow_reader", "links.c", "(unwritten(stream) || stream->blocked) && time > stream->since + SLOW", "false", "stream.c", "    setsockopt(fd, IPPROTO_TCP, TCP_USER_TIMEOUT, &silence, sizeof silence);\n", "    (void)silence;\n"),
     "a tenant has as many connections as it likes": ("too_many", "links.c", "OF_A_TENANT = 32", "OF_A_TENANT = 320"),
@@ -49,7 +52,7 @@ FAULTS = {
     "the key may be read by others": ("its_words", "links.c", "kind.st_mode & (S_IROTH | S_IWOTH)", "false"),
 }
 # Those that are tried where not all are
-SOME = ["one who is denied comes again", "anybody of the grid may stand at a node's address", "a part of a line is given", "an answer goes to all connections", "what waits within TLS is forgotten"]
+SOME = ["a tenant pays for his own lines alone", "one who is denied comes again", "anybody of the grid may stand at a node's address", "a part of a line is given", "an answer goes to all connections", "what waits within TLS is forgotten"]
 
 
 def built(folder, what, edits):

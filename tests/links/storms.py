@@ -6,7 +6,7 @@ import ssl
 
 import carried_storms
 from carried_storms import IDLE, found_of
-from link_grid import Grid
+from gridfs_grid.links import Grid
 
 
 class Storm(carried_storms.Storm):

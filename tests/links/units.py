@@ -5,7 +5,7 @@ import subprocess
 
 import machine_of_units
 from carrying import DEPLOY
-from link_grid import free_ports
+from gridfs_grid.links import free_ports
 
 
 class Machine(machine_of_units.Machine):

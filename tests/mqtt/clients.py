@@ -10,7 +10,7 @@ import time
 
 from carried_storms import BOUND, LOAD, histories_of, is_linearizable
 from isolation import context_of, password, write_plan
-from mqtt_grid import Grid
+from gridfs_grid.mqtt import Grid
 from peers import CLIENT, Speaker, wait_for
 
 DONE, REFUSED, SILENT, USAGE, WRONG = 0, 3, 4, 2, 1

@@ -1,16 +1,14 @@
-"""deploy/mqtt/grid, the command, and how long its test authority is trusted."""
+"""`./grid --over mqtt`, the command, and how long its test authority is trusted."""
 
-import os
 import shutil
 import subprocess
 
 import grid_commands
 from grid_commands import signed
-from peers import DEPLOY
 
 
 class Machine(grid_commands.Machine):
-    COMMAND, NAME, ENGINE, CARRIER = os.path.join(DEPLOY, "grid"), "deploy/mqtt/grid", "broker", "carry-mqtt"
+    WAY, ENGINE, CARRIER = "mqtt", "broker", "carry-mqtt"
     CERTIFICATES = "the test authority and its certificate end"
 
     def __init__(self, program, tls):

@@ -5,7 +5,7 @@ import socket
 import subprocess
 import threading
 
-from mqtt_grid import Grid
+from gridfs_grid.mqtt import Grid
 from peers import CLIENT
 
 PLAN = "grid 2 2\nroom 300000\ntenant ann 280000 4 1 16384\ngo\nann open 8 1024\nann open 8 1024\nann open 16 16384\n"

@@ -6,7 +6,7 @@ import time
 
 from grid_commands import wait_for
 from isolation import HEARD, open_broker, password
-from mqtt_grid import Grid
+from gridfs_grid.mqtt import Grid
 from peers import CLIENT, Speaker
 
 TENANTS = {"east": ["ann", "bob"], "west": ["ann", "carol"]}

@@ -6,7 +6,7 @@ import time
 import carried_storms
 from carried_storms import IDLE, NODES, found_of
 from isolation import speaker
-from mqtt_grid import Grid
+from gridfs_grid.mqtt import Grid
 
 SECONDS, AWAY = 20, 2
 TOPICS = ["gridfs/ann/eve", "gridfs/0/1", "gridfs/0", "other", "gridfs/0/ann"]

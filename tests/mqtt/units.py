@@ -5,7 +5,7 @@ import shutil
 import subprocess
 
 import machine_of_units
-from mqtt_grid import free_ports
+from gridfs_grid.mqtt import free_ports
 from peers import DEPLOY
 
 

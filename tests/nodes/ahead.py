@@ -9,8 +9,8 @@ from journals import batches, sealed
 from processes import MARKER, SECONDS, Stepped, disk, ended, get, put, words_of
 from reserved import RUN
 
-sys.path.insert(0, os.path.join(os.path.dirname(os.path.abspath(__file__)), "..", "..", "examples", "nodes"))
-from tenant import Session
+sys.path.insert(0, os.path.join(os.path.dirname(os.path.abspath(__file__)), "..", "..", "clients", "python"))
+from gridfs_grid.tenant import Session
 
 NODES, FILES = 4, 4
 WRITES, READS = 30, 70  # of a session
@@ -146,7 +146,7 @@ class Ahead:
     # ---- clients
 
     def heard(self, kind, words, answers, gives_up=False):
-        """What a session of the client in examples/nodes has sent and was told, where its request is answered so."""
+        """What a session of the client in gridfs_grid/tenant.py has sent and was told, where its request is answered so."""
         session, told, sent = Session("ann", 1, 0, random.Random(1), 6), [], []
         session.ask(kind, words, told.append)
         for answer in answers:

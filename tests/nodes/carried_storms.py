@@ -11,9 +11,9 @@ import sys
 import time
 
 HERE = os.path.dirname(os.path.abspath(__file__))
-sys.path[:0] = [os.path.join(HERE, "..", "linearizable"), os.path.join(HERE, "..", "..", "deploy", "carrier")]
+sys.path[:0] = [os.path.join(HERE, "..", "linearizable"), os.path.join(HERE, "..", "..", "clients", "python")]
 from checker import is_linearizable
-from carried_grid import journal_of
+from gridfs_grid.carrier import journal_of
 from grid_commands import wait_for
 
 LOAD = os.path.join(HERE, "..", "..", "bench", "load")

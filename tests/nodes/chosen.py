@@ -6,18 +6,30 @@ import subprocess
 
 TOP = os.path.join(os.path.dirname(os.path.abspath(__file__)), "..", "..")
 OWN = {"GRIDFS", "GIT_DIR"}
-# In place of tools/quick: a program that says its level and its words, and a line for each build.
+# In place of tools/quick: a program that says its words, and a line for each build.
 QUICK = """#!/bin/sh
 cd "$(dirname "$0")/.." && mkdir -p .unproved && echo "$*" >>builds || exit 2
 [ ! -e refuses ] || exit 1
-printf '#!/bin/sh\\necho %s "$@"\\n' "$2" >".unproved/$1$2" && chmod +x ".unproved/$1$2"
+printf '#!/bin/sh\\necho quick "$@"\\n' >".unproved/$1" && chmod +x ".unproved/$1"
+"""
+# In place of tools/build: a program that says its words, with its record.
+BUILD = """#!/usr/bin/env python3
+import os, sys
+sys.path.insert(0, os.path.dirname(os.path.abspath(__file__)))
+from record import TOP, commit, digests, keep_record, kit
+open(f"{TOP}/builds", "a").write("proof\\n")
+os.makedirs(f"{TOP}/crates/gridfs/out", exist_ok=True)
+with open(f"{TOP}/crates/gridfs/out/gridfs", "w") as out:
+    out.write('#!/bin/sh\\necho proved "$@"\\n')
+os.chmod(f"{TOP}/crates/gridfs/out/gridfs", 0o755)
+keep_record(digests(kit())["gridfs"], kit(), commit())
 """
 SOURCES = 1_000_000_000  # the time of their last change
 KIT = "#!/bin/sh\necho rattle-kit-13f\n"
 
 
 class Checkout:
-    """A folder with `gridfs`, a source, and what it builds by."""
+    """A folder with `gridfs`, a source, and what it builds by and asks."""
 
     def __init__(self, folder):
         self.folder, self.tried, self.wrong = folder, 0, []
@@ -25,7 +37,10 @@ class Checkout:
         os.makedirs(f"{folder}/tools")
         os.makedirs(f"{folder}/path")
         shutil.copy(os.path.join(TOP, "gridfs"), f"{folder}/gridfs")
-        for path, text in (("tools/quick", QUICK), ("path/rt", KIT), ("crates.txt", ""), ("crates/gridfs/src/main.rt", "")):
+        for name in ("proved", "record.py", "progress.py"):
+            shutil.copy(os.path.join(TOP, "tools", name), f"{folder}/tools/{name}")
+        files = {"tools/quick": QUICK, "tools/build": BUILD, "path/rt": KIT, "HANDLES": "", "crates.txt": "gridfs:\n", "crates/gridfs/src/main.rt": ""}
+        for path, text in files.items():
             self.write(path, text)
         for at in ("crates/gridfs/src/main.rt", "crates/gridfs/src", "crates.txt"):
             os.utime(f"{folder}/{at}", (SOURCES, SOURCES))
@@ -56,33 +71,47 @@ class Checkout:
         with open(f"{self.folder}/builds", encoding="ascii") as file:
             return file.read().split("\n")[:-1]
 
+    def version(self):
+        """What is told behind the program's own version."""
+        return self.run("--version")[1].splitlines()[1:]
+
     def chooses(self):
         status, told, said = self.run("run")
-        self.held("a first answer", (status, told, self.builds()), (0, "-O0 run\n", ["gridfs -O0"]))
-        self.held("and its notice", "is not proved, built at -O0, some 33 times slower than at -O1" in said, True)
-        self.held("a second one", (self.run("step")[1:], len(self.builds())), (("-O0 step\n", ""), 1))
-        self.held("its version", self.run("--version")[1].splitlines()[1].split(", built")[0], "not proved, at -O0")
-        status, told, said = self.run("node", "0")
-        self.held("a node", (status, told, self.builds()), (0, "-O1 node 0\n", ["gridfs -O0", "gridfs -O1"]))
-        self.held("and its notice", "is not proved, built at -O1, " in said, True)
-        self.held("what runs behind it", (self.run("run")[1:], self.run("node", "--help")[1:]), (("-O1 run\n", ""), ("-O1 node --help\n", "")))
-        self.held("its version", self.run("--version")[1].splitlines()[1].split(", built")[0], "not proved, at -O1")
-        self.held("how often was built", len(self.builds()), 2)
+        self.held("a first answer", (status, told, self.builds()), (0, "quick run\n", ["gridfs"]))
+        self.held("and its notice", "gridfs: this program is not proved" in said, True)
+        self.held("a node, and what has been built by then", (self.run("node", "0")[1:], len(self.builds())), (("quick node 0\n", ""), 1))
+        self.held("its version", self.version()[0], "not proved")
         self.change()
-        self.held("a node of changed sources", (self.run("node")[1], self.builds()[2:]), ("-O1 node\n", ["gridfs -O1"]))
-        self.change()
-        self.held("a first answer of changed sources", (self.run("run")[1], self.builds()[3:]), ("-O0 run\n", ["gridfs -O0"]))
+        self.held("a first answer of changed sources", (self.run("node")[1], self.builds()[1:]), ("quick node\n", ["gridfs"]))
         self.refuses()
-        os.makedirs(f"{self.folder}/crates/gridfs/out")
-        self.write("crates/gridfs/out/gridfs", '#!/bin/sh\necho proved "$@"\n')
-        self.held("a node, where the program is proved", (self.run("node")[1:], len(self.builds())), (("proved node\n", ""), 5))
+        self.proves()
 
     def refuses(self):
-        """Where none can be built at -O1, a node does not run on the one that is there."""
-        with open(f"{self.folder}/refuses", "w", encoding="ascii"):
-            pass
+        """Where none can be built, a node does not run on the one that is there."""
+        self.change()
+        self.write("refuses", "")
         self.held("a node that can't be built", self.run("node")[:2], (125, ""))
         os.unlink(f"{self.folder}/refuses")
+        self.held("and once it can", self.run("node")[1], "quick node\n")
+
+    def proves(self):
+        """Only a program with the record of its proof is run as the proved one, and told as such while the sources are those of the record."""
+        os.makedirs(f"{self.folder}/crates/gridfs/out")
+        self.write("crates/gridfs/out/gridfs", '#!/bin/sh\necho copied "$@"\n')
+        self.held("a program that was copied there", self.run("node")[1], "quick node\n")
+        self.held("and its version", ["no record of a proof" in it for it in self.version()[:2]], [False, True])
+        self.held("--prove", (self.run("--prove")[0], self.builds()[-1]), (0, "proof"))
+        count = len(self.builds())
+        self.held("--prove once more", (self.run("--prove")[0], len(self.builds())), (0, count))
+        self.held("what runs then", (self.run("node")[1:], len(self.builds())), (("proved node\n", ""), count))
+        self.held("its version then", self.version()[0].startswith("proved on "), True)
+        self.write("crates/gridfs/src/main.rt", "// changed, with the time of before\n")
+        os.utime(f"{self.folder}/crates/gridfs/src/main.rt", (SOURCES, SOURCES))
+        self.held("the version over changed sources", "of other sources" in self.version()[0], True)
+        self.held("--prove over changed sources", (self.run("--prove")[0], len(self.builds())), (0, count + 1))
+        self.write("crates/gridfs/out/gridfs", '#!/bin/sh\necho copied "$@"\n')
+        self.held("a program copied over a proved one", self.run("node")[1], "quick node\n")
+        self.held("and its version then", "the record beside it is of another program" in self.version()[1], True)
 
 
 def tell_chosen(folder):

@@ -1,4 +1,4 @@
-"""The command `grid` of an engine: what it tells and refuses, what it leaves when it ends, and that it makes certificates anew before they end."""
+"""`./grid` over links and over a broker: what it tells and refuses, what it leaves when it ends, and that it makes certificates anew before they end."""
 
 import contextlib
 import os
@@ -10,10 +10,10 @@ import sys
 import time
 
 HERE = os.path.dirname(os.path.abspath(__file__))
-sys.path.insert(0, os.path.join(HERE, "..", "..", "deploy", "carrier"))
+sys.path.insert(0, os.path.join(HERE, "..", "..", "clients", "python"))
 import metrics
-from carried_grid import children_of, end_of, free_ports
-from one_machine import InUse, lock
+from gridfs_grid.carried import children_of, end_of, free_ports
+from gridfs_grid.one_machine import InUse, lock
 
 CLIENT = os.path.join(HERE, "..", "..", "clients", "python", "gridfs-client")
 NAMES = ["ann", "bob"]
@@ -67,7 +67,7 @@ class Command:
     """A run of the command, as a script's background job is started: with SIGINT ignored."""
 
     def __init__(self, machine, *words):
-        words = [sys.executable, machine.COMMAND, "--program", machine.program, *machine.words(), *words, "grid"]
+        words = [machine.COMMAND, "--program", machine.program, *machine.words(), *words, "grid"]
         self.told_to = f"told.{machine.runs}"
         machine.runs += 1
         with open(self.told_to, "wb") as told:
@@ -101,7 +101,8 @@ class Command:
 class Machine:
     """A folder with a grid, and runs of the command there. A class for an engine says what differs."""
 
-    COMMAND = NAME = ENGINE = ""  # the command, as a person calls it, and the engine's folder in that of the grid
+    COMMAND = os.path.join(HERE, "..", "..", "grid")
+    WAY = ENGINE = ""  # the way, as a first start names it, and the engine's folder in that of the grid
     CARRIER = ""  # the name of the carrier's program
     CERTIFICATES = ""  # what the command tells that ends
     PORTS = 2
@@ -112,7 +113,8 @@ class Machine:
         write_plan("first")
 
     def words(self):
-        return "--port", str(self.port)
+        """What each start is told. (A later one takes the way that the folder had last.)"""
+        return "--port", str(self.port), *(() if os.path.exists("grid/over") else ("--over", self.WAY))
 
     def is_secret(self, name):
         """Whether a file in the engine's folder of secrets is to be read by nobody else."""
@@ -178,10 +180,10 @@ class Machine:
         grid = Command(self)
         self.held("a start that lacks two nodes", (grid.says(UP), "grid: 2 of 4 nodes are up, in " in grid.told()), (True, True))
         told = grid.told().splitlines()
-        replacing = [f"`{self.NAME} --replace {number} grid` puts a new node in its place" for number in (2, 3)]
+        replacing = [f"`./grid --replace {number} grid` puts a new node in its place" for number in (2, 3)]
         gone = f"grid: node 3 is down: its journal is gone ({replacing[1]})"
         self.held("a journal that is gone", gone in told or told, True)
-        damaged = "grid: node 2 is down: its journal is damaged: a person has to look (docs/OPERATING.md, Faults); where it is lost, " + replacing[0]
+        damaged = "grid: node 2 is down: its journal is damaged: a person has to look (docs/FAULTS.md, Faults); where it is lost, " + replacing[0]
         self.held("a journal that is damaged", damaged in told or told, True)
         days = [line for line in told if line.startswith(f"grid: {self.CERTIFICATES} on ")]
         self.held("a certificate that was about to end", (len(days), end_of(certificate) > time.time() + 20 * DAY), (1, True))
@@ -189,7 +191,7 @@ class Machine:
         # a node whose journal is gone, and one that does not start, once each has ended
         os.unlink("grid/node1.journal")
         self.kill(1)
-        self.held("a journal that goes meanwhile", grid.says(f"grid: node 1 has ended with status 137, and stays down: its journal is gone (`{self.NAME}"), True)
+        self.held("a journal that goes meanwhile", grid.says(f"grid: node 1 has ended with status 137, and stays down: its journal is gone (`./grid --replace 1 "), True)
         shutil.copy("first", "grid/plan")
         with open("grid/plan", "a", encoding="ascii") as out:
             out.write("ann open 1 65\n")

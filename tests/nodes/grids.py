@@ -1,4 +1,4 @@
-"""What examples/grid shows, takes and refuses, and that it leaves nothing behind."""
+"""What ./grid shows, takes and refuses, and that it leaves nothing behind."""
 
 import contextlib
 import hashlib
@@ -6,13 +6,21 @@ import os
 import re
 import signal
 import subprocess
-import sys
 import time
 
 from processes import SECONDS, room
 
 GRID = os.path.join(os.path.dirname(os.path.abspath(__file__)), "..", "..", "examples", "grid")
 PLAN = os.path.join(os.path.dirname(GRID), "nodes", "plan")  # (one with `blocks`, whose lines are short)
+# Words that another way has, and words that are none: what is told of each.
+NO_REQUESTS = {
+    "--port 1": "--port is for --over links and mqtt",
+    "--over links --tick 1": "--tick is for --over pipes",
+    "--over links --tls none": "--tls is for --over mqtt",
+    "--listen 127.0.0.1:1": "--listen is for --s3",
+    "--s3 --gateways 17": "--gateways is from 1 to 16",
+    "--over air": "argument --over: invalid choice: 'air' (choose from 'pipes', 'links', 'mqtt')",
+}
 SHOWN = "All 16 files are as they were acknowledged.\n"
 LINES = "ann write 1 0 0 6869\nwait\nann read 2 0 0\nbob list 1 0\nwait\nkill 3\nann write 1 0 1 ff\nwait\nstart 3\nann read 4 0 1\nbob plan\n"
 ANSWERS = [
@@ -85,7 +93,7 @@ def states_of(folder):
 
 
 class Grids:
-    """Runs of examples/grid, each compared with what it has to do."""
+    """Runs of examples/grid, which is `./grid --over pipes --lines`, each compared with what it has to do."""
 
     def __init__(self, program):
         self.environment = {**os.environ, "GRIDFS": program}
@@ -98,7 +106,7 @@ class Grids:
 
     def run(self, *words, given=""):
         pipes = dict.fromkeys(["stdout", "stderr"], subprocess.PIPE)
-        done = subprocess.run([sys.executable, GRID, *words], input=given, text=True, env=self.environment, timeout=3 * SECONDS, **pipes)
+        done = subprocess.run([GRID, *words], input=given, text=True, env=self.environment, timeout=3 * SECONDS, **pipes)
         return done.returncode, done.stdout, [line for line in done.stderr.splitlines() if line.startswith("grid: ")]
 
     def shows(self):
@@ -152,22 +160,22 @@ class Grids:
         self.held("no words", self.run()[0], 2)
         self.held("an option that is not there", self.run("--fast", folder)[0], 2)
         status, shown, _ = self.run("--help")
-        self.held("--help", (status, "examples/grid" in shown), (0, True))
-        for engine in ("links", "mqtt"):
-            status, shown, _ = self.run(f"--{engine}", "--help")
-            self.held(f"--{engine} --help", (status, f"deploy/{engine}/grid [OPTION..] FOLDER" in shown), (0, True))
+        self.held("--help", (status, "./grid [OPTION..] FOLDER" in shown), (0, True))
+        for words, why in NO_REQUESTS.items():
+            self.held(words, self.run(*words.split(), folder + ".none")[::2], (2, [f"grid: error: {why}"]))
+        self.held("no folder was made", os.path.exists(folder + ".none"), False)
         self.held("a program that is not there", self.run("--program", "/none", folder)[::2], (1, ["grid: /none: No such file or directory"]))
         self.held("a plan that is not there", self.run("--plan", "/none", folder + ".none")[::2], (1, ["grid: /none: No such file or directory"]))
         with open(folder + ".plan", "w", encoding="ascii") as out:
             out.write(PLAN_WITH_A_FAULT)
-        wanted = 1, ["grid: node 0 has ended with status 1", "grid: node 0 did not start: a person has to look (docs/OPERATING.md, Faults)"]
+        wanted = 1, ["grid: node 0 has ended with status 1", "grid: node 0 did not start: a person has to look (docs/FAULTS.md, Faults)"]
         self.held("a plan with a fault", self.run("--plan", folder + ".plan", folder + ".fault")[::2], wanted)
 
     @contextlib.contextmanager
     def served(self, folder, *words):
         """A grid in the folder, once it says how many nodes are up, and what it said until then."""
         pipes = dict.fromkeys(["stdin", "stdout", "stderr"], subprocess.PIPE)
-        grid = subprocess.Popen([sys.executable, GRID, *words, folder], text=True, env=self.environment, **pipes)
+        grid = subprocess.Popen([GRID, *words, folder], text=True, env=self.environment, **pipes)
         told = [grid.stderr.readline()]
         while told[-1] and " up, " not in told[-1]:
             told.append(grid.stderr.readline())
@@ -204,8 +212,8 @@ class Grids:
             text[20] ^= 1
             file.seek(0)
             file.write(text)
-        replacing = f"`examples/grid --replace 3 --serve {os.path.relpath(folder)}`"
-        wanted = f"its journal is damaged: a person has to look (docs/OPERATING.md, Faults); where it is lost, {replacing} puts a new node in its place"
+        replacing = f"`./grid --replace 3 {os.path.relpath(folder)}`"
+        wanted = f"its journal is damaged: a person has to look (docs/FAULTS.md, Faults); where it is lost, {replacing} puts a new node in its place"
         with self.served(folder, "--serve") as (grid, told):
             self.held("a journal that is damaged", (told[1:2], told[-1].split(",")[0]), ([f"grid: node 3 is down: {wanted}"], "grid: 3 of 4 nodes are up"))
             with open(f"/proc/{grid.pid}/task/{grid.pid}/children", encoding="ascii") as children:
@@ -230,7 +238,7 @@ class Grids:
     def is_interrupted(self, folder, number):
         """A signal ends it, also a script's background job, and with it its nodes: another grid starts in the folder at once."""
         pipes = dict.fromkeys(["stdin", "stdout", "stderr"], subprocess.PIPE)
-        grid = subprocess.Popen([sys.executable, GRID, folder], text=True, env=self.environment, preexec_fn=ignore_interrupt, **pipes)
+        grid = subprocess.Popen([GRID, folder], text=True, env=self.environment, preexec_fn=ignore_interrupt, **pipes)
         while "nodes are up" not in (line := grid.stderr.readline()) and line:
             pass
         grid.stdin.write("ann write 1 0 0 aa\n" * 100)

@@ -76,6 +76,14 @@ LINES = {
     "a session of a tag above 255": (STORE + b"1 256 aa\n" + STORE + b"1 255 aa\n", STORED),
     "a store from another node than its session's home": (b"0 1 ann 1 1 2 0 0 store 1 1 aa\n0 0 ann 2 1 2 0 0 store 1 1 aa\n", b""),
     "a store of a content that is too long": (STORE + b"1 1 " + b"aa" * 129 + b"\n" + STORE + b"1 1 " + b"aa" * 128 + b"\n", STORED),
+    "more lines of nobody": (b" ?\n00 ann read 1 1 0 0\nann 0 gone 1 1\n0 960 ann 1 5 3 0 3 ask\n1 ann plan\n0 1 plan\n", b""),
+    "requests with no form": (b"0 ann quorum 1 1\n0 ann retry 1 1\n0 ann write 1 7 0 3\n0 ann read 1 7 0 3 0\n0 ann read 01 7 0 3\n0 ann plan \n0 ann  plan\n0 ann plans\n", 8 * BAD),
+    "letters with no form": (
+        b"0 1 ann 256 5 3 0 3 ask\n0 1 ann 1 5 4 0 3 ask\n0 1 ann 1 5 3 0 3 copy 18446744073709551616 1 00\n0 1 ann 1 5 3 0 3 copy 1 1 ab ?\n",
+        b"",
+    ),
+    "ticks of another node": (READ + 4 * b"0 1 tick\n", ASK),
+    "lines of new nodes with no form": (b"0 64 joins\n0 64 joins 1 1\n0 64 zed fetch 1 3\n0 64 ann fetch 1\n0 0 ann fetched 1 3 9 2\n0 ann fetch 1 3\n", BAD),
     "a file that is not there": (b"0 0 ann 1 1 1 0 4 ask\n0 0 ann 1 1 1 2 0 ask\n0 0 ann 5 1 1 0 0 ask\n", b""),
 }
 
@@ -113,16 +121,56 @@ ALONE_LINES = {
 }
 
 
+# A tenant whose name is a word of these lines; and what comes in order, to a column and of several sessions.
+NAMED = b"grid 2 2\nblocks 24\ntenant ann 8 2 10\ntenant tick 8 2 10\ngo\n"
+NAMED_LINES = {
+    "a tenant named tick": (
+        b"0 tick list 300 0 1\n0 tick abandon 1 4000000000\n0 tick plan\n0 tick\n0 0 tick\n",
+        b"tick 0 refused nosession 300 0\ntick 0 refused home 2 1 4000000000\ntick 0 plan 4 2 2 8 16\ntick 0 refused bad\n",
+    ),
+}
+COLUMN = b"grid 2 1\nblocks 16\ntenant ann 8 2 10\ntenant bob 8 2 10\ngo\nann open 2 1\n"
+COLUMN_LINES = {
+    "a write to a column": (
+        WRITE + b"4B\n0 0 ann 1 1 2 0 0 store 1 1 4b\n0 1 ann 1 1 2 0 0 stored\n",
+        OWN + b"1 1 4b\n1 0 ann 1 1 2 0 0 store 1 1 4b\nann 0 done write 1 1 tag 1 1\n",
+    ),
+}
+ROW = b"grid 1 2\nblocks 16\ntenant ann 8 3 10\ntenant bob 8 3 10\ngo\nann open 2 1\n"
+TO_ONE = b"1 0 ann 1 1 1 0 0 ask\n"
+ROW_LINES = {
+    "a write, line by line": (
+        (WRITE + b"4B\n") * 2
+        + b"0 ann write 1 2 0 0 4b\n0 0 tick\n0 0 tick\n0 0 ann 1 1 1 0 0 ask\n0 1 ann 1 1 1 0 0 copy 0 0 -\n0 1 ann 2 1 1 0 0 ask\n"
+        + WRITE
+        + b"4b\n",
+        TO_ONE
+        + b"ann 0 refused busy 1 2 1\n"
+        + TO_ONE
+        + b"ann 0 done write 1 1 tag 1 1\n1 0 ann 2 1 1 0 0 copy 1 1 4b\nann 0 done write 1 1 tag 1 1\n",
+    ),
+    "two operations tick": (
+        b"0 ann read 1 1 0 1\n0 ann list 3 1 0\n0 bob list 2 1 0\n0 bob list 3 1 0\n0 0 tick\n0 0 tick\n",
+        b"1 0 ann 1 1 1 0 1 ask\n1 0 ann 3 1 1 0 0 ask\nbob 0 refused novolume 2 1 0\nbob 0 refused home 1 3 1\n1 0 ann 1 1 1 0 1 ask\n1 0 ann 3 1 1 0 0 ask\n",
+    ),
+}
+
+
 def tell_lines(program, folder):
     """How many were tried, and what is wrong."""
     put(os.path.join(folder, "plan"), PLAN)
     put(os.path.join(folder, "room"), ROOM)
     put(os.path.join(folder, "alone"), ALONE)
+    put(os.path.join(folder, "named"), NAMED)
+    put(os.path.join(folder, "column"), COLUMN)
+    put(os.path.join(folder, "row"), ROW)
     wrong = []
-    for plan, lines in ("plan", LINES), ("room", ROOM_LINES), ("alone", ALONE_LINES):
+    every = {"plan": LINES, "room": ROOM_LINES, "alone": ALONE_LINES, "named": NAMED_LINES, "column": COLUMN_LINES, "row": ROW_LINES}
+    grids = {"alone": b"1 by 1", "column": b"2 by 1", "row": b"1 by 2"}
+    for plan, lines in every.items():
         for place, (name, (given, wanted)) in enumerate(lines.items()):
             seen = ended(words_of(program, 0, plan, f"journal-{plan}{place}", True), given, cwd=folder)
-            grid = b"1 by 1" if plan == "alone" else b"2 by 2"
+            grid = grids.get(plan, b"2 by 2")
             if seen != (0, b"gridfs: node 0 of %s: 0 facts\n" % grid, b" ?\n" + in_bytes(wanted)):
                 wrong.append(f"{name}: {seen}, not {wanted}")
-    return len(LINES) + len(ROOM_LINES) + len(ALONE_LINES), wrong
+    return sum(map(len, every.values())), wrong

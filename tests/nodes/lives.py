@@ -1,4 +1,4 @@
-"""What the carrier of examples/grid takes of a node that ends amid a line, and what it gives to its next life: no line is joined of two
+"""What the carrier of ./grid takes of a node that ends amid a line, and what it gives to its next life: no line is joined of two
 lives, torn, or made of a tail. The nodes are small programs of our own."""
 
 import os
@@ -7,8 +7,8 @@ import time
 
 from processes import SECONDS
 
-sys.path.insert(0, os.path.join(os.path.dirname(os.path.abspath(__file__)), "..", "..", "examples", "nodes"))
-from carrier import Carrier, Node
+sys.path.insert(0, os.path.join(os.path.dirname(os.path.abspath(__file__)), "..", "..", "clients", "python"))
+from gridfs_grid.carrier import Carrier, Node
 
 LONG = 100_000  # bytes of a line that no pipe takes whole
 PROGRAM = "#!/usr/bin/env python3\nimport os, time\n"

@@ -12,7 +12,7 @@ import time
 HERE = os.path.dirname(os.path.abspath(__file__))
 TOP = os.path.join(HERE, "..", "..")
 CLIENT = os.path.join(TOP, "clients", "python")
-sys.path[:0] = [HERE, os.path.join(TOP, "deploy", "carrier")]
+sys.path.insert(0, HERE)
 import metrics
 from processes import check
 

@@ -6,12 +6,12 @@ import os
 import random
 import sys
 
-sys.path.insert(0, os.path.join(os.path.dirname(os.path.abspath(__file__)), "..", "..", "examples", "nodes"))
+sys.path.insert(0, os.path.join(os.path.dirname(os.path.abspath(__file__)), "..", "..", "clients", "python"))
 from contents import in_bytes
 from faults import PLAN, STRANGE, Faults, not_kept, of_node
 from journals import batches, sealed
 from processes import WRONG, Stepped, get, put, words_of
-from tenant import PLACES, SESSIONS, Nodes, Session, homes, nodes_of
+from gridfs_grid.tenant import PLACES, SESSIONS, Nodes, Session, homes, nodes_of
 
 LOST = PLAN + b"replace 3\n"
 FILES = 6  # of the plan, all of which node 67 lacks at first

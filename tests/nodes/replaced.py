@@ -17,8 +17,8 @@ from large import MARKER as LARGE_MARKER
 from large import MOST_BLOCKS, LargeClient, LargeStorm
 from processes import Wrong, get, put, words_of
 from storm import CALM, LATER, MARKER, NAMES, TURN, Client, Life, Storm, a_plan_behind, shares_of
-from tenant import PLACES, SESSIONS, Nodes, Session
-from tenant import nodes_of as nodes_of_text
+from gridfs_grid.tenant import PLACES, SESSIONS, Nodes, Session
+from gridfs_grid.tenant import nodes_of as nodes_of_text
 
 MOST_LOST = 5  # nodes of one storm
 LEAST_BETWEEN, MEAN_BETWEEN = 100, 250  # lines from one loss to the next

@@ -7,8 +7,8 @@ import subprocess
 import sys
 import time
 
-sys.path.insert(0, os.path.join(os.path.dirname(os.path.abspath(__file__)), "..", "..", "deploy", "carrier"))
-from carried_grid import NotStarted
+sys.path.insert(0, os.path.join(os.path.dirname(os.path.abspath(__file__)), "..", "..", "clients", "python"))
+from gridfs_grid.one_machine import NotStarted
 from processes import WRONG, interrupt, room
 
 NO_OTHER_WORK = (" is not linearizable", " says: ")  # in what is wrong, where no other work on the machine can bring it about

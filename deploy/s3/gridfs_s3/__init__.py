@@ -1,1 +1,0 @@
-"""An endpoint of S3 in front of one tenant's files by name (docs/S3.md)."""
