@@ -2,7 +2,7 @@
 
     fleet_trial.py GRIDFS [SECONDS] [--grids N] [--kills N] [--bug NAME]
 
-Each grid is one of examples/grid. Clients begin by the map as it is, or by one from before, and have their sessions for a few operations. `gridfs-fleet spread`
+Each grid is one of ./grid. Clients begin by the map as it is, or by one from before, and have their sessions for a few operations. `gridfs-fleet spread`
 is begun anew where it was killed; once all slices are spread, some are moved elsewhere. What is started here is ended, each by its process. Then all slices have to be spread, each name's history has to have an
 order, and each grid that names left has none of them.
 """
@@ -42,7 +42,7 @@ class Trial:
 
     def start_grid(self, label, **plan):
         names_trial.write_plan(f"{self.folder}/{label}.plan", tenant=TENANT, **{"sessions": SESSIONS, "each": 2, **plan})
-        words = [os.path.join(TOP, "examples", "grid"), "--plan", f"{self.folder}/{label}.plan", "--program", self.program, "--tick", "0.1", f"{self.folder}/{label}"]
+        words = [os.path.join(TOP, "grid"), "--lines", "--plan", f"{self.folder}/{label}.plan", "--program", self.program, "--tick", "0.1", f"{self.folder}/{label}"]
         self.grids[label] = subprocess.Popen(words, stdin=subprocess.PIPE, stdout=self.log, stderr=self.log, text=True, bufsize=1)
         until = time.monotonic() + STARTED
         while not os.path.exists(f"{self.folder}/{label}/socket"):

@@ -5,13 +5,15 @@ import dataclasses
 import hashlib
 import io
 import os
+import shutil
 import sys
 import tempfile
 import unittest
 from unittest import mock
 
 HERE = os.path.dirname(os.path.abspath(__file__))
-sys.path[:0] = [os.path.join(HERE, "..", "names")]
+sys.path[:0] = [os.path.join(HERE, "..", "names"), os.path.join(HERE, "..", "s3")]
+from endpoint import stand_in
 from histories import Killed
 from maps import Maps
 from memory import Memory, MemorySession
@@ -99,9 +101,20 @@ class Forms(unittest.TestCase):
         with self.assertRaises(BadSettings):
             come.begun(150, 150, "a")
         self.assertTrue(come.ended(come.moves[0]).begun(150, 150, "a"))
-        for wrong in ("", "fleet 1\n", "fleet 1\ngrid a a\nslices 0-65534 0 a\n", "fleet 1\ngrid a a\nslices 0-65535 0 b\n"):
+        for wrong in ("", "fleet 1\n", "fleet 1\ngrid a a\nslices 0-65534 0 a\n", "fleet 1\ngrid a a\nslices 0-65535 0 b\n", "fleet 1\ngrid a a\ngrid a b\nslices 0-65535 0 a\n"):
             with self.assertRaises(BadSettings):
                 parse_map(wrong)
+
+    def test_moves_that_do_not_go_with_slices(self):
+        head = "fleet 1\ngrid a a\ngrid b b\nslices 0-99 0 a\nslices 100-65535 3 b\n"
+        for moves in ("moves 4 0-50 a b\nclears 3 100-65535 a b\n", "moves 1 0-99 a b\nmoves 4 100-200 b a\n"):
+            self.assertEqual(parse_map(head + moves).text(), head + moves)
+        for moves in (
+            "moves 0 0-50 a b", "moves 4 0-50 a a", "moves 4 0-50 b a", "moves 4 50-0 a b", "moves 4 0-100 a b", "moves 3 100-200 b a", "clears 4 0-50 a b", "clears 2 100-200 a b",
+            "clears 3 99-100 a b", "moves 4 0-50 a b\nmoves 4 60-70 a b", "moves 4 0-50 a b\nmoves 5 50-70 a b", "moves 4 65535-65536 b a", "moves 4 70000-80000 b a",
+        ):  # fmt: skip
+            with self.assertRaises(BadSettings, msg=moves):
+                parse_map(f"{head}{moves}\n")
 
     def test_spread(self):
         now = dataclasses.replace(new_map("a", "-"), grids=dict.fromkeys("abcd", "-"))
@@ -148,6 +161,56 @@ class Moves(unittest.TestCase):
             self.assertFalse([line for copy in memory.registers.values() if copy.content.startswith(b"names") for line in parse_page(copy.content, "").lines])
         with self.assertRaises(BadSettings):
             grids.named("east", 1, None).get("short")
+
+    def refuse(self, grids, fleet_map, why):
+        """A move by a map is refused, and nothing is another one than before."""
+        shown = [{place: copy for place, copy in memory.registers.items() if copy.content.startswith(b"names")} for memory in grids.memories.values()]
+        before = [sorted((place, parse_page(copy.content, "").lines) for place, copy in pages.items()) for pages in shown]
+        grids.map = fleet_map
+        with self.assertRaisesRegex(BadSettings, why):
+            grids.mover().run()
+        for memory, pages in zip(grids.memories.values(), before):
+            self.assertEqual([(place, parse_page(memory.registers[place].content, "").lines) for place, _ in pages], pages)
+
+    def test_two_names_of_one_grid(self):
+        """The settings of the new grid lead to the old one: else its names would be copied onto themselves, and then cleared."""
+        grids, held = self.filled()
+        grids.memories["west"] = grids.memories["east"]
+        grids.begin(0, SLICES - 1, "west")
+        self.refuse(grids, grids.map, "lead to the same grid")
+        self.assertEqual(grids.files(1, grids.maps[0]).get("long")[0], held["long"])
+
+    def test_older_map(self):
+        """A mover by a map from before a move: what that took on would be left behind."""
+        grids, held = self.filled(labels=("east", "west", "south"))
+        before = grids.map
+        grids.begin(0, SLICES - 1, "west")
+        grids.end()
+        last = grids.map
+        self.refuse(grids, before.begun(0, SLICES - 1, "south"), "the map is older than move 1, by which the slices 0-65535 went on to west")
+        self.refuse(grids, before.begun(7, 9, "south"), "the map is older than move 1, by which the slices 7-9 went on to west")
+        grids.map, grids.maps = last, grids.maps[:4]
+        grids.begin(0, SLICES - 1, "south")
+        grids.end()
+        self.expect(grids, held)
+
+    def test_older_map_amid_a_move(self):
+        """Two movers by copies of one map: the second one sees signposts of the first."""
+        grids, _ = self.filled(labels=("east", "west", "south"))
+        before = grids.map
+        grids.begin(0, SLICES - 1, "west")
+        grids.mover().sign_all()
+        self.refuse(grids, before.begun(0, 0, "south"), "the map is older than move 1") if slice_of("short") else None
+        grids.map = before.begun(0, SLICES - 1, "south")
+        mover = grids.mover()
+        with mock.patch.object(mover, "expect_sense"), self.assertRaisesRegex(BadSettings, "the map is older than move 1"):
+            mover.run()
+
+    def test_names_that_were_not_copied(self):
+        """A map by hand says that a move clears which only was to begin."""
+        grids, _ = self.filled()
+        began = grids.map.begun(0, SLICES - 1, "west")
+        self.refuse(grids, began.come(began.moves[0]), "3 names of move 1 are not at west, 'gone' is one")
 
     def test_there_and_back(self):
         grids, held = self.filled(pages=3)
@@ -423,7 +486,9 @@ class Commands(unittest.TestCase):
         self.assertEqual(self.told(fleet_command.main, ["--map", "map", "begin", "a", "a.ini"])[0], 0)
         self.refuse(2, "there is a map", "begin", "a", "a.ini")
         self.refuse(2, "there is such a grid", "add", "a", "a.ini")
-        self.assertEqual(self.told(fleet_command.main, ["--map", "map", "add", "b", "b.ini"])[0], 0)
+        self.refuse(6, "b: none: No such file or directory", "add", "b", "b.ini")
+        with open("map", "w") as out:
+            out.write(f"fleet 1\ngrid a a.ini\ngrid b b.ini\nslices 0-{SLICES - 1} 0 a\n")
         for words in (["5"], ["5-3", "b"], ["0-5", "c"], ["0-99999", "b"], ["0-5", "a"]):
             self.refuse(2, "", "move", *words)
         self.refuse(2, "is no number of seconds", "--timeout", "x", "spread")
@@ -444,6 +509,100 @@ class Commands(unittest.TestCase):
         status, told, out = self.told(client, ["--map", "map", "ls"])
         wanted = ["gridfs-client: names at a are not told: none: No such file or directory", "gridfs-client: not all names are told: a is silent"]
         self.assertEqual((status, told, out), (6, wanted, ""))
+
+
+class OverGrids(unittest.TestCase):
+    """The commands over two stand-ins for grids, whose settings are east.ini and west.ini, and a map of the first one."""
+
+    def setUp(self):
+        before, found = os.getcwd(), {}
+        for label in ("east", "west"):
+            found[label] = self.enterContext(stand_in())
+        folder = self.enterContext(tempfile.TemporaryDirectory(prefix="fleet"))
+        self.addCleanup(os.chdir, before)
+        os.chdir(folder)
+        for label, room in found.items():
+            os.symlink(os.path.join(room, "carol.ini"), f"{label}.ini")
+        self.enterContext(mock.patch.dict(os.environ, {"GRIDFS_LOCKS": os.path.join(folder, "locks"), "HOME": folder}))
+        self.fleet("begin", "east", "east.ini")
+
+    def done(self, call, words, status):
+        with contextlib.redirect_stderr(io.StringIO()) as told, contextlib.redirect_stdout(io.TextIOWrapper(io.BytesIO())) as out:
+            found = call(words)
+            out.flush()
+        self.assertEqual(found, status, told.getvalue())
+        return out.buffer.getvalue().decode() + told.getvalue()
+
+    def fleet(self, *words, map="map", status=0):
+        return self.done(fleet_command.main, ["--map", map, *words], status)
+
+    def client(self, *words, where=("--map", "map"), status=0):
+        return self.done(command.main, [*where, *words], status)
+
+    def put(self, name, text, where=("--map", "map"), status=0):
+        with open("content", "w") as out:
+            out.write(text)
+        return self.client("put", "content", name, where=where, status=status)
+
+    def test_what_stands_under_the_name_of_the_map(self):
+        """Who may put names puts a map that names files, commands and grids: it says where names are, and nothing else."""
+        self.fleet("add", "west", "west.ini")
+        self.put("hello", "hello")
+        with open("evil", "w") as out:
+            out.write("[gridfs]\ntenant = carol\nvia = touch was.run\n")
+        all_slices = f"slices 0-{SLICES - 1} 900"
+        for text in ("", "x", "\xff", f"fleet 1\ngrid east east.ini\ngrid evil evil\n{all_slices} evil\n", "fleet 1\ngrid east evil\n", f"fleet 1\ngrid east evil\n{all_slices} east\nmoves 901 5-4 east east\n"):
+            self.put(".fleet", text, where=("--config", "east.ini"))
+            for words in (["get", "hello"], ["ls"], ["sweep"]):
+                self.assertIn("the fleet's copy of the map is passed over: .fleet: ", self.client(*words))
+        self.put(".fleet", f"fleet 1\ngrid east evil\ngrid west evil\n{all_slices} east\n", where=("--config", "east.ini"))
+        self.assertEqual(self.client("get", "hello"), "hello")
+        self.assertFalse(os.path.exists("was.run"))
+        self.assertIn("which gridfs-fleet puts", self.put(".fleet", "x", status=2))
+        self.put(".fleet", "x", where=("--config", "east.ini"))
+        self.client("rm", ".fleet")
+        self.assertEqual(self.client("get", "hello"), "hello")
+
+    def test_a_grid_that_has_names(self):
+        self.put("hello", "hello", where=("--config", "west.ini"))
+        self.assertIn("west: it has names already, 'hello' is one", self.fleet("add", "west", "west.ini", status=2))
+        self.put("mine", "mine")
+        self.assertIn("again: it has names already, 'mine' is one", self.fleet("add", "again", "east.ini", status=2))
+        self.assertIn("1 names", self.fleet("status"))
+
+    def test_two_settings_of_one_grid(self):
+        """While it has no names yet."""
+        self.fleet("add", "west", "east.ini")
+        for number in range(20):
+            self.put(f"name {number}", str(number))
+        with open("map") as before:
+            text = before.read()
+        self.assertIn("the settings of east and of west lead to the same grid", self.fleet("spread", status=2))
+        self.assertEqual([self.client("get", f"name {number}") for number in range(20)], list(map(str, range(20))))
+        with open("map") as after:
+            self.assertEqual(after.read(), text)
+
+    def test_a_copy_of_the_map(self):
+        """A machine with a copy from before a move can't move what that took away; one with a link to the map has the map."""
+        self.fleet("add", "west", "west.ini")
+        shutil.copy("map", "copy")
+        os.symlink("map", "link")
+        for number in range(20):
+            self.put(f"name {number}", str(number))
+        self.fleet("spread", map="link")
+        self.assertTrue(os.path.islink("link"))
+        os.symlink(os.path.join(self.enterContext(stand_in()), "carol.ini"), "north.ini")
+        for file in ("map", "copy"):
+            self.fleet("add", "north", "north.ini", map=file)
+        with open("copy") as before, open("map") as now:
+            text = before.read()
+            self.assertNotEqual(now.read(), text)
+        for words in (["spread"], ["move", "65000-65535", "west"]):
+            self.assertIn("the map is older than move 1", self.fleet(*words, map="copy", status=2))
+            with open("copy") as after:
+                self.assertEqual(after.read(), text)
+        for where in ("map", "copy", "link"):
+            self.assertEqual([self.client("get", f"name {number}", where=("--map", where)) for number in range(20)], list(map(str, range(20))))
 
 
 if __name__ == "__main__":

@@ -399,17 +399,17 @@ Progress(sys.stderr)("put", 4, 4)
 
 @contextlib.contextmanager
 def served(program):
-    """examples/grid for clients, in the folder `grid`."""
+    """A grid for clients, in the folder `grid`."""
     with open("plan", "w", encoding="ascii") as out:
         out.write(PLAN)
     with open("told", "wb") as told:
-        words = [PYTHON, "-B", os.path.join(TOP, "examples", "grid"), "--serve", "--program", program, "--plan", "plan", "grid"]
+        words = [os.path.join(TOP, "grid"), "--program", program, "--plan", "plan", "grid"]
         grid = subprocess.Popen(words, stdin=subprocess.DEVNULL, stdout=told, stderr=told)
     try:
         until = time.monotonic() + SECONDS
         while not os.path.exists("grid/bob.ini") or not os.path.exists("grid/ann.ini"):
             if grid.poll() is not None or time.monotonic() > until:
-                raise OSError("examples/grid --serve did not start")
+                raise OSError("./grid did not start")
             time.sleep(0.02)
         yield
     finally:

@@ -1,5 +1,5 @@
 #!/usr/bin/python3
-"""Carries a command's lines to the socket of examples/grid, and instead of the answer to one of its writes interrupts the command.
+"""Carries a command's lines to the socket of a grid in pipes, and instead of the answer to one of its writes interrupts the command.
 
     ending.py SOCKET NUMBER    which write, from 1
 """

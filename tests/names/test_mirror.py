@@ -151,6 +151,38 @@ class BothWays(Mirrors):
         with self.assertRaises(FileNotFoundError):
             self.mirror(ToGrid, os.path.join(self.room, "nowhere"))
 
+    def test_words(self):
+        """What S3 keeps beside contents comes back with a restore, as long as the file has that content."""
+        words = {"typed": "t=17&c=text/plain", "plain": "", ".s3/key/one/AAAA": "k=a/&t=18"}
+        with self.names("typed") as files:
+            for name, kept in words.items():
+                files.put(name, name.encode(), lambda kept=kept: kept)
+        self.down()
+        self.assertEqual(self.down().moved, [])
+        with self.names("typed") as files:
+            for name in words:
+                files.remove(name)
+        self.folder = self.other
+        self.up()
+        with self.names("typed") as files:
+            self.assertEqual({entry.name: entry.words for entry in files.names()}, words)
+            files.put("typed", b"typed", lambda: "t=19")
+        self.down()
+        with self.names("typed") as files:
+            files.put("typed", b"typed", lambda: "t=20")
+        self.assertEqual(self.up().moved, ["typed"])
+        self.write("typed", b"another")
+        self.up()
+        with self.names("typed") as files:
+            self.assertEqual({entry.name: entry.words for entry in files.names()}, words | {"typed": ""})
+
+    def test_a_folder_that_keeps_no_words(self):
+        with self.names("typed") as files:
+            files.put("typed", b"x", lambda: "t=17")
+        with mock.patch("os.setxattr", side_effect=OSError(95, "Operation not supported")):
+            self.assertEqual(self.down().wordless, 1)
+        self.assertIn("1 files are without the words", self.told[-1])
+
     def test_places(self):
         self.assertEqual([prefix_of(word) for word in ("grid:", "grid:a", "grid:a/", "grid:a/b")], ["", "a/", "a/", "a/b/"])
         self.assertEqual([prefix_of(word) for word in ("a", "./grid:a", "/grid:", "")], [None] * 4)

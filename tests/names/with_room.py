@@ -22,16 +22,16 @@ SHORT = b"as small as a word is"
 
 
 class Grid:
-    """examples/grid in the folder `grid`, whose nodes can be killed and started."""
+    """A grid in the folder `grid`, whose nodes can be killed and started."""
 
     def __init__(self, program, plan=PLAN):
         with open("told", "wb") as told:
-            words = [PYTHON, "-B", os.path.join(TOP, "examples", "grid"), "--program", program, "--plan", plan, "grid"]
+            words = [os.path.join(TOP, "grid"), "--lines", "--program", program, "--plan", plan, "grid"]
             self.process = subprocess.Popen(words, stdin=subprocess.PIPE, stdout=told, stderr=told)
         until = time.monotonic() + SECONDS
         while b"nodes are up" not in self.told():
             if self.process.poll() is not None or time.monotonic() > until:
-                raise OSError(f"examples/grid did not start: {self.told()!r}")
+                raise OSError(f"./grid did not start: {self.told()!r}")
             time.sleep(0.02)
 
     def told(self):

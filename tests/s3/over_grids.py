@@ -7,6 +7,7 @@
     over_grids.py once                                 the same of one move, by one that does not
     over_grids.py apart                                moves by a mover that can't have the sessions of the gateway
     over_grids.py silent                               what a gateway answers while a grid does not
+    over_grids.py names                                maps that whoever may put names puts in the place of the fleet's copy: no other tenant's names, no command
 
 Each grid is a stand-in, or four nodes where a program is named. Gateways and movers are killed (kill -9), and begun again. A mover has its sessions from the
 gateways. The status is 1 where something is wrong, and where no move ended.
@@ -85,7 +86,7 @@ class Fleet:
 @contextlib.contextmanager
 def nodes(program, folder):
     """A grid of four nodes, in place of a stand-in."""
-    words = [os.path.join(code_of_s3.TOP, "examples", "grid"), "--serve", "--plan", endpoint.PLAN, "--program", program, folder]
+    words = [os.path.join(code_of_s3.TOP, "grid"), "--plan", endpoint.PLAN, "--program", program, folder]
     with open(f"{folder}.log", "wb") as log:
         process = subprocess.Popen(words, stdin=subprocess.DEVNULL, stdout=log, stderr=log)
     try:
@@ -344,6 +345,41 @@ def on_two_machines():
             gateway.kill()
 
 
+def by_other_maps():
+    """The settings of grids are said by the gateway's own map. What the tenant puts under the map's name gives it no other tenant's names, and no command."""
+    with fleet(LABELS[:2]) as found, contextlib.ExitStack() as others:
+        room, slices = found.room, f"slices 0-{SLICES - 1} 900"
+        with open(endpoint.PLAN) as file, open(os.path.join(room, "plan"), "w") as out:
+            out.write(file.read().replace("carol", "dave"))
+        others.enter_context(endpoint.stand_in(os.path.join(room, "plan"), os.path.join(room, "theirs")))
+        client = [os.path.join(code_of_s3.CLIENT, "gridfs-client"), "--config"]
+        for name in (".s3/bucket/payroll", "payroll/2026"):
+            subprocess.run([*client, f"{room}/theirs/dave.ini", "put", "-", name], input=b"dave's", check=True)
+        with open(os.path.join(room, "command.ini"), "w", encoding="ascii") as out:
+            out.write(f"[gridfs]\ntenant = carol\nvia = touch {room}/was.run\n")
+        gateway = endpoint.Gateway(found.settings, room)
+        try:
+            s3, wrong = gateway.client(), []
+            s3.create_bucket(Bucket="mine")
+            s3.put_object(Bucket="mine", Key="a", Body=b"carol's")
+            for file in ("theirs/dave.ini", "command.ini"):
+                begun, text = len(gateway.told()), f"fleet 1\ngrid east east.ini\ngrid west west.ini\ngrid other {file}\n{slices} other\n"
+                subprocess.run([*client, f"{room}/east.ini", "put", "-", ".fleet"], input=text.encode(), check=True)
+                until = time.monotonic() + 30
+                while " map is not found: .fleet: it has the grid other" not in gateway.told(begun) and time.monotonic() < until:
+                    time.sleep(0.2)
+                buckets = [each["Name"] for each in s3.list_buckets()["Buckets"]]
+                if buckets != ["mine"] or s3.get_object(Bucket="mine", Key="a")["Body"].read() != b"carol's":
+                    wrong.append(f"by a map with {file} it has the buckets {buckets}")
+                if time.monotonic() > until:
+                    wrong.append(f"it does not say that it passes over a map with {file}")
+                subprocess.run([*client, f"{room}/east.ini", "rm", ".fleet"], check=True)
+                time.sleep(6)  # (so that the same fault is told anew)
+            return wrong + (["a command was run"] if os.path.exists(f"{room}/was.run") else []) + (["a traceback"] if "Traceback" in gateway.told() else [])
+        finally:
+            gateway.kill()
+
+
 def stages(found, model, now, word):
     """A move, with all operations between its steps."""
     now.save()
@@ -368,9 +404,10 @@ def stages(found, model, now, word):
 
 
 def main(words):
-    if words[0] in ("silent", "apart"):
+    alone = {"silent": while_one_is_silent, "apart": on_two_machines, "names": by_other_maps}
+    if words[0] in alone:
         os.environ["GRIDFS_TIMEOUT"] = "4"
-        wrong = while_one_is_silent() if words[0] == "silent" else on_two_machines()
+        wrong = alone[words[0]]()
         print("".join(f"{line}\n" for line in wrong) + f"{len(wrong)} wrong")
         return bool(wrong)
     if words[0] in ("operations", "once"):

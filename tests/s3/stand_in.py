@@ -3,12 +3,14 @@
 
     stand_in.py PLAN FOLDER
 
-It opens FOLDER/socket and writes NAME.ini for each tenant, as `examples/grid --serve` does. Nothing is kept, and nothing is lost.
+It opens FOLDER/socket and writes NAME.ini for each tenant, as `./grid` does. Nothing is kept, and nothing is lost. At SIGHUP it reads the plan again, and tenants have the
+volumes of that.
 """
 
 import asyncio
 import os
 import re
+import signal
 import sys
 
 
@@ -86,6 +88,12 @@ async def main(plan, folder):
             if to == "0" and name in tenants and re.match("[a-z]", body) and (told := answer(tenants[name], body)):
                 writer.write(f"{name} 0 {told}\n".encode())
 
+    def read_again():
+        with open(plan) as text:
+            for name, found in tenants_of(text.read()).items():
+                tenants[name].volumes = found.volumes
+
+    asyncio.get_running_loop().add_signal_handler(signal.SIGHUP, read_again)
     await asyncio.start_unix_server(serve, path, limit=1 << 23)
     for name in tenants:
         with open(os.path.join(folder, f"{name}.ini"), "w") as out:

@@ -4,6 +4,7 @@ import asyncio
 import base64
 import hashlib
 import os
+import pathlib
 import random
 import sys
 import tempfile
@@ -22,17 +23,18 @@ from gridfs_client.contents import Inline
 from gridfs_client.core import Version
 from gridfs_client.buckets import Held
 from gridfs_client.pages import check_words
-from gridfs_s3 import markup, signing
+from gridfs_s3 import markup, setting_up, signing
 from gridfs_s3.bodies import Body
 from gridfs_s3.copying import range_to_copy
 from gridfs_s3.errors import S3Error
+from gridfs_s3.front import instances_of, make_keys
 from gridfs_s3.keys import BadKeys, Key, parse_keys, read_keys
 from gridfs_s3.listing import Cut
 from gridfs_s3.places import Object, check_bucket, name_of, object_of, of_words, to_words
-from gridfs_s3.requests import judge, range_of, seconds_of_date
+from gridfs_s3.requests import Asked, http_date, judge, range_of, range_wanted, seconds_of_date
 from gridfs_s3.sessions import Pool
 from gridfs_s3.shared import Turns
-from gridfs_s3.workers import Crowded, Gathering, Lending
+from gridfs_s3.workers import Crowded, Gathering, Lending, Wanted
 
 
 def held(name, words=None, content=b"hi"):
@@ -164,6 +166,56 @@ class Markup(Case):
         self.assertEqual(markup.element("Key", "<&\r\x01"), "<Key>&lt;&amp;&#xD;&#x1;</Key>")
 
 
+class Hosts(Case):
+    def test_buckets_by_host(self):
+        """With a domain a bucket's own host name, however it is written; without, and of other hosts, the first word of the path."""
+        for host, domain, told in [
+            ("one.s3.example", "s3.example", ("one", "a/b")), ("one.s3.example:9000", "s3.example", ("one", "a/b")), ("one.s3.example.", "s3.example", ("one", "a/b")),
+            ("one.s3.example.:80", "s3.example", ("one", "a/b")), ("ONE.S3.example", "s3.example", ("one", "a/b")), ("s3.example.", "s3.example", ("a", "b")),
+            ("ones3.example", "s3.example", ("a", "b")), ("one.s3.example", None, ("a", "b")), ("", "s3.example", ("a", "b")),
+        ]:  # fmt: skip
+            found = Asked(types.SimpleNamespace(method="GET", raw_path="/a/b", headers={"Host": host}), domain)
+            self.assertEqual((found.bucket, found.key), told, host)
+
+    def test_secrets(self):
+        """What rclone is given is the tenant's own key, wherever it stands in the file."""
+        with tempfile.TemporaryDirectory() as folder:
+            path = pathlib.Path(folder) / "ann.keys"
+            made = make_keys(path, "ann")
+            self.assertEqual(read_keys(str(path), "ann"), {"ann": Key("ann", made)})
+            for text, secret in (("0123456789\n", "0123456789"), ("# x\nann.backup 12345678 read\nann 87654321\n", "87654321"), ("ann.backup 12345678 read\n", "")):
+                path.write_text(text)
+                self.assertEqual(make_keys(path, "ann"), secret)
+
+
+class SettingUp(Case):
+    def test_users(self):
+        """A gateway has a user of its own, and those of one tenant have a group by which they can read its keys."""
+        one, two = instances_of("ann", 8, 1), instances_of("bob", 8, 2)
+        told = ["g gridfs-s3 -", 'u gridfs-s3-ann - "gateway of S3 of ann"', "g gridfs-s3-bob -"]
+        for name in ("bob-1", "bob-2"):
+            told += [f'u gridfs-s3-{name} - "gateway of S3 of bob"', f"m gridfs-s3-{name} gridfs-s3-bob"]
+        self.assertEqual(setting_up.users_of({"ann": one, "bob": two}).splitlines(), told)
+        self.assertLessEqual(len("gridfs-s3-" + "x" * 16 + "-64"), 31)  # (letters that a user's name may have)
+
+    def test_folder(self):
+        """It may be made elsewhere: nothing in it says where."""
+        with tempfile.TemporaryDirectory() as folder, mock.patch("sys.stdout"), mock.patch("sys.stderr") as told:
+            plan, made = pathlib.Path(folder) / "plan", pathlib.Path(folder) / "made"
+            plan.write_text("grid 2 2\nroom 3000\ntenant ann 2000 4 1000 16\ngo\n" + "ann open 16 25\n" * 4 + "ann open 16 16\n")
+            setting_up.set_up(made, plan, "127.0.0.1:9000", 2)
+            text = (made / "nginx.conf").read_text()
+            self.assertNotIn(folder, text)
+            self.assertIn("pid /run/gridfs-s3-front/nginx.pid;", text)
+            self.assertEqual(os.readlink(made / "ann-2.keys"), "ann.keys")
+            self.assertEqual(os.stat(made / "ann.keys").st_mode & 0o777, 0o600)
+            self.assertIn("systemd-sysusers", str(told.mock_calls))
+            with mock.patch("shutil.chown") as given:
+                setting_up.set_up(made, plan, "127.0.0.1:9000", 1)
+            given.assert_called_with(made / "ann.keys", group="gridfs-s3-ann")
+            self.assertEqual(os.stat(made / "ann.keys").st_mode & 0o777, 0o640)
+
+
 class Requests(Case):
     def test_ranges(self):
         for text, told in [
@@ -178,8 +230,15 @@ class Requests(Case):
         for text, code in (("bytes=1-5", "InvalidRange"), ("bytes=3-1", "InvalidRange"), ("bytes=1-", "InvalidArgument"), ("x", "InvalidArgument")):
             self.fails(code, range_to_copy, text, 5)
 
+    def test_ranges_of_one_content(self):
+        found, untimed = Object("a", held("b/a", {"m": "e" * 32, "t": "1700000000500"})), Object("a", held("b/a", {"m": "e" * 32}))
+        for word, told in (('"e"', (0, 1)), (' "e" ', (0, 1)), ('"f"', None), ('W/"e"', None), ("e", None), ("*", None), ("", None), (http_date(1_700_000_000_000), (0, 1)), (http_date(1_700_000_001_000), None)):
+            self.assertEqual(range_wanted({"range": "bytes=0-0", "if-range": word.replace('"e"', f'"{found.etag}"')}, found), told, word)
+        self.assertIsNone(range_wanted({"range": "bytes=0-0", "if-range": http_date(0)}, untimed))
+        self.assertEqual(range_wanted({"range": "bytes=0-0"}, untimed), (0, 1))
+
     def test_conditions(self):
-        found = Object("a", held("b/a", {"m": "e", "t": "1700000000500"}))
+        found = Object("a", held("b/a", {"m": "e" * 32, "t": "1700000000500"}))
         before, then = "Tue, 14 Nov 2023 22:13:19 GMT", "Tue, 14 Nov 2023 22:13:20 GMT"
         for headers, code in [
             ({}, None), ({"if-match": '"e"'}, None), ({"if-match": "*"}, None), ({"if-match": '"x", "e"'}, None), ({"if-match": '"x"'}, "PreconditionFailed"),
@@ -188,6 +247,7 @@ class Requests(Case):
             ({"if-match": '"e"', "if-unmodified-since": before}, None), ({"if-none-match": '"x"', "if-modified-since": then}, None),
             ({"if-modified-since": "nonsense"}, None), ({"if-unmodified-since": "Mon, 99 Foo 99999999 99:99:99 GMT"}, None),
         ]:  # fmt: skip
+            headers = {name: value.replace('"e"', f'"{found.etag}"') for name, value in headers.items()}
             if code:
                 self.fails(code, judge, headers, found)
             else:
@@ -262,11 +322,18 @@ class Bodies(Case):
             ("InvalidDigest", sha, {"content_length": "5", "content_md5": "x"}), ("IncompleteBody", sha, {"content_length": "6"}),
             ("IncompleteBody", sha, {"content_length": "4"}), ("MissingContentLength", sha, {}), ("InvalidArgument", sha, {"content_length": "-1"}),
             ("InvalidArgument", sha, {"content_length": "9" * 5_000}), ("InvalidArgument", "nonsense", {"content_length": "5"}),
-            ("EntityTooLarge", sha, {"content_length": "5000"}), ("NotImplemented", sha, {"content_length": "5", "x_amz_checksum_crc64nvme": "x"}),
+            ("EntityTooLarge", sha, {"content_length": "5000"}), ("NotImplemented", sha, {"content_length": "5", "x_amz_checksum_md5": "x"}),
             ("BadDigest", sha, {"content_length": "5", "x_amz_checksum_sha1": "x"}),
         ]:  # fmt: skip
             code = self.told(b"hello", payload, **headers)
             self.assertEqual(code, told, (payload, headers))
+
+    def test_checksums(self):
+        """By the check values of their definitions."""
+        for name, digest in {"crc32": "cbf43926", "crc32c": "e3069283", "crc64nvme": "ae8b14860a799888", "sha1": "f7c3bc1d808e04732adf679965ccc34ca7ae3441"}.items():
+            told = base64.b64encode(bytes.fromhex(digest)).decode()
+            for sent, found in ((told, b"123456789"), (told[::-1], "BadDigest")):
+                self.assertEqual(self.told(b"123456789", "UNSIGNED-PAYLOAD", content_length="9", **{f"x_amz_checksum_{name}": sent}), found, name)
 
     def test_chunks_that_lie(self):
         good = b"5\r\nhello\r\n0\r\n\r\n"
@@ -313,6 +380,22 @@ class Sessions(Case):
         asyncio.run(scenario())
 
 
+    def test_who_has_fewest_is_next(self):
+        """So who asks for much has others wait for one of his requests only. Among equals it goes by turns."""
+
+        async def scenario():
+            pool = Pool(None, Gathering(), Lending(), Turns())
+            pool.workers = {number: types.SimpleNamespace(number=number, is_busy=True, is_silent=False, who="ann") for number in (1, 2)}
+            wanted = [Wanted(None, pool.loop.create_future(), who) for who in ("ann", "ann", "bob", "bob")]
+            pool.waiting.extend(wanted)
+            for place in (2, 3, 0):
+                pool.release(pool.workers[1])
+                self.assertEqual([each.future.done() for each in wanted].index(True), place)
+                wanted[place].future = pool.loop.create_future()
+
+        asyncio.run(scenario())
+
+
 class Clock(Case):
     def test_it_never_goes_back(self):
         turns = Turns()
@@ -320,6 +403,18 @@ class Clock(Case):
             self.assertEqual([turns.time_after(0), turns.time_after(0), turns.time_after(9_000), turns.time_after(0)], [5_000, 5_001, 9_001, 9_002])
             turns.is_later_than(20_000)
             self.assertEqual(turns.time_after(0), 20_001)
+
+    def test_it_is_not_led_astray(self):
+        """A time that is far ahead, since somebody's clock was wrong, is that of its name alone; and so it is where one's own clock was."""
+        turns, far, now = Turns(), 3_000_000_000_000, 2_000_000_000_000
+        with mock.patch("time.time_ns", lambda: now * 1_000_000):
+            turns.is_later_than(far)
+            self.assertEqual([turns.time_after(0), turns.time_after(far), turns.time_after(far + 1), turns.time_after(0)], [now, far + 1, far + 2, now + 3])
+            self.assertEqual([turns.time_after(9_999_999_999_999), turns.time_after(now + 60_000), turns.time_after(0)], [9_999_999_999_999, now + 60_001, now + 60_002])
+        with mock.patch("time.time_ns", lambda: far * 1_000_000):
+            self.assertEqual(turns.time_after(0), far)
+        with mock.patch("time.time_ns", lambda: now * 1_000_000):
+            self.assertEqual([turns.time_after(0), turns.time_after(far)], [now, far + 1])
 
     def test_numbers(self):
         turns = Turns()

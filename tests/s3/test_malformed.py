@@ -1,6 +1,9 @@
 """Requests that are malformed: each is told the right error of S3, nothing is stored by it, the gateway goes on, and tells of no fault of its own."""
 
 import base64
+import contextlib
+import hashlib
+import hmac
 import html
 import os
 import re
@@ -93,12 +96,95 @@ class Malformed(unittest.TestCase):
             self.assertEqual(status, 400, head[:40])
             self.assertIn(code, ("RequestHeaderSectionTooLarge", "BadRequest"), head[:40])
 
+    def spent(self):
+        """The seconds of processors that the gateway took until now."""
+        with open(f"/proc/{GATEWAY.process.pid}/stat") as file:
+            words = file.read().rpartition(")")[2].split()
+        return (int(words[11]) + int(words[12])) / os.sysconf("SC_CLK_TCK")
+
+    def grown(self):
+        """The MiB of memory that the gateway took at most until now."""
+        with open(f"/proc/{GATEWAY.process.pid}/status") as file:
+            return next(int(line.split()[1]) for line in file if line.startswith("VmHWM")) / 1024
+
+    def test_heads_that_cost(self):
+        """Of strangers: in a second each, and in little memory."""
+        stamp, before = time.strftime("%Y%m%dT%H%M%SZ", time.gmtime()), self.grown()
+
+        def unsigned(names, more):
+            scope = f"carol/{stamp[:8]}/us-east-1/s3/aws4_request"
+            head = f"GET / HTTP/1.1\r\nHost: a\r\nx-amz-date: {stamp}\r\nx-amz-content-sha256: {EMPTY}\r\nAuthorization: AWS4-HMAC-SHA256 Credential={scope}, "
+            return f"{head}SignedHeaders=host;x-amz-date{names}, Signature={'0' * 64}\r\n".encode() + more + b"\r\n"
+
+        for data in (
+            unsigned(";a" * 7_000, (b"a: " + b"x" * 16_000 + b"\r\n") * 6), unsigned("".join(f";a{number}" for number in range(200)), b""),
+            unsigned("".join(f";a{number}" for number in range(100)), b"b: x\r\n" * 16_000), b"GET / HTTP/1.1\r\n" + b"b: x\r\n" * 1_000_000,
+        ):  # fmt: skip
+            begun = self.spent()
+            self.assertEqual(code_of(exchange(data))[0], 400, data[:60])
+            self.assertLess(self.spent() - begun, 4)
+        self.assertLess(self.grown(), before + 40)
+
+    def test_connections_that_cost(self):
+        """Many requests at once on one of them; another protocol, and what comes then; first heads that never end."""
+        before = self.grown()
+        for data in (b"GET / HTTP/1.1\r\nHost: a\r\n\r\n" * 100_000, b"GET / HTTP/1.1\r\nHost: a\r\nConnection: Upgrade\r\nUpgrade: websocket\r\n\r\n" + b"x" * 60_000_000):
+            with socket.create_connection(("127.0.0.1", GATEWAY.port), timeout=60) as connection:
+                connection.settimeout(3)
+                with contextlib.suppress(OSError):
+                    connection.sendall(data)
+                self.tells(403, "AccessDenied", b"GET / HTTP/1.1\r\nHost: a\r\n\r\n")
+                self.assertLess(self.grown(), before + 40)
+        data = b"GET / HTTP/1.1\r\nHost: a\r\n\r\n" * 50
+        with socket.create_connection(("127.0.0.1", GATEWAY.port), timeout=60) as connection:
+            connection.sendall(data)
+            told = b""
+            while told.count(b"AccessDenied") < 50:
+                part = connection.recv(65_536)
+                self.assertTrue(part, "not all requests of a connection are answered")
+                told += part
+
+    def test_odd_bytes(self):
+        """Where letters are wanted, of strangers and of others."""
+        stamp = time.strftime("%Y%m%dT%H%M%SZ", time.gmtime()).encode()
+        scope = b"carol/" + stamp[:8] + b"/us-east-1/s3/aws4_request"
+        base = b"Host: a\r\nx-amz-date: " + stamp + b"\r\nx-amz-content-sha256: " + EMPTY.encode() + b"\r\n"
+        authorization = b"Authorization: AWS4-HMAC-SHA256 Credential=" + scope + b", SignedHeaders=host;x-amz-date;x-amz-meta-a, Signature=" + b"0" * 64 + b"\r\n"
+        in_url = b"X-Amz-Algorithm=AWS4-HMAC-SHA256&X-Amz-Credential=" + scope.replace(b"/", b"%2F") + b"&X-Amz-Date=" + stamp + b"&X-Amz-Expires=60&X-Amz-SignedHeaders=host"
+        basic = b"Authorization: Basic " + base64.b64encode(f"carol:{endpoint.SECRET}".encode()) + b"\r\n"
+        for data in (
+            b"GET /one/k?" + in_url + b"&X-Amz-Signature=%C3%A9 HTTP/1.1\r\nHost: a\r\n\r\n", b"GET /one/k?" + in_url + b"&X-Amz-Signature=%FF HTTP/1.1\r\nHost: a\r\n\r\n",
+            b"GET /one/k?" + in_url + b"%FF;x&X-Amz-Signature= HTTP/1.1\r\nHost: \xff\r\n\r\n",
+            b"GET / HTTP/1.1\r\n" + base + b"x-amz-meta-a: \xff\r\n" + authorization + b"\r\n", b"GET / HTTP/1.1\r\n" + base + "x-amz-meta-a: é\r\n".encode() + authorization + b"\r\n",
+            b"GET /one/\xff HTTP/1.1\r\n" + base + authorization + b"\r\n", b"GET /one?prefix=\xff HTTP/1.1\r\n" + base + authorization + b"\r\n",
+            b"GET /one HTTP/1.1\r\n" + base.replace(b"Host: a", b"Host: \xff") + authorization + b"\r\n", b"GET /one/%ED%A0%80 HTTP/1.1\r\n" + base + authorization + b"\r\n",
+            b"GET http://[/one/k HTTP/1.1\r\n" + base + authorization + b"\r\n", b"GET //[x/one HTTP/1.1\r\n" + base + authorization + b"\r\n", b"OPTIONS * HTTP/1.1\r\n" + base + b"\r\n",
+            b"GET / HTTP/1.1\r\n" + base.replace(EMPTY.encode(), b"\xff") + authorization + b"\r\n", b"GET / HTTP/1.1\r\n" + base.replace(stamp, stamp[:9] + b"\xff") + authorization + b"\r\n",
+            b"GET /-/ HTTP/1.0\r\n\r\n", b"GET /-/ HTTP/1.1\r\nHost: a\r\nAuthorization: Basic \xff\r\n\r\n", b"GET /-/\xff HTTP/1.1\r\nHost: a\r\n\r\n",
+            b"GET /-/one/ HTTP/1.0\r\n" + basic + b"\r\n", b"GET /-/one/?after=%FF HTTP/1.1\r\nHost: a\r\n" + basic + b"\r\n", b"GET /-/%FF/ HTTP/1.1\r\nHost: a\r\n" + basic + b"\r\n",
+            signed("PUT", "/one/a") + b"Content-MD5: \xff\r\nContent-Length: 1\r\n\r\nx", signed("PUT", "/one/a") + b"Content-Type: \xff\r\nContent-Length: 1\r\n\r\nx",
+            signed("PUT", "/one/a?%FF=x") + b"Content-Length: 1\r\n\r\nx", signed("PUT", "/one/a") + b"x-amz-checksum-sha256: \xff\r\nContent-Length: 1\r\n\r\nx",
+        ):  # fmt: skip
+            status, _ = code_of(exchange(data))
+            self.assertIn(status, range(400, 500), data[:200])
+        # (a trailer's signature, after a chunk whose own is right)
+        head = signed("PUT", "/one/a", {"x-amz-decoded-content-length": "0", "x-amz-trailer": "x-amz-checksum-crc32"}, "STREAMING-AWS4-HMAC-SHA256-PAYLOAD-TRAILER")
+        secret = f"AWS4{endpoint.SECRET}".encode()
+        first, moment = re.search(rb"Signature=([0-9a-f]{64})", head)[1].decode(), re.search(rb"(?i)x-amz-date: (\S+)", head)[1].decode()
+        for word in (moment[:8], "us-east-1", "s3", "aws4_request"):
+            secret = hmac.new(secret, word.encode(), hashlib.sha256).digest()
+        text = "\n".join(["AWS4-HMAC-SHA256-PAYLOAD", moment, f"{moment[:8]}/us-east-1/s3/aws4_request", first, EMPTY, EMPTY])
+        chunk = hmac.new(secret, text.encode(), hashlib.sha256).hexdigest()
+        body = f"0;chunk-signature={chunk}\r\nx-amz-checksum-crc32:AAAAAA==\r\nx-amz-trailer-signature:".encode() + b"\xe9\r\n\r\n"
+        self.tells(403, "SignatureDoesNotMatch", head + f"Content-Length: {len(body)}\r\n\r\n".encode() + body)
+
     def test_who_asks(self):
         self.tells(403, "AccessDenied", b"GET / HTTP/1.1\r\nHost: a\r\n\r\n")
         self.tells(403, "InvalidAccessKeyId", signed("GET", "/", access="nobody") + b"\r\n")
         self.tells(403, "SignatureDoesNotMatch", signed("GET", "/", secret="wrong") + b"\r\n")
         self.tells(403, "SignatureDoesNotMatch", signed("PUT", "/one/a").replace(b"/one/a", b"/one/b") + b"Content-Length: 1\r\n\r\nx")
-        for header in (b"AWS carol:abc", b"AWS4-HMAC-SHA256", b"AWS4-HMAC-SHA256 Credential=/////, SignedHeaders=host, Signature=" + b"0" * 64, b"Basic xx", b"\xff\xfe"):
+        self.tells(400, "InvalidRequest", b"GET / HTTP/1.1\r\nHost: a\r\nAuthorization: AWS carol:abc\r\n\r\n")
+        for header in (b"AWS4-HMAC-SHA256", b"AWS4-HMAC-SHA256 Credential=/////, SignedHeaders=host, Signature=" + b"0" * 64, b"Basic xx", b"\xff\xfe"):
             self.tells(400, "AuthorizationHeaderMalformed", b"GET / HTTP/1.1\r\nHost: a\r\nx-amz-content-sha256: x\r\nAuthorization: " + header + b"\r\n\r\n")
 
     def test_dates_out_of_range(self):
@@ -145,13 +231,56 @@ class Malformed(unittest.TestCase):
             head = signed("POST", "/one/a?uploadId=1." + "0" * 24) + f"Content-Length: {len(body)}\r\n\r\n".encode()
             self.tells(400, "MalformedXML", head + body)
 
+    def test_changes_that_are_not_known(self):
+        """What might mean another operation, or a condition, is not done as the plain operation."""
+        S3.create_bucket(Bucket="empty")
+        S3.put_object(Bucket="two", Key="k", Body=b"kept")
+        upload = {"Bucket": "two", "Key": "k", "UploadId": S3.create_multipart_upload(Bucket="two", Key="k")["UploadId"]}
+        etag = S3.upload_part(**upload, PartNumber=1, Body=b"part")["ETag"]
+        in_parts = f"/two/k?uploadId={upload['UploadId']}"
+        empty, body = b"Content-Length: 0\r\n\r\n", b"Content-Length: 1\r\n\r\nx"
+        of_parts = f"<CompleteMultipartUpload><Part><PartNumber>1</PartNumber><ETag>{etag}</ETag></Part></CompleteMultipartUpload>".encode()
+        completion = b"Content-Length: %d\r\n\r\n" % len(of_parts) + of_parts
+        removal = lambda more: (f"Content-Length: {75 + len(more)}\r\n\r\n<Delete><Object><Key>k</Key>{more}</Object><Object><Key>l</Key></Object></Delete>").encode()
+        for method, path, headers, rest in [
+            ("PUT", "/two/k?renameObject", {}, empty), ("PUT", "/two/k?anything", {}, body), ("PUT", "/two/k?partNumber=1", {}, body), ("PUT", "/two/k?acl", {}, body), ("PUT", "/two?anything=1", {}, empty),
+            ("PUT", in_parts + "&partNumber=1&anything", {}, body), ("DELETE", "/two/k?anything", {}, empty), ("DELETE", "/two/k?partNumber=1", {}, empty), ("DELETE", "/two/k?versionId=7", {}, empty),
+            ("DELETE", "/empty?metadataTable", {}, empty), ("DELETE", "/empty?x-amz-anything", {}, empty), ("POST", "/two/k?restore", {}, empty), ("POST", "/two/k", {}, body), ("POST", "/two", {}, body),
+            ("POST", "/two/k?uploads&anything", {}, empty), ("POST", in_parts + "&anything", {}, completion), ("PUT", "/two/k", {"x-amz-rename-source": "l"}, empty), ("PUT", "/two/k", {"x-amz-anything": "l"}, body),
+            ("PUT", "/two/k", {"If-Unmodified-Since": "Mon, 01 Jan 2001 00:00:00 GMT"}, body), ("DELETE", "/two/k", {"If-Modified-Since": "Mon, 01 Jan 2001 00:00:00 GMT"}, empty),
+            ("DELETE", "/two/k", {"x-amz-if-match-size": "9"}, empty), ("DELETE", "/two/k", {"x-amz-if-match-last-modified-time": "Mon, 01 Jan 2001 00:00:00 GMT"}, empty),
+            ("PUT", in_parts + "&partNumber=1", {"If-Match": "*"}, body), ("DELETE", in_parts, {"If-None-Match": "*"}, empty), ("DELETE", "/empty", {"If-Match": "x"}, empty),
+            ("PUT", "/three", {"x-amz-bucket-object-lock-enabled": "true"}, empty), ("PUT", "/two/k", {"x-amz-server-side-encryption-aws-kms-key-id": "x"}, body),
+            ("POST", "/two?delete", {}, removal("<ETag>x</ETag>")), ("POST", "/two?delete", {}, removal("<Size>9</Size>")), ("POST", in_parts, {"x-amz-checksum-crc32": "AAAAAA=="}, completion),
+        ]:  # fmt: skip
+            told = code_of(exchange(signed(method, path, headers) + rest))
+            self.assertEqual(told, (501, "NotImplemented"), (method, path, headers))
+        for method, path in (("PUT", "/two/k"), ("DELETE", "/two/k"), ("DELETE", "/empty")):
+            self.tells(403, "AccessDenied", signed(method, path, {"x-amz-expected-bucket-owner": "dave"}) + body)
+        self.tells(405, "MethodNotAllowed", signed("PATCH", "/two/k") + body)
+        self.assertEqual(S3.get_object(Bucket="two", Key="k")["Body"].read(), b"kept")
+        self.assertEqual([each["Name"] for each in S3.list_buckets()["Buckets"]], ["empty", "one", "two"])
+        self.tells(400, "InvalidRequest", signed("POST", in_parts, {"x-amz-mp-object-size": "5"}) + completion)
+        self.assertEqual(code_of(exchange(signed("POST", in_parts, {"x-amz-mp-object-size": "4"}) + completion))[0], 200)
+        self.assertEqual(code_of(exchange(signed("PUT", "/two/k?x-id=PutObject&x-amz-sdk-checksum-algorithm=CRC32", {"x-amz-expected-bucket-owner": "carol"}) + body))[0], 200)
+        told = exchange(signed("GET", "/two/k", {"Range": "bytes=0-0", "If-Range": etag}) + b"\r\n")
+        self.assertTrue(told.startswith(b"HTTP/1.1 200") and told.endswith(b"\r\n\r\nx"), told)
+        self.assertEqual(code_of(exchange(signed("DELETE", "/two/k?x-id=DeleteObject&versionId=null", {"Connection": "close"}) + empty))[0], 204)
+        self.assertEqual(code_of(exchange(signed("DELETE", "/empty", {"Connection": "close"}) + empty))[0], 204)
+
+    def test_long_xml(self):
+        """Of many texts with elements between them: in time that goes with its length."""
+        body, begun = b"<Delete>" + b"<a/>xxxxxxxxxxxxxxxxxxxxxxxxxxxxxxxxxxxxxx" * 95_000 + b"</Delete>", self.spent()
+        self.tells(400, "MalformedXML", signed("POST", "/one?delete", access="carol.one") + f"Content-Length: {len(body)}\r\n\r\n".encode() + body)
+        self.assertLess(self.spent() - begun, 5)
+
     def test_odd_words(self):
         for method, path, status, code in [
             ("GET", "/one/a%FF", 400, "InvalidURI"), ("GET", "/one?prefix=%FF", 400, "InvalidArgument"), ("GET", "/one?max-keys=-1", 400, "InvalidArgument"),
             ("GET", "/one?max-keys=" + "9" * 4_000, 400, "InvalidArgument"), ("GET", "/one?list-type=2&continuation-token=%C3%BC", 400, "InvalidArgument"),
             ("GET", "/one/" + quote("x" * 1_025), 400, "KeyTooLongError"), ("GET", "/UPPER/a", 400, "InvalidBucketName"), ("GET", "/.s3/bucket/one", 400, "InvalidBucketName"),
             ("PUT", "/one/a?partNumber=10001&uploadId=1." + "0" * 24, 400, "InvalidArgument"), ("PUT", "/one/a?partNumber=1&uploadId=..x", 404, "NoSuchUpload"),
-            ("PUT", "/one/a?partNumber=1&uploadId=99." + "0" * 24, 404, "NoSuchUpload"), ("PATCH", "/one/a", 405, "MethodNotAllowed"), ("GET", "/one/a?tagging", 501, "NotImplemented"),
+            ("PUT", "/one/a?partNumber=1&uploadId=99." + "0" * 24, 404, "NoSuchUpload"), ("PATCH", "/one/a", 405, "MethodNotAllowed"), ("GET", "/one/a?torrent", 501, "NotImplemented"), ("PUT", "/one/a?renameObject", 501, "NotImplemented"), ("DELETE", "/one?metadataTable", 501, "NotImplemented"),
         ]:  # fmt: skip
             self.tells(status, code, signed(method, path) + b"Content-Length: 0\r\n\r\n")
         for source in ("", "x", "/one/%FF", "/one/a?versionId=7"):

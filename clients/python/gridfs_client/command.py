@@ -17,7 +17,7 @@ from . import __version__
 from .answers import PlanTold
 from .asking import SILENCE, ask_all, ask_plan, why_unanswered
 from .carriers import Carrier
-from .errors import BadFile, BadSettings, ClientError, Refused, Silent, Skipped, Unanswered
+from .errors import BadFile, BadName, BadSettings, ClientError, Refused, Silent, Skipped, Unanswered
 from .fleet import MAP_NAME, FleetFiles
 from .fleet_map import read_map
 from .grid import Nodes, listed
@@ -191,6 +191,8 @@ def tell(args: argparse.Namespace, value: object, text: str | None = None) -> No
 
 
 def put(opened: Opened | OpenedFleet, args: argparse.Namespace) -> None:
+    if isinstance(opened, OpenedFleet) and args.name == MAP_NAME:
+        raise BadName(f"{MAP_NAME}: the fleet's copy of its map, which gridfs-fleet puts")
     names = opened.names()
     with content_of(args.path) as content:
         entry = names.put(args.name, content)

@@ -33,8 +33,8 @@ examples:
   gridfs-fleet --map fleet status                   of each grid its slices, nodes and room, and how far moves are
 
 The settings of a grid are a file as gridfs-client reads it, beside the map. A move may be killed at any moment: `spread` or `move` without words ends
-it. An older map is as right as the last one, if it names all grids: so copy the map and the settings of a new grid to all clients before slices are moved to
-it. A copy of the last one is in the fleet, under the name `.fleet`."""
+it. Clients may have an older map, if it names all grids: so copy the map and the settings of a new grid to all clients before slices are moved to it. A copy
+of the last one is in the fleet, under the name `.fleet`. Moves want the last one: a move from where other moves have gone on ends with status 2."""
 
 
 def parser() -> argparse.ArgumentParser:
@@ -59,7 +59,7 @@ def parser() -> argparse.ArgumentParser:
 
 def lock_beside(path: str) -> IO[str]:
     try:
-        return open(path + ".lock", "w", encoding="ascii")
+        return open(os.path.realpath(path) + ".lock", "w", encoding="ascii")
     except OSError as fault:
         raise OSError(fault.errno, fault.strerror, path) from None
 
@@ -76,7 +76,10 @@ def alone(path: str) -> Iterator[None]:
 
 
 def begin(begun: FleetMap, settings: Settings) -> FleetMap:
-    """Writes the map with moves that begin. (What hinders it from coming into the fleet hinders the moves, which say so.)"""
+    """Writes the map with moves that begin, once their grids say that they may. (What hinders it from coming into the fleet hinders the moves, which say so.)"""
+    with closing(OpenGrids(begun, settings)) as grids:
+        for move in begun.moves:
+            Mover(begun, move, grids.session, grids.layout, lambda change: change(begun)).expect_sense()
     begun.save()
     publish(begun, settings)
     return begun
@@ -118,6 +121,13 @@ def end_moves(now: FleetMap, settings: Settings) -> FleetMap:
     while under_way := moves_to_end(moves.now):
         moves.end(under_way)
     return moves.now
+
+
+def expect_no_names(fleet_map: FleetMap, grid: str, settings: Settings) -> None:
+    """BadSettings where a grid has names: they would be taken for those of the fleet. It may also be one of its grids, by other settings."""
+    with closing(OpenGrids(fleet_map, settings)) as grids:
+        if found := grids.files().grid(grid).names():
+            raise BadSettings(f"{grid}: it has names already, {found[0].name!r} is one: is it a grid of the map, by other settings?")
 
 
 @dataclass
@@ -187,7 +197,9 @@ def run(words: list[str]) -> int:
             if args.grid in now.grids:
                 raise BadSettings(f"{args.grid}: there is such a grid")
             settings.of_grid(args.map, args.grid, args.settings)
-            replace(now, grids=now.grids | {args.grid: args.settings}).save()
+            then = replace(now, grids=now.grids | {args.grid: args.settings})
+            expect_no_names(then, args.grid, settings)
+            then.save()
         elif args.word == "move" and args.slices:
             first, _, last = args.slices.partition("-")
             if not (first.isdecimal() and last.isdecimal() and args.grid):

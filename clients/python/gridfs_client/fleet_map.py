@@ -7,8 +7,9 @@
     moves 2 0-16383 east west             a move that was begun
     clears 1 32768-65535 east west        a move whose slices are at the new grid: its lines at the old one have yet to go
 
-An older map is as right as the last one, as long as the grids that it names are there. It says where to begin, and signposts say the rest. So a copy
-of the map stands in the fleet itself, under the name `.fleet`.
+To look for names an older map is as right as the last one, as long as the grids that it names are there. It says where to begin, and signposts say the
+rest. So a copy of the map stands in the fleet itself, under the name `.fleet`. Whoever may put names could put that one: of it the ranges and moves count,
+and which settings a grid has is said by the file alone.
 """
 
 import os
@@ -67,7 +68,7 @@ class Move:
 
 @dataclass(frozen=True)
 class FleetMap:
-    """BadSettings where the ranges don't have each slice once, or a grid is named that isn't there."""
+    """BadSettings where the ranges don't have each slice once, a grid is named that isn't there, or a move doesn't go with the ranges."""
 
     grids: dict[str, str]
     ranges: tuple[Range, ...]
@@ -87,9 +88,23 @@ class FleetMap:
             at = each.last + 1
         if at != SLICES:
             raise BadSettings(f"{self.path}: the slices from {at} on have no grid")
-        for move in self.moves:
+        for place, move in enumerate(self.moves):
             if not {move.source, move.target} <= self.grids.keys():
                 raise BadSettings(f"{self.path}: move {move.number}: no such grid")
+            if not self.goes_with_ranges(move):
+                raise BadSettings(f"{self.path}: move {move.number} does not go with the slices above")
+            for other in self.moves[:place]:
+                if move.number == other.number or move.first <= other.last and other.first <= move.last:
+                    raise BadSettings(f"{self.path}: the moves {other.number} and {move.number} have one number, or some slices in common")
+
+    def goes_with_ranges(self, move: Move) -> bool:
+        """Whether its slices are where it says: at the old grid by an earlier move, or at the new one by this move."""
+        if move.source == move.target or not 0 <= move.first <= move.last < SLICES or move.number < 1:
+            return False
+        here = [each for each in self.ranges if each.first <= move.last and move.first <= each.last]
+        if move.is_there:
+            return all((each.grid, each.move) == (move.target, move.number) for each in here)
+        return all(each.grid == move.source and each.move < move.number for each in here)
 
     def range_of(self, slice_number: int) -> Range:
         return next(each for each in self.ranges if each.first <= slice_number <= each.last)
@@ -111,6 +126,13 @@ class FleetMap:
     def age(self) -> tuple[int, int]:
         """Greater of a later map: each move changes it three times, and grids are added."""
         return 3 * self.last_move - sum(1 if move.is_there else 2 for move in self.moves), len(self.grids)
+
+    def by_settings_of(self, local: "FleetMap") -> "FleetMap":
+        """This map, which was found among names, by the settings that the file has of the grids: who may write names must choose no file of this machine.
+        BadSettings where the file lacks a grid."""
+        if missing := sorted(self.grids.keys() - local.grids.keys()):
+            raise BadSettings(f"{self.path}: it has the grid {missing[0]}, and {local.path} lacks it: get a later map, and the settings of that grid")
+        return replace(self, grids=local.grids, path=local.path)
 
     # What a mover does with it
 
@@ -180,13 +202,15 @@ class FleetMap:
         return "".join(line + "\n" for line in lines)
 
     def save(self) -> None:
-        """Puts the map in the place of the one in its file: whoever reads that has one or the other, also behind a loss of power."""
-        with open(self.path + ".new", "w", encoding="ascii") as out:
+        """Puts the map in the place of the one in its file, or in that to which a link of this path leads: whoever reads it has one or the other, also
+        behind a loss of power."""
+        path = os.path.realpath(self.path)
+        with open(path + ".new", "w", encoding="ascii") as out:
             out.write(self.text())
             out.flush()
             os.fsync(out.fileno())
-        os.replace(self.path + ".new", self.path)
-        folder = os.open(os.path.dirname(os.path.abspath(self.path)), os.O_RDONLY)
+        os.replace(path + ".new", path)
+        folder = os.open(os.path.dirname(path), os.O_RDONLY)
         try:
             os.fsync(folder)
         finally:
@@ -211,6 +235,8 @@ def parse_map(text: str, path: str = "") -> FleetMap:
             raise BadSettings(f"{path}: {line!r} has no form")
         words = found.groups()
         if kind == "grid":
+            if words[0] in grids:
+                raise BadSettings(f"{path}: the grid {words[0]} has two lines")
             grids[words[0]] = words[1]
         elif kind == "slices":
             ranges.append(Range(int(words[0]), int(words[1]), int(words[2]), words[3]))

@@ -1,7 +1,8 @@
 """A folder of this machine and the names with a prefix, of which one is made like the other.
 
 The name of a file is the prefix and the file's path from the folder on. What is the same on both sides, by size and SHA-256, is not moved. What
-can't be mirrored is skipped and told, and nothing is removed because of it.
+can't be mirrored is skipped and told, and nothing is removed because of it. Words beside a content, as those of S3, are kept with its file in an attribute, and count
+as long as the file has that content.
 """
 
 import abc
@@ -20,10 +21,11 @@ from typing import TypeVar
 from .errors import BadFile, BadName, ClientError, Damaged, NoRoom, NoSuchName, Replaced, SourceChanged
 from .local import UNFINISHED, to_target
 from .names import Entry, NamedFiles
-from .pages import check_name
+from .pages import check_name, check_words
 
 GRID = "grid:"  # what a prefix begins with, so that no folder is taken for one
 LINK, NO_FILE = "a symbolic link is not followed", "it is not a regular file"
+WORDS = "user.gridfs"  # the attribute of a file: SHA-256 of the content whose words they are, and the words
 Result = TypeVar("Result")
 OpenNames = Callable[[str], AbstractContextManager[NamedFiles]]
 
@@ -55,6 +57,7 @@ class Report:
     same: int = 0
     skipped: dict[str, str] = field(default_factory=dict)
     status: int = 0
+    wordless: int = 0  # files beside which there could be no words
 
 
 # The folder
@@ -81,6 +84,30 @@ def is_same(path: str, entry: Entry) -> bool:
             return hashlib.file_digest(file, "sha256").hexdigest() == entry.sha256
         except OSError as fault:
             raise BadFile(fault.strerror or str(fault)) from None
+
+
+def words_of(file: io.BufferedReader) -> str:
+    """The words that are kept with a file's content, which is read for that; none where it has another content by now."""
+    try:
+        digest, _, words = os.getxattr(file.fileno(), WORDS).decode().partition(" ")
+        check_words(words)
+    except (OSError, ValueError):
+        return ""
+    is_its_own = hashlib.file_digest(file, "sha256").hexdigest() == digest
+    file.seek(0)
+    return words if is_its_own else ""
+
+
+def keep_words(path: str, words: str) -> bool:
+    """Keeps words with a file; whether that could be."""
+    try:
+        with open_regular(path) as file:
+            if words_of(file) != words:
+                digest = hashlib.file_digest(file, "sha256").hexdigest()
+                os.setxattr(file.fileno(), WORDS, f"{digest} {words}".encode())
+        return True
+    except (OSError, BadFile):
+        return False
 
 
 def files_in(folder: str, skip: Callable[[str, ClientError], None]) -> Iterator[str]:
@@ -258,9 +285,14 @@ class ToGrid(Mirror):
         if name not in entries:
             return True
         path = self.local(self.files[name])
-        same = self.tried(path, lambda: is_same(path, entries[name]))
+        same = self.tried(path, lambda: is_same(path, entries[name]) and self.has_no_others(path, entries[name].words))
         self.report.same += same is True
         return same is False
+
+    def has_no_others(self, path: str, words: str) -> bool:
+        """Whether no other words than these are kept with a file."""
+        with open_regular(path) as file:
+            return words_of(file) in ("", words)
 
     def is_extra(self, name: str) -> bool:
         path = os.fsdecode(name.removeprefix(self.prefix).encode())
@@ -269,7 +301,8 @@ class ToGrid(Mirror):
     def put(self, files: NamedFiles, name: str) -> bool:
         def call() -> bool:
             with open_regular(path) as file:
-                files.put(name, file)
+                words = words_of(file)
+                files.put(name, file, lambda: words)
             return True
 
         path = self.local(self.files[name])
@@ -297,6 +330,8 @@ class ToFolder(Mirror):
         if self.removes and kind_of(self.folder) is not None:
             for path in [path for path in files_in(self.folder, lambda path, fault: self.skip(self.local(path), fault)) if self.is_extra(path, entries)]:
                 self.remove(path)
+        if self.report.wordless:
+            self.complain(f"{self.report.wordless} files are without the words beside their contents, as types and times of S3: this folder keeps none")
         return self.report
 
     def find_paths(self, entries: dict[str, Entry]) -> dict[str, str]:
@@ -319,6 +354,8 @@ class ToFolder(Mirror):
             return True
         same = self.tried(path, lambda: is_same(path, entry))
         self.report.same += same is True
+        if same and not self.is_dry:
+            self.report.wordless += not keep_words(path, entry.words)
         return same is False
 
     def is_extra(self, path: str, entries: dict[str, Entry]) -> bool:
@@ -332,7 +369,8 @@ class ToFolder(Mirror):
             make_folders(self.folder, self.paths[name])
             if kind_of(path) not in (None, stat.S_IFREG):
                 raise BadFile(NO_FILE)
-            to_target(path, lambda target: files.get_to(name, target))
+            entry = to_target(path, lambda target: files.get_to(name, target))
+            self.report.wordless += not keep_words(path, entry.words)
             return True
 
         path = self.local(self.paths[name])

@@ -16,9 +16,11 @@ from collections.abc import Callable, Collection
 from contextlib import AbstractContextManager, suppress
 
 from . import core, ways
+from .answers import Tag
 from .buckets import Bucket, Held, held_of
 from .contents import Content, Inline, InSlots, Joined
-from .errors import Damaged, NoRoom, SessionTaken
+from .core import Version
+from .errors import BadSettings, Damaged, NoRoom, Refused, SessionTaken
 from .fleet import FleetFiles, ground_of, sign, spool
 from .fleet_map import FleetMap, Move
 from .grid import listed
@@ -57,13 +59,79 @@ class Mover:
 
     def run(self) -> FleetMap:
         """Ends the move; the map behind it."""
+        self.expect_sense()
         if not self.move.is_there:
             self.sign_all()
+            self.expect_latest_map()  # (a mover by another copy of the map may have begun meanwhile)
             self.copy_all()
             self.map = self.change_map(lambda now: now.come(self.move))
         self.clear_all()
         self.map = self.change_map(lambda now: now.ended(self.move))
         return self.map
+
+    # What the grids themselves say of it, before anything is changed
+
+    def expect_sense(self) -> None:
+        """BadSettings where the map is older than what pages show, where both grids are the same one, or where names that are to be cleared were not copied."""
+        self.expect_two_grids()
+        if self.move.is_there:
+            self.expect_copies()
+        else:
+            self.expect_latest_map()
+
+    def expect_two_grids(self) -> None:
+        """BadSettings where the settings of both grids lead to the same one: there a page of one shows each time what was just written at the other."""
+        for _ in range(2):  # (once more, should the other grid have been written to by chance)
+            with self.files(self.move.source) as source:
+                place = source.layout.page(source.me, 0)
+                before = self.tag_at(self.move.target, place)
+                bucket = source.writer.bucket(0)
+                bucket.look(own=True)
+                source.writer.change(bucket, core.changed(bucket.client, None, keeps=bucket.keeps))
+                written = source.session.read(*place).tag
+            after = self.tag_at(self.move.target, place)
+            if before == after or after != written:
+                return
+        raise BadSettings(f"move {self.move.number}: the settings of {self.move.source} and of {self.move.target} lead to the same grid")
+
+    def tag_at(self, grid: str, place: tuple[int, int]) -> Tag | None:
+        with self.files(grid) as files:
+            try:
+                return files.session.read(*place).tag
+            except Refused:
+                return None
+
+    def expect_latest_map(self) -> None:
+        """BadSettings where pages of the old grid show a move of these slices that the map doesn't know."""
+        ranges = [each for each in self.map.ranges if each.first <= self.move.last and self.move.first <= each.last]
+        with self.files(self.move.source) as files:
+            shown = {each for bucket, _ in files.buckets() for known in bucket.client.seen for each in known.page.signposts}
+        for signpost in sorted(shown - {self.move.signpost}, key=lambda each: each.move):
+            for each in ranges:
+                first, last = max(signpost.first, each.first, self.move.first), min(signpost.last, each.last, self.move.last)
+                if first <= last and signpost.move > each.move:
+                    told = f"the map is older than move {signpost.move}, by which the slices {first}-{last} went on to {signpost.grid}"
+                    raise BadSettings(f"{self.map.path}: {told}: get the last one, of which a copy is in the fleet as .fleet")
+
+    def expect_copies(self) -> None:
+        """BadSettings where a name of the slices stands at the old grid alone, or there with a greater line: nothing is cleared then."""
+        old, new = self.greatest(self.move.source), self.greatest(self.move.target)
+        lacking = sorted(name for name, version in old.items() if name not in new or new[name] < version)
+        if lacking:
+            told = f"{len(lacking)} names of move {self.move.number} are not at {self.move.target}, {lacking[0]!r} is one"
+            raise BadSettings(f"{self.map.path}: {told}: let the map say that it moves, not that it clears")
+
+    def greatest(self, grid: str) -> dict[str, Version]:
+        """Of each name of the slices that a grid shows, removed ones too, its greatest version there."""
+        found = dict[str, Version]()
+        with self.files(grid) as files:
+            for bucket, _ in files.buckets():
+                for session, known in enumerate(bucket.client.seen, 1):
+                    for line in known.page.lines:
+                        if self.move.has(slice_of(line.name)):
+                            version = core.version_of(line, session, grid)
+                            found[line.name] = max(version, found.get(line.name, version))
+        return found
 
     def sessions(self, grid: str) -> range:
         return range(1, self.layout_of(grid).sessions + 1)

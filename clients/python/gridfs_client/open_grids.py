@@ -11,6 +11,7 @@ from .fleet import MAP_NAME, FleetFiles, in_threads
 from .fleet_map import FleetMap, parse_map
 from .grid import listed
 from .layout import Layout, layout_of
+from .local import complain
 from .names import NamedFiles, Progress
 from .opening import AGAIN, OpenSessions
 from .sessions import Session
@@ -112,14 +113,16 @@ class OpenGrids:
             return opened.files(self.progress, ground)
 
     def with_latest_map(self) -> FleetFiles:
-        """The files by the fleet's own copy of the map, where that is a later one. Where the grid that has it is silent, this one is as right."""
+        """The files by the fleet's own copy of the map, where that is a later one. Where the grid that has it is silent, this one is as right; so it is where
+        what stands there is no map of these grids, which is told: whoever may put names could have put it."""
         files = self.files()
         try:
-            latest = parse_map(files.get(MAP_NAME)[0].decode("ascii"), self.map.path)
+            latest = parse_map(files.get(MAP_NAME)[0].decode("ascii"), MAP_NAME).by_settings_of(self.map)
         except (NoSuchName, Unanswered, CarrierFault):
             return files
-        except UnicodeDecodeError:
-            raise BadSettings(f"{MAP_NAME}: no map") from None
+        except (BadSettings, UnicodeDecodeError) as fault:
+            complain(f"the fleet's copy of the map is passed over: {fault if isinstance(fault, BadSettings) else f'{MAP_NAME}: no map of a fleet'}")
+            return files
         if latest.age <= self.map.age:
             return files
         files.close()

@@ -35,7 +35,7 @@ SETTINGS: dict[str, Setting] = {
     "hosts": Setting(None, "FILE", "where each node is: links to the nodes, in place of a broker"),
     "certificate": Setting(None, "FILE", "with hosts, the tenant's certificate"),
     "key": Setting(None, "FILE", "with hosts, its key; others may not read it"),
-    "socket": Setting(None, "PATH", "a socket of examples/grid, in place of a broker"),
+    "socket": Setting(None, "PATH", "a socket of ./grid, in place of a broker"),
     "via": Setting(None, "COMMAND", "a command that carries lines TO FROM BODY, in place of a broker"),
     "map": Setting(None, "FILE", "a map of several grids, which has the settings of each (gridfs-fleet), in place of a tenant and a broker"),
     "session": Setting("all", "N|N-M|all", "the first of these sessions that no other command here uses and whose home answers"),

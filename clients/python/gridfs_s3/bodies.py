@@ -1,0 +1,300 @@
+"""Bodies of requests: read as they come, and looked at on their way. None is kept."""
+
+import asyncio
+import base64
+import functools
+import hashlib
+import hmac
+import re
+import time
+import zlib
+from collections.abc import AsyncIterator, Callable, Mapping
+from typing import Any
+
+import crcmod
+from aiohttp.http_exceptions import BadHttpMessage
+from aiohttp.streams import StreamReader
+
+from .bounds import BODY_PIECE, IDLE, Spool, is_too_slow
+from .errors import S3Error
+from .requests import Asked
+from .signing import DIGEST, UNSIGNED, Signed
+
+LONGEST_LINE, MOST_TRAILERS = 4_096, 16
+CHUNKED = re.compile(r"STREAMING-(AWS4-HMAC-SHA256|UNSIGNED)-PAYLOAD(-TRAILER)?")
+CHUNK = re.compile(rb"([0-9a-fA-F]{1,8})(?:;chunk-signature=([0-9a-f]{64}))?")
+
+
+class Crc32:
+    """CRC-32 with the calls of hashlib."""
+
+    def __init__(self) -> None:
+        self.value = 0
+
+    def update(self, data: bytes) -> None:
+        self.value = zlib.crc32(data, self.value)
+
+    def digest(self) -> bytes:
+        return self.value.to_bytes(4, "big")
+
+
+class Crc:
+    """A CRC of crcmod with the calls of hashlib."""
+
+    def __init__(self, polynomial: int, bits: int):
+        self.length, self.value = bits // 8, 0
+        self.go_on = crc_of(polynomial, bits)
+
+    def update(self, data: bytes) -> None:
+        self.value = self.go_on(data, self.value)
+
+    def digest(self) -> bytes:
+        return self.value.to_bytes(self.length, "big")
+
+
+@functools.cache
+def crc_of(polynomial: int, bits: int) -> Callable[[bytes, int], int]:
+    found: Callable[[bytes, int], int] = crcmod.mkCrcFun(polynomial, initCrc=0, rev=True, xorOut=(1 << bits) - 1)
+    return found
+
+
+NO_CHECKSUMS = ("x-amz-checksum-algorithm", "x-amz-checksum-mode", "x-amz-checksum-type")
+CHECKSUMS: dict[str, Callable[[], Any]] = {
+    "x-amz-checksum-crc32": Crc32,
+    "x-amz-checksum-crc32c": lambda: Crc(0x11EDC6F41, 32),
+    "x-amz-checksum-crc64nvme": lambda: Crc(0x1AD93D23594C93659, 64),
+    "x-amz-checksum-sha1": hashlib.sha1,
+    "x-amz-checksum-sha256": hashlib.sha256,
+}
+
+
+class Checks:
+    """What a body is said to be: looked at with every byte of it, and judged at its end."""
+
+    def __init__(self, headers: Mapping[str, str], payload: str):
+        self.md5, self.size = hashlib.md5(), 0
+        self.wanted_md5 = self.of_base64(headers.get("content-md5"), 16)
+        self.wanted_sha256 = payload if DIGEST.fullmatch(payload) else None
+        self.sha256 = hashlib.sha256() if self.wanted_sha256 else None
+        wanted = {name: value for name, value in headers.items() if name.startswith("x-amz-checksum-") and name not in NO_CHECKSUMS}
+        trailers = [name.strip().lower() for name in headers.get("x-amz-trailer", "").split(",") if name.strip()]
+        for name in [*wanted, *trailers]:
+            if name not in CHECKSUMS:
+                raise S3Error("NotImplemented", f"The checksum {name} is not known here; known are {', '.join(CHECKSUMS)}.")
+        self.sums = {name: CHECKSUMS[name]() for name in {*wanted, *trailers}}
+        self.wanted, self.trailers = wanted, trailers
+
+    def of_base64(self, text: str | None, length: int) -> bytes | None:
+        if text is None:
+            return None
+        try:
+            found = base64.b64decode(text, validate=True)
+        except ValueError:
+            found = b""
+        if len(found) != length:
+            raise S3Error("InvalidDigest")
+        return found
+
+    def update(self, data: bytes) -> None:
+        self.size += len(data)
+        for each in (self.md5, self.sha256, *self.sums.values()):
+            if each is not None:
+                each.update(data)
+
+    def finish(self, size: int | None, trailers: Mapping[str, str]) -> None:
+        if size is not None and self.size != size:
+            raise S3Error("IncompleteBody")
+        if self.wanted_md5 is not None and self.wanted_md5 != self.md5.digest():
+            raise S3Error("BadDigest")
+        if self.sha256 and self.sha256.hexdigest() != self.wanted_sha256:
+            raise S3Error("XAmzContentSHA256Mismatch")
+        for name in self.trailers:
+            if name not in trailers:
+                raise S3Error("InvalidRequest", f"The trailer {name} is missing.")
+        for name, value in {**self.wanted, **{each: trailers[each] for each in self.trailers}}.items():
+            if base64.b64encode(self.sums[name].digest()).decode() != value.strip():
+                raise S3Error("BadDigest", f"The content has another {name}.")
+
+
+class Body:
+    """The content of a request, as long as `told_size`."""
+
+    def __init__(self, stream: StreamReader, headers: Mapping[str, str], signed: Signed):
+        self.stream, self.signed = stream, signed
+        self.checks = Checks(headers, signed.payload)
+        self.trailers: dict[str, str] = {}
+        payload, chunked = signed.payload, CHUNKED.fullmatch(signed.payload)
+        length = headers.get("x-amz-decoded-content-length" if chunked else "content-length")
+        if length is None:
+            raise S3Error("MissingContentLength")
+        if not re.fullmatch(r"[0-9]{1,19}", length):
+            raise S3Error("InvalidArgument", "The length of the content is no number.")
+        if not chunked and not DIGEST.fullmatch(payload) and payload != UNSIGNED:
+            raise S3Error("InvalidArgument", "x-amz-content-sha256 is malformed.")
+        self.told_size = int(length)
+        self.is_signed = bool(chunked and chunked[1] != "UNSIGNED")
+        self.parts = self.chunks() if chunked else self.plain()
+        self.ahead = bytearray()
+        self.is_over = False
+        self.begun, self.came = 0.0, 0
+
+    async def next(self) -> bytes | None:
+        """Some bytes that came; None at the end, once all was found right but the digests. 400 RequestTimeout where they don't come, or too slowly."""
+        self.begun = self.begun or time.monotonic()
+        try:
+            data = await asyncio.wait_for(anext(self.parts, None), IDLE)
+        except asyncio.TimeoutError:
+            raise S3Error("RequestTimeout") from None
+        self.came += len(data or b"")
+        if is_too_slow(time.monotonic() - self.begun, self.came):
+            raise S3Error("RequestTimeout", "The content comes too slowly.")
+        return data
+
+    async def read(self, length: int) -> bytes:
+        """So many bytes, fewer only at the end."""
+        while len(self.ahead) < length and not self.is_over:
+            data = await self.next()
+            if data is None:
+                self.is_over = True
+            else:
+                self.ahead += data
+        found = bytes(memoryview(self.ahead)[:length])
+        del self.ahead[:length]
+        return found
+
+    def take(self, data: bytes) -> bytes:
+        """Looks at bytes that were read, in their order; nothing at the end, when all is judged."""
+        if data:
+            self.checks.update(data)
+        else:
+            self.checks.finish(self.told_size, self.trailers)
+        return data
+
+    async def all(self, most: int) -> bytes:
+        """The whole body, where it is no longer than `most`."""
+        if self.told_size > most:
+            raise S3Error("EntityTooLarge")
+        data = await self.read(self.told_size + 1)
+        self.take(data)
+        if data:
+            self.take(b"")
+        return data
+
+    async def spooled(self) -> Spool:
+        """The whole body in a file, judged."""
+        spool = Spool()
+        try:
+            while data := self.take(await self.read(4 * BODY_PIECE)):
+                await asyncio.get_running_loop().run_in_executor(None, spool.add, data)
+        except BaseException:
+            spool.close()
+            raise
+        return spool
+
+    # Forms of bodies
+
+    async def plain(self) -> AsyncIterator[bytes]:
+        size = 0
+        async for data in self.stream.iter_any():
+            size += len(data)
+            if size > self.told_size:
+                raise S3Error("IncompleteBody")
+            yield data
+
+    async def line(self) -> bytes:
+        try:
+            found = await self.stream.readuntil(b"\n")
+        except (ValueError, BadHttpMessage):  # (a line too long is of the second kind)
+            raise S3Error("IncompleteBody") from None
+        if len(found) > LONGEST_LINE or not found.endswith(b"\r\n"):
+            raise S3Error("IncompleteBody", "The content is not in the chunks that the request says.")
+        return found[:-2]
+
+    async def chunks(self) -> AsyncIterator[bytes]:
+        before, size = self.signed.signature, 0
+        while True:
+            found = CHUNK.fullmatch(await self.line())
+            if not found or bool(found[2]) != self.is_signed:
+                raise S3Error("IncompleteBody", "The content is not in the chunks that the request says.")
+            left, digest = int(found[1], 16), hashlib.sha256()
+            size += left
+            if size > self.told_size:
+                raise S3Error("IncompleteBody")
+            is_last = not left
+            while left:
+                data = await self.stream.read(min(left, 1 << 18))
+                if not data:
+                    raise S3Error("IncompleteBody")
+                left -= len(data)
+                if self.is_signed:
+                    digest.update(data)
+                yield data
+            if self.is_signed:
+                before = self.expect(self.signed.chunk_signature(before, digest.hexdigest()), (found[2] or b"").decode())
+            if is_last:
+                await self.take_trailers(before)
+                return
+            if await self.line():
+                raise S3Error("IncompleteBody", "The content is not in the chunks that the request says.")
+
+    def expect(self, right: str, told: str) -> str:
+        if not hmac.compare_digest(right.encode(), told.encode()):
+            raise S3Error("SignatureDoesNotMatch", "The signature of a chunk is wrong.")
+        return right
+
+    async def take_trailers(self, before: str) -> None:
+        """Reads the lines after the last chunk."""
+        lines = []
+        while not self.stream.at_eof() and (line := (await self.line()).decode("latin1")):
+            name, _, value = line.partition(":")
+            lines.append((name.strip().lower(), value.strip()))
+            if len(lines) > MOST_TRAILERS:
+                raise S3Error("IncompleteBody")
+        self.trailers = dict(lines)
+        if self.is_signed and self.checks.trailers:
+            told = self.trailers.pop("x-amz-trailer-signature", "")
+            text = "".join(f"{name}:{value}\n" for name, value in lines if name != "x-amz-trailer-signature")
+            self.expect(self.signed.chunk_signature(before, hashlib.sha256(text.encode()).hexdigest(), "TRAILER"), told)
+
+
+def body_of(asked: Asked) -> Body:
+    """The body of a request. 411 MissingContentLength; 400 InvalidArgument, InvalidDigest."""
+    if not asked.request.can_read_body and "content-length" not in asked.headers and "transfer-encoding" not in asked.headers:
+        asked.headers.setdefault("content-length", "0")
+    return Body(asked.request.content, asked.headers, asked.signed)
+
+
+class Whole:
+    """A content that is there already, as one that is read by a thread."""
+
+    def __init__(self, data: bytes, md5: str):
+        self.data, self.told_size, self.md5, self.at = data, len(data), md5, 0
+
+    def rewind(self) -> None:
+        self.at = 0
+
+    def read(self, length: int) -> bytes:
+        found = self.data[self.at : self.at + length]
+        self.at += len(found)
+        return found
+
+    def digest(self) -> str:
+        return self.md5
+
+
+class Spooled:
+    """A content that is in a file already."""
+
+    def __init__(self, spool: Spool, md5: str):
+        self.spool, self.told_size, self.md5, self.at = spool, spool.size, md5, 0
+
+    def rewind(self) -> None:
+        self.at = 0
+
+    def read(self, length: int) -> bytes:
+        found = self.spool.read(self.at, length)
+        self.at += len(found)
+        return found
+
+    def digest(self) -> str:
+        return self.md5

@@ -1,0 +1,87 @@
+"""What one connection, one access key, one signed URL and all of them may hold at a time: bytes, seconds and places. What more comes waits, or is refused.
+
+A body is taken whole before a session works for it, and an answer is given from where a session has put it. So whoever is slow holds a file, and no session:
+others' requests do not wait for him.
+"""
+
+import asyncio
+import os
+import tempfile
+from collections.abc import AsyncIterator
+from contextlib import asynccontextmanager, nullcontext
+
+from .errors import S3Error
+from .requests import Asked
+
+IN_URL = "X-Amz-Signature"
+
+# Of a connection
+MOST_HEAD = 1 << 17  # bytes of a request's head
+HEAD_PIECE, BODY_PIECE = 1 << 12, 1 << 16  # bytes that are looked at before it is seen how many requests they were
+MOST_AHEAD = 8  # requests of one connection that wait for those before them
+FIRST = 60.0  # seconds in which the first head of a connection has to come
+MOST_CONNECTIONS = 2_048  # with more the oldest one ends on which nothing is asked for now
+
+# Of bodies and answers
+IN_MEMORY = 1 << 16  # bytes up to which they are held in memory
+LONG = 1 << 20  # bytes from which on they want a place
+IDLE = 60.0  # seconds in which the next bytes have to come, or to be taken
+LEAST_RATE, GRACE = 4_096, 60.0  # bytes a second that have to come, or to be taken, on the whole; and seconds besides
+PLACES, OF_A_KEY, OF_A_URL = 64, 32, 4  # of long ones that are under way: in all, of an access key, of a signed URL
+LEFT = 64 << 20  # bytes that the disk keeps free
+IN_HAND = 32  # contents of up to a MiB that are copied, and documents that are read, at a time
+
+
+def is_too_slow(seconds: float, size: int) -> bool:
+    return seconds > GRACE + size / LEAST_RATE
+
+
+class Places:
+    """Places of long bodies and answers. Whoever waits for one holds nothing else, and is one of those who wait for the same URL or key."""
+
+    def __init__(self) -> None:
+        self.all, self.taken = asyncio.Semaphore(PLACES), dict[str, tuple[asyncio.Semaphore, int]]()
+
+    @asynccontextmanager
+    async def one(self, asked: Asked) -> AsyncIterator[None]:
+        async with self.share(f"key {asked.signed.key.access}", OF_A_KEY):
+            async with self.share(f"url {asked.query[IN_URL]}", OF_A_URL) if IN_URL in asked.query else nullcontext(), self.all:
+                yield
+
+    @asynccontextmanager
+    async def share(self, name: str, most: int) -> AsyncIterator[None]:
+        """One of so many places of a name, which is forgotten once nobody has one."""
+        places, count = self.taken.get(name, (asyncio.Semaphore(most), 0))
+        self.taken[name] = places, count + 1
+        try:
+            async with places:
+                yield
+        finally:
+            places, count = self.taken.pop(name)
+            if count > 1:
+                self.taken[name] = places, count - 1
+
+
+class Spool:
+    """Bytes that are kept for a while: in a file without a name, whose end is where a thread or the loop writes, and which another one reads."""
+
+    def __init__(self) -> None:
+        self.file, self.size = tempfile.TemporaryFile(buffering=0), 0
+
+    def add(self, data: bytes) -> None:
+        """503 ServiceUnavailable where the disk is full."""
+        try:
+            room, rest = os.fstatvfs(self.file.fileno()), memoryview(data)
+            if room.f_bavail * room.f_frsize < LEFT + len(data):
+                raise OSError
+            while rest:
+                rest = rest[os.pwrite(self.file.fileno(), rest, self.size + len(data) - len(rest)) :]
+        except OSError:
+            raise S3Error("ServiceUnavailable", "The gateway has no room for so many long contents at a time. Nothing was changed.") from None
+        self.size += len(data)
+
+    def read(self, at: int, length: int) -> bytes:
+        return os.pread(self.file.fileno(), length, at)
+
+    def close(self) -> None:
+        self.file.close()

@@ -1,0 +1,105 @@
+"""Operations on buckets."""
+
+from collections.abc import Iterable
+
+from aiohttp import web
+
+from gridfs_client.buckets import Held
+from gridfs_client.contents import Inline
+
+from .bodies import body_of
+from .errors import S3Error
+from .gateway import Operations
+from .markup import document, element, escape, many
+from .places import BUCKETS, KEYS, UPLOADS, check_bucket, number_of, of_words, upload_of
+from .requests import Asked, answer, iso
+from .store import Store
+
+
+NEVER_GIVEN = {
+    "cors": "NoSuchCORSConfiguration", "encryption": "ServerSideEncryptionConfigurationNotFoundError", "lifecycle": "NoSuchLifecycleConfiguration",
+    "object-lock": "ObjectLockConfigurationNotFoundError", "ownershipControls": "OwnershipControlsNotFoundError", "policy": "NoSuchBucketPolicy",
+    "publicAccessBlock": "NoSuchPublicAccessBlockConfiguration", "replication": "ReplicationConfigurationNotFoundError", "tagging": "NoSuchTagSet",
+    "website": "NoSuchWebsiteConfiguration",
+}  # what a bucket can't be given here, and how it is told that it has none
+
+
+class Buckets(Operations):
+    async def list_buckets(self, asked: Asked) -> web.Response:
+        """200: those that the access key sees."""
+        found = await self.gateway.all(lambda every: [held for held in every if held.name.startswith(BUCKETS)])
+        rows = [
+            many("Bucket", element("Name", held.name[len(BUCKETS) :]), element("CreationDate", iso(number_of(of_words(held.words), "t"))))
+            for held in sorted(found, key=lambda held: held.name)
+            if asked.signed.key.sees(held.name[len(BUCKETS) :])
+        ]
+        return answer(document("ListAllMyBucketsResult", self.gateway.owner(), many("Buckets", *rows)))
+
+    async def create_bucket(self, asked: Asked) -> web.Response:
+        """200. 409 BucketAlreadyOwnedByYou; 400 InvalidBucketName, InvalidArgument (another region), MalformedXML."""
+        check_bucket(asked.bucket)
+        if body_of(asked).told_size:
+            wanted = (await self.gateway.document(asked, "CreateBucketConfiguration")).told("LocationConstraint")
+            if wanted not in (None, "", "EU", self.gateway.region):
+                raise S3Error("InvalidArgument", f"The only region here is {self.gateway.region}.")
+        name = BUCKETS + asked.bucket
+
+        def make(store: Store) -> None:
+            if store.look(name):
+                raise S3Error("BucketAlreadyOwnedByYou", BucketName=asked.bucket)
+            store.change(name, lambda *_: Inline(b""), dict)
+
+        await self.gateway.change(name, make)
+        return answer(headers={"Location": f"/{asked.bucket}"})
+
+    async def head_bucket(self, asked: Asked) -> web.Response:
+        """200. 404 (a HEAD has no body, so no code)."""
+        await self.gateway.need_bucket(asked.bucket)
+        return answer(headers={"x-amz-bucket-region": self.gateway.region})
+
+    async def delete_bucket(self, asked: Asked) -> web.Response:
+        """204; uploads that are under way go with it. 404 NoSuchBucket, 409 BucketNotEmpty."""
+        await self.gateway.need_bucket(asked.bucket)
+        prefixes = (f"{asked.bucket}/", f"{KEYS}{asked.bucket}/")
+
+        def look(every: Iterable[Held]) -> list[str]:
+            names = [held.name for held in every]
+            if any(name.startswith(prefixes) for name in names):
+                raise S3Error("BucketNotEmpty", BucketName=asked.bucket)
+            return [name for name in names if name.startswith(f"{UPLOADS}{asked.bucket}/")]
+
+        for name in [*await self.gateway.all(look), BUCKETS + asked.bucket]:
+            await self.gateway.change(name, lambda store, name=name: store.delete(name), number=self.session_of(name))  # type: ignore[misc]
+        self.gateway.known_buckets.pop(asked.bucket, None)
+        return answer(status=204)
+
+    def session_of(self, name: str) -> int | None:
+        """The session that an upload belongs to, where it is here."""
+        word = upload_of(name).partition(".")[0] if name.startswith(UPLOADS) else ""
+        return int(word) if word.isdecimal() and self.grids.has_session(int(word)) else None
+
+    async def get_bucket_location(self, asked: Asked) -> web.Response:
+        """200. 404 NoSuchBucket."""
+        await self.gateway.need_bucket(asked.bucket)
+        return answer(document("LocationConstraint", escape("" if self.gateway.region == "us-east-1" else self.gateway.region)))
+
+    async def get_bucket_versioning(self, asked: Asked) -> web.Response:
+        """200: never enabled. 404 NoSuchBucket."""
+        await self.gateway.need_bucket(asked.bucket)
+        return answer(document("VersioningConfiguration"))
+
+    async def get_bucket_acl(self, asked: Asked) -> web.Response:
+        """200: all is the tenant's. 404 NoSuchBucket."""
+        await self.gateway.need_bucket(asked.bucket)
+        return answer(self.acl())
+
+    async def get_what_was_never_given(self, asked: Asked) -> web.Response:
+        """404 with the code of what is asked for: no bucket can be given any. 404 NoSuchBucket."""
+        await self.gateway.need_bucket(asked.bucket)
+        raise S3Error(next(code for word, code in NEVER_GIVEN.items() if word in asked.query), BucketName=asked.bucket)
+
+    def acl(self) -> bytes:
+        kind = 'xmlns:xsi="http://www.w3.org/2001/XMLSchema-instance" xsi:type="CanonicalUser"'
+        grantee = self.gateway.owner("Grantee").replace("<Grantee>", f"<Grantee {kind}>", 1)
+        grant = many("Grant", grantee, element("Permission", "FULL_CONTROL"))
+        return document("AccessControlPolicy", self.gateway.owner(), many("AccessControlList", grant))

@@ -1,0 +1,198 @@
+"""Copies of objects, and of parts of them."""
+
+import asyncio
+import hashlib
+import re
+from collections.abc import Callable, Generator
+from contextlib import closing
+from typing import TypeVar
+from urllib.parse import unquote
+
+from aiohttp import web
+
+from gridfs_client.buckets import Held
+
+from .bodies import Whole
+from .bounds import LONG
+from .errors import S3Error
+from .gateway import TURNS, NotSettled, Operations
+from .grids import Want
+from .markup import document, element
+from .objects import Objects, values_of
+from .places import KEYS, Object, Values, name_of
+from .requests import Asked, answer, iso, judge
+from .store import Body, Condition, PageFull, Store
+from .trips import Elsewhere
+from .workers import Crowded
+
+Told = TypeVar("Told")
+
+
+class Copied:
+    """A content as another session reads it, for who puts it."""
+
+    def __init__(self, data: bytes, parts: Generator[bytes, None, None], size: int):
+        self.ahead, self.parts, self.told_size, self.md5 = bytearray(data), parts, size, hashlib.md5()
+        self.is_begun = False
+
+    def rewind(self) -> None:
+        if self.is_begun:
+            raise S3Error("ServiceUnavailable", "Many others change this at the same time. Nothing was changed.")
+
+    def read(self, length: int) -> bytes:
+        self.is_begun = True
+        while len(self.ahead) < length and (data := next(self.parts, b"")):
+            self.ahead += data
+        found = bytes(memoryview(self.ahead)[:length])
+        del self.ahead[:length]
+        self.md5.update(found)
+        return found
+
+    def digest(self) -> str:
+        return self.md5.hexdigest()
+
+
+class Copies(Operations):
+    def __init__(self, objects: Objects):
+        super().__init__(objects.gateway)
+        self.objects = objects
+
+    def source_of(self, asked: Asked) -> tuple[str, str]:
+        """Bucket and key that are to be copied. 400 InvalidArgument; 403 AccessDenied, where the access key is not for that bucket."""
+        text, _, version = asked.headers["x-amz-copy-source"].partition("?versionId=")
+        try:
+            bucket, _, key = unquote(text, errors="strict").removeprefix("/").partition("/")
+            key.encode()
+        except UnicodeError:
+            key = ""
+        if not key:
+            raise S3Error("InvalidArgument", "x-amz-copy-source is BUCKET/KEY, in UTF-8.")
+        if version not in ("", "null"):
+            raise S3Error("NotImplemented", "There are no versions here.")
+        asked.signed.key.expect(bucket, is_change=False)
+        return bucket, key
+
+    async def copied(
+        self,
+        asked: Asked,
+        put: Callable[[Store, Body, Object], Told],
+        choose: Callable[[Object], tuple[int, int]],
+        target: str,
+        number: int | None = None,
+        condition: Condition | None = None,
+    ) -> Told:
+        """Has one session read an object, in the range that is chosen, and another one put it: `put` is given what reads the content. 404 NoSuchBucket,
+        NoSuchKey; 412 PreconditionFailed; 416 InvalidRange."""
+        bucket, key = self.source_of(asked)
+        await self.gateway.need_bucket(bucket)
+        name, part, found = name_of(bucket, key), (0, 0), list[Object]()
+
+        def choice(held: Held | None) -> tuple[int, int]:
+            nonlocal part
+            if not held:
+                raise S3Error("NoSuchKey", Key=key)
+            found[:] = [Object(key, held)]
+            judge(asked.headers, found[0], "x-amz-copy-source-", is_read=False)
+            part = choose(found[0])
+            return part
+
+        def begin(store: Store) -> tuple[bytes, Generator[bytes, None, None]]:
+            _, parts, data = store.read(name, choice)
+            return data, parts
+
+        def small(store: Store) -> bytes | None:
+            _, parts, data = store.read(name, choice)
+            with closing(parts):
+                return data + b"".join(parts) if part[1] - part[0] <= LONG else None
+
+        async with self.objects.small:
+            whole = await self.gateway.look(name, small)
+            if whole is not None:
+                source = Whole(whole, hashlib.md5(whole).hexdigest())
+                return await self.gateway.change(target, lambda store: put(store, source, found[0]), number=number, condition=condition)
+        wants = Want(name), Want(target, number)
+        for _ in range(TURNS):
+            async with self.gateway.judging(condition, target):
+                reader, writer = await self.grids.take_all(wants)
+                is_writing, rest, page = False, None, None
+                try:
+                    data, rest = await reader.run(begin, keep=True)
+                    copied = Copied(data, rest, part[1] - part[0])
+                    is_writing = True
+                    besides = tuple(worker for _, worker in (*reader.workers, *writer.workers))
+                    return await writer.run(lambda store: put(store, copied, found[0]), besides=besides)
+                except (Crowded, NotSettled):
+                    pass
+                except Elsewhere as fault:
+                    await self.gateway.go_on(wants[is_writing], fault)
+                except PageFull as full:
+                    page = full.page
+                finally:
+                    if rest:  # (what it reads ahead ends before the next one works)
+                        await asyncio.get_running_loop().run_in_executor(reader.pool.threads, rest.close)
+                    reader.release()
+                    if not is_writing:
+                        writer.release()
+            if page is not None:
+                await writer.pool.sweep(page)
+            await self.grids.gathering.is_over()
+        raise S3Error("ServiceUnavailable", "Many others change this at the same time. Nothing was changed.")
+
+    async def copy_object(self, asked: Asked) -> web.Response:
+        """200; a copy of an object onto itself with other metadata moves no content. 400 InvalidArgument, InvalidRequest (nothing would change);
+        404 NoSuchBucket, NoSuchKey; 412 PreconditionFailed; 507 InsufficientStorage."""
+        await self.gateway.need_bucket(asked.bucket)
+        bucket, key = self.source_of(asked)
+        name, directive = name_of(asked.bucket, asked.key), asked.headers.get("x-amz-metadata-directive", "COPY")
+        if directive not in ("COPY", "REPLACE"):
+            raise S3Error("InvalidArgument", "x-amz-metadata-directive is COPY or REPLACE.")
+        if (bucket, key) == (asked.bucket, asked.key) and directive == "COPY":
+            raise S3Error("InvalidRequest", "A copy onto itself has to change something: REPLACE.")
+        new = values_of(asked)
+
+        def values_for(found: Object, md5: str | None) -> Values:
+            old = found.values
+            kept = new if directive == "REPLACE" else {each: value for each, value in old.items() if each not in ("k", "u", "n", "m", "t")}
+            values = {**kept, **({"k": asked.key} if name.startswith(KEYS) else {})}
+            if md5 is None:  # (the content stays where it is)
+                return {**values, **{each: old[each] for each in ("m", "n") if each in old}}
+            return {**values, "m": md5}
+
+        condition = await self.gateway.condition_of(asked, name)
+        if (bucket, key) == (asked.bucket, asked.key) and not condition:
+            if held := await self.touched(asked, name, lambda found: values_for(found, None)):
+                return self.result("CopyObjectResult", Object(asked.key, held))
+
+        def put(store: Store, source: Body, found: Object) -> Held:
+            return store.put_object(name, source, lambda: values_for(found, source.digest()), condition)
+
+        held = await self.copied(asked, put, lambda found: (0, found.size), name, condition=condition)
+        return self.result("CopyObjectResult", Object(asked.key, held))
+
+    async def touched(self, asked: Asked, name: str, values: Callable[[Object], Values]) -> Held | None:
+        """Gives an object other words where it stands; None where it has to be put anew."""
+        for _ in range(3):
+            found = await self.objects.found(asked)
+            judge(asked.headers, found, "x-amz-copy-source-", is_read=False)
+            number = None if not found.held.content.pieces else found.held.version.session
+            if number is not None and not self.grids.has_session(number):
+                return None
+            if held := await self.gateway.change(name, lambda store: store.touch(name, found.held, lambda: values(found)), number=number):
+                return held
+        return None
+
+    def result(self, name: str, found: Object) -> web.Response:
+        return answer(document(name, element("LastModified", iso(found.time)), element("ETag", f'"{found.etag}"')))
+
+
+def range_to_copy(text: str | None, size: int) -> tuple[int, int]:
+    """The range of x-amz-copy-source-range, which has to be there wholly. 400 InvalidArgument, 416 InvalidRange."""
+    if text is None:
+        return 0, size
+    found = re.fullmatch(r"bytes=(\d{1,19})-(\d{1,19})", text, re.ASCII)
+    if not found:
+        raise S3Error("InvalidArgument", "x-amz-copy-source-range is bytes=FIRST-LAST.")
+    first, end = int(found[1]), int(found[2]) + 1
+    if not first < end <= size:
+        raise S3Error("InvalidRange", ActualObjectSize=str(size))
+    return first, end

@@ -1,0 +1,91 @@
+"""The errors of S3 that this endpoint tells: their codes, statuses and messages."""
+
+import sys
+import traceback
+
+from gridfs_client.errors import CarrierFault, ClientError, NoRoom, Replaced, SessionTaken, Unanswered
+
+ERRORS = {
+    "AccessDenied": (403, "Access is denied."),
+    "AuthorizationHeaderMalformed": (400, "The header Authorization is malformed."),
+    "AuthorizationQueryParametersError": (400, "The parameters of the signed URL are malformed."),
+    "BadDigest": (400, "The content has another MD5 or checksum than the request says."),
+    "BadRequest": (400, "The request is not HTTP."),
+    "BucketAlreadyOwnedByYou": (409, "The bucket exists already, and is yours."),
+    "BucketNotEmpty": (409, "The bucket is not empty."),
+    "EntityTooLarge": (400, "The content is longer than one request may put."),
+    "IncompleteBody": (400, "The content is not as long as the request says."),
+    "InsufficientStorage": (507, "The tenant has no room for it."),
+    "InternalError": (500, "The gateway met a fault that it does not know."),
+    "InvalidAccessKeyId": (403, "There is no such access key."),
+    "InvalidArgument": (400, "A parameter is malformed."),
+    "InvalidBucketName": (400, "A bucket's name has 3 to 63 of a-z, 0-9, - and ., a letter or digit at both ends, and is no address."),
+    "InvalidDigest": (400, "Content-MD5 is malformed."),
+    "InvalidPart": (400, "A part is not there, or has another ETag."),
+    "InvalidPartOrder": (400, "The parts are not in ascending order."),
+    "InvalidRange": (416, "The object has none of these bytes."),
+    "InvalidRequest": (400, "The request is malformed."),
+    "InvalidURI": (400, "The URI is malformed."),
+    "KeyTooLongError": (400, "A key has at most 1,024 bytes."),
+    "MalformedXML": (400, "The XML is malformed, or not what this request takes."),
+    "MetadataTooLarge": (400, "An object has at most 2,048 bytes of metadata."),
+    "MethodNotAllowed": (405, "This resource has no such method."),
+    "MissingContentLength": (411, "The header Content-Length is required."),
+    "NoSuchBucket": (404, "There is no such bucket."),
+    "NoSuchBucketPolicy": (404, "The bucket has no policy."),
+    "NoSuchCORSConfiguration": (404, "The bucket has no CORS configuration."),
+    "NoSuchKey": (404, "There is no such key."),
+    "NoSuchLifecycleConfiguration": (404, "The bucket has no lifecycle configuration."),
+    "NoSuchPublicAccessBlockConfiguration": (404, "The bucket has no public access block."),
+    "NoSuchTagSet": (404, "The bucket has no tags."),
+    "NoSuchUpload": (404, "There is no such upload: it was completed or aborted, or never begun."),
+    "NotImplemented": (501, "This endpoint does not do that."),
+    "NotModified": (304, ""),
+    "NoSuchWebsiteConfiguration": (404, "The bucket has no website configuration."),
+    "ObjectLockConfigurationNotFoundError": (404, "The bucket has no object lock."),
+    "OwnershipControlsNotFoundError": (404, "The bucket has no ownership controls."),
+    "PreconditionFailed": (412, "A condition of the request does not hold."),
+    "ReplicationConfigurationNotFoundError": (404, "The bucket has no replication."),
+    "RequestHeaderSectionTooLarge": (400, "The headers of the request are too long."),
+    "RequestTimeout": (400, "The content did not arrive in time."),
+    "RequestTimeTooSkewed": (403, "The request's time differs too much from the gateway's."),
+    "ServerSideEncryptionConfigurationNotFoundError": (404, "The bucket has no encryption configuration."),
+    "ServiceUnavailable": (503, "The grid does not answer. A change may still take effect. Please retry."),
+    "SignatureDoesNotMatch": (403, "The signature is not that of this request by the key's secret."),
+    "XAmzContentSHA256Mismatch": (400, "The content has another SHA-256 than was signed."),
+}
+
+
+class S3Error(Exception):
+    """What a client is told by a code, with its status, a message, and elements besides."""
+
+    def __init__(self, code: str, message: str = "", **more: str):
+        self.code, self.more = code, more
+        self.status, usual = ERRORS[code]
+        self.message = message or usual
+        super().__init__(self.message)
+
+
+def tell(text: str) -> None:
+    print(f"gridfs-s3: {text}", file=sys.stderr, flush=True)
+
+
+def error_of(fault: BaseException) -> S3Error:
+    """The error of S3 for a fault of the client for names, or of this program: what whoever runs it should see goes to standard error.
+
+    507 InsufficientStorage: no room; nothing was changed. 503 ServiceUnavailable: no answer; a change may still take effect. 500 InternalError.
+    """
+    if isinstance(fault, S3Error):
+        return fault
+    if isinstance(fault, NoRoom):
+        return S3Error("InsufficientStorage", f"The tenant has no room: {fault}.")
+    if isinstance(fault, Replaced):
+        return S3Error("ServiceUnavailable", "The object was replaced again and again while it was read.")
+    if isinstance(fault, (Unanswered, SessionTaken, CarrierFault)):
+        tell(f"{type(fault).__name__}: {fault}")
+        return S3Error("ServiceUnavailable", f"The grid does not answer: {fault}. A change may still take effect.")
+    if isinstance(fault, ClientError):
+        tell(str(fault))
+        return S3Error("InternalError", str(fault))
+    traceback.print_exception(fault, file=sys.stderr)
+    return S3Error("InternalError")

@@ -1,0 +1,299 @@
+"""The tenant of the endpoint: how operations look and change, and what all of them need."""
+
+import asyncio
+import time
+from collections.abc import AsyncIterator, Callable, Iterable, Mapping
+from contextlib import AsyncExitStack, asynccontextmanager, closing, suppress
+from typing import TypeVar
+
+from gridfs_client.buckets import Held
+from gridfs_client.errors import ClientError, NoSuchName, SessionTaken, Unanswered
+from gridfs_client.fleet import MAP_NAME
+from gridfs_client.fleet_map import parse_map, read_map
+from gridfs_client.listing import Listing
+
+from . import metrics
+from .bodies import body_of
+from .bounds import IN_HAND, Places
+from .errors import S3Error, tell
+from .grids import Grids, Taken, Want
+from .keys import Key
+from .markup import Element, element, many, parse
+from .places import BUCKETS, Object, check_bucket
+from .requests import Asked, matches
+from .store import Condition, PageFull, Store
+from .trips import Elsewhere
+from .workers import Crowded
+
+Told = TypeVar("Told")
+KNOWN_FOR = 2.0  # seconds for which a bucket that was there is taken to be there
+TURNS = 20  # how often a change begins anew that wants the room of all sessions while others do, or judges a condition amid others
+LONGEST_XML = 4 << 20
+MOST_GRIDS = 4  # of a way, whose pages are settled
+LENT_FOR = 20.0  # seconds for which a condition waits for a session that another command has
+WATCH, WATCH_FOR, MOST_FAILURES = 10.0, 60.0, 3  # seconds after which it looks whether it still can do anything, for which it waits, and failures that are too many
+PROBE = f"{BUCKETS}-"  # (which no bucket is)
+MAP_AGAIN = 5.0  # seconds after which a later map is looked for
+
+
+def map_in(store: Store) -> bytes | None:
+    """The fleet's own map, where there is one."""
+    try:
+        _, parts, data = store.read(MAP_NAME, whole)
+    except NoSuchName:
+        return None
+    return data + b"".join(parts)
+
+
+def whole(held: Held | None) -> tuple[int, int]:
+    if not held:
+        raise NoSuchName(MAP_NAME)
+    return 0, held.content.size
+
+
+class NotSettled(Exception):
+    """A condition can't be judged now: a change of the page got no answer since. Nothing was changed."""
+
+
+class Gateway:
+    """One tenant, by the sessions of its grids."""
+
+    def __init__(self, grids: Grids, tenant: str, keys: Mapping[str, Key], region: str, domain: str | None):
+        self.grids, self.tenant, self.keys, self.region, self.domain = grids, tenant, keys, region, domain
+        self.known_buckets: dict[str, float] = {}
+        self.places, self.documents = Places(), asyncio.Semaphore(IN_HAND)
+        self.map_faults = list[str]()  # what was the matter when a later map was looked for last
+
+    # Sessions
+
+    async def take(self, want: Want) -> Taken:
+        begin = time.monotonic()
+        try:
+            return await self.grids.take(want)
+        finally:
+            metrics.waits.labels(self.tenant).observe(time.monotonic() - begin)
+
+    async def go_on(self, want: Want, fault: Elsewhere) -> None:
+        """To where something has to be done, perhaps a grid that only a later map has."""
+        if fault.grid not in self.grids.pools:
+            await self.look_for_map()
+        if fault.grid not in self.grids.pools:
+            raise S3Error("ServiceUnavailable", f"A signpost leads to the grid {fault.grid}, and the map has no such grid. Nothing was changed.")
+        want.goes_on(fault)
+
+    async def look(self, name: str, work: Callable[[Store], Told], helpers: int = 0, has_begun: Callable[[], bool] = lambda: False) -> Told:
+        """Has some session do what changes nothing; another one where its home is silent, as long as nothing of an answer is out."""
+        want, silent = Want(name), 0
+        for _ in range(TURNS):
+            taken = await self.take(want)
+            try:
+                return await taken.run(work, helpers, is_soon=silent < 2)
+            except Elsewhere as fault:
+                await self.go_on(want, fault)
+            except (Unanswered, SessionTaken):
+                silent += 1
+                if silent > 2 or has_begun():
+                    raise
+        raise S3Error("ServiceUnavailable", "The name goes from grid to grid again and again.")
+
+    async def change(
+        self, name: str, work: Callable[[Store], Told], helpers: int = 0, number: int | None = None, condition: Condition | None = None
+    ) -> Told:
+        """Has a session change something, this one or any; another one where its home is silent and nothing was written yet. The condition is one by which
+        the work is done."""
+        want, silent = Want(name, number), 0
+        for _ in range(TURNS):
+            await asyncio.gather(*(pool.settle_before(name) for pool in self.grids.pools_of(name)))
+            async with self.judging(condition, name):
+                taken = await self.take(want)
+                try:
+                    return await taken.run(work, helpers, is_soon=number is None and silent < 2)
+                except Elsewhere as fault:
+                    await self.go_on(want, fault)
+                except Crowded:
+                    await self.grids.gathering.is_over()
+                except PageFull as full:
+                    await taken.pool.sweep(full.page)
+                except NotSettled:
+                    pass
+                except Unanswered:
+                    silent += 1
+                    if taken.has_written or number is not None or silent > 2:
+                        raise
+        raise S3Error("ServiceUnavailable", "Many others change this at the same time. Nothing was changed.")
+
+    async def all(self, work: Callable[[Iterable[Held]], Told]) -> Told:
+        """What comes of all that names hold, each at some moment of the call. Unanswered where a grid is silent."""
+        if not self.grids.map:
+            return await self.look("", lambda store: work(store.all()))
+        listing = Listing(self.grids.map)
+        while wanted := sorted(listing.wanted):
+            for grid in wanted:
+                if grid not in self.grids.pools:
+                    raise Unanswered(f"a grid is not known yet: {grid}")
+            listing.looked(dict(zip(wanted, await asyncio.gather(*map(self.grids.look_at, wanted)))))
+            for grid, fault in listing.silent.items():
+                raise Unanswered(f"{grid}: {fault}")
+        return await asyncio.get_running_loop().run_in_executor(None, lambda: work(told.held for told in listing.told()))
+
+    # The map
+
+    async def look_for_map(self) -> None:
+        """Goes on by a later map, where one is in its file, or in the fleet. What is no map there is told, and passed over."""
+        before, faults = self.grids.map, list[str]()
+        if not before:
+            return
+        latest = before
+        try:
+            latest = read_map(before.path)
+            if content := await self.look(MAP_NAME, map_in):
+                found = parse_map(content.decode("ascii"), MAP_NAME).by_settings_of(latest)
+                latest = max(latest, found, key=lambda each: each.age)
+        except (ClientError, S3Error) as fault:
+            faults.append(str(fault))
+        except UnicodeDecodeError:
+            faults.append(f"{MAP_NAME}: no map of a fleet")
+        if latest.age > before.age:
+            try:
+                await self.grids.adopt(latest)
+            except ClientError as fault:
+                faults.append(str(fault))
+        if faults and faults != self.map_faults:
+            tell(f"a later map is not found: {'; '.join(faults)}")
+        self.map_faults = faults
+
+    async def follow_maps(self) -> None:
+        while True:
+            await asyncio.sleep(MAP_AGAIN)
+            await self.look_for_map()
+            await self.share_in_moves()
+
+    async def share_in_moves(self) -> None:
+        """Does for moves that are under way what is its own sessions', so that a mover on another machine need not have these."""
+        assert self.grids.map
+        for move in self.grids.map.moves:
+            pool = self.grids.pools[move.source]
+            for number, page in pool.pages_lacking(move):
+                with suppress(ClientError):
+                    await pool.run(await pool.lease(number), lambda store, move=move, page=page: store.share_in(move, page))  # type: ignore[misc]
+
+    # Whether it still can do what it is for
+
+    async def watch(self) -> str:
+        """Why the gateway can't go on, once that is so: what has to last has ended, or a look at a name meets again and again a fault that nobody knows. (A
+        grid that does not answer is told elsewhere, and comes back.)"""
+        failures = 0
+        while True:
+            await asyncio.sleep(WATCH)
+            for pool in self.grids.pools.values():
+                for task in pool.lasting:
+                    if task.done() and not task.cancelled():
+                        return f"{pool.named()}what has to last has ended: {task.exception()!r}"
+            try:
+                async with asyncio.timeout(WATCH_FOR):
+                    await self.look(PROBE, lambda store: store.look(PROBE))
+                failures = 0
+            except (ClientError, S3Error, asyncio.TimeoutError):
+                failures = 0
+            except Exception as fault:
+                failures += 1
+                if failures == MOST_FAILURES:
+                    return f"each look at a name fails: {fault!r}"
+
+    # Pages that are settled
+
+    @asynccontextmanager
+    async def judging(self, condition: Condition | None, name: str) -> AsyncIterator[None]:
+        """Where there is a condition no session is lent meanwhile, and the name's pages are settled. 503 ServiceUnavailable where a session's home is silent, or
+        other commands have sessions for long: nothing was changed."""
+        if not condition:
+            yield
+            return
+        async with AsyncExitStack() as judged:
+            try:
+                await asyncio.wait_for(judged.enter_async_context(self.grids.lending.judge()), LENT_FOR)
+            except asyncio.TimeoutError:
+                raise S3Error("ServiceUnavailable", "A condition needs all sessions, and another command has one. Nothing was changed.") from None
+            for _ in range(MOST_GRIDS):  # (what is read meanwhile may show that the way goes on)
+                if self.grids.is_settled(name):
+                    break
+                await asyncio.gather(*(pool.settle(pool.layout.page_of(name)) for pool in self.grids.pools_of(name)))
+            if not self.grids.is_settled(name):
+                raise S3Error("ServiceUnavailable", "A condition needs all sessions, and the home of one is silent. Nothing was changed.")
+            yield
+
+    async def condition_of(self, asked: Asked, name: str) -> Condition | None:
+        """What judges a conditional change of a name, right before it, while no other one of the name is under way.
+
+        It is judged rightly where this gateway is the tenant's only writer, and nothing of earlier ones is under way into the page. 501 NotImplemented
+        where it is not; 412 PreconditionFailed; 404 NoSuchKey for If-Match of a key that is not there.
+        """
+        match, none = asked.headers.get("if-match"), asked.headers.get("if-none-match")
+        if match is None and none is None:
+            return None
+        if none not in (None, "*"):
+            raise S3Error("NotImplemented", "If-None-Match of a put has to be *.")
+        if not self.grids.has_all and all(pool.is_open for pool in self.grids.pools.values()):
+            raise S3Error("NotImplemented", "Conditional puts need a gateway that has all sessions of its tenant: others write by the rest.")
+
+        def condition(held: Held | None) -> None:
+            if not self.grids.is_settled(name):
+                raise NotSettled
+            if none and held:
+                raise S3Error("PreconditionFailed", Condition="If-None-Match")
+            if match is not None and not held:
+                raise S3Error("NoSuchKey", Key=asked.key)
+            if match is not None and held and not matches(match, Object(asked.key, held).etag):
+                raise S3Error("PreconditionFailed", Condition="If-Match")
+
+        return condition
+
+    # Bodies
+
+    def expect_room(self, size: int) -> None:
+        """507 InsufficientStorage for what would have no room if nothing else were there. (What has none now is seen once it is here.)"""
+        pools = list(self.grids.pools.values())
+        if all(pool.is_open for pool in pools) and size > max(pool.slot_bytes for pool in pools):
+            raise S3Error("InsufficientStorage", "The tenant has no room for so long a content.")
+
+    async def document(self, asked: Asked, name: str) -> Element:
+        """The root of the XML of a request's body. The errors of a body; 400 MalformedXML."""
+        body, loop = body_of(asked), asyncio.get_running_loop()
+        if body.told_size > LONGEST_XML:
+            raise S3Error("EntityTooLarge")
+        await let_body_come(asked)
+        with closing(await body.spooled()) as spool:
+            async with self.documents:
+                return await loop.run_in_executor(None, lambda: parse(spool.read(0, spool.size), name))
+
+    # Buckets
+
+    async def need_bucket(self, bucket: str) -> None:
+        """400 InvalidBucketName, 404 NoSuchBucket."""
+        check_bucket(bucket)
+        if self.known_buckets.get(bucket, 0) > time.monotonic():
+            return
+        if not await self.look(BUCKETS + bucket, lambda store: store.look(BUCKETS + bucket)):
+            self.known_buckets.pop(bucket, None)
+            raise S3Error("NoSuchBucket", BucketName=bucket)
+        if len(self.known_buckets) > 1_000:
+            self.known_buckets.clear()
+        self.known_buckets[bucket] = time.monotonic() + KNOWN_FOR
+
+    def owner(self, name: str = "Owner") -> str:
+        return many(name, element("ID", self.tenant), element("DisplayName", self.tenant))
+
+
+class Operations:
+    """Operations on one kind of resource. Each is called as S3's documentation names it, and gives the answer to a request."""
+
+    def __init__(self, gateway: Gateway):
+        self.gateway, self.grids = gateway, gateway.grids
+
+
+async def let_body_come(asked: Asked) -> None:
+    """Tells a client that waits for that word to send the body."""
+    await asyncio.sleep(0)
+    if asked.is_expecting and asked.request.transport:
+        asked.is_expecting = False
+        asked.request.transport.write(b"HTTP/1.1 100 Continue\r\n\r\n")

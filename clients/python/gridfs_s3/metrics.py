@@ -1,0 +1,52 @@
+"""What is counted, for Prometheus."""
+
+from prometheus_client import CollectorRegistry, Counter, Gauge, Histogram, generate_latest
+
+from gridfs_client.pages import length_of_lines
+
+from .grids import Grids
+from .sessions import Pool
+
+KIND = "text/plain; version=0.0.4; charset=utf-8"
+TENANT = ["tenant"]
+TIMES = (0.002, 0.005, 0.01, 0.02, 0.05, 0.1, 0.2, 0.5, 1, 2, 5, 10, 30, 60, 300)
+registry = CollectorRegistry()
+requests = Counter("gridfs_s3_requests", "Requests that were answered", ["tenant", "operation", "status"], registry=registry)
+faults = Counter("gridfs_s3_faults", "Requests that were told an error, by its code", ["tenant", "code"], registry=registry)
+seconds = Histogram("gridfs_s3_request_seconds", "From a request's head to the end of its answer", ["tenant", "operation"], registry=registry, buckets=TIMES)
+waits = Histogram("gridfs_s3_wait_seconds", "Until a request had a session", TENANT, registry=registry, buckets=(0.001, 0.01, 0.1, 1, 10, 60))
+taken = Counter("gridfs_s3_received_bytes", "Bytes of contents that were put", TENANT, registry=registry)
+given = Counter("gridfs_s3_sent_bytes", "Bytes of contents that were got", TENANT, registry=registry)
+room = Gauge("gridfs_s3_slot_bytes", "Bytes of the slots of this gateway's sessions, as far as they are known", ["tenant", "state", "grid"], registry=registry)
+pages = Gauge("gridfs_s3_fullest_page_ratio", "How full the fullest page is that is known: at 1 a put is refused", ["tenant", "grid"], registry=registry)
+sessions = Gauge("gridfs_s3_sessions", "Sessions: all, busy, or with a home that is silent", ["tenant", "state", "grid"], registry=registry)
+waiting = Gauge("gridfs_s3_waiting", "Requests that wait for a session", ["tenant", "grid"], registry=registry)
+
+
+def room_of(pool: Pool) -> tuple[int, int]:
+    """The bytes of slots that are taken and free, of the sessions whose tables are known."""
+    known = [worker.store for worker in pool.workers.values() if worker.store.writer.keeper.table is not None]
+    rooms = [store.room() for store in known]
+    return sum(used for used, _ in rooms), sum(left for _, left in rooms)
+
+
+def fullest(pool: Pool) -> float:
+    """How full the fullest page is of those that are known."""
+    lengths = [length_of_lines(known.page.lines) for known in list(pool.shared.pages.values())]
+    return max(lengths, default=0) / pool.layout.contents_room if pool.is_open else 0
+
+
+def text(tenant: str, grids: Grids) -> bytes:
+    """All that is counted, in Prometheus' form."""
+    for grid, pool in grids.pools.items():
+        used, left = room_of(pool)
+        room.labels(tenant, "used", grid).set(used)
+        room.labels(tenant, "left", grid).set(left)
+        pages.labels(tenant, grid).set(fullest(pool))
+        workers = pool.workers.values()
+        sessions.labels(tenant, "busy", grid).set(sum(worker.is_busy for worker in workers))
+        sessions.labels(tenant, "silent", grid).set(sum(worker.is_silent for worker in workers))
+        sessions.labels(tenant, "lent", grid).set(sum(worker.is_lent for worker in workers))
+        sessions.labels(tenant, "all", grid).set(len(workers))
+        waiting.labels(tenant, grid).set(len(pool.waiting))
+    return generate_latest(registry)

@@ -1,0 +1,148 @@
+"""Reading objects by one session: what names hold, and contents by ranges."""
+
+import hashlib
+from collections.abc import Callable, Generator, Iterator, Sequence
+from contextlib import closing
+from dataclasses import dataclass
+from functools import partial
+
+from gridfs_client.buckets import Held
+from gridfs_client.contents import Inline, InSlots, digest_in_hex
+from gridfs_client.errors import Damaged, Replaced, Unanswered
+from gridfs_client.layout import Layout
+from gridfs_client.names import BEGINNINGS, NamedFiles, read_piece
+from gridfs_client.pieces import head, without_head
+from gridfs_client.sessions import Files
+from gridfs_client.ways import Ground
+from gridfs_client.writers import Writer
+
+from .shared import Shared, SharedWriter
+from .trips import Elsewhere, Trip
+
+
+@dataclass(frozen=True)
+class Span:
+    """A piece of a content: of which part, its place in that, the file where it stands, its first byte in the whole, and how many it has."""
+
+    part: InSlots
+    place: int
+    volume: int
+    file: int
+    begin: int
+    length: int
+
+
+class Reader(NamedFiles):
+    """What names hold, by one session, and by others that can be had; by one thread at a time."""
+
+    def __init__(self, session: Files, layout: Layout, shared: Shared, ground: Ground | None = None):
+        super().__init__(session, layout, ground=ground)
+        self.shared, self.grid = shared, ground.grid if ground else ""
+        self.writer: SharedWriter = SharedWriter(shared, session, layout, ground)
+        self.trip: Trip | None = None  # what is done now is about a name over several grids
+        # Gives other sessions for as long as what is done now lasts: those that are idle, or all.
+        self.more: Callable[[bool], Sequence[Reader]] = lambda _: ()
+
+    # Other sessions
+
+    def all_writers(self) -> list[Writer]:
+        """The writers of this session, and of others that can be had now."""
+        if not self.helpers:
+            self.gather(False)
+        return [self.writer, *self.helpers.values()]
+
+    def gather(self, is_all: bool) -> None:
+        self.helpers = {each.me: each.writer for each in self.more(is_all)}
+        self.writer.lenders = {number: writer.keeper for number, writer in self.helpers.items()}
+
+    def end_turn(self) -> None:
+        """Others are given back."""
+        self.helpers, self.writer.lenders, self.more, self.trip = {}, {}, lambda _: (), None
+
+    # Looks
+
+    def look(self, name: str) -> Held | None:
+        """What a name holds."""
+        if self.trip:
+            return self.trip.look(name)
+        bucket = self.bucket(name)
+        bucket.refresh()
+        return bucket.held(name)
+
+    def all(self) -> Iterator[Held]:
+        """All that names hold, each at some moment of the call."""
+        for bucket, _ in self.buckets():
+            yield from self.shared.held_in(bucket)
+
+    def spans(self, held: Held) -> Iterator[Span]:
+        begin = 0
+        for part in held.content.parts:
+            left = part.size
+            for place, (session, number) in enumerate(part.order()):
+                slots = self.layout.slots(session)
+                if number >= len(slots):
+                    raise Damaged(f"{held.name}: there is no slot {number} of session {session}")
+                room = slots[number].room - len(head(held.version.session, part.put, place))
+                length = min(room, left)
+                yield Span(part, place, slots[number].volume, slots[number].file, begin, length)
+                begin, left = begin + length, left - length
+            if left:
+                raise Damaged(f"{held.name}: its slots don't hold it")
+
+    def content(self, held: Held, first: int, end: int) -> Generator[bytes, None, None]:
+        """The bytes from the first to before the end. Replaced where a slot has something else by now. Of a part that is read whole the last bytes are told
+        once its digest was found right."""
+        if isinstance(held.content, Inline):
+            yield held.content.content[first:end]
+            return
+        wanted = [span for span in self.spans(held) if span.begin < end and span.begin + span.length > first]
+        digest, seen = hashlib.sha256(), 0
+        with closing(self.pieces(wanted)) as found:
+            for span, piece in zip(wanted, found):
+                data = without_head(held.version.session, span.part.put, span.place, piece)
+                if data is None:
+                    raise Replaced(f"{held.name}: replaced while it was read")
+                if len(data) != span.length:
+                    raise Damaged(f"{held.name}: its slots don't hold it")
+                if not span.place:
+                    digest, seen = hashlib.sha256(), 0
+                digest.update(data)
+                seen += len(data)
+                if seen == span.part.size and digest.hexdigest() != digest_in_hex(span.part.digest):
+                    raise Damaged(f"{held.name}: its slots don't hold it")
+                yield data[max(0, first - span.begin) : end - span.begin]
+
+    def pieces(self, wanted: Sequence[Span]) -> Generator[bytes, None, None]:
+        """What these slots hold, by this session and others that can be had; by this one alone from where the home of another one is silent."""
+        done = 0
+        while done < len(wanted):
+            rest = wanted[done:]
+            sessions = [self.session]
+            if len(rest) > 1:
+                sessions = [writer.session for writer in self.writers(len(rest), sum(span.length for span in rest))]
+            jobs = ((sessions[at % len(sessions)], partial(read_piece, span.volume, span.file)) for at, span in enumerate(rest))
+            try:
+                with closing(self.team.results(jobs) if len(rest) > 1 else (work(session) for session, work in jobs)) as found:
+                    for piece in found:
+                        done += 1
+                        yield piece
+            except Unanswered:
+                if len(sessions) == 1:
+                    raise
+                self.more, self.helpers = lambda _: (), {}
+
+    def read(self, name: str, choose: Callable[[Held | None], tuple[int, int]]) -> tuple[Held, Generator[bytes, None, None], bytes]:
+        """What a name holds, its bytes in the range that is chosen by that, and before them the first ones, which are there for sure."""
+        for _ in range(BEGINNINGS):
+            held = self.look(name)
+            first, end = choose(held)
+            assert held
+            if held.version.grid != self.grid:
+                raise Elsewhere(held.version.grid)
+            parts = self.content(held, first, end)
+            try:
+                return held, parts, next(parts, b"")
+            except Replaced:
+                if not self.bucket(name).reread(held.version.session):
+                    raise Damaged(f"{name}: its slots don't hold it") from None
+        raise Replaced(f"{name}: replaced each of {BEGINNINGS} times while it was read")

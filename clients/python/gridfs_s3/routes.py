@@ -1,0 +1,222 @@
+"""The endpoint: which operation a request asks for, and its way from the head of the request to the end of the answer."""
+
+import asyncio
+import time
+from collections.abc import Awaitable, Callable, Set
+from dataclasses import dataclass
+
+from aiohttp import web
+from aiohttp.web_protocol import RequestPayloadError
+
+from . import metrics, signing
+from .buckets import NEVER_GIVEN, Buckets
+from .connections import Connection, error_answer
+from .copying import Copies
+from .errors import S3Error, error_of, tell
+from .gateway import Gateway
+from .grids import asked_by
+from .listing import Listings
+from .objects import Objects
+from .page import Page
+from .requests import SERVER, Asked, answer
+from .uploads import Uploads
+from .workers import who_asks
+
+Operation = Callable[[Asked], Awaitable[web.StreamResponse]]
+SLOW = 10.0  # seconds from which on a request is told of on standard error
+READS = ("GET", "HEAD")
+# What a read may ask for that is not here. Other words that are not known mean nothing to a read.
+NOT_HERE = (
+    "accelerate", "analytics", "inventory", "legal-hold", "logging", "metrics", "notification", "policyStatus", "requestPayment", "restore", "retention", "select",
+    "torrent", "versions", "intelligent-tiering", "attributes", *NEVER_GIVEN,
+)  # fmt: skip
+# The headers of Amazon's that a change may have. One that is not known may be a condition, or want something else than what would be done.
+OF_ANY_CHANGE = {
+    "x-amz-acl", "x-amz-bypass-governance-retention", "x-amz-content-sha256", "x-amz-copy-source", "x-amz-copy-source-if-match", "x-amz-copy-source-if-modified-since",
+    "x-amz-copy-source-if-none-match", "x-amz-copy-source-if-unmodified-since", "x-amz-copy-source-range", "x-amz-date", "x-amz-decoded-content-length",
+    "x-amz-expected-bucket-owner", "x-amz-metadata-directive", "x-amz-mp-object-size", "x-amz-object-ownership", "x-amz-request-payer", "x-amz-sdk-checksum-algorithm",
+    "x-amz-security-token", "x-amz-source-expected-bucket-owner", "x-amz-storage-class", "x-amz-te", "x-amz-trailer", "x-amz-user-agent",
+}  # fmt: skip
+PREFIXES_OF_ANY_CHANGE = ("x-amz-meta-", "x-amz-checksum-")
+# In the query of a signed URL there are these besides, and those that begin with X-Amz-.
+OF_ANY_URL = {"x-id", "x-amz-sdk-checksum-algorithm", "x-amz-user-agent"}
+CONDITIONS, NEVER_JUDGED = {"if-match", "if-none-match"}, {"if-modified-since", "if-range", "if-unmodified-since"}
+
+
+@dataclass(frozen=True)
+class Change:
+    """A request that changes something: the words of its query, those that it may have besides, and the conditions that are judged."""
+
+    operation: Operation
+    words: Set[str] = frozenset()
+    besides: Set[str] = frozenset()
+    conditions: Set[str] = frozenset()
+    is_copy: bool = False
+
+
+class Endpoint:
+    """The operations of one tenant's gateway."""
+
+    def __init__(self, gateway: Gateway):
+        self.gateway, self.tenant = gateway, gateway.tenant
+        self.buckets, self.listings = Buckets(gateway), Listings(gateway)
+        self.objects = Objects(gateway, self.buckets)
+        self.copies = Copies(self.objects)
+        self.uploads = Uploads(self.objects, self.copies)
+        self.page = Page(gateway, self.listings)
+        self.under_way, self.is_ending, self.is_over = 0, False, False
+
+    async def handle(self, request: web.BaseRequest) -> web.StreamResponse:
+        """The answer to a request, with what is counted of it."""
+        begin, operation, status, asked = time.monotonic(), "Unknown", 500, None
+        asked_by.set(request)
+        self.under_way += 1
+        if isinstance(request.protocol, Connection):
+            request.protocol.go_on()
+        try:
+            try:
+                asked = Asked(request, self.gateway.domain)
+                if self.is_over:
+                    raise S3Error("ServiceUnavailable", "The gateway ends. Nothing was changed.")
+                response = await self.dispatch(asked)
+            except (ConnectionError, asyncio.CancelledError, RequestPayloadError):
+                status = 499
+                raise
+            except Exception as fault:
+                told = error_of(fault)
+                metrics.faults.labels(self.tenant, told.code).inc()
+                response = error_answer(told, asked)
+            status = response.status
+            if asked and not response.prepared:
+                response.headers["x-amz-request-id"] = asked.id
+                response.headers["Server"] = SERVER
+                # The rest of a body is not waited for. And a client that expects a word before its body may not know where it stands.
+                if asked.is_expecting or self.is_ending or (status >= 400 and not request.content.is_eof()):
+                    response.force_close()
+            return response
+        finally:
+            self.under_way -= 1
+            operation, took = asked.operation if asked else operation, time.monotonic() - begin
+            if took > SLOW and asked:
+                tell(f"{asked.method} {asked.path}: {operation} told {status} after {took:.1f} s")
+            metrics.requests.labels(self.tenant, operation, str(status)).inc()
+            metrics.seconds.labels(self.tenant, operation).observe(took)
+
+    async def dispatch(self, asked: Asked) -> web.StreamResponse:
+        """403 AccessDenied and others for who asks (signing.check, keys.Key); 501 NotImplemented, 405 MethodNotAllowed for what is asked."""
+        if asked.path == "/metrics" and not self.is_signed(asked):
+            asked.operation = "Metrics"
+            if "x-forwarded-for" in asked.headers:
+                raise S3Error("AccessDenied", "Metrics are for this machine alone.")
+            return answer(metrics.text(self.tenant, self.gateway.grids), kind=metrics.KIND)
+        if asked.path == "/-" or asked.path.startswith("/-/"):
+            asked.operation = "Page"
+            return await self.page.show(asked)
+        asked.signed = signing.check(asked.method, asked.path, asked.raw_query, asked.all_headers(), self.gateway.keys)
+        who_asks.set(f"url {asked.signed.signature}" if signing.IN_QUERY + "Signature" in asked.query else f"key {asked.signed.key.access}")
+        self.expect_known(asked)
+        operation = self.operation_of(asked)
+        asked.operation = "".join(word.capitalize() for word in getattr(operation, "__name__").split("_"))
+        asked.signed.key.expect(asked.bucket, asked.method not in READS)
+        return await operation(asked)
+
+    def is_signed(self, asked: Asked) -> bool:
+        return "authorization" in asked.headers or "X-Amz-Signature" in asked.query or "Signature" in asked.query
+
+    def expect_known(self, asked: Asked) -> None:
+        """501 NotImplemented, 400 InvalidArgument, 403 AccessDenied."""
+        if not all(signing.is_utf8(word) for pair in asked.pairs for word in pair):
+            raise S3Error("InvalidArgument", "A parameter is not UTF-8.")
+        if asked.headers.get("x-amz-acl", "private") not in ("private", "bucket-owner-full-control"):
+            raise S3Error("NotImplemented", "All is its tenant's alone here: the only ACL is private.")
+        if asked.headers.get("x-amz-storage-class", "STANDARD") != "STANDARD":
+            raise S3Error("NotImplemented", "The only storage class is STANDARD.")
+        for name in ("x-amz-expected-bucket-owner", "x-amz-source-expected-bucket-owner"):
+            if asked.headers.get(name, self.tenant) != self.tenant:
+                raise S3Error("AccessDenied", "The bucket has another owner.")
+        if asked.query.get("versionId", "null") != "null":
+            raise S3Error("NotImplemented", "There are no versions here.")
+        if asked.method not in READS:
+            for name in asked.headers:
+                if name.startswith("x-amz-") and name not in OF_ANY_CHANGE and not name.startswith(PREFIXES_OF_ANY_CHANGE):
+                    raise S3Error("NotImplemented", f"The header {name} is not taken here.")
+
+    def operation_of(self, asked: Asked) -> Operation:
+        if not asked.bucket:
+            if asked.method != "GET":
+                raise S3Error("MethodNotAllowed")
+            return self.buckets.list_buckets
+        if asked.method not in READS:
+            return self.change_of(asked)
+        return self.read_of_object(asked) if asked.key else self.read_of_bucket(asked)
+
+    # Changes: what is not known is not done
+
+    def changes(self, method: str, is_of_object: bool) -> list[Change]:
+        """All that such a request can be."""
+        upload, part = {"uploadId"}, {"partNumber"}
+        if not is_of_object:
+            of_buckets = {
+                "PUT": [Change(self.buckets.create_bucket)],
+                "DELETE": [Change(self.buckets.delete_bucket)],
+                "POST": [Change(self.objects.delete_objects, {"delete"})],
+            }
+            return of_buckets.get(method, [])
+        of_objects = {
+            "PUT": [
+                Change(self.objects.put_object, conditions=CONDITIONS),
+                Change(self.copies.copy_object, conditions=CONDITIONS, is_copy=True),
+                Change(self.uploads.upload_part, upload, part),
+                Change(self.uploads.upload_part_copy, upload, part, is_copy=True),
+            ],
+            "POST": [Change(self.uploads.create_multipart_upload, {"uploads"}), Change(self.uploads.complete_multipart_upload, upload, conditions=CONDITIONS)],
+            "DELETE": [Change(self.objects.delete_object, besides={"versionId"}, conditions=CONDITIONS), Change(self.uploads.abort_multipart_upload, upload)],
+        }
+        return of_objects.get(method, [])
+
+    def change_of(self, asked: Asked) -> Operation:
+        """501 NotImplemented, 405 MethodNotAllowed."""
+        words = {name for name in asked.query if name not in OF_ANY_URL and not name.startswith(signing.IN_QUERY)}
+        conditions = (CONDITIONS | NEVER_JUDGED) & asked.headers.keys()
+        found = self.changes(asked.method, bool(asked.key))
+        if not found:
+            raise S3Error("MethodNotAllowed")
+        for change in found:
+            if change.words <= words <= change.words | change.besides and change.is_copy == ("x-amz-copy-source" in asked.headers):
+                if conditions - change.conditions:
+                    raise S3Error("NotImplemented", f"The header {min(conditions - change.conditions)} is not judged here.")
+                return change.operation
+        raise S3Error("NotImplemented", f"There is no {asked.method} with {'?' + '&'.join(sorted(words)) if words else 'these words'} here.")
+
+    # Reads
+
+    def read_of_bucket(self, asked: Asked) -> Operation:
+        method, query = asked.method, asked.query
+        by_word: dict[str, Operation] = {
+            "location": self.buckets.get_bucket_location,
+            "versioning": self.buckets.get_bucket_versioning,
+            "acl": self.buckets.get_bucket_acl,
+            "uploads": self.listings.list_multipart_uploads,
+            "versions": self.listings.list_object_versions,
+            **dict.fromkeys(NEVER_GIVEN, self.buckets.get_what_was_never_given),
+        }
+        for word, operation in by_word.items():
+            if method == "GET" and word in query:
+                return operation
+        for word in (*by_word, *NOT_HERE, "delete"):
+            if word in query:
+                raise S3Error("NotImplemented", f"There is no ?{word} here.")
+        if method == "HEAD":
+            return self.buckets.head_bucket
+        return self.listings.list_objects_v2 if query.get("list-type") == "2" else self.listings.list_objects
+
+    def read_of_object(self, asked: Asked) -> Operation:
+        method, query = asked.method, asked.query
+        by_word: dict[str, Operation] = {"acl": self.objects.get_object_acl, "tagging": self.objects.get_object_tagging, "uploadId": self.uploads.list_parts}
+        for word, operation in by_word.items():
+            if method == "GET" and word in query:
+                return operation
+        for word in (*by_word, *NOT_HERE):
+            if word in query:
+                raise S3Error("MethodNotAllowed" if word == "uploadId" else "NotImplemented", f"There is no ?{word} here.")
+        return self.objects.get_object if method == "GET" else self.objects.head_object

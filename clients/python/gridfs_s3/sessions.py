@@ -1,0 +1,516 @@
+"""The sessions of a tenant at one grid, which this gateway has for itself, and who works by which."""
+
+import asyncio
+import time
+from collections import Counter
+from collections.abc import Callable, Sequence
+from concurrent.futures import ThreadPoolExecutor
+from contextlib import suppress
+from dataclasses import replace
+from typing import Any, TypeVar
+
+from gridfs_client.answers import NO_SESSION, PlanTold
+from gridfs_client.asking import ask_plan
+from gridfs_client.carriers import Carrier
+from gridfs_client.core import Page
+from gridfs_client.errors import BadSettings, CarrierFault, ClientError, SessionTaken, Unanswered
+from gridfs_client.fleet_map import Move
+from gridfs_client.layout import Layout, layout_of
+from gridfs_client.opening import SOON
+from gridfs_client.settings import Settings
+from gridfs_client.ways import Ground, slice_of
+
+from .errors import error_of, tell
+from .shared import Shared, Turns
+from .store import Store
+from .trips import Trip
+from .workers import Crowded, Gathering, Lending, Turn, Wanted, Worker, who_asks
+
+Told = TypeVar("Told")
+MOST_HELPERS = 3
+TIDY = 30.0  # seconds
+TRIES = 60  # of settling a page by a session whose home is silent
+LOOK = 0.1  # seconds between looks at what other commands want
+PLAN_AGAIN, ANSWERS = 10.0, 2.0  # seconds after which all nodes are asked whether the plan has grown, and for which their answers are waited for
+RETRY = 1.0  # seconds until a session whose home is silent, or a carrier that has ended, is tried again
+
+
+class Pool:
+    """All workers. Whoever waits for one gets it by turns; those whose homes are silent are left out as long as there are others. Where another command of
+    this machine waits for a session, it is lent to that."""
+
+    def __init__(self, settings: Settings, gathering: Gathering, lending: Lending, turns: Turns, ground: Ground | None = None):
+        self.settings, self.shared, self.ground, self.lending = settings, Shared(turns), ground, lending
+        self.grid = ground.grid if ground else ""
+        self.workers: dict[int, Worker] = {}
+        self.waiting: list[Wanted] = []
+        self.begun: dict[int, asyncio.Task[None]] = {}  # pages on which something is changed, each with what settles it before
+        self.carrier: Carrier | None = None
+        self.layout: Layout  # once it is opened
+        self.sessions = 0  # of the tenant, once it is opened
+        self.gathering = gathering
+        self.threads = ThreadPoolExecutor(32, thread_name_prefix="session")
+        self.loop = asyncio.get_running_loop()
+        self.tasks: set[asyncio.Task[None]] = set()
+        self.lends: set[int] = set()  # numbers of sessions that are lent, or are to be
+        self.lasting: list[asyncio.Task[None]] = []  # what goes on as long as the gateway does
+        self.asking = asyncio.Lock()  # of who asks all nodes: what they tell of no session is kept for one who asks
+
+    # Beginning
+
+    def open(self) -> None:
+        """Opens the carrier, and takes the sessions that no other client of this machine has. Faults as those of a client."""
+        carrier = self.settings.carrier()
+        try:
+            told = ask_plan(carrier, self.settings.pace())
+            self.layout = layout_of(told)
+            for number in self.settings.session_numbers(told.sessions):
+                self.add(carrier, number, told.home_of(number))
+        except BaseException:
+            carrier.close()
+            raise
+        if not self.workers:
+            carrier.close()
+            raise SessionTaken("other clients use all sessions that the settings name")
+        self.carrier, self.sessions = carrier, told.sessions
+
+    def add(self, carrier: Carrier, number: int, home: int) -> Worker | None:
+        """A worker of a session, or one that is there by this carrier; None where another client has it."""
+        known = self.workers.get(number)
+        lock = known.lock if known else self.settings.lock(number)
+        if lock is None:
+            return None
+        session = Turn(carrier, number, home, self.settings.pace())
+        worker = known or Worker(session, lock)
+        worker.session = session
+        self.renew(worker)
+        self.workers[number] = worker
+        return worker
+
+    async def begin(self) -> None:
+        """Opens it, or has it opened as soon as that can be done; then what goes on side by side with requests. Faults of settings are raised."""
+        try:
+            await self.loop.run_in_executor(self.threads, self.open)
+        except BadSettings:
+            raise
+        except ClientError as fault:
+            tell(f"{self.named()}{fault}: it is tried again")
+            self.spawn(self.open_again())
+        self.lasting = [self.spawn(self.tidy()), self.spawn(self.lend_on()), self.spawn(self.follow_plan())]
+
+    def named(self) -> str:
+        return f"{self.grid}: " if self.grid else ""
+
+    @property
+    def is_open(self) -> bool:
+        return self.sessions > 0
+
+    @property
+    def has_all(self) -> bool:
+        """Whether all sessions of the tenant are here."""
+        return self.is_open and len(self.workers) == self.sessions
+
+    @property
+    def slot_bytes(self) -> int:
+        """What all slots of all sessions have room for."""
+        return sum(slot.room for session in range(1, self.sessions + 1) for slot in self.layout.slots(session))
+
+    def renew(self, worker: Worker) -> None:
+        """Forgets all that the worker knows of files."""
+        worker.store = Store(worker.session, self.layout, self.shared, self.ground)
+
+    def known_pages(self, name: str) -> list[Page]:
+        """The pages that may have lines of a name, as they were seen last."""
+        if not self.is_open:
+            return []
+        number = self.layout.page_of(name)
+        found = (self.shared.pages.get((session, number)) for session in range(1, self.sessions + 1))
+        return [known.page for known in found if known]
+
+    def pages_lacking(self, move: Move) -> list[tuple[int, int]]:
+        """The sessions that are here, each with its pages that may not be yet as a move wants them, as they were seen last."""
+        numbers = [number for number, worker in self.workers.items() if not worker.is_lent and not worker.is_silent]
+        pages = [(number, page, self.shared.pages.get((number, page))) for number in numbers for page in range(self.layout.pages)]
+        return [(number, page) for number, page, known in pages if known is None or not is_shared(known.page, move)]
+
+    # Taking turns
+
+    def is_idle(self, worker: Worker) -> bool:
+        return not worker.is_busy and not worker.is_silent
+
+    async def lease(self, number: int | None = None, preferred: int | None = None) -> Worker:
+        """A worker: the one of this number, or any, best the preferred one."""
+        if number is not None and number not in self.workers:
+            raise KeyError(number)
+        if number is not None and self.workers[number].is_silent or all(each.is_silent for each in self.workers.values()):
+            raise Unanswered(f"{self.named()}the homes of the sessions are silent")
+        wanted = number if number is not None else preferred
+        found = self.workers.get(wanted) if wanted is not None else None
+        if (found is None or not self.is_idle(found)) and number is None:
+            found = next((each for each in self.workers.values() if self.is_idle(each)), None)
+        if found is not None and self.is_idle(found):
+            found.is_busy, found.who = True, who_asks.get()
+            return found
+        waiting = Wanted(number, self.loop.create_future(), who_asks.get())
+        self.waiting.append(waiting)
+        try:
+            return await waiting.future
+        except asyncio.CancelledError:
+            if waiting in self.waiting:
+                self.waiting.remove(waiting)
+            elif waiting.future.done() and not waiting.future.cancelled() and not waiting.future.exception():
+                self.release(waiting.future.result())
+            raise
+
+    def release(self, worker: Worker) -> None:
+        worker.is_busy = False
+        if worker.is_silent:
+            return
+        fitting = [wanted for wanted in self.waiting if wanted.number in (None, worker.number) and not wanted.future.done()]
+        if fitting:
+            # (the first of those who have fewest: so much as one asks for, others wait for one of his requests only)
+            has = Counter(each.who for each in self.workers.values() if each.is_busy)
+            wanted = min(fitting, key=lambda wanted: has[wanted.who] if wanted.number is None else 0)
+            self.waiting.remove(wanted)
+            worker.is_busy, worker.who = True, wanted.who
+            wanted.future.set_result(worker)
+
+    def idle(self, most: int) -> list[Worker]:
+        """Workers that nobody has or waits for, which are leased now."""
+        found = [] if self.waiting else [each for each in self.workers.values() if self.is_idle(each)][:most]
+        for worker in found:
+            worker.is_busy, worker.who = True, who_asks.get()
+        return found
+
+    async def others(self, mine: list[Worker]) -> list[Worker]:
+        """All other workers, each once it is free: what needs the room of all waits for it. Crowded where somebody gathers already."""
+        if self.gathering.count:
+            raise Crowded
+        found: list[Worker] = []
+        async with self.gathering:
+            try:
+                for number in list(self.workers):
+                    other = self.workers[number]
+                    if other not in [*mine, *found] and not other.is_silent and not other.is_lent:
+                        found.append(await self.lease(number))
+            except BaseException:
+                for worker in found:
+                    self.release(worker)
+                raise
+        return found
+
+    # Lending
+
+    async def lend_on(self) -> None:
+        """Lends a session to a command that waits for it, and takes those that other commands had before."""
+        while True:
+            await asyncio.sleep(LOOK)
+            try:
+                for number, worker in list(self.workers.items()):
+                    if number not in self.lends and not worker.is_silent and self.settings.is_wanted(number):
+                        self.lends.add(number)
+                        self.spawn(self.lend(worker))
+                if self.carrier and len(self.workers) < self.sessions:
+                    self.take_more(self.carrier)
+            except OSError as fault:
+                tell(f"{self.named()}{fault.filename or 'locks'}: {fault.strerror}: no session is lent")
+                await asyncio.sleep(TIDY)
+
+    def take_more(self, carrier: Carrier) -> None:
+        for number in self.settings.session_numbers(self.sessions):
+            if number not in self.workers and not self.settings.is_wanted(number) and carrier.told:
+                if worker := self.add(carrier, number, carrier.told.home_of(number)):
+                    self.release(worker)
+
+    async def lend(self, worker: Worker) -> None:
+        """Gives a session up once it is free, and has it again once the command is done. What is known of files is forgotten, and no page is settled by it
+        any more."""
+        async with self.lending.lend():
+            worker.is_lent = True
+            try:
+                await self.lease(worker.number)
+                self.renew(worker)
+                worker.lock.close()
+                lock = None
+                while lock is None:
+                    await asyncio.sleep(LOOK)
+                    with suppress(OSError):  # (which is told elsewhere)
+                        lock = None if self.settings.is_wanted(worker.number) else self.settings.lock(worker.number)
+                worker.lock = lock
+                worker.session.forget()
+                self.release(worker)
+            except Unanswered:
+                pass
+            finally:
+                worker.is_lent = False
+                self.lends.discard(worker.number)
+
+    # Working
+
+    async def run(
+        self,
+        worker: Worker,
+        work: Callable[[Store], Told],
+        helpers: int = 0,
+        keep: bool = False,
+        besides: tuple[Worker, ...] = (),
+        is_soon: bool = False,
+        trip: "Trip | None" = None,
+        others: "Sequence[tuple[Pool, Worker]]" = (),
+    ) -> Told:
+        """Has a leased worker do some work in a thread, and releases it then, unless it is kept. It may take so many idle ones besides; where its own
+        slots don't suffice, all but those that its caller has besides (or Crowded, and nothing of a content was read). Where others can do it too, it
+        is told soon that the home is silent. With a trip it has other workers, each of another grid, which are released with it."""
+        borrowed: list[Worker] = self.idle(min(helpers, MOST_HELPERS)) if helpers else []
+
+        async def rest() -> None:
+            borrowed.extend(await self.others([worker, *borrowed, *besides]))
+
+        def more(is_all: bool) -> list[Store]:
+            if is_all:
+                asyncio.run_coroutine_threadsafe(rest(), self.loop).result()
+            return [each.store for each in borrowed]
+
+        def begin() -> Told:
+            store = worker.store
+            store.more, store.trip = more, trip
+            for _, each in every:
+                each.session.begin(is_soon)
+            try:
+                return work(store)
+            finally:
+                for _, each in every:
+                    each.session.end()
+                    each.store.end_turn()
+
+        def end(future: "asyncio.Future[Told]") -> None:
+            fault = None if future.cancelled() else future.exception()
+            for pool, each in [(pool, each) for pool, each in every if each.session.has_failed] or every:
+                pool.look_at(each, fault)
+            for each in borrowed:
+                if isinstance(fault, (Unanswered, SessionTaken)):
+                    self.probe(each)
+                self.release(each)
+            if not keep:
+                for pool, each in every:
+                    pool.release(each)
+
+        every: list[tuple[Pool, Worker]] = [(self, worker), *others]
+        future = self.loop.run_in_executor(self.threads, begin)
+        future.add_done_callback(end)
+        return await asyncio.shield(future)
+
+    def look_at(self, worker: Worker, fault: BaseException | None) -> None:
+        """Sees to a worker whose work ended with a fault."""
+        if isinstance(fault, CarrierFault):
+            self.reopen(str(fault))
+        elif isinstance(fault, (Unanswered, SessionTaken)):
+            self.renew(worker)
+            self.probe(worker)
+
+    def probe(self, worker: Worker) -> None:
+        """Leaves a worker out until its home answers."""
+        if not worker.is_silent:
+            worker.is_silent = True
+            if self.carrier and self.carrier.why:  # (a certificate that has ended, say)
+                tell(f"{self.named()}session {worker.number} is silent; {self.carrier.why}")
+            for wanted in list(self.waiting):
+                if wanted.number == worker.number or all(each.is_silent for each in self.workers.values()):
+                    self.waiting.remove(wanted)
+                    if not wanted.future.done():
+                        wanted.future.set_exception(Unanswered("the homes of the sessions are silent"))
+            self.spawn(self.wait_for(worker))
+
+    def spawn(self, work: Any) -> "asyncio.Task[None]":
+        task: asyncio.Task[None] = self.loop.create_task(work)
+        self.tasks.add(task)
+        task.add_done_callback(self.tasks.discard)
+        return task
+
+    async def wait_for(self, worker: Worker) -> None:
+        while worker.is_silent:
+            while worker.is_busy:
+                await asyncio.sleep(0.05)
+            worker.is_busy = True
+            pace, worker.session.pace = worker.session.pace, replace(worker.session.pace, timeout=SOON)
+            try:
+                await self.loop.run_in_executor(self.threads, worker.session.read, 0, 0)
+                worker.is_silent = False
+            except (Unanswered, SessionTaken):
+                await asyncio.sleep(RETRY)
+            except CarrierFault as fault:
+                self.reopen(str(fault))
+                await asyncio.sleep(RETRY)
+            finally:
+                worker.session.pace = pace
+                worker.is_busy = False
+        self.renew(worker)
+        self.release(worker)
+
+    def reopen(self, why: str) -> None:
+        """Opens the carrier anew, once, and as often as it takes."""
+        carrier, self.carrier = self.carrier, None
+        if carrier:
+            tell(f"{self.named()}{why}: it is tried again")
+            carrier.close()
+            for worker in self.workers.values():
+                worker.is_silent = True
+            for wanted in self.waiting:
+                if not wanted.future.done():
+                    wanted.future.set_exception(Unanswered("the carrier has ended"))
+            self.waiting.clear()
+            self.spawn(self.open_again())
+
+    async def open_again(self) -> None:
+        while True:
+            await asyncio.sleep(RETRY)
+            while any(worker.is_busy for worker in self.workers.values()):
+                await asyncio.sleep(0.05)
+            try:
+                await self.loop.run_in_executor(self.threads, self.open)
+                break
+            except ClientError:
+                continue
+        tell(f"{self.named()}the carrier is there again")
+        for worker in self.workers.values():
+            worker.is_silent = False
+            self.release(worker)
+
+    # More room
+
+    async def follow_plan(self) -> None:
+        """Goes on by a plan that has grown, once all nodes that answer have it."""
+        while True:
+            await asyncio.sleep(PLAN_AGAIN)
+            if not self.is_open or not self.carrier:
+                continue
+            async with self.asking:
+                layout = await self.loop.run_in_executor(self.threads, self.grown, self.carrier)
+            if layout:
+                await self.take_layout(layout)
+
+    def grown(self, carrier: Carrier) -> Layout | None:
+        """(A thread's.) What all nodes that answer tell, where that is more volumes than are known here."""
+        begun, found = carrier.now(), set[Layout]()
+        try:
+            carrier.attach(NO_SESSION)
+            for place in range(carrier.told.nodes if carrier.told else 0):
+                assert carrier.told
+                carrier.send(carrier.told.node_at(place), b"plan")
+            while (is_last := not carrier.silent_since(begun)) or carrier.now() < begun + ANSWERS:
+                answer = carrier.receive(NO_SESSION, 0 if is_last else max(0, begun + ANSWERS - carrier.now()))
+                if isinstance(answer, PlanTold):
+                    found.add(layout_of(answer))
+                elif is_last:
+                    break
+        except ClientError:
+            return None
+        more = found.pop() if len(found) == 1 else self.layout
+        return more if more.sessions == self.layout.sessions and more.volumes[: len(self.layout.volumes)] == self.layout.volumes != more.volumes else None
+
+    async def take_layout(self, layout: Layout) -> None:
+        tell(f"{self.named()}the plan has {len(layout.volumes)} volumes now, {len(layout.volumes) - len(self.layout.volumes)} more than before")
+        self.layout = layout
+        for number in list(self.workers):
+            try:
+                worker = await self.lease(number)
+            except Unanswered:
+                continue  # (it is renewed once its home answers)
+            self.renew(worker)
+            self.release(worker)
+
+    # Pages
+
+    async def settle_before(self, name: str) -> None:
+        """Before the first change on a page: what an earlier gateway left under way there ends, where its session's home answers."""
+        page = self.layout.page_of(name)
+        if page not in self.begun:
+            self.begun[page] = self.loop.create_task(self.settle(page))
+        if not self.begun[page].done():
+            with suppress(ClientError):
+                await asyncio.shield(self.begun[page])
+
+    async def settle(self, page: int) -> None:
+        """Sees that nothing that earlier clients of these sessions wrote can come into a page any more: by each that is here and whose home answers, side by
+        side. A fault is raised where there is one, once all have ended."""
+        wanted = [worker for worker in self.workers.values() if page not in worker.store.settled and not worker.is_silent and not worker.is_lent]
+        found = await asyncio.gather(*(self.settle_by(worker.number, page) for worker in wanted), return_exceptions=True)
+        for fault in found:
+            if isinstance(fault, BaseException):
+                raise fault
+
+    async def settle_by(self, number: int, page: int) -> None:
+        worker = await self.lease(number)
+        await self.run(worker, lambda store: store.settle(page), is_soon=True)
+
+    def is_settled(self, page: int) -> bool:
+        """Whether all sessions of the tenant are here, and nothing is under way into this page but changes of this gateway that are asked for now."""
+        return self.has_all and all(page in worker.store.settled for worker in self.workers.values())
+
+    async def sweep(self, page: int) -> None:
+        """Has lines go from a page: by two changes of no name of each session that answers."""
+        self.shared.swept[page] = time.monotonic()
+        for _ in range(2):
+            for number in [number for number, worker in self.workers.items() if not worker.is_lent]:
+                try:
+                    await self.run(await self.lease(number), lambda store: store.sweep_own(page))
+                except ClientError:
+                    continue
+
+    async def tidy(self) -> None:
+        """Sees after a start to what earlier clients left, page by page, so that nobody waits for long; and from then on, where nobody waits, to
+        slots that sessions lent to contents that are gone."""
+        while not self.is_open:
+            await asyncio.sleep(RETRY)
+        await asyncio.gather(*(self.tidy_session(number) for number in list(self.workers)))
+        while True:
+            await asyncio.sleep(TIDY)
+            for number in list(self.workers):
+                keeper = self.workers[number].store.writer.keeper
+                if self.is_idle(self.workers[number]) and keeper.table and keeper.table.lent:
+                    try:
+                        await self.run(await self.lease(number), Store.recall)
+                    except ClientError:
+                        pass
+                    except Exception as fault:
+                        error_of(fault)  # (which tells it)
+
+    async def tidy_session(self, number: int) -> None:
+        for page in range(self.layout.pages):
+            for _ in range(TRIES):
+                try:
+                    await self.settle_by(number, page)
+                    break
+                except ClientError:
+                    await asyncio.sleep(RETRY)
+                except Exception as fault:
+                    error_of(fault)
+                    break
+        try:
+            await self.run(await self.lease(number), Store.free_slots)
+        except ClientError:
+            pass
+        except Exception as fault:
+            error_of(fault)
+
+    async def flush(self) -> None:
+        """Writes down which slots are needed no more, by the sessions that are free."""
+        for worker in self.idle(len(self.workers)):
+            try:
+                await self.run(worker, Store.close)
+            except ClientError:
+                pass
+
+    def close(self) -> None:
+        self.threads.shutdown(wait=False, cancel_futures=True)
+        if self.carrier:
+            self.carrier.close()
+
+
+def is_shared(page: Page, move: Move) -> bool:
+    """Whether a page of the old grid is as a move wants it."""
+    return not any(move.has(slice_of(line.name)) for line in page.lines) if move.is_there else move.signpost in page.signposts
+
+
+def now_ms() -> int:
+    return time.time_ns() // 1_000_000

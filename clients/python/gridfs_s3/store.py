@@ -1,0 +1,372 @@
+"""Objects over the names of one session: what the client for names lacks, which are conditions, times, and uploads in parts."""
+
+import secrets
+import time
+from collections.abc import Callable, Sequence
+from functools import partial
+from typing import IO, Protocol, cast
+
+from gridfs_client.buckets import Bucket, Held
+from gridfs_client.contents import Content, Inline, InSlots, Joined
+from gridfs_client.core import Line, Version
+from gridfs_client.errors import CarrierFault, Damaged, NoRoom, NoSuchName, SessionTaken, Unanswered
+from gridfs_client.fleet import sign, spool
+from gridfs_client.fleet_map import Move
+from gridfs_client.layout import Layout
+from gridfs_client.moving import clear
+from gridfs_client.names import no_words
+from gridfs_client.pages import check_words
+from gridfs_client.pieces import choose
+from gridfs_client.placing import Placing
+from gridfs_client.sessions import Files
+from gridfs_client.streams import Source
+from gridfs_client.ways import Ground
+from gridfs_client.writers import Writer
+
+from .errors import S3Error
+from .places import Part, Values, number_of, of_words, parts_of, to_words, upload_name
+from .reading import Reader
+from .shared import Shared
+from .trips import Elsewhere
+
+Condition = Callable[[Held | None], None]  # judges what a name holds, right before it is changed
+AGAIN = 60.0  # seconds until a page that is full of removals is swept again, and all pages of a session are searched for room
+STAMP = "0" * 13  # as long as a time is
+
+
+class PageFull(Exception):
+    """A page has to be swept by all sessions before it takes one more line. Nothing was changed."""
+
+    def __init__(self, page: int):
+        super().__init__(page)
+        self.page = page
+
+
+class Body(Protocol):
+    """A content that is read once, of known length."""
+
+    told_size: int
+
+    def read(self, length: int) -> bytes:
+        """So many bytes, fewer only at the end."""
+
+    def digest(self) -> str:
+        """MD5 in hexadecimal, of what was read until now."""
+
+    def rewind(self) -> None:
+        """Begins anew. An S3Error where some was read that can't be read again."""
+
+
+class FewSearches(Placing):
+    """A placing that does not search all pages for room again and again: what a gateway frees itself it knows, and what others left it has found."""
+
+    shared: Shared
+
+    def find_room(self) -> None:
+        for number, writer in self.writers.items():
+            if time.monotonic() - self.shared.searched.get(number, -AGAIN) >= AGAIN:
+                writer.find_room()
+                self.shared.searched[number] = time.monotonic()
+        self.recall()
+
+
+class Store(Reader):
+    """The names of one session, as objects; by one thread at a time."""
+
+    def __init__(self, session: Files, layout: Layout, shared: Shared, ground: Ground | None = None):
+        super().__init__(session, layout, shared, ground)
+        self.settled: set[int] = set()  # pages of the session into which nothing can come that an earlier client, or an unanswered change, wrote
+
+    def make_room(self, bucket: Bucket, line: Line) -> None:
+        """Where a page has no room, or is half full of removals, all sessions have to sweep it: PageFull, but not again at once."""
+        has_room = self.writer.announcement(bucket, line) is not None
+        if has_room and self.removals_in(bucket) <= self.layout.lines_room // 2:
+            return
+        if time.monotonic() - self.shared.swept.get(bucket.number, -AGAIN) >= AGAIN:
+            raise PageFull(bucket.number)
+
+    def in_slots(self, bucket: Bucket, name: str, source: Source, words: Callable[[], str] = no_words) -> InSlots:
+        """The content in slots: of this session and others that are idle; of all, where these don't suffice."""
+        if source.size is not None and not self.has_room(source.size, [self.writer]):
+            if not self.has_room(source.size, self.all_writers()):
+                self.gather(True)
+            content = self.moved(bucket, name, source, self.all_writers(), words())
+            bucket.look()
+            return content
+        return super().in_slots(bucket, name, source, words)
+
+    def has_room(self, size: int, writers: Sequence[Writer]) -> bool:
+        """Whether the free slots of these suffice, as far as is known."""
+        free = {writer.me: writer.keeper.free() for writer in writers}
+        return choose(self.me, self.writer.keeper.number, size, free) is not None
+
+    def moved(self, bucket: Bucket, name: str, source: Source, writers: Sequence[Writer], words: str) -> InSlots:
+        placing = FewSearches(self.layout, bucket, writers, self.team)
+        placing.words, placing.shared = words, self.shared
+        return placing.run(name, source, partial(self.progress, "put"))
+
+    # Changes
+
+    def change(
+        self,
+        name: str,
+        content: Callable[[Bucket, Held | None], Content | None],
+        values: Callable[[], Values] | None,
+        condition: Condition | None = None,
+        besides: frozenset[str] = frozenset(),
+    ) -> Held:
+        """Gives a name a content with the words beside it, or has it removed where there are no words. The content is placed first; then, while no
+        other change of the name is under way in this gateway, the condition is judged, the time is taken, and the change announced and carried.
+
+        What the condition raises, NoRoom, S3Error of the content: nothing was changed. Unanswered, SessionTaken, CarrierFault: it may take effect
+        until this session has changed the page again.
+        """
+        held, bucket = self.look_for_change(name), self.bucket(name)
+        if condition:
+            condition(held)  # (before a long content is moved)
+        self.make_room(bucket, Line(name, bucket.new_version().number, Inline(b"") if values else None, self.words_at(values, STAMP)))
+        placed = content(bucket, held)
+        with self.shared.turns.turn(name):
+            return self.commit_in_turn(bucket, name, placed, values, condition, besides)
+
+    def look_for_change(self, name: str) -> Held | None:
+        """What a name holds, for a change by this session. Elsewhere where the change is another grid's."""
+        if self.trip:
+            return self.trip.look_for_change(name, self.grid)
+        bucket = self.bucket(name)
+        bucket.look(own=True)
+        return bucket.held(name)
+
+    def look_again(self, name: str, is_wanted: bool) -> Held | None:
+        """What it holds right before the change; where that is wanted, by one more look."""
+        if self.trip:
+            return self.trip.look_again(name, self.grid, is_wanted)
+        return self.look_for_change(name) if is_wanted else self.bucket(name).held(name)
+
+    def words_at(self, values: Callable[[], Values] | None, stamp: str) -> str:
+        words = to_words({"t": stamp, **values()}) if values else ""
+        check_words(words)
+        return words
+
+    def commit_in_turn(
+        self, bucket: Bucket, name: str, content: Content | None, values: Callable[[], Values] | None, condition: Condition | None, besides: frozenset[str]
+    ) -> Held:
+        try:
+            before = self.look_again(name, condition is not None)
+            if condition:
+                condition(before)
+            stamp = self.shared.turns.time_after(number_of(of_words(before.words), "t") if before else 0)
+            words = self.words_at(values, str(stamp))
+            version = Version(self.shared.turns.number_for(name, bucket.new_version().number), self.me, self.grid)
+            journal = self.writer.announcement(bucket, Line(name, version.number, content, words), besides)
+            if journal is None:
+                raise NoRoom(f"{name}: page {bucket.number} of session {self.me} has no room for one more line")
+        except BaseException:
+            self.unplace(bucket, content)
+            raise
+        try:
+            self.writer.change(bucket, journal)
+        except (Unanswered, SessionTaken, CarrierFault):
+            self.shared.turns.is_unsure(name, version.number)
+            self.settled.clear()
+            raise
+        self.settled.add(bucket.number)
+        return Held(name, version, content or Inline(b""), words)
+
+    def put_object(self, name: str, body: Body, values: Callable[[], Values], condition: Condition | None = None) -> Held:
+        """Puts a content, which is read as it comes. `values` are asked for before it, and again after it."""
+        body.rewind()  # (it may have been begun before)
+        bucket = self.bucket(name)
+
+        def placed(_: Bucket, __: Held | None) -> Content:
+            return self.placed(bucket, name, Source(cast(IO[bytes], body)), lambda: self.words_at(values, STAMP))
+
+        return self.change(name, placed, values, condition)
+
+    def delete(self, name: str, condition: Condition | None = None) -> bool:
+        """Takes a name away; whether it held something. Where it holds nothing, nothing is changed."""
+
+        def expect(_: Bucket, held: Held | None) -> None:
+            if not held:
+                raise NoSuchName(name)
+
+        try:
+            self.change(name, expect, None, condition)
+            return True
+        except NoSuchName:
+            return False
+
+    def touch(self, name: str, seen: Held, values: Callable[[], Values]) -> Held | None:
+        """Gives a content other words where it is, in slots of this session or in the line; None where the name holds another one by now, or it is at another
+        grid."""
+        if seen.version.grid != self.grid:
+            return None
+
+        class Changed(Exception):
+            pass
+
+        def is_the_same(held: Held | None) -> None:
+            if not held or held.version != seen.version:
+                raise Changed
+
+        def in_place(_: Bucket, held: Held | None) -> Content:
+            is_the_same(held)
+            return seen.content
+
+        try:
+            return self.change(name, in_place, values, is_the_same)
+        except Changed:
+            return None
+
+    def settle(self, page: int) -> None:
+        """Sees that nothing that an earlier client of this session wrote can come into one of its pages any more: by changes of no name, after which
+        pending ones have no effect (docs/NAMES.md, Why each name has one order)."""
+        if page not in self.settled:
+            bucket = self.writer.bucket(page)
+            self.writer.tidy(bucket, anew=True)
+            self.settled.add(page)
+            times = [number_of(of_words(held.words), "t") for held in self.shared.held_in(bucket)]
+            self.shared.turns.is_later_than(max(times, default=0))
+
+    def share_in(self, move: Move, page: int) -> None:
+        """What a move wants of this session at the old grid: that its page has the signpost, and later that the lines of the slices go."""
+        if not move.is_there:
+            sign(self, self.writer.bucket(page), move.signpost)
+        else:
+            clear(self, page, move)
+
+    def sweep_own(self, page: int) -> int:
+        """Has this session's lines go from a page that can, and says that it was made beside the removals of others."""
+        return self.writer.tidy(self.writer.bucket(page))
+
+    def recall(self) -> None:
+        """Finds slots that were lent to contents that are gone."""
+        self.writer.keeper.recall()
+        self.writer.keeper.flush()
+
+    def free_slots(self) -> None:
+        """Finds the slots that earlier clients left taken: once all pages of the session are settled, what none of them names is free."""
+        if len(self.settled) == self.layout.pages:
+            buckets = [self.writer.bucket(page) for page in range(self.layout.pages)]
+            for bucket in buckets:
+                bucket.look()
+            slots = {slot for bucket in buckets for slot in bucket.journal.slots(self.me)}
+            puts = {put for bucket in buckets for put in bucket.journal.puts()}
+            self.writer.keeper.retain(slots, puts)
+            self.writer.keeper.recall()
+            self.writer.keeper.write(self.writer.keeper.needed())  # (also where nothing is freed: so no pending write of the table takes effect later)
+
+    # Uploads in parts. All of an upload is one line of this session, on the page of the object to be: so one change of that page brings the object
+    # with the slots of the parts, and has the upload go.
+
+    def begin_upload(self, bucket_name: str, object_name: str, values: Values) -> str:
+        """Begins an upload; its ID, which has the number of this session."""
+        upload = f"{self.me}.{secrets.token_hex(12)}"
+        self.change(upload_name(bucket_name, upload, object_name), lambda *_: Inline(b""), lambda: values)
+        return upload
+
+    def upload(self, name: str) -> Held:
+        """What was uploaded until now; NoSuchUpload (404)."""
+        return found_upload(self.look(name))
+
+    def own_upload(self, name: str) -> Held:
+        """An upload that this session has at the last grid of its way, to which it is brought where its slice is moved. NoSuchUpload (404), or Elsewhere for
+        what another session has."""
+        found = found_upload(self.look_for_change(name))
+        if found.version.grid != self.grid:
+            return self.bring(name, found)
+        self.expect_own(found)
+        return found
+
+    def expect_own(self, held: Held) -> None:
+        if (held.version.grid, held.version.session) != (self.grid, self.me):
+            raise Elsewhere(held.version.grid, held.version.session)
+
+    def bring(self, name: str, held: Held) -> Held:
+        """Puts an upload that is at an earlier grid anew, with the same parts."""
+        assert self.trip
+        source, words = self.trip.grid(held.version.grid), values_beside(held)
+
+        def is_the_same(now: Held | None) -> None:
+            if not now or now.version != held.version:
+                raise Elsewhere(self.grid)
+
+        def placed(bucket: Bucket, _: Held | None) -> Content:
+            parts: list[InSlots] = []
+            try:
+                for part in held.content.parts:
+                    with spool() as room:
+                        if source.copy_part(held, part, room) is not None:
+                            raise Elsewhere(self.grid)  # (it was replaced meanwhile)
+                        room.seek(0)
+                        parts.append(self.in_slots(bucket, name, Source(room), lambda: self.words_at(lambda: words, STAMP)))
+            except BaseException:
+                self.unplace(bucket, joined(parts))
+                raise
+            return joined(parts)
+
+        return self.change(name, placed, lambda: words, is_the_same)
+
+    def put_part(self, name: str, number: int, body: Body, now: int) -> str:
+        """Adds a part, or puts another one in its place; its MD5. NoSuchUpload (404)."""
+        bucket = self.bucket(name)
+        body.rewind()
+        values: Values = {}
+        if self.trip:
+            self.own_upload(name)
+
+        def placed(_: Bucket, held: Held | None) -> Content:
+            self.expect_own(found_upload(held))
+            source = Source(cast(IO[bytes], body))
+            added: InSlots | None = None
+            if source.size:
+                added = self.in_slots(bucket, name, source, lambda: "x" * 64)
+            else:
+                source.expect_end()
+            now_held = found_upload(bucket.held(name))
+            parts = {part.number: (part, slots) for part, slots in self.uploaded(now_held)}
+            parts[number] = Part(number, body.digest(), added.size if added else 0, now), added
+            values.update(values_beside(now_held))
+            values["p"] = ",".join(parts[each][0].text() for each in sorted(parts))
+            return joined([parts[each][1] for each in sorted(parts)])
+
+        self.change(name, placed, lambda: values)
+        return body.digest()
+
+    def uploaded(self, held: Held) -> list[tuple[Part, InSlots | None]]:
+        """The parts of an upload in ascending order, each with where it stands."""
+        parts, slots = parts_of(of_words(held.words)), held.content.parts
+        if [part.size for part in parts if part.size] != [each.size for each in slots]:
+            raise Damaged("the words of an upload are of other parts than it has")
+        rest = iter(slots)
+        return [(part, next(rest) if part.size else None) for part in parts]
+
+    def complete(self, name: str, object_name: str, values: Values, chosen: Sequence[InSlots | None], condition: Condition | None) -> Held:
+        """Gives the object the parts as they are, and has the upload go, in one change. Over several grids the upload stays, and has to be removed: another grid
+        may still have an older line of it. (Both lines are in one page, so slots that one of them names stay.)"""
+        besides = frozenset[str]() if self.trip else frozenset([name])
+        return self.change(object_name, lambda *_: joined(chosen), lambda: values, condition, besides)
+
+    # What there is room for
+
+    def room(self) -> tuple[int, int]:
+        """The bytes of this session's slots: taken, and free."""
+        taken = self.writer.keeper.needed().taken()
+        used = sum(slot.room for number, slot in self.writer.keeper.slots.items() if number in taken)
+        return used, sum(slot.room for slot in self.writer.keeper.slots.values()) - used
+
+
+def values_beside(held: Held) -> Values:
+    """What is kept beside an upload, but for the time."""
+    return {key: value for key, value in of_words(held.words).items() if key != "t"}
+
+
+def found_upload(held: Held | None) -> Held:
+    if not held:
+        raise S3Error("NoSuchUpload")
+    return held
+
+
+def joined(parts: Sequence[InSlots | None]) -> Content:
+    found = [part for part in parts if part]
+    return Inline(b"") if not found else found[0] if len(found) == 1 else Joined(tuple(found))

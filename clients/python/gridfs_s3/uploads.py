@@ -1,0 +1,195 @@
+"""Uploads in parts (multipart). All requests of one upload go to the gateway that has the session of its ID."""
+
+import hashlib
+import re
+
+from aiohttp import web
+
+from gridfs_client.buckets import Held
+from gridfs_client.errors import ClientError
+
+from .bodies import NO_CHECKSUMS, body_of
+from .copying import Copies, range_to_copy
+from .errors import S3Error, tell
+from .gateway import Operations
+from .markup import document, element, many
+from .objects import HELPERS, LONGEST_PUT, MANY, Objects, values_of
+from .places import KEYS, Object, name_of, of_words, parts_of, upload_name
+from .requests import Asked, answer, iso
+from .sessions import now_ms
+from .store import Body, Store
+
+UPLOAD = re.compile(r"(\d{1,2})\.[0-9a-f]{24}", re.ASCII)
+
+
+def expect_key(asked: Asked, held: Held) -> None:
+    """404 NoSuchUpload where the upload is of another key."""
+    if of_words(held.words).get("k") != asked.key:
+        raise S3Error("NoSuchUpload")
+
+
+def part_number(asked: Asked) -> int:
+    number = asked.number("partNumber", 0, 99_999)
+    if not 1 <= number <= 10_000:
+        raise S3Error("InvalidArgument", "A part's number is from 1 to 10,000.")
+    return number
+
+
+class Uploads(Operations):
+    def __init__(self, objects: Objects, copies: Copies):
+        super().__init__(objects.gateway)
+        self.objects, self.copies = objects, copies
+
+    def session_of(self, asked: Asked) -> int:
+        """The session that has the upload, if its slice was not moved. 404 NoSuchUpload."""
+        found = UPLOAD.fullmatch(asked.query["uploadId"])
+        if not found or not 1 <= int(found[1]) <= self.grids.sessions:
+            raise S3Error("NoSuchUpload")
+        return int(found[1])
+
+    def name_of(self, asked: Asked) -> str:
+        """The name of the upload that is asked for. 404 NoSuchUpload."""
+        if not UPLOAD.fullmatch(asked.query["uploadId"]):
+            raise S3Error("NoSuchUpload")
+        return upload_name(asked.bucket, asked.query["uploadId"], name_of(asked.bucket, asked.key))
+
+    async def create_multipart_upload(self, asked: Asked) -> web.Response:
+        """200. 400 KeyTooLongError, MetadataTooLarge; 404 NoSuchBucket; 507 InsufficientStorage."""
+        await self.gateway.need_bucket(asked.bucket)
+        name, values = name_of(asked.bucket, asked.key), {**values_of(asked), "k": asked.key, "i": str(now_ms())}
+        upload = await self.gateway.change(name, lambda store: store.begin_upload(asked.bucket, name, values))
+        inner = [element("Bucket", asked.bucket), element("Key", asked.key), element("UploadId", upload)]
+        return answer(document("InitiateMultipartUploadResult", *inner))
+
+    async def upload_part(self, asked: Asked) -> web.Response:
+        """200; a part that is there already is replaced. The errors of PutObject for the body; 400 InvalidArgument; 404 NoSuchBucket, NoSuchUpload."""
+        await self.gateway.need_bucket(asked.bucket)
+        number, session, body = part_number(asked), self.session_of(asked), body_of(asked)
+        if body.told_size > LONGEST_PUT:
+            raise S3Error("EntityTooLarge")
+        put = PutPart(asked, self.name_of(asked), number)
+        async with self.objects.source_of(asked, body) as source:
+            md5 = await self.gateway.change(put.name, lambda store: put(store, source), HELPERS if body.told_size >= MANY else 0, session)
+        return answer(headers={"ETag": f'"{md5}"'})
+
+    async def upload_part_copy(self, asked: Asked) -> web.Response:
+        """200. 400 InvalidArgument; 404 NoSuchBucket, NoSuchKey, NoSuchUpload; 412 PreconditionFailed; 416 InvalidRange."""
+        await self.gateway.need_bucket(asked.bucket)
+        number, session = part_number(asked), self.session_of(asked)
+        text, put = asked.headers.get("x-amz-copy-source-range"), PutPart(asked, self.name_of(asked), number)
+        md5 = await self.copies.copied(
+            asked, lambda store, source, _: put(store, source), lambda found: range_to_copy(text, found.size), put.name, session
+        )
+        return answer(document("CopyPartResult", element("LastModified", iso(now_ms())), element("ETag", f'"{md5}"')))
+
+    async def complete_multipart_upload(self, asked: Asked) -> web.Response:
+        """200, also where it is asked again. 400 InvalidPart, InvalidPartOrder, InvalidRequest (of another size than was told), MalformedXML; 404 NoSuchBucket,
+        NoSuchUpload; 412 PreconditionFailed; 501 NotImplemented for a checksum of the whole; 507 InsufficientStorage. The object is there with all parts at
+        once, or is as it was."""
+        await self.gateway.need_bucket(asked.bucket)
+        if given := [name for name in asked.headers if name.startswith("x-amz-checksum-") and name not in NO_CHECKSUMS]:
+            raise S3Error("NotImplemented", f"{given[0]} of a whole object in parts is not checked here.")
+        size = asked.headers.get("x-amz-mp-object-size")
+        if size is not None and not re.fullmatch(r"[0-9]{1,19}", size):
+            raise S3Error("InvalidArgument", "x-amz-mp-object-size is no number.")
+        session = self.session_of(asked)
+        parts = (await self.gateway.document(asked, "CompleteMultipartUpload")).all("Part")
+        wanted = [(each.told("PartNumber") or "", (each.told("ETag") or "").strip('"')) for each in parts]
+        if not wanted or not all(re.fullmatch(r"[0-9]{1,5}", number) for number, _ in wanted):
+            raise S3Error("MalformedXML")
+        numbers = [int(number) for number, _ in wanted]
+        if any(one >= two for one, two in zip(numbers, numbers[1:])):
+            raise S3Error("InvalidPartOrder")
+        name, upload, place = name_of(asked.bucket, asked.key), asked.query["uploadId"], self.name_of(asked)
+        condition = await self.gateway.condition_of(asked, name)
+
+        def finish(store: Store) -> Held:
+            try:
+                held = store.own_upload(place)
+            except S3Error:
+                # (asked again by who did not hear the answer)
+                if (done := store.look(name)) and of_words(done.words).get("u") == upload:
+                    return done
+                raise
+            expect_key(asked, held)
+            found = {part.number: (part, slots) for part, slots in store.uploaded(held)}
+            for number, (_, etag) in zip(numbers, wanted):
+                if number not in found or found[number][0].md5 != etag:
+                    raise S3Error("InvalidPart", PartNumber=str(number))
+            if size is not None and int(size) != sum(found[number][0].size for number in numbers):
+                raise S3Error("InvalidRequest", "The parts are not as long together as x-amz-mp-object-size says.")
+            values = {each: value for each, value in of_words(held.words).items() if each not in ("p", "k", "i", "t")}
+            if name.startswith(KEYS):
+                values["k"] = asked.key
+            md5 = hashlib.md5(b"".join(bytes.fromhex(found[number][0].md5) for number in numbers)).hexdigest()
+            values |= {"m": md5, "n": str(len(numbers)), "u": upload}
+            return store.complete(place, name, values, [found[number][1] for number in numbers], condition)
+
+        held = await self.gateway.change(name, finish, number=session, condition=condition)
+        if self.grids.map:
+            await self.remove(place)
+        inner = [element("Location", f"/{asked.bucket}/{asked.key}"), element("Bucket", asked.bucket), element("Key", asked.key)]
+        return answer(document("CompleteMultipartUploadResult", *inner, element("ETag", f'"{Object(asked.key, held).etag}"')))
+
+    async def remove(self, name: str) -> None:
+        """Has an upload go whose object is there. (Where that fails it is told to whoever runs the gateway, since the completion was done.)"""
+        try:
+            await self.gateway.change(name, lambda store: store.delete(name))
+        except (ClientError, S3Error) as fault:
+            tell(f"{name} stays: {fault}")
+
+    async def abort_multipart_upload(self, asked: Asked) -> web.Response:
+        """204. 404 NoSuchBucket, NoSuchUpload."""
+        await self.gateway.need_bucket(asked.bucket)
+        session, name = self.session_of(asked), self.name_of(asked)
+
+        def give_up(store: Store) -> None:
+            expect_key(asked, store.upload(name))
+            store.delete(name)
+
+        await self.gateway.change(name, give_up, number=session)
+        return answer(status=204)
+
+    async def list_parts(self, asked: Asked) -> web.Response:
+        """200. 400 InvalidArgument; 404 NoSuchBucket, NoSuchUpload."""
+        await self.gateway.need_bucket(asked.bucket)
+        most, after = asked.number("max-parts", 1_000, 1_000), asked.number("part-number-marker", 0, 99_999)
+        name = self.name_of(asked)
+        held = await self.gateway.look(name, lambda store: store.upload(name))
+        expect_key(asked, held)
+        parts = [part for part in parts_of(of_words(held.words)) if part.number > after]
+        rows = [
+            many(
+                "Part",
+                element("PartNumber", part.number),
+                element("LastModified", iso(part.time)),
+                element("ETag", f'"{part.md5}"'),
+                element("Size", part.size),
+            )
+            for part in parts[:most]
+        ]
+        head = [
+            element("Bucket", asked.bucket),
+            element("Key", asked.key),
+            element("UploadId", asked.query["uploadId"]),
+            self.gateway.owner("Initiator"),
+            self.gateway.owner(),
+            element("StorageClass", "STANDARD"),
+            element("PartNumberMarker", after),
+            element("NextPartNumberMarker", parts[:most][-1].number if rows else after),
+            element("MaxParts", most),
+            element("IsTruncated", "true" if len(parts) > most > 0 else "false"),
+        ]
+        return answer(document("ListPartsResult", *head, *rows))
+
+
+class PutPart:
+    """Puts one part of an upload, whose key has to be the one that is asked for."""
+
+    def __init__(self, asked: Asked, name: str, number: int):
+        self.asked, self.name, self.number = asked, name, number
+
+    def __call__(self, store: Store, source: Body) -> str:
+        """The part's MD5."""
+        expect_key(self.asked, store.upload(self.name))
+        return store.put_part(self.name, self.number, source, now_ms())

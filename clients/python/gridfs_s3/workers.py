@@ -1,0 +1,125 @@
+"""A session of the gateway, and who works by it."""
+
+import asyncio
+from collections.abc import AsyncIterator
+from contextlib import asynccontextmanager
+from contextvars import ContextVar
+from dataclasses import replace
+from typing import IO
+
+from gridfs_client.answers import Done
+from gridfs_client.errors import ClientError
+from gridfs_client.opening import SOON
+from gridfs_client.sessions import Pace, Session
+
+from .store import Store
+
+
+who_asks: ContextVar[str] = ContextVar("who_asks", default="")  # the access key or the signed URL by which something is asked for
+
+
+class Turn(Session):
+    """A session that knows whether what is done now has written anything. Until it is answered for the first time it is told soon that its home is
+    silent, where another session can do the same."""
+
+    has_written, has_failed = False, False
+    full: Pace | None = None
+
+    def begin(self, is_soon: bool) -> None:
+        self.full, self.has_written, self.has_failed = self.pace, False, False
+        if is_soon:
+            self.pace = replace(self.pace, timeout=min(self.pace.timeout, 2 * SOON))
+
+    def end(self) -> None:
+        self.pace = self.full or self.pace
+
+    def ask(self, kind: str, place: tuple[int, ...], content: bytes | None = None) -> Done:
+        if content is not None and not self.has_written:
+            self.has_written = True
+            self.end()
+        try:
+            told = super().ask(kind, place, content)
+        except ClientError:
+            self.has_failed = True
+            raise
+        self.end()
+        return told
+
+
+class Crowded(Exception):
+    """Who has a worker wants those of others, while somebody else gathers some: it has to give its own back, and to begin anew. (Nobody waits for a turn
+    to gather while it has a worker: else two would wait for each other.)"""
+
+
+class Worker:
+    """A session, its objects, and whether somebody works by it, or its home is silent."""
+
+    def __init__(self, session: Turn, lock: IO[str]):
+        self.session, self.lock, self.number = session, lock, session.number
+        self.store: Store
+        self.is_busy, self.is_silent = False, False
+        self.who = ""  # for whom somebody works by it
+        self.is_lent = False  # to another command of this machine, or about to be
+
+
+class Gathering:
+    """Who waits for several workers, of whichever grids: one at a time. (Whether the lock is taken tells too little: one that is free may be another's next.)"""
+
+    def __init__(self) -> None:
+        self.lock, self.count = asyncio.Lock(), 0
+
+    async def __aenter__(self) -> None:
+        self.count += 1
+        try:
+            await self.lock.acquire()
+        except BaseException:
+            self.count -= 1
+            raise
+
+    async def __aexit__(self, *_: object) -> None:
+        self.lock.release()
+        self.count -= 1
+
+    async def is_over(self) -> None:
+        """Waits until nobody waits for several any more."""
+        async with self.lock:
+            pass
+
+
+class Lending:
+    """A session is lent only while no condition is judged, and a condition is judged only while none is lent: whoever has one may change what the condition is
+    about. (Who has one and wants another one gets it: meanwhile no condition is judged.)"""
+
+    def __init__(self) -> None:
+        self.judging, self.lent, self.change = 0, 0, asyncio.Condition()
+
+    @asynccontextmanager
+    async def judge(self) -> AsyncIterator[None]:
+        async with self.change:
+            await self.change.wait_for(lambda: not self.lent)
+            self.judging += 1
+        try:
+            yield
+        finally:
+            async with self.change:
+                self.judging -= 1
+                self.change.notify_all()
+
+    @asynccontextmanager
+    async def lend(self) -> AsyncIterator[None]:
+        async with self.change:
+            self.lent += 1
+            await self.change.wait_for(lambda: not self.judging)
+        try:
+            yield
+        finally:
+            async with self.change:
+                self.lent -= 1
+                self.change.notify_all()
+
+
+class Wanted:
+    """Somebody who waits for a worker: for this one, or for any; and for whom."""
+
+    def __init__(self, number: int | None, future: "asyncio.Future[Worker]", who: str):
+        self.number, self.future, self.who = number, future, who

@@ -1,0 +1,93 @@
+"""nginx before two gateways of one tenant, by the configuration that is made for it (front.py), over a stand-in: test_operations.py through it, and what only it can
+spoil."""
+
+import os
+import shutil
+import subprocess
+import sys
+import time
+import unittest
+from pathlib import Path
+from unittest import mock
+
+sys.path.insert(0, os.path.dirname(os.path.abspath(__file__)))
+import endpoint
+from gridfs_s3.front import instances_of, nginx_conf
+
+SESSIONS = 8  # of carol in the plan
+os.environ |= {"GRIDFS_S3": f"http://127.0.0.1:{endpoint.free_port()}", "GRIDFS_S3_FRONT": "1", "GRIDFS_S3_SEVERAL": "1", "GRIDFS_S3_MOST": "1000000"}
+import botocore.auth
+import test_operations
+
+
+def setUpModule():
+    room = Path(unittest.enterModuleContext(endpoint.stand_in()))
+    os.chmod(room, 0o755)
+    both, sockets = instances_of("carol", SESSIONS, 2), {}
+    for each in both:
+        sockets[each.name] = str(room / f"{each.name}.socket")
+        keys = room / f"{each.name}.keys"
+        keys.write_text(f"carol {endpoint.SECRET}\ncarol.reader {endpoint.SECRET} read\n")
+        os.chmod(keys, 0o600)
+        words = [endpoint.GATEWAY, "--config", room / "carol.ini", "--keys", keys, "--listen", f"unix:{sockets[each.name]}"]
+        start(room, each.name, words, {"GRIDFS_SESSION": each.sessions, "GRIDFS_LOCKS": str(room / "locks")})
+    for each in both:
+        until = time.monotonic() + endpoint.PATIENCE
+        while not os.path.exists(sockets[each.name]):
+            if time.monotonic() > until:
+                raise endpoint.NotStarted((room / f"log.{each.name}").read_text())
+            time.sleep(0.05)
+    (room / "nginx.conf").write_text(f"user root;\n{nginx_conf(room, {'carol': both}, sockets, test_operations.URL.partition('//')[2])}")
+    nginx = start(room, "nginx", [shutil.which("nginx", path="/usr/sbin:" + os.environ["PATH"]), "-e", "stderr", "-c", room / "nginx.conf"])
+    endpoint.wait(lambda: is_there(), nginx, room / "log.nginx")
+
+
+def start(room, name, words, more={}):
+    with open(room / f"log.{name}", "wb") as log:
+        process = subprocess.Popen([str(word) for word in words], env={**os.environ, **more}, stdin=subprocess.DEVNULL, stdout=log, stderr=log)
+    unittest.addModuleCleanup(process.wait)
+    unittest.addModuleCleanup(process.terminate)
+    return process
+
+
+def is_there():
+    try:
+        test_operations.client().list_buckets()
+        return True
+    except Exception:
+        return False
+
+
+class Buckets(test_operations.Buckets):
+    pass
+
+
+class Heads(test_operations.Heads):
+    pass
+
+
+class Requests(test_operations.Requests):
+    pass
+
+
+class Front(test_operations.Case):
+    ask = test_operations.Requests.ask
+
+    def test_an_answer_that_is_long_counts_for_nothing(self):
+        """Neither gateway is left out because of it."""
+        self.put("good", b"good")
+        url = self.s3.generate_presigned_url("get_object", {"Bucket": self.bucket, "Key": "good", "ResponseContentDisposition": "x" * 9_000})
+        for _ in range(30):
+            with test_operations.urllib.request.urlopen(url) as told:
+                self.assertEqual(told.read(), b"good")
+            self.assertEqual(self.get("good")["Body"].read(), b"good")
+
+    def test_expect_that_is_signed(self):
+        """nginx has answered it, and does not pass it on."""
+        with mock.patch.object(botocore.auth, "SIGNED_HEADERS_BLACKLIST", []):
+            status, told, _ = self.ask("PUT", f"/{self.bucket}/expected", b"x", {"Expect": "100-continue"}, payload="UNSIGNED-PAYLOAD")
+        self.assertEqual(status, 200, told)
+
+
+if __name__ == "__main__":
+    unittest.main()

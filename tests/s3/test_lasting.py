@@ -1,0 +1,106 @@
+"""A gateway that runs for long: it takes the room of a plan that has grown, and ends where it can't serve any more, instead of going on with errors alone."""
+
+import asyncio
+import os
+import signal
+import subprocess
+import sys
+import time
+import types
+import unittest
+from unittest import mock
+
+sys.path.insert(0, os.path.dirname(os.path.abspath(__file__)))
+import endpoint
+from gridfs_client import Unanswered
+from gridfs_s3 import gateway
+
+SPOILT = """
+import sys
+from gridfs_s3 import gateway, program, store
+gateway.WATCH, look = 0.3, store.Store.look
+def spoilt(self, name):
+    raise BufferError("as of a connection that broke")
+store.Store.look = spoilt
+program.main(sys.argv[1:])
+"""
+
+
+class Lasting(unittest.TestCase):
+    def test_more_room(self):
+        """A tenant without room gets some: the gateway that runs has it soon."""
+        with endpoint.stand_in() as room:  # (whose folder the plan may stand in)
+            plan, folder, processes = os.path.join(room, "plan"), os.path.join(room, "grid"), {}
+            with open(plan, "w") as out:
+                out.write("grid 2 2\nroom 3000000\ntenant carol 2900000 4 1000 16384\ngo\n" + "carol open 16 256\n" * 4 + "carol open 16 1024\n")
+            with endpoint.stand_in(plan, folder, processes), endpoint.gateways(folder) as (found,):
+                s3 = found.client()
+                s3.create_bucket(Bucket="one")
+                s3.put_object(Bucket="one", Key="first", Body=b"x" * 500_000)
+                with self.assertRaises(s3.exceptions.ClientError) as fault:
+                    s3.put_object(Bucket="one", Key="second", Body=b"y" * 900_000)
+                self.assertEqual(fault.exception.response["Error"]["Code"], "InsufficientStorage")
+                with open(plan, "a") as out:
+                    out.write("carol open 16 4096\n")
+                processes[folder].send_signal(signal.SIGHUP)
+                until = time.monotonic() + 60
+                while "the plan has 6 volumes now, 1 more than before" not in found.told():
+                    self.assertLess(time.monotonic(), until, found.told())
+                    time.sleep(0.2)
+                s3.put_object(Bucket="one", Key="second", Body=b"y" * 900_000)
+                for key, content in (("first", b"x" * 500_000), ("second", b"y" * 900_000)):
+                    self.assertEqual(s3.get_object(Bucket="one", Key=key)["Body"].read(), content)
+                self.assertNotIn("Traceback", found.told())
+
+    def test_it_ends(self):
+        """With status 1, by which a unit starts it again."""
+        with endpoint.stand_in() as room:
+            keys = os.path.join(room, "keys")
+            with open(os.open(keys, os.O_WRONLY | os.O_CREAT, 0o600), "w") as out:
+                out.write(f"carol {endpoint.SECRET}\n")
+            words = [sys.executable, "-B", "-c", SPOILT, "--config", os.path.join(room, "carol.ini"), "--keys", keys, "--listen", f"127.0.0.1:{endpoint.free_port()}"]
+            environment = {**os.environ, "PYTHONPATH": os.pathsep.join([endpoint.os.path.dirname(endpoint.GATEWAY), os.environ.get("PYTHONPATH", "")]), "GRIDFS_LOCKS": os.path.join(room, "locks")}
+            done = subprocess.run(words, env=environment, capture_output=True, text=True, timeout=endpoint.PATIENCE)
+            self.assertEqual(done.returncode, 1, done.stderr)
+            self.assertIn("it ends, so that it is started again: each look at a name fails: BufferError", done.stderr)
+
+    def watched(self, looks, lasting=()):
+        """What a watch tells that meets these faults, one after another; None where it goes on."""
+
+        async def watch():
+            found = gateway.Gateway(types.SimpleNamespace(pools={"": types.SimpleNamespace(lasting=[asyncio.create_task(each) for each in lasting], named=lambda: "")}), "carol", {}, "", None)
+            left = list(looks)
+
+            async def look(*_):
+                fault = left.pop(0) if left else None
+                if fault:
+                    raise fault
+
+            with mock.patch.object(found, "look", look):
+                async with asyncio.timeout(0.5):
+                    return await found.watch()
+
+        try:
+            with mock.patch.object(gateway, "WATCH", 0.01):
+                return asyncio.run(watch())
+        except TimeoutError:
+            return None
+
+    def test_what_ends_it(self):
+        odd = BufferError("odd")
+        self.assertIn("odd", self.watched([odd, odd, odd]))
+        self.assertIsNone(self.watched([odd, odd, None, odd, odd]))
+        self.assertIsNone(self.watched([Unanswered("silent")] * 9))
+
+        async def falls():
+            raise ValueError("fallen")
+
+        async def lasts():
+            await asyncio.sleep(9)
+
+        self.assertIn("fallen", self.watched([], [falls()]))
+        self.assertIsNone(self.watched([], [lasts()]))
+
+
+if __name__ == "__main__":
+    unittest.main()
