@@ -8,11 +8,11 @@ import tempfile
 import time
 
 HERE = os.path.dirname(os.path.abspath(__file__))
-sys.path.insert(0, os.path.join(HERE, "..", "examples", "nodes"))
+sys.path.insert(0, os.path.join(HERE, "..", "clients", "python"))
 sys.path.insert(0, os.path.join(HERE, "..", "tests", "nodes"))
-from carrier import Carrier, Node, journal_of
+from gridfs_grid.carrier import Carrier, Node, journal_of
 from processes import built_disk, disk
-from tenant import homes
+from gridfs_grid.tenant import homes
 
 TENANTS = ["ann", "bob", "cid", "dan"]
 FILES, CONTENT = 64, b"61" * 64

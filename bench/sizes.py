@@ -12,13 +12,13 @@ import tempfile
 import time
 
 HERE = os.path.dirname(os.path.abspath(__file__))
-sys.path.insert(0, os.path.join(HERE, "..", "examples", "nodes"))
+sys.path.insert(0, os.path.join(HERE, "..", "clients", "python"))
 sys.path.insert(0, os.path.join(HERE, "..", "tests", "nodes"))
-from carrier import Carrier, Node, journal_of
+from gridfs_grid.carrier import Carrier, Node, journal_of
 from contents import word_of
 from journals import sealed
 from processes import room, words_of
-from tenant import homes
+from gridfs_grid.tenant import homes
 
 MIB = 1 << 20
 # Bytes of a content, and how many are written and read: the script of the writes has at most 16 MiB.

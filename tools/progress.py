@@ -1,5 +1,5 @@
-"""How far a command is that proves crates, told on standard error; which crates there are, how many are proved at once, with which
-kit, and that no two commands build the same at once."""
+"""How far a command is that proves crates, told on standard error; which crates there are, how many are proved at once, and that
+no two commands build the same at once."""
 
 import contextlib
 import fcntl
@@ -48,12 +48,6 @@ def kept_seconds(name):
 def keep_seconds(name, seconds):
     with open(f"{TOP}/.{name}.seconds", "w") as out:
         out.writelines(f"{it} {seconds[it]:.1f}\n" for it in seconds)
-
-
-def keep_kit(name):
-    """Keeps the kit's version beside what was built, for `./gridfs --version`."""
-    with open(f"{TOP}/.{name}.kit", "w") as out:
-        subprocess.run(["rt", "version"], stdout=out, check=False)
 
 
 @contextlib.contextmanager
