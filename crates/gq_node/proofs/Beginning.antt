@@ -5,7 +5,6 @@ use Rattle.gq_grid.specs.Grid.{Servers}
 use Rattle.gq_model.specs.declared.events.Line.{Line}
 use Rattle.gq_model.specs.Lone.{Step, asked_step, entry_of, is_refusal}
 use Rattle.gq_model.specs.Trace.{Own}
-use Rattle.gq_node.specs.declared.output.Answer.{Answer}
 use Rattle.gq_node.specs.declared.output.Answer.TheVariants.{Bad as IsBad}
 use Rattle.gq_node.specs.declared.output.Admission.{Admission}
 use Rattle.gq_node.specs.declared.output.Admission.TheVariants.{Tells, Passes, Goes}

@@ -28,8 +28,7 @@ pub fn acts()
 /// tell and send is what the nodes do; and in the end the law has of each node what the node has. A request that a node
 /// refuses is no step. And a node that starts knows its copies again, the files that it lacks, and the numbers that are
 /// reserved for each of its sessions; each session goes on behind these, used or not, and what was going on is gone.
-/// Where the plan gives the tenant as many steps as the run takes, it is a run of the service, and each file is one
-/// register.
+/// By a row that has as many steps as the run takes, it is a run of the service, and each file is one register.
 pub fn nodes()
     ensures follow { AllNodesFollow }
     ensures serve { AllNodesServe }
