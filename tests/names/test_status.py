@@ -62,7 +62,7 @@ class Grids(unittest.TestCase):
     def test_what_is_told(self):
         nodes = nodes_of(4, (67,), Shape(2, 2), (67,))
         lines = nodes_lines(nodes)
-        self.assertEqual(lines[:5], ["grid: 2 by 2", "  row 0    0    1 ", "  row 1    2  (67)", "node 67 is silent", "wholly up: row 0, column 0"])
+        self.assertEqual(lines[:5], ["grid: 2 by 2", "  row 0    0    1", "  row 1    2  (67)", "node 67 is silent", "wholly up: row 0, column 0"])
         self.assertEqual(lines[5:], ["session 1: home 0", "session 2: home 1"])
         self.assertIn("session 2: home 1, silent", nodes_lines(nodes_of(4, (1,))))
         value = nodes_value(nodes)

@@ -80,7 +80,7 @@ class Checkout:
         self.held("a first answer", (status, told, self.builds()), (0, "quick run\n", ["gridfs"]))
         self.held("and its notice", "gridfs: this program is not proved" in said, True)
         self.held("a node, and what has been built by then", (self.run("node", "0")[1:], len(self.builds())), (("quick node 0\n", ""), 1))
-        self.held("its version", self.version()[0], "not proved")
+        self.held("its version", self.version()[0], "not proved: .unproved/gridfs")
         self.change()
         self.held("a first answer of changed sources", (self.run("node")[1], self.builds()[1:]), ("quick node\n", ["gridfs"]))
         self.refuses()

@@ -52,7 +52,7 @@ def picture(nodes: Nodes, shape: Shape) -> list[str]:
     told = nodes.told
     words = [f"({node})" if node in nodes.silent else f" {node} " for node in map(told.node_at, range(told.nodes))]
     width = max(map(len, words))
-    return [f"  row {row}  " + " ".join(words[place].rjust(width) for place in shape.row(row)) for row in range(shape.rows)]
+    return [(f"  row {row}  " + " ".join(words[place].rjust(width) for place in shape.row(row))).rstrip() for row in range(shape.rows)]
 
 
 def counted(what: str, numbers: list[int]) -> str:

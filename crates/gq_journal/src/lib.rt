@@ -7,4 +7,4 @@ pub mod laws;
 mod sealing;
 
 pub use batches::{can_be_sealed, first_batch, first_whole_line, has_right_batch, is_batch_line};
-pub use sealing::seal_batch;
+pub use sealing::{seal_batch, seal_behind};

@@ -1,6 +1,6 @@
 //! The line that seals a batch.
 
-ghost use Rattle.std.specs.Prelude.{◌≡◌, ◌∷◌, ◌++◌, [], codes, decimal, length, take, IfOk, OnOk, OnErr};
+ghost use Rattle.std.specs.Prelude.{◌≡◌, ◌∷◌, ◌++◌, [], codes, decimal, length, take, drop, ◌≤◌, IfOk, OnOk, OnErr};
 ghost use Rattle.std.specs.List.{flat_map};
 ghost use Rattle.std.specs.Str.{bytes_eq};
 ghost use Rattle.sha2.specs.Sha256.{sha256};
@@ -87,13 +87,24 @@ pub(crate) fn is_seal(alloc: Global, line: &[u8], n: u64, text: &[u8]) -> Result
     Ok(line == &sealing[..end])
 }
 
-/// Seals the text as batch n: appends the line that seals it. Where memory is wanting a part of that line may have been appended.
+/// Seals what stands behind a place of the text as batch n: appends the line that seals it. Where memory is wanting a part of that line
+/// may have been appended.
 #[tactic(auto, unfolding(crate::specs::Batches::digest_word))]
+pub fn seal_behind(out: &mut Vec<u8>, at: usize, n: u64) -> Result<(), OutOfMemory>
+    requires { at ≤ length out.old.items }
+    ensures ok { OnOk result (out.new.items ≡ out.old.items ++ ended_line (seal n (drop at out.old.items))) }
+    ensures err { OnErr result (Extends out.old.items out.new.items) }
+{
+    let behind = &out.as_slice()[at..];
+    let len = behind.len() as u64;
+    let digest = digest_of(n, behind);
+    put_digest(out, n, len, &digest)
+}
+
+/// Seals the text as batch n: appends the line that seals it. Where memory is wanting a part of that line may have been appended.
 pub fn seal_batch(out: &mut Vec<u8>, n: u64) -> Result<(), OutOfMemory>
     ensures ok { OnOk result (out.new.items ≡ out.old.items ++ ended_line (seal n out.old.items)) }
     ensures err { OnErr result (Extends out.old.items out.new.items) }
 {
-    let len = out.len() as u64;
-    let digest = digest_of(n, out.as_slice());
-    put_digest(out, n, len, &digest)
+    seal_behind(out, 0, n)
 }

@@ -1,6 +1,6 @@
 -- Journals of batches, put together and read.
 use Rattle.std.proofs.Common.{◌≡◌, ℕ, suc, ◌+◌, ◌^◌, ◌<◌, List, [], ◌∷◌, ◌++◌, length, true, refl, sym, ap, ◌∙◌, subst, append_assoc, append-nil, arith, length-append}
-use Rattle.gq_journal.specs.Batches.{Line, ended_line, seal, lines_text, batches_of, batches_at, batch_text, journal_text, are_batch_lines}
+use Rattle.gq_journal.specs.Batches.{Line, lines_text, batches_of, batches_at, batch_text, journal_text, are_batch_lines}
 use Rattle.gq_journal.specs.Laws.{FitBatches}
 use Rattle.gq_journal.proofs.ReadBack.{batches_read_back}
 use Rattle.gq_keeper.specs.Durable.{AllSealed, kept_text, number_after, SyncedIsRead}

@@ -1,10 +1,11 @@
 -- What is on disk when something is shown.
-use Rattle.std.specs.Prelude.{◌≡◌, ℕ, ◌+◌, Bool, List, [], ◌∷◌, ◌++◌, length}
-use Rattle.gq_journal.specs.Batches.{Line, ended_line, seal, batches_of, journal_text}
+use Rattle.std.specs.Prelude.{◌≡◌, ℕ, ◌+◌, ◌*◌, ◌^◌, ◌<◌, Bool, List, [], ◌∷◌, ◌++◌, length, true}
+use Rattle.gq_journal.specs.Batches.{Line, whole_lines, lines_text, ended_line, seal, batches_of, journal_text}
 use Rattle.gq_journal.specs.Laws.{FitBatches, Begins}
 use Rattle.gq_keeper.specs.Lines.{most_held, short_lines}
 use Rattle.gq_keeper.specs.Runs.{Did, Runs, StopsAt, lines_of, told_of}
-use Rattle.gq_keeper.specs.Restarting.{Restarts}
+use Rattle.gq_keeper.specs.Plans.{are_facts}
+use Rattle.gq_keeper.specs.Restarting.{Restarts, Stands}
 
 -- all that was written is synced, and is whole batches; the next one has this number
 pub record AllSealed (seen synced : List ℕ) (number : ℕ) : Type 0 where
@@ -55,6 +56,21 @@ number_after n (x ∷ facts) = n + 1
 -- a journal of this plan and of the text of these facts
 abbrev pub new_text : List ℕ → List ℕ → List ℕ
 new_text plan facts = (plan ++ ended_line (seal 1 plan)) ++ kept_text 2 facts
+
+-- This is a journal of the plan and of the facts that a start needs of the machine, and the next batch has this number.
+pub record IsAnew {M : Type 0} (recalls : M → List ℕ → M → Type 0) (readable : M → List ℕ → Bool) (blank : List Line → M → M → Type 0) (rests : M → M → Type 0) (machine : M) (plan text : List ℕ) (next : ℕ) : Type 0 where
+  pub lines : List Line
+  pub facts : are_facts lines ≡ true
+  pub stands : Stands recalls readable (blank (whole_lines plan)) rests machine lines
+  pub short : length (lines_text lines) < 2 ^ 64
+  pub is : text ≡ new_text plan (lines_text lines)
+  pub number : next ≡ number_after 2 (lines_text lines)
+
+-- The journal is longer than a mebibyte, than this, and than four times what the contents take.
+pub record IsLong (size due contents : ℕ) : Type 0 where
+  pub some : 1048576 < size
+  pub grown : due < size
+  pub needs_less : 4 * contents < size
 
 -- Whatever a crash leaves behind what was synced, the batches that were synced are read, and then whatever batches are behind them.
 abbrev pub SyncedIsRead : Type 0

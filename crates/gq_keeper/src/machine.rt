@@ -71,6 +71,13 @@ pub trait Lasting: Machine {
     /// That machine is this one at rest.
     ghost rests: { Self → Self → Type 0 };
 
+    /// How many bytes the contents take that a start needs.
+    ghost contents: { Self → ℕ };
+
+    /// How many bytes the contents take that a start needs: how long their journal may get. It costs no look at each of them.
+    fn content_bytes(&self) -> usize
+        ensures { result ≡ contents self.now };
+
     /// Appends the lines of the facts that a start needs, from a journal that begins with a plan of which the machine is.
     fn put_needed(&self, facts: &mut Vec<u8>) -> Result<(), Fault>
         ensures { (plan : List (List ℕ)) → is_of plan self.now → OnOk result (Needs Self.recalls Self.readable (blank plan) rests self.now facts.old.items facts.new.items) };

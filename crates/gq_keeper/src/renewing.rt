@@ -1,15 +1,15 @@
 //! A journal is written, and one that has grown long is written anew.
 
-ghost use Rattle.std.specs.Prelude.{◌≡◌, ◌⊎◌, ◌++◌, [], ◌∷◌, length, IfOk, OnOk};
+ghost use Rattle.std.specs.Prelude.{◌≡◌, true, false, ◌≤◌, ◌<◌, ◌-◌, ◌*◌, ◌^◌, ◌⊎◌, ◌++◌, length, take, drop, IfOk, OnOk};
 ghost use Rattle.gq_journal.specs.Batches.{whole_lines, ended_line, seal};
 ghost use Rattle.gq_keeper.specs.Plans.{IsPlan};
-ghost use Rattle.gq_keeper.specs.Crashes.{Leaves, LeavesReplacing, Elapses};
+ghost use Rattle.gq_keeper.specs.Crashes.{Leaves, Elapses};
 ghost use Rattle.gq_keeper.specs.Restarting.{Restarts};
-ghost use Rattle.gq_keeper.specs.Durable.{AllSealed, kept_text, new_text, number_after};
+ghost use Rattle.gq_keeper.specs.Durable.{AllSealed, IsAnew, IsLong, kept_text, number_after};
 
 use crate::{Disk, Fault, Lasting};
-use gq_journal::seal_batch;
-use gq_memory::{GrowCopies, OutOfMemory, slice_copied};
+use gq_journal::{seal_batch, seal_behind};
+use gq_memory::{OutOfMemory, slice_copied};
 use std::alloc::Global;
 
 // A journal of so many bytes is not written anew.
@@ -18,45 +18,45 @@ const MOST_SHORT: usize = 1_048_576;
 // How many times as long as what a start needs a journal may be.
 const MOST_TIMES: usize = 4;
 
-// Puts a journal of the plan and of these facts in the place of all. Answers the number of the next batch.
-fn write_anew<D: Disk>(
-    alloc: Global,
-    plan: &[u8],
-    disk: &mut D,
-    facts: &mut Vec<u8>,
-) -> Result<u64, Fault>
-    ensures seen { OnOk result (D.seen disk.new ≡ new_text plan.now facts.old.items) }
-    ensures synced { OnOk result (D.synced disk.new ≡ new_text plan.now facts.old.items) }
-    ensures number { IfOk result (λ next. next ≡ number_after 2 facts.old.items) }
-    ensures crash { Elapses (D.instant disk.old) (D.instant disk.new) (D.left_since disk.old) (D.left_since disk.new)
-        (LeavesReplacing (D.synced disk.old) (D.seen disk.old) (new_text plan.now facts.old.items)) }
-{
-    let next = seal_facts(facts)?;
-    let text = with_plan(alloc, plan, facts.as_slice())?;
-    disk.replace(text.as_slice())?;
-    Ok(next)
+// The text of a journal, and the number of the next batch.
+#[derive(Drop)]
+struct Anew {
+    text: Vec<u8>,
+    next: u64,
 }
 
-// The plan as the first batch, with this behind it.
-fn with_plan(alloc: Global, plan: &[u8], behind: &[u8]) -> Result<Vec<u8>, OutOfMemory>
-    ensures { IfOk result (λ text. text.items ≡ (plan.now ++ ended_line (seal 1 plan.now)) ++ behind.now) }
+// The plan as the first batch.
+fn plan_batch(alloc: Global, plan: &[u8]) -> Result<Vec<u8>, OutOfMemory>
+    ensures { IfOk result (λ text. text.items ≡ plan.now ++ ended_line (seal 1 plan.now)) }
 {
     let mut text = slice_copied(alloc, plan)?;
     seal_batch(&mut text, 1)?;
-    text.grow_by(behind)?;
     Ok(text)
 }
 
-// Seals the facts as the second batch, if there are any. Answers the number of the next one.
-fn seal_facts(facts: &mut Vec<u8>) -> Result<u64, Fault>
-    ensures text { OnOk result (facts.new.items ≡ kept_text 2 facts.old.items) }
-    ensures number { IfOk result (λ next. next ≡ number_after 2 facts.old.items) }
+// Seals what stands behind that place as the second batch, if there is something. Answers the number of the next one.
+fn seal_facts(text: &mut Vec<u8>, at: usize) -> Result<u64, OutOfMemory>
+    requires { at ≤ length text.old.items }
+    ensures text { OnOk result (text.new.items ≡ take at text.old.items ++ kept_text 2 (drop at text.old.items)) }
+    ensures number { IfOk result (λ next. next ≡ number_after 2 (drop at text.old.items)) }
 {
-    if facts.is_empty() {
+    if text.len() == at {
         return Ok(2);
     }
-    seal_batch(facts, 2)?;
+    seal_behind(text, at, 2)?;
     Ok(3)
+}
+
+// A journal of the plan and of what a start needs of the machine. Its text is made in one place, so it isn't held twice.
+fn make_anew<M: Lasting>(alloc: Global, machine: &M, plan: &[u8]) -> Result<Anew, Fault>
+    requires { M.is_of (whole_lines plan.now) machine.now }
+    ensures { IfOk result (λ anew. IsAnew M.recalls M.readable M.blank M.rests machine.now plan.now anew.text.items anew.next) }
+{
+    let mut text = plan_batch(alloc, plan)?;
+    let at = text.len();
+    machine.put_needed(&mut text)?;
+    let next = seal_facts(&mut text, at)?;
+    Ok(Anew { text, next })
 }
 
 /// Writes a journal of the plan and of what a start needs of the machine, in the place of all: the first journal, or one that takes
@@ -72,17 +72,25 @@ pub fn renew<M: Lasting, D: Disk>(
     requires of_plan { M.is_of (whole_lines plan.now) machine.now }
     ensures sealed { IfOk result (λ next. AllSealed (D.seen disk.new) (D.synced disk.new) next) }
     ensures restarts { OnOk result (Restarts M.recalls M.readable M.blank M.rests (whole_lines plan.now) machine.now (D.synced disk.new)) }
+    ensures anew { IfOk result (λ next. IsAnew M.recalls M.readable M.blank M.rests machine.now plan.now (D.synced disk.new) next) }
     ensures crash { Elapses (D.instant disk.old) (D.instant disk.new) (D.left_since disk.old) (D.left_since disk.new)
         (λ left. Leaves (D.synced disk.old) (D.seen disk.old) left ⊎ Restarts M.recalls M.readable M.blank M.rests (whole_lines plan.now) machine.now left) }
 {
-    let mut facts = Vec::new(alloc);
-    machine.put_needed(&mut facts)?;
-    let next = write_anew(alloc, plan, disk, &mut facts)?;
-    Ok(next)
+    let anew = make_anew(alloc, machine, plan)?;
+    disk.replace(anew.text.as_slice())?;
+    Ok(anew.next)
 }
 
-/// Writes the journal anew where it is long, and more than four times as long as what a start needs. That is looked at again once
-/// the journal is longer than `due`. Whenever it is killed, a start reads the machine.
+// Whether a journal of so many bytes is long: longer than that, and than four times what the contents take.
+fn is_long(size: usize, due: usize, contents: usize) -> bool
+    ensures long { result ≡ true → IsLong size due contents }
+    ensures short { result ≡ false → ¬ IsLong size due contents }
+{
+    size > MOST_SHORT && size > due && size > most_bytes(contents)
+}
+
+/// Writes the journal anew where it is long: longer than `due`, which is four times what it was when it was last written anew, and than
+/// four times what the contents take that a start needs. Whenever it is killed, a start reads the machine.
 pub(crate) fn renew_if_due<M: Lasting, D: Disk>(
     alloc: Global,
     machine: &M,
@@ -99,26 +107,23 @@ pub(crate) fn renew_if_due<M: Lasting, D: Disk>(
     ensures restarts { OnOk result (Restarts M.recalls M.readable M.blank M.rests (whole_lines plan.now) machine.now (D.synced disk.new)) }
     ensures crash { Elapses (D.instant disk.old) (D.instant disk.new) (D.left_since disk.old) (D.left_since disk.new)
         (Restarts M.recalls M.readable M.blank M.rests (whole_lines plan.now) machine.now) }
+    ensures long { IsLong (length (D.seen disk.old)) due.old (M.contents machine.now) → OnOk result (IsAnew M.recalls M.readable M.blank M.rests machine.now plan.now (D.synced disk.new) number.new) }
+    ensures alone { ¬ IsLong (length (D.seen disk.old)) due.old (M.contents machine.now) → disk.new ≡ disk.old }
 {
     // its range is a fact once it is read
     let _number = *number;
-    let size = disk.size();
-    if size <= MOST_SHORT || size <= *due {
+    if !is_long(disk.size(), *due, machine.content_bytes()) {
         return Ok(());
     }
-    let mut facts = Vec::new(alloc);
-    machine.put_needed(&mut facts)?;
-    let most = most_bytes(plan.len(), facts.len());
-    if size <= most {
-        *due = most;
-        return Ok(());
-    }
-    let next = write_anew(alloc, plan, disk, &mut facts)?;
-    *number = next;
+    *number = renew(alloc, machine, plan, disk)?;
+    *due = most_bytes(disk.size());
     Ok(())
 }
 
-// How long a journal may be, of which a start needs so much.
-fn most_bytes(plan: usize, facts: usize) -> usize {
-    plan.saturating_add(facts).saturating_mul(MOST_TIMES)
+// How long a journal may be where a start needs so much.
+fn most_bytes(needed: usize) -> usize
+    ensures most { result ≤ 4 * needed }
+    ensures all { result < 2 ^ 64 - 1 → result ≡ 4 * needed }
+{
+    needed.saturating_mul(MOST_TIMES)
 }

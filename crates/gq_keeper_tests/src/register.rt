@@ -1,6 +1,6 @@
 //! A machine of one register.
 
-ghost use Rattle.std.specs.Prelude.{◌≡◌, ◌&&◌, ◌++◌, [], true, not, refl, OnOk};
+ghost use Rattle.std.specs.Prelude.{◌≡◌, ◌&&◌, ◌++◌, [], length, true, not, refl, OnOk};
 ghost use Rattle.gq_journal.specs.Batches.{ended_line, is_batch_line};
 ghost use Rattle.gq_keeper.specs.Plans.{is_head};
 ghost use Rattle.gq_keeper_tests.specs.Registers.{is_fact};
@@ -122,6 +122,12 @@ impl Lasting for Register {
     ghost is_of = { λ plan machine. Unit {0} };
 
     ghost rests = { λ machine again. again ≡ machine };
+
+    ghost contents = { λ machine. length machine };
+
+    fn content_bytes(&self) -> usize {
+        self.text.len()
+    }
 
     fn put_needed(&self, facts: &mut Vec<u8>) -> Result<(), Fault> {
         Ok(facts.grow_by(self.text.as_slice())?)

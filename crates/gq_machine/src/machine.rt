@@ -617,6 +617,7 @@ impl Machine for NodeMachine {
 }
 
 impl Lasting for NodeMachine {
+    ghost use Rattle.gq_node.specs.Bounds.{content_bytes};
     ghost use Rattle.gq_machine.specs.Machines.{MachineIsBlank, MachineIsOf, MachineRests, gives_facts, gives_readable, keeps_blank, keeps_plan, recalls_plan, keeps_rest, reads_again, starts_again};
 
     ghost blank = { MachineIsBlank };
@@ -624,6 +625,12 @@ impl Lasting for NodeMachine {
     ghost is_of = { MachineIsOf };
 
     ghost rests = { MachineRests };
+
+    ghost contents = { λ machine. content_bytes machine.node.tables };
+
+    fn content_bytes(&self) -> usize {
+        self.node.content_bytes()
+    }
 
     fn put_needed(&self, facts: &mut Vec<u8>) -> Result<(), Fault> {
         plan_is_sound(self.node.plan());

@@ -1,10 +1,11 @@
 -- How much a node holds, counted.
-use Rattle.std.specs.Prelude.{◌≡◌, ℕ, ◌*◌, ◌<◌, ◌≤◌, is_some, length}
+use Rattle.std.specs.Prelude.{◌≡◌, ℕ, ◌*◌, ◌-◌, ◌<◌, ◌≤◌, is_some, length}
 use Rattle.std.specs.List.{sum_by, count_by}
 use Rattle.gq_desk.specs.CheckedPlan.{row_at}
 use Rattle.gq_desk.specs.declared.limits.TheConstants.{MOST_VOLUMES}
 use Rattle.gq_desk.specs.Volumes.{account_at}
-use Rattle.gq_store.specs.Copies.{VolumeCopies, tenant_in}
+use Rattle.gq_pool.specs.declared.TheConstants.{BLOCK_BYTES}
+use Rattle.gq_store.specs.Copies.{VolumeCopies, tenant_in, blocks_free}
 use Rattle.gq_tag.specs.declared.TheConstants.{MOST_FILES}
 use Rattle.gq_node.specs.declared.session_states.SessionState.{SessionState}
 use Rattle.gq_node.specs.Tables.{Tables, given_at, session_states_at}
@@ -29,6 +30,10 @@ volumes_lost w t = length (given_at w t)
 
 abbrev pub marks_held : Tables → ℕ → ℕ
 marks_held w t = sum_by length (given_at w t)
+
+-- the bytes of the server's blocks that are not free
+abbrev pub content_bytes : Tables → ℕ
+content_bytes w = BLOCK_BYTES * (w.plan.blocks - blocks_free w.store)
 
 -- There are tables for the plan's tenants and no others; for each of them no more volumes than it may have, one copy of each file, at
 -- most one operation and one outcome for each of its sessions, one place whose node was asked last for a file, and for each of its lost volumes,

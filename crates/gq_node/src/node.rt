@@ -7,7 +7,7 @@ ghost use Rattle.gq_grid.specs.Sets.{servers};
 ghost use Rattle.gq_desk.specs.declared.limits.TheConstants.{MOST_VOLUMES};
 ghost use Rattle.gq_desk.specs.CheckedPlan.{row_at};
 ghost use Rattle.gq_desk.specs.Volumes.{IsRefusedFor, open_fault, account_at};
-ghost use Rattle.gq_node.specs.Bounds.{IsBounded};
+ghost use Rattle.gq_node.specs.Bounds.{IsBounded, content_bytes};
 ghost use Rattle.gq_replace.specs.Plans.{place_of};
 ghost use Rattle.gq_node.specs.Sites.{address_of, session_at, site_of};
 ghost use Rattle.gq_node.specs.Local.{new_local, asks, tells_holding, receives, ticks, recalls};
@@ -149,6 +149,13 @@ impl Node {
         ensures { IsBounded self.now.tables }
     {
         self.tables.bounded();
+    }
+
+    /// How many bytes the contents take at the server, in whole blocks. It costs no look at each of them.
+    pub fn content_bytes(&self) -> usize
+        ensures { result ≡ content_bytes self.now.tables }
+    {
+        self.tables.content_bytes()
     }
 
     /// The plan.

@@ -6,7 +6,7 @@ ghost use Rattle.gq_desk.specs.CheckedPlan.{row_at};
 ghost use Rattle.gq_desk.specs.Volumes.{IsRefusedFor, open_fault, account_at};
 ghost use Rattle.gq_model.specs.Trace.{files_of};
 ghost use Rattle.gq_node.specs.Local.{holding, tells_holding};
-ghost use Rattle.gq_node.specs.Bounds.{IsBounded};
+ghost use Rattle.gq_node.specs.Bounds.{IsBounded, content_bytes};
 ghost use Rattle.gq_node.specs.Shape.{FewSessions, IsShaped, IsFirst};
 ghost use Rattle.gq_node.specs.Sites.{Here, site_of, has_session, session_state_place, session_at};
 ghost use Rattle.gq_replace.specs.Plans.{place_of};
@@ -22,6 +22,7 @@ use crate::session_states::SessionStates;
 use gq_desk::{Desk, MOST_SESSIONS, OpenRefused, Plan, VolumeRows};
 use gq_grid::{MOST_SERVERS, ServerSet};
 use gq_memory::{GrowVec, OutOfMemory, filled, room_for, slice_copied};
+use gq_pool::BLOCK_BYTES;
 use gq_store::ServerStore;
 use std::alloc::Global;
 use std::marker::Model;
@@ -170,6 +171,13 @@ impl Core {
         for tenant in 0..self.plan.tenants() {
             self.lacks[tenant].room();
         }
+    }
+
+    // How many bytes the contents take at the server, in whole blocks.
+    pub(crate) fn content_bytes(&self) -> usize
+        ensures { result ≡ content_bytes self.now }
+    {
+        BLOCK_BYTES * (self.plan.blocks() as usize).saturating_sub(self.store.free())
     }
 
     // The number of the node.

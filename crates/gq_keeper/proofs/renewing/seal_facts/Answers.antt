@@ -1,10 +1,9 @@
-use Rattle.std.proofs.Common.{sym, ap, ◌∙◌}
-use Rattle.std.specs.Prelude.{◌==◌}
-use Rattle.gq_keeper.proofs.Kept.{some_kept, some_number}
+use Rattle.std.proofs.Common.{◌∙◌}
+use Rattle.gq_keeper.proofs.Kept.{kept_behind, not_all, some_number}
 use Rattle.gq_keeper.proofs.renewing.seal_facts.Goals as goal
 
 pub returns-clause-text : goal.returns-clause-text
-returns-clause-text c = c.in_ok-seal_batch.ensures.ok ∙ some_kept 2 _ (ap (λ n. n == 0) (sym c.args.facts.now.ok.0) ∙ sym c.is_empty.ensures ∙ c.if-is_empty.false)
+returns-clause-text c = c.in_ok-seal_behind.ensures.ok ∙ kept_behind 2 c.args.at c.args.text.now.items (not_all c.args.at c.args.text.now.items c.requires (λ is. c.if-len-at.false (c.len.ensures ∙ c.args.text.now.ok.0 ∙ is)))
 
 pub returns-clause-number : goal.returns-clause-number
-returns-clause-number c = some_number 2 c.args.facts.now.items (ap (λ n. n == 0) (sym c.args.facts.now.ok.0) ∙ sym c.is_empty.ensures ∙ c.if-is_empty.false)
+returns-clause-number c = some_number 2 _ (not_all c.args.at c.args.text.now.items c.requires (λ is. c.if-len-at.false (c.len.ensures ∙ c.args.text.now.ok.0 ∙ is)))
