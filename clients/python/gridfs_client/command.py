@@ -2,7 +2,6 @@
 
 import argparse
 import base64
-import json
 import os
 import signal
 import sys
@@ -22,7 +21,7 @@ from .fleet import MAP_NAME, FleetFiles
 from .fleet_map import read_map
 from .grid import Nodes, listed
 from .layout import BLOCK, layout_of
-from .local import INPUT, complain, content_of, out, to_target
+from .local import INPUT, complain, content_of, json_of, out, out_lines, to_target
 from .mirror import GRID, ToFolder, ToGrid, prefix_of, shown
 from .names import Entry, NamedFiles
 from .open_grids import OpenGrids
@@ -182,12 +181,12 @@ def parser() -> argparse.ArgumentParser:
 # What each word does.
 
 
-def tell(args: argparse.Namespace, value: object, text: str | None = None) -> None:
-    """Tells a value as JSON, or this text, if there is one."""
+def tell(args: argparse.Namespace, value: object, *lines: str) -> None:
+    """Tells a value as JSON, or these lines."""
     if args.json:
-        out(json.dumps(value, ensure_ascii=False).encode() + b"\n")
-    elif text is not None:
-        out(text.encode() + b"\n")
+        out(json_of(value).encode() + b"\n")
+    else:
+        out_lines(lines)
 
 
 def put(opened: Opened | OpenedFleet, args: argparse.Namespace) -> None:
@@ -226,7 +225,7 @@ def ls(opened: Opened | OpenedFleet, args: argparse.Namespace) -> None:
         entries, silent = [entry for entry in found.entries if entry.name != MAP_NAME], found.silent
     else:
         entries = names.names(args.prefix)
-    tell(args, [told_of(entry) for entry in entries], "\n".join(map(line_of, entries)) or None)
+    tell(args, [told_of(entry) for entry in entries], *map(line_of, entries))
     for grid, fault in silent.items():
         complain(f"names at {grid} are not told: {str(fault).removeprefix(f'{grid}: ')}")
     if silent:
@@ -243,7 +242,7 @@ def rm(opened: Opened | OpenedFleet, args: argparse.Namespace) -> None:
 
 def stat(opened: Opened | OpenedFleet, args: argparse.Namespace) -> None:
     entry = told_of(opened.names().stat(args.name))
-    tell(args, entry, "\n".join(f"{key}: {value}" for key, value in entry.items()))
+    tell(args, entry, *(f"{key}: {value}" for key, value in entry.items()))
 
 
 def sweep(opened: Opened | OpenedFleet, args: argparse.Namespace) -> None:
@@ -278,7 +277,7 @@ def read(opened: Opened, args: argparse.Namespace) -> None:
 def list_files(opened: Opened, args: argparse.Namespace) -> None:
     rows = opened.session.list(args.volume)
     value = [{"file": file, "length": row.length, "tag": [row.tag.number, row.tag.session]} for file, row in enumerate(rows)]
-    tell(args, value, "\n".join(f"{file:>6} {row.length:>8}  {row.tag.number}.{row.tag.session}" for file, row in enumerate(rows)))
+    tell(args, value, *(f"{file:>6} {row.length:>8}  {row.tag.number}.{row.tag.session}" for file, row in enumerate(rows)))
 
 
 def plan(opened: Opened, args: argparse.Namespace) -> None:
@@ -288,7 +287,7 @@ def plan(opened: Opened, args: argparse.Namespace) -> None:
     words = {"volumes": " ".join(f"{files}x{blocks}" for files, blocks in told.volumes)}
     words |= {"new nodes": " ".join(map(str, told.new_nodes))} if told.new_nodes else {}
     value_told = value | {"volumes": volumes, "new_nodes": list(told.new_nodes)}
-    tell(args, value_told, "\n".join(f"{key}: {each}" for key, each in (value | words).items()))
+    tell(args, value_told, *(f"{key}: {each}" for key, each in (value | words).items()))
 
 
 def mirror(opened: Opened, args: argparse.Namespace) -> None:
@@ -299,7 +298,7 @@ def mirror(opened: Opened, args: argparse.Namespace) -> None:
 
     def tell_line(word: str, name: str) -> None:
         if not args.json and not args.quiet:
-            out(f"{word} {shown(name)}\n".encode())
+            out_lines([f"{word} {shown(name)}"])
 
     count = len(opened.sessions.numbers)
     kind = ToFolder if to_grid is None else ToGrid
@@ -309,7 +308,7 @@ def mirror(opened: Opened, args: argparse.Namespace) -> None:
     value = {"dry_run": args.dry_run, made.word: report.moved, "removed": report.removed, "same": report.same, "skipped": report.skipped}
     moved, removed = (f"would {made.word}", "remove") if args.dry_run else (made.done, "removed")
     text = f"{moved} {len(report.moved)}, {removed} {len(report.removed)}; {report.same} the same"
-    tell(args, value, None if args.quiet else text)
+    tell(args, value, *([] if args.quiet else [text]))
     if report.skipped:
         raise Skipped(f"{len(report.skipped)} skipped", report.status)
 
@@ -323,7 +322,7 @@ def status(opened: Opened, args: argparse.Namespace) -> None:
     usage, fault = (None, Silent(nodes.summary())) if nodes.goes_on() is False else used(opened)
     left_out = str(fault) if fault else None
     value = {"tenant": opened.settings.tenant} | nodes_value(nodes) | usage_value(usage, left_out)
-    tell(args, value, "\n".join([*nodes_lines(nodes), *usage_lines(usage, left_out)]))
+    tell(args, value, *nodes_lines(nodes), *usage_lines(usage, left_out))
     if fault and not isinstance(fault, BadSettings):
         raise fault
 

@@ -17,7 +17,7 @@ from .asking import SILENCE, ask_all
 from .core import Page
 from .errors import BadSettings, ClientError, Silent
 from .fleet_map import FleetMap, Move, new_map, read_map
-from .local import complain
+from .local import complain, visible
 from .moving import Mover, moves_to_end
 from .open_grids import OpenGrids, publish
 from .settings import Settings
@@ -109,7 +109,7 @@ class Moves:
 
     def end_one(self, grids: OpenGrids, move: Move) -> None:
         def tell(text: str) -> None:
-            print(f"move {move.number}: {text}", flush=True)
+            print(visible(f"move {move.number}: {text}"), flush=True)
 
         tell(f"slices {move.first}-{move.last} from {move.source} to {move.target}")
         Mover(self.now, move, grids.session, grids.layout, self.change_map, tell, self.settings.seconds("timeout")).run()
@@ -171,7 +171,7 @@ def status(now: FleetMap, settings: Settings) -> int:
     with closing(OpenGrids(now, settings)) as grids, ThreadPoolExecutor(len(now.grids)) as threads:
         reports = dict(zip(now.grids, threads.map(lambda grid: report_of(grids, grid, shares[grid]), now.grids)))
     for report in reports.values():
-        print(report.text)
+        print(visible(report.text))
     for move in now.moves:
         print(move_text(move, reports[move.source].pages))
     return next((report.status for report in reports.values() if report.status), 0)

@@ -1,11 +1,14 @@
 """Files of this machine, and standard streams: where contents of a command come from and go to."""
 
 import errno
+import json
 import os
+import re
 import stat
 import sys
 import tempfile
-from collections.abc import Callable, Iterator
+import unicodedata
+from collections.abc import Callable, Iterable, Iterator
 from contextlib import contextmanager
 from pathlib import Path
 from typing import IO, TextIO, TypeVar
@@ -52,11 +55,33 @@ def out(content: bytes) -> None:
         target.flush()
 
 
+def visible(text: str, is_for_eyes: bool = True) -> str:
+    """A text of one line, of which a terminal obeys nothing: each control character is told as an escape, and for a person's eyes each letter that
+    can't be printed."""
+
+    def is_odd(letter: str) -> bool:
+        return not letter.isprintable() and (is_for_eyes or unicodedata.category(letter) in ("Cc", "Cs"))
+
+    return "".join(each.encode("unicode_escape").decode("ascii") if is_odd(each) else each for each in text)
+
+
+def json_of(value: object) -> str:
+    """A value as JSON, whose control characters are escapes, all of them; and so are bytes of paths that are no UTF-8."""
+    return re.sub("[\x7f-\x9f\ud800-\udfff]", lambda found: f"\\u{ord(found[0]):04x}", json.dumps(value, ensure_ascii=False))
+
+
+def out_lines(lines: Iterable[str]) -> None:
+    """Writes lines to standard output: at a terminal for a person's eyes."""
+    is_for_eyes = sys.stdout is not None and sys.stdout.isatty()
+    if content := "".join(f"{visible(line, is_for_eyes)}\n" for line in lines):
+        out(content.encode())
+
+
 def complain(text: str, who: str = "gridfs-client") -> None:
     """Tells a fault, if standard error takes it."""
     try:
         if sys.stderr is not None:
-            sys.stderr.write(f"{who}: {text}\n")
+            sys.stderr.write(f"{who}: {visible(text)}\n")
             sys.stderr.flush()
     except OSError:
         pass

@@ -4,6 +4,7 @@ import sys
 import traceback
 
 from gridfs_client.errors import CarrierFault, ClientError, NoRoom, Replaced, SessionTaken, Unanswered
+from gridfs_client.local import visible
 
 ERRORS = {
     "AccessDenied": (403, "Access is denied."),
@@ -67,7 +68,7 @@ class S3Error(Exception):
 
 
 def tell(text: str) -> None:
-    print(f"gridfs-s3: {text}", file=sys.stderr, flush=True)
+    print(f"gridfs-s3: {visible(text)}", file=sys.stderr, flush=True)
 
 
 def error_of(fault: BaseException) -> S3Error:
