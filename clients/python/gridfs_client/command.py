@@ -169,7 +169,8 @@ def parser() -> argparse.ArgumentParser:
          **{"--dry-run": dict(is_given, help="tell what would be done, and do nothing"),
             "--delete": dict(is_given, help="remove what is in the target and not in the source")})  # fmt: skip
     word("status", status, "tell which nodes answer, and what the tenant has used of its room")
-    word("sweep", sweep, "forget names that were taken away, and find room that dead commands left taken; of all sessions that nobody uses")
+    word("sweep", sweep, "forget names that were taken away, and find room that dead commands left taken; of all sessions that nobody uses",
+         **{"--catch-up": dict(is_given, help="after damage: first let pages that are older than others ask for catch up")})  # fmt: skip
     # What lies below names: the numbered files themselves.
     word("write", write, "write a numbered file; what names stand on can be spoilt so", volume=volume, file=number, path=source)
     word("read", read, "tell a numbered file's content", volume=volume, file=number, path=target)
@@ -246,11 +247,15 @@ def stat(opened: Opened | OpenedFleet, args: argparse.Namespace) -> None:
 
 
 def sweep(opened: Opened | OpenedFleet, args: argparse.Namespace) -> None:
-    swept = opened.names().sweep()
+    names = opened.names()
+    caught_up = names.catch_up() if args.catch_up else 0
+    swept = names.sweep()
     text = f"removals: {swept.forgotten} forgotten, {swept.left} left"
+    if args.catch_up:
+        text = f"pages: {caught_up} caught up; {text}"
     if swept.absent:
         text += f"; {'sessions' if len(swept.absent) > 1 else 'session'} {listed(swept.absent)} could not be had"
-    tell(args, vars(swept), text)
+    tell(args, vars(swept) | ({"caught_up": caught_up} if args.catch_up else {}), text)
 
 
 def write(opened: Opened, args: argparse.Namespace) -> None:

@@ -9,7 +9,7 @@ from dataclasses import dataclass
 from typing import IO
 
 from . import core, ways
-from .buckets import Bucket, Held, held_of
+from .buckets import OLDER, Bucket, Held, held_of
 from .contents import Content, Inline
 from .core import Knows, Line, Version
 from .errors import BadSettings, ClientError, Damaged, NoRoom, NoSuchName, Replaced
@@ -94,7 +94,7 @@ class FleetFiles:
                     state = ways.told(state, bucket.known(state.state) or bucket.answer(asked, None))
                     bucket.is_carried |= isinstance(asked, core.WritePage)
             except core.Older as fault:
-                raise Damaged(f"{grid}: {bucket.where(*fault.args)} is older than another page that was written after it") from None
+                raise Damaged(f"{grid}: {bucket.where(*fault.args)} {OLDER}") from None
             for each, client in state.clients:
                 known = self.bucket(each, state.name)
                 if known.client is not client:
@@ -222,6 +222,9 @@ class FleetFiles:
     def sweep(self) -> Swept:
         found = [self.grid(grid).sweep() for grid in self.map.grids]
         return Swept(sum(each.forgotten for each in found), sum(each.left for each in found), sorted({number for each in found for number in each.absent}))
+
+    def catch_up(self) -> int:
+        return sum(self.grid(grid).catch_up() for grid in self.map.grids)
 
     def close(self) -> None:
         for files in self.grids.values():
