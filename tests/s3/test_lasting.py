@@ -1,10 +1,11 @@
-"""A gateway that runs for long: it takes the room of a plan that has grown, and ends where it can't serve any more, instead of going on with errors alone."""
+"""A gateway that runs for long: it takes the room of a plan that has grown, and that of all pages; and it ends where it can't serve any more, instead of going on with errors alone."""
 
 import asyncio
 import os
 import signal
 import subprocess
 import sys
+import tempfile
 import time
 import types
 import unittest
@@ -13,6 +14,7 @@ from unittest import mock
 sys.path.insert(0, os.path.dirname(os.path.abspath(__file__)))
 import endpoint
 from gridfs_client import Unanswered
+from gridfs_client.opening import turn_of
 from gridfs_s3 import gateway
 
 SPOILT = """
@@ -50,6 +52,37 @@ class Lasting(unittest.TestCase):
                 s3.put_object(Bucket="one", Key="second", Body=b"y" * 900_000)
                 for key, content in (("first", b"x" * 500_000), ("second", b"y" * 900_000)):
                     self.assertEqual(s3.get_object(Bucket="one", Key=key)["Body"].read(), content)
+                self.assertNotIn("Traceback", found.told())
+
+    def test_full_pages(self):
+        """Whoever fills the page in which one session has many names takes no room of the others' pages, and hinders no put of other names. Each session here has a
+        page of 8 KiB, of which lines take at most seven eighths."""
+        with tempfile.TemporaryDirectory() as folder:
+            plan = os.path.join(folder, "plan")
+            with open(plan, "w") as out:
+                out.write("grid 1 1\nroom 100000\ntenant carol 20000 4 1000 1024\ngo\n" + "carol open 8 128\n" * 2 + "carol open 12 1024\ncarol open 4 64\n")
+            with endpoint.stand_in(plan) as room, endpoint.gateways(room) as (found,):
+                s3, held = found.client(), {}
+                s3.create_bucket(Bucket="one")
+                ours = [f"key-{number}" for number in range(400) if turn_of(f"one/key-{number}", 4) == 1]
+                long = "x" * 1_500
+                for key in ours[:12]:  # (four lines in each page)
+                    s3.put_object(Bucket="one", Key=key, Body=key.encode(), Metadata={"a": long})
+                    held[key] = key.encode()
+                s3.put_object(Bucket="one", Key=ours[0], Body=b"b" * 200_000, Metadata={"a": "y"})
+                s3.copy_object(Bucket="one", Key=ours[-1], CopySource=f"one/{ours[0]}")
+                s3.copy_object(Bucket="one", Key=ours[-1], CopySource=f"one/{ours[-1]}", MetadataDirective="REPLACE", Metadata={"a": long})
+                held |= {ours[0]: b"b" * 200_000, ours[-1]: b"b" * 200_000}
+                with self.assertRaises(s3.exceptions.ClientError) as fault:
+                    for key in ours[12:]:
+                        s3.put_object(Bucket="one", Key=key, Body=key.encode(), Metadata={"a": long})
+                        held[key] = key.encode()
+                self.assertEqual(fault.exception.response["Error"]["Code"], "InsufficientStorage")
+                self.assertGreater(len(held), 13)
+                self.assertEqual({key: s3.get_object(Bucket="one", Key=key)["Body"].read() for key in held}, held)
+                for key in held:
+                    s3.delete_object(Bucket="one", Key=key)
+                s3.put_object(Bucket="one", Key=ours[3], Body=b"x", Metadata={"a": long})
                 self.assertNotIn("Traceback", found.told())
 
     def test_it_ends(self):

@@ -21,7 +21,7 @@ from .markup import document, element
 from .objects import Objects, values_of
 from .places import KEYS, Object, Values, name_of
 from .requests import Asked, answer, iso, judge
-from .store import Body, Condition, PageFull, Store
+from .store import Body, Condition, NoLine, PageFull, Store
 from .trips import Elsewhere
 from .workers import Crowded
 
@@ -127,6 +127,9 @@ class Copies(Operations):
                     await self.gateway.go_on(wants[is_writing], fault)
                 except PageFull as full:
                     page = full.page
+                except NoLine:
+                    if number is not None or not wants[1].passes_over(writer.pool, writer.worker):
+                        raise
                 finally:
                     if rest:  # (what it reads ahead ends before the next one works)
                         await asyncio.get_running_loop().run_in_executor(reader.pool.threads, rest.close)
@@ -177,8 +180,11 @@ class Copies(Operations):
             number = None if not found.held.content.pieces else found.held.version.session
             if number is not None and not self.grids.has_session(number):
                 return None
-            if held := await self.gateway.change(name, lambda store: store.touch(name, found.held, lambda: values(found)), number=number):
-                return held
+            try:
+                if held := await self.gateway.change(name, lambda store: store.touch(name, found.held, lambda: values(found)), number=number):
+                    return held
+            except NoLine:
+                return None  # (of its own session; another one may have room)
         return None
 
     def result(self, name: str, found: Object) -> web.Response:

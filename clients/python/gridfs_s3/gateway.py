@@ -21,7 +21,7 @@ from .keys import Key
 from .markup import Element, element, many, parse
 from .places import BUCKETS, Object, check_bucket
 from .requests import Asked, matches
-from .store import Condition, PageFull, Store
+from .store import Condition, NoLine, PageFull, Store
 from .trips import Elsewhere
 from .workers import Crowded
 
@@ -99,8 +99,8 @@ class Gateway:
     async def change(
         self, name: str, work: Callable[[Store], Told], helpers: int = 0, number: int | None = None, condition: Condition | None = None
     ) -> Told:
-        """Has a session change something, this one or any; another one where its home is silent and nothing was written yet. The condition is one by which
-        the work is done."""
+        """Has a session change something, this one or any; another one where its page has no room, or its home is silent and nothing was written yet. The
+        condition is one by which the work is done."""
         want, silent = Want(name, number), 0
         for _ in range(TURNS):
             await asyncio.gather(*(pool.settle_before(name) for pool in self.grids.pools_of(name)))
@@ -114,6 +114,9 @@ class Gateway:
                     await self.grids.gathering.is_over()
                 except PageFull as full:
                     await taken.pool.sweep(full.page)
+                except NoLine:
+                    if number is not None or not want.passes_over(taken.pool, taken.worker):
+                        raise
                 except NotSettled:
                     pass
                 except Unanswered:

@@ -34,6 +34,14 @@ class Want:
     number: int | None = None
     is_sure: bool = False  # the session was told by the grid, not by who asks
     onward: list[str] = field(default_factory=list)
+    full: set[tuple[str, int]] = field(default_factory=set)  # sessions, each with its grid, whose pages have no room for it
+
+    def passes_over(self, pool: Pool, worker: Worker) -> bool:
+        """Leaves out a session whose page has no room; whether there is another one."""
+        self.full.add((pool.grid, worker.number))
+        left = [each.number for each in pool.workers.values() if (pool.grid, each.number) not in self.full and not each.is_silent and not each.is_lent]
+        self.number = left[0] if left else None
+        return bool(left)
 
     def goes_on(self, fault: Elsewhere) -> None:
         self.onward = [grid for grid in self.onward if grid != fault.grid] + [fault.grid]

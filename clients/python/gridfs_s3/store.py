@@ -42,6 +42,10 @@ class PageFull(Exception):
         self.page = page
 
 
+class NoLine(NoRoom):
+    """The page of this session has no room for a line; that of another one may have. Nothing was changed."""
+
+
 class Body(Protocol):
     """A content that is read once, of known length."""
 
@@ -124,7 +128,7 @@ class Store(Reader):
         held, bucket = self.look_for_change(name), self.bucket(name)
         if condition:
             condition(held)  # (before a long content is moved)
-        self.make_room(bucket, Line(name, bucket.new_version().number, Inline(b"") if values else None, self.words_at(values, STAMP)))
+        self.make_room(bucket, self.shortest_line(bucket, name, values))
         placed = content(bucket, held)
         with self.shared.turns.turn(name):
             return self.commit_in_turn(bucket, name, placed, values, condition, besides)
@@ -143,6 +147,9 @@ class Store(Reader):
             return self.trip.look_again(name, self.grid, is_wanted)
         return self.look_for_change(name) if is_wanted else self.bucket(name).held(name)
 
+    def shortest_line(self, bucket: Bucket, name: str, values: Callable[[], Values] | None) -> Line:
+        return Line(name, bucket.new_version().number, Inline(b"") if values else None, self.words_at(values, STAMP))
+
     def words_at(self, values: Callable[[], Values] | None, stamp: str) -> str:
         words = to_words({"t": stamp, **values()}) if values else ""
         check_words(words)
@@ -160,7 +167,7 @@ class Store(Reader):
             version = Version(self.shared.turns.number_for(name, bucket.new_version().number), self.me, self.grid)
             journal = self.writer.announcement(bucket, Line(name, version.number, content, words), besides)
             if journal is None:
-                raise NoRoom(f"{name}: page {bucket.number} of session {self.me} has no room for one more line")
+                raise self.no_line(bucket, name)
         except BaseException:
             self.unplace(bucket, content)
             raise
@@ -173,12 +180,17 @@ class Store(Reader):
         self.settled.add(bucket.number)
         return Held(name, version, content or Inline(b""), words)
 
+    def no_line(self, bucket: Bucket, name: str) -> NoLine:
+        return NoLine(f"{name}: page {bucket.number} of session {self.me} has no room for one more line")
+
     def put_object(self, name: str, body: Body, values: Callable[[], Values], condition: Condition | None = None) -> Held:
         """Puts a content, which is read as it comes. `values` are asked for before it, and again after it."""
         body.rewind()  # (it may have been begun before)
         bucket = self.bucket(name)
 
         def placed(_: Bucket, __: Held | None) -> Content:
+            if self.writer.announcement(bucket, self.shortest_line(bucket, name, values)) is None:
+                raise self.no_line(bucket, name)  # (before a long content is moved)
             return self.placed(bucket, name, Source(cast(IO[bytes], body)), lambda: self.words_at(values, STAMP))
 
         return self.change(name, placed, values, condition)
