@@ -18,7 +18,7 @@ from histories import Killed
 from maps import Maps
 from memory import Memory, MemorySession
 
-from gridfs_client import BadSettings, NamedFiles, NoSuchName, OneByOne, Unanswered, command, core, fleet_command, ways
+from gridfs_client import BadSettings, NamedFiles, NoRoom, NoSuchName, OneByOne, Unanswered, command, core, fleet_command, ways
 from gridfs_client.buckets import held_of
 from gridfs_client.contents import Inline, Joined, digest_of
 from gridfs_client.core import Copied, Line, Page, Signpost
@@ -67,7 +67,7 @@ class Grids(Maps):
             finally:
                 self.held.remove(number)
 
-        return kind(self.map, self.map.moves[0], session, lambda label: self.memories[label].layout, self.change_map)
+        return kind(self.map, moves_to_end(self.map)[0], session, lambda label: self.memories[label].layout, self.change_map)
 
     def end(self):
         while self.map.moves:
@@ -221,6 +221,69 @@ class Moves(unittest.TestCase):
             grids.files(1, grids.maps[0]).put("short", target.encode())
             held["short"] = target.encode()
             self.expect(grids, held)
+
+    def test_taken_back(self):
+        """A move whose new grid has no room is taken back, whatever was copied and changed there until then; and goes to another grid then."""
+        for most in (*range(2, 12), *range(12, 60, 5)):
+            grids, held = self.filled(labels=("east", "west", "south"), slots=12)
+            grids.begin(0, SLICES - 1, "west")
+            if not self.ends_for_lack_of_room(grids, most):
+                self.assertGreater(most, 10)
+                break
+            for number, name in enumerate(("short", "new")):
+                files = grids.files(1 + number)
+                files.put(name, b"%d" % most)
+                held[name] = b"%d" % most
+            with self.assertRaisesRegex(BadSettings, "move 1 has some of these slices"):
+                grids.begin(0, SLICES - 1, "south")
+            grids.begin(0, SLICES - 1, "east")
+            self.assertEqual(parse_map(grids.map.text(), grids.map.path), grids.map)
+            self.expect(grids, held)
+            with self.assertRaisesRegex(BadSettings, "move 1 has some of these slices"):
+                grids.begin(0, SLICES - 1, "west")
+            grids.end()
+            self.assertEqual([(each.grid, each.move) for each in grids.map.ranges], [("east", 2)])
+            self.expect(grids, held)
+            self.assertEqual([line for page in grids.named("west", 1, Ground("west", lambda _: None)).buckets() for known in page[0].client.seen for line in known.page.lines], [])
+            grids.begin(0, SLICES - 1, "south")
+            grids.end()
+            self.expect(grids, held)
+            grids.files(2, grids.maps[0]).put("long", b"l")
+            self.expect(grids, held | {"long": b"l"})
+
+    def ends_for_lack_of_room(self, grids, most):
+        """Whether a mover ends early that has so many sessions, one after another, until there is no room."""
+        mover, count = grids.mover(), 0
+        open_session = mover.open_session
+
+        def session(*words):
+            nonlocal count
+            count += 1
+            if count > most:
+                raise NoRoom
+            return open_session(*words)
+
+        mover.open_session = session
+        try:
+            mover.run()
+        except NoRoom:
+            return not grids.map.moves[0].is_there
+        return False
+
+    def test_a_mover_that_goes_on(self):
+        """While its move is taken back from another machine: it says so, and changes nothing any more."""
+        grids, held = self.filled()
+        grids.begin(0, SLICES - 1, "west")
+        other = grids.mover()
+        self.assertTrue(self.ends_for_lack_of_room(grids, 8))
+        began = grids.map
+        grids.begin(0, SLICES - 1, "east")
+        grids.end()
+        for fleet_map in (began, began.come(began.moves[0])):
+            mover = Mover(fleet_map, fleet_map.moves[0], other.open_session, other.layout_of, lambda change: self.fail())
+            with self.assertRaisesRegex(BadSettings, "the map is older than move 2"):
+                mover.run()
+        self.expect(grids, held)
 
     def test_parts(self):
         """A content of several parts has them still after a move, at a grid of another layout too."""
@@ -581,6 +644,29 @@ class OverGrids(unittest.TestCase):
         self.assertEqual([self.client("get", f"name {number}") for number in range(20)], list(map(str, range(20))))
         with open("map") as after:
             self.assertEqual(after.read(), text)
+
+    def test_a_grid_without_room(self):
+        """A move that finds no room is taken back, and its slices go to a grid with room."""
+        plan = "grid 1 1\nroom 100000\ntenant carol 40000 4 1000 1024\ngo\n" + "carol open 8 4\n" * 2 + "carol open 12 256\ncarol open 4 64\n"
+        with open("plan", "w") as out:
+            out.write(plan)
+        os.symlink(os.path.join(self.enterContext(stand_in("plan")), "carol.ini"), "small.ini")
+        self.fleet("add", "small", "small.ini")
+        held = {f"a name that is somewhat long {number}": str(number) for number in range(24)}
+        for name, text in held.items():
+            self.put(name, text)
+        self.assertIn("has no room", self.fleet("move", "0-65535", "small", status=3))
+        found = [name for name in held if "has no room" not in self.put(name, "new", status=mock.ANY)]
+        held |= dict.fromkeys(found, "new")
+        self.assertTrue(0 < len(found) < 24)
+        self.fleet("add", "west", "west.ini")
+        self.assertIn("move 1 has some of these slices", self.fleet("move", "0-65535", "west", status=2))
+        told = self.fleet("move", "0-65535", "east")
+        self.assertIn("move 2: slices 0-65535 from small to east", told)
+        self.assertIn("move 2: ended", told)
+        self.fleet("move", "0-65535", "west")
+        self.assertIn("west: 65536 slices", self.fleet("status"))
+        self.assertEqual({name: self.client("get", name) for name in held}, held)
 
     def test_a_copy_of_the_map(self):
         """A machine with a copy from before a move can't move what that took away; one with a link to the map has the map."""

@@ -30,6 +30,7 @@ examples:
   gridfs-fleet --map fleet add west west.ini        one grid more, without names
   gridfs-fleet --map fleet spread                   slices are moved until each grid has an equal part of them
   gridfs-fleet --map fleet move 0-16383 west        these slices are moved, of the slices 0 to 65535
+  gridfs-fleet --map fleet move 0-16383 east        a move from east that has not ended, as for lack of room, is taken back
   gridfs-fleet --map fleet status                   of each grid its slices, nodes and room, and how far moves are
 
 The settings of a grid are a file as gridfs-client reads it, beside the map. A move may be killed at any moment: `spread` or `move` without words ends
@@ -173,6 +174,9 @@ def status(now: FleetMap, settings: Settings) -> int:
     for report in reports.values():
         print(visible(report.text))
     for move in now.moves:
+        if now.is_taken_back(move):
+            print(f"move {move.number} is taken back")
+            continue
         print(move_text(move, reports[move.source].pages))
     return next((report.status for report in reports.values() if report.status), 0)
 

@@ -94,7 +94,8 @@ class FleetMap:
             if not self.goes_with_ranges(move):
                 raise BadSettings(f"{self.path}: move {move.number} does not go with the slices above")
             for other in self.moves[:place]:
-                if move.number == other.number or move.first <= other.last and other.first <= move.last:
+                overlaps = move.first <= other.last and other.first <= move.last and other != self.taken_back(move)
+                if move.number == other.number or overlaps:
                     raise BadSettings(f"{self.path}: the moves {other.number} and {move.number} have one number, or some slices in common")
 
     def goes_with_ranges(self, move: Move) -> bool:
@@ -104,7 +105,17 @@ class FleetMap:
         here = [each for each in self.ranges if each.first <= move.last and move.first <= each.last]
         if move.is_there:
             return all((each.grid, each.move) == (move.target, move.number) for each in here)
-        return all(each.grid == move.source and each.move < move.number for each in here)
+        before = self.taken_back(move) or move
+        return all(each.grid == before.source and each.move < before.number for each in here)
+
+    def taken_back(self, move: Move) -> Move | None:
+        """The move under way that this one takes back: the same slices, which have not come, go back to where they are."""
+        way_back = (move.first, move.last, move.target, move.source)
+        found = [each for each in self.moves if (each.first, each.last, each.source, each.target) == way_back and each.number < move.number]
+        return found[0] if found and not move.is_there and not found[0].is_there else None
+
+    def is_taken_back(self, move: Move) -> bool:
+        return any(self.taken_back(each) == move for each in self.moves)
 
     def range_of(self, slice_number: int) -> Range:
         return next(each for each in self.ranges if each.first <= slice_number <= each.last)
@@ -137,9 +148,13 @@ class FleetMap:
     # What a mover does with it
 
     def begun(self, first: int, last: int, target: str) -> "FleetMap":
-        """With a move of these slices, which have to be at one grid, and in no other move."""
+        """With a move of these slices, which have to be at one grid, and in no other move but one that it takes back."""
         if not 0 <= first <= last < SLICES or target not in self.grids:
             raise BadSettings(f"{first}-{last} {target}: no slices, or no such grid")
+        for move in self.moves:
+            back = Move(1 + self.last_move, first, last, move.target, target)
+            if self.taken_back(back) == move and not self.is_taken_back(move) and not self.taken_back(move):
+                return replace(self, moves=(*self.moves, back))
         if under_way := [move.number for move in self.moves if move.first <= last and first <= move.last]:
             raise BadSettings(f"move {under_way[0]} has some of these slices, and has not ended")
         sources = sorted({each.grid for each in self.ranges if each.first <= last and first <= each.last})
@@ -148,8 +163,8 @@ class FleetMap:
         return replace(self, moves=(*self.moves, Move(1 + self.last_move, first, last, sources[0], target)))
 
     def come(self, move: Move) -> "FleetMap":
-        """The slices of the move are at the new grid."""
-        ranges = list[Range]()
+        """The slices of the move are at the new grid. What it takes back has ended."""
+        ranges, before = list[Range](), self.taken_back(move)
         for each in self.ranges:
             for part in (
                 replace(each, last=min(each.last, move.first - 1)),
@@ -160,7 +175,7 @@ class FleetMap:
                     if ranges and (ranges[-1].grid, ranges[-1].move) == (part.grid, part.move):
                         part = replace(part, first=ranges.pop().first)
                     ranges.append(part)
-        moves = tuple(replace(each, is_there=True) if each.number == move.number else each for each in self.moves)
+        moves = tuple(replace(each, is_there=True) if each.number == move.number else each for each in self.moves if each != before)
         return replace(self, ranges=tuple(ranges), moves=moves)
 
     def ended(self, move: Move) -> "FleetMap":

@@ -7,6 +7,9 @@
 5. The lines of the slices go from the pages of the old grid, and with them the slots of their contents.
 6. The map says that the move has ended.
 
+A move that has not come yet can be taken back, by a move of the same slices to the old grid. That puts its signposts into the pages of the new one, and copies
+what was changed there meanwhile.
+
 It has a session for a page at a time. What it can't have of a session, its own client does, which sees the signpost elsewhere; or a mover at another
 machine.
 """
@@ -14,6 +17,7 @@ machine.
 import time
 from collections.abc import Callable, Collection
 from contextlib import AbstractContextManager, suppress
+from dataclasses import replace
 
 from . import core, ways
 from .answers import Tag
@@ -61,9 +65,12 @@ class Mover:
         """Ends the move; the map behind it."""
         self.expect_sense()
         if not self.move.is_there:
+            if before := self.map.taken_back(self.move):  # (all of its pages have to stay as they are, too)
+                Mover(self.map, before, self.open_session, self.layout_of, self.change_map, self.tell, self.patience).sign_all()
             self.sign_all()
             self.expect_latest_map()  # (a mover by another copy of the map may have begun meanwhile)
             self.copy_all()
+            self.expect_last_move()
             self.map = self.change_map(lambda now: now.come(self.move))
         self.clear_all()
         self.map = self.change_map(lambda now: now.ended(self.move))
@@ -74,6 +81,7 @@ class Mover:
     def expect_sense(self) -> None:
         """BadSettings where the map is older than what pages show, where both grids are the same one, or where names that are to be cleared were not copied."""
         self.expect_two_grids()
+        self.expect_last_move()
         if self.move.is_there:
             self.expect_copies()
         else:
@@ -113,10 +121,18 @@ class Mover:
                     told = f"the map is older than move {signpost.move}, by which the slices {first}-{last} went on to {signpost.grid}"
                     raise BadSettings(f"{self.map.path}: {told}: get the last one, of which a copy is in the fleet as .fleet")
 
+    def expect_last_move(self) -> None:
+        """BadSettings where pages of the new grid show that the slices went on: a mover by another copy of the map may have taken the move back."""
+        with self.files(self.move.target) as files:
+            shown = {each for bucket, _ in files.buckets() for known in bucket.client.seen for each in known.page.signposts}
+        for each in shown:
+            if each.move > self.move.number and each.first <= self.move.last and self.move.first <= each.last:
+                raise BadSettings(f"{self.map.path}: the map is older than move {each.move}: get the last one, of which a copy is in the fleet as .fleet")
+
     def expect_copies(self) -> None:
         """BadSettings where a name of the slices stands at the old grid alone, or there with a greater line: nothing is cleared then."""
         old, new = self.greatest(self.move.source), self.greatest(self.move.target)
-        lacking = sorted(name for name, version in old.items() if name not in new or new[name] < version)
+        lacking = sorted(name for name, version in old.items() if name not in new or original(new[name]) < original(version))
         if lacking:
             told = f"{len(lacking)} names of move {self.move.number} are not at {self.move.target}, {lacking[0]!r} is one"
             raise BadSettings(f"{self.map.path}: {told}: let the map say that it moves, not that it clears")
@@ -224,7 +240,7 @@ class Mover:
         while True:
             walk = fleet.drive(ways.walk(name, self.start(name), True))
             found = ways.greatest(walk)
-            if not found or found.grid == self.move.target:
+            if not found or self.is_there(walk, found):
                 return
             if walk.last.grid != self.move.target:
                 raise Damaged(f"{name}: a later move leads to {walk.last.grid}")
@@ -247,6 +263,10 @@ class Mover:
             target.writer.change(bucket, journal)
             self.copied += 1
             return
+
+    def is_there(self, walk: ways.Walk, found: ways.Found) -> bool:
+        """Whether the new grid shows the line that counts, or what that is a copy of: where a move is taken back, most names have never left."""
+        return any(each.grid == self.move.target and original(each.version) == original(found.version) for each in ways.lines(walk))
 
     def placed(self, source: NamedFiles, target: NamedFiles, bucket: Bucket, held: Held) -> Content | None:
         """What a name holds, in its place at the new grid: each part by itself, so that it has the same parts. None where a slot holds something else by now."""
@@ -311,6 +331,11 @@ def clear(files: NamedFiles, page: int, move: Move) -> int:
     return len(names)
 
 
+def original(version: Version) -> Version:
+    """The version of which a line is a copy, by whichever moves it came."""
+    return replace(version, move=0)
+
+
 def joined(parts: list[InSlots]) -> Content:
     return parts[0] if len(parts) == 1 else Joined(tuple(parts))
 
@@ -326,9 +351,9 @@ def raise_number(files: NamedFiles, page: int, highest: int) -> None:
 
 def moves_to_end(fleet_map: FleetMap) -> list[Move]:
     """Moves that were begun and may go on side by side, those whose slices are at the new grid first: no grid is an old one of some and a new one of others, so
-    that none waits for a session of one that waits for its own."""
+    that none waits for a session of one that waits for its own. One that is taken back is none of them."""
     found = list[Move]()
-    for move in sorted(fleet_map.moves, key=lambda move: (not move.is_there, move.number)):
+    for move in sorted((each for each in fleet_map.moves if not fleet_map.is_taken_back(each)), key=lambda move: (not move.is_there, move.number)):
         if move.source not in {each.target for each in found} and move.target not in {each.source for each in found}:
             found.append(move)
     return found
