@@ -85,6 +85,34 @@ class Lasting(unittest.TestCase):
                 s3.put_object(Bucket="one", Key=ours[3], Body=b"x", Metadata={"a": long})
                 self.assertNotIn("Traceback", found.told())
 
+    def test_two_gateways_of_a_machine(self):
+        """With the same sessions, and locks in folders of their own, as units have them: the second one is refused, or goes on without these sessions. Once the
+        first one is killed the second one can have them."""
+        with endpoint.stand_in() as room:
+            folders = [os.path.join(room, name) for name in ("a", "b", "c")]
+            for folder in folders:
+                os.mkdir(folder)
+            settings = os.path.join(room, "carol.ini")
+            one = endpoint.Gateway(settings, folders[0], "1-4")
+            try:
+                with self.assertRaisesRegex(endpoint.NotStarted, f"other clients use all sessions that the settings name: process {one.process.pid}, a gateway too, has sessions 1, 2, 3, 4"):
+                    endpoint.Gateway(settings, folders[1], "1-4")
+                rest = endpoint.Gateway(settings, folders[2], "all")
+                try:
+                    self.assertIn(f"not all sessions can be had: process {one.process.pid}, a gateway too, has sessions 1, 2, 3, 4", rest.told())
+                    self.assertIn("sessions 5, 6, 7, 8 (not all of the tenant", rest.told())
+                    with self.assertRaisesRegex(endpoint.NotStarted, f"process {one.process.pid}, a gateway too, has session 4; process {rest.process.pid}, a gateway too, has sessions 5, 6"
+                                                f"|process {rest.process.pid}, a gateway too, has sessions 5, 6; process {one.process.pid}, a gateway too, has session 4"):  # fmt: skip
+                        endpoint.Gateway(settings, folders[1], "4-6")
+                finally:
+                    rest.kill()
+                one.kill()
+                again = endpoint.Gateway(settings, folders[1], "1-4")
+                again.client().create_bucket(Bucket="one")
+                self.assertEqual(again.end(), 0)
+            finally:
+                one.kill()
+
     def test_it_ends(self):
         """With status 1, by which a unit starts it again."""
         with endpoint.stand_in() as room:

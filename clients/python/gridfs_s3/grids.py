@@ -101,7 +101,7 @@ class Grids:
         else:
             await self.adopt(self.map)
         if not any(pool.is_open for pool in self.pools.values()):
-            raise Unanswered("no grid answers")
+            raise next((pool.fault for pool in self.pools.values() if pool.fault), Unanswered("no grid answers"))
 
     async def adopt(self, fleet_map: FleetMap) -> None:
         """Goes on by a map, whose new grids are opened."""

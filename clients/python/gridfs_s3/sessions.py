@@ -20,6 +20,7 @@ from gridfs_client.opening import SOON
 from gridfs_client.settings import Settings
 from gridfs_client.ways import Ground, slice_of
 
+from .claims import Claims
 from .errors import error_of, tell
 from .shared import Shared, Turns
 from .store import Store
@@ -48,12 +49,14 @@ class Pool:
         self.carrier: Carrier | None = None
         self.layout: Layout  # once it is opened
         self.sessions = 0  # of the tenant, once it is opened
+        self.fault: ClientError | None = None  # why it was not opened at first
         self.gathering = gathering
         self.threads = ThreadPoolExecutor(32, thread_name_prefix="session")
         self.loop = asyncio.get_running_loop()
         self.tasks: set[asyncio.Task[None]] = set()
         self.lends: set[int] = set()  # numbers of sessions that are lent, or are to be
         self.lasting: list[asyncio.Task[None]] = []  # what goes on as long as the gateway does
+        self.claims = Claims(settings, lambda claim, answer: self.loop.call_soon_threadsafe(self.loop.add_reader, claim, answer))
         self.asking = asyncio.Lock()  # of who asks all nodes: what they tell of no session is kept for one who asks
 
     # Beginning
@@ -71,7 +74,8 @@ class Pool:
             raise
         if not self.workers:
             carrier.close()
-            raise SessionTaken("other clients use all sessions that the settings name")
+            others = self.claims.told()
+            raise SessionTaken(f"other clients use all sessions that the settings name{': ' * bool(others)}{others}")
         self.carrier, self.sessions = carrier, told.sessions
 
     def add(self, carrier: Carrier, number: int, home: int) -> Worker | None:
@@ -79,6 +83,9 @@ class Pool:
         known = self.workers.get(number)
         lock = known.lock if known else self.settings.lock(number)
         if lock is None:
+            return None
+        if not known and not self.claims.take(number):
+            lock.close()
             return None
         session = Turn(carrier, number, home, self.settings.pace())
         worker = known or Worker(session, lock)
@@ -91,9 +98,12 @@ class Pool:
         """Opens it, or has it opened as soon as that can be done; then what goes on side by side with requests. Faults of settings are raised."""
         try:
             await self.loop.run_in_executor(self.threads, self.open)
+            if others := self.claims.told():
+                tell(f"{self.named()}not all sessions can be had: {others}")
         except BadSettings:
             raise
         except ClientError as fault:
+            self.fault = fault
             tell(f"{self.named()}{fault}: it is tried again")
             self.spawn(self.open_again())
         self.lasting = [self.spawn(self.tidy()), self.spawn(self.lend_on()), self.spawn(self.follow_plan())]
