@@ -6,6 +6,8 @@ import hashlib
 import os
 import pathlib
 import random
+import shutil
+import subprocess
 import sys
 import tempfile
 import time
@@ -14,7 +16,7 @@ import unittest
 from unittest import mock
 
 sys.path.insert(0, os.path.dirname(os.path.abspath(__file__)))
-import code_of_s3  # noqa: F401  (which says where the code is)
+from code_of_s3 import TOP
 
 from botocore.auth import S3SigV4Auth
 from botocore.awsrequest import AWSRequest
@@ -420,6 +422,33 @@ class Clock(Case):
         turns = Turns()
         turns.is_unsure("a", 7)
         self.assertEqual((turns.number_for("a", 3), turns.number_for("a", 9), turns.number_for("b", 3)), (8, 9, 3))
+
+
+class Installed(unittest.TestCase):
+    """What tools/install --s3 makes: the commands, with the units that start them there; and a folder of gateways that may be copied."""
+
+    def test_installed(self):
+        with tempfile.TemporaryDirectory() as room:
+            prefix, folder, copy, plan = (os.path.join(room, name) for name in ("prefix", "made", "copy", "plan"))
+            with open(plan, "w") as out:
+                out.write("grid 2 2\nroom 100000\ntenant carol 40000 8 1000 1024\ntenant dave 9000 1 1\ngo\n" + "carol open 16 64\n" * 2 + "carol open 8 8\n")
+            told = subprocess.run([os.path.join(TOP, "tools", "install"), "--s3", prefix], capture_output=True, text=True)
+            self.assertEqual((told.returncode, told.stderr), (0, ""))
+            for path in told.stdout.removeprefix("install: ").split():
+                self.assertTrue(os.path.isfile(path), path)
+            for command in ("gridfs-client", "gridfs-fleet", "gridfs-s3", "gridfs-s3-setup"):
+                self.assertIn("usage: " + command, subprocess.run([f"{prefix}/bin/{command}", "--help"], capture_output=True, text=True).stdout)
+            with open(f"{prefix}/lib/systemd/system/gridfs-s3@.service") as unit:
+                started = next(line for line in unit if line.startswith("ExecStart="))
+            self.assertTrue(os.access(started.removeprefix("ExecStart=").split()[0], os.X_OK), started)
+            told = subprocess.run([f"{prefix}/bin/gridfs-s3-setup", "--gateways", "2", folder, plan], capture_output=True, text=True)
+            self.assertEqual((told.returncode, told.stdout), (0, f"setup: {folder}: carol-1 (session = 1-4), carol-2 (session = 5-8)\n"))
+            shutil.copytree(folder, copy, symlinks=True)
+            shutil.rmtree(folder)
+            self.assertEqual(sorted(os.listdir(copy)), ["carol-1.keys", "carol-2.keys", "carol.keys", "carol.rclone", "carol.s3cfg", "nginx.conf", "sysusers.conf"])
+            for name in os.listdir(copy):
+                with open(f"{copy}/{name}") as file:
+                    self.assertNotIn(room, file.read(), name)
 
 
 if __name__ == "__main__":

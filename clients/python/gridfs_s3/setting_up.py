@@ -1,11 +1,12 @@
 """Makes the folder of the gateways of S3 from a plan: access keys for each tenant with names, and the configuration of nginx before them.
 
-    deploy/s3/setup [--listen ADDRESS:PORT] [--gateways N] FOLDER PLAN     (/etc/gridfs/s3 /etc/gridfs/plan, as the units of systemd have it)
+    gridfs-s3-setup [--listen ADDRESS:PORT] [--gateways N] FOLDER PLAN     (/etc/gridfs/s3 /etc/gridfs/plan, as the units of systemd have it)
 
 FOLDER gets NAME.keys, NAME.s3cfg and NAME.rclone of each tenant, nginx.conf, and sysusers.conf, by which `systemd-sysusers FOLDER/sysusers.conf` makes a user for
 each gateway. Once that is done, and setup is run again as root, the keys of a tenant can be read by the users of its gateways alone. Run again with a new plan it adds
-the new tenants; keys that are there stay. A gateway's socket is /run/gridfs-s3-NAME/socket, as its unit has it. With --gateways each tenant has so many, NAME-1, NAME-2 and so on, each with a share
-of its sessions, which is told, for the settings NAME-1.ini of each. The status is 1 where something can't be made, 2 where the words are no request.
+the new tenants; keys that are there stay. A gateway's socket is /run/gridfs-s3-NAME/socket, as its unit has it. Nothing in FOLDER names FOLDER, so it may be copied to
+another machine, links as links (cp -a). With --gateways each tenant has so many, NAME-1, NAME-2 and so on, each with a share of its sessions, which is told,
+for the settings NAME-1.ini of each. The status is 1 where something can't be made, 2 where the words are no request.
 """
 
 import argparse
@@ -66,7 +67,7 @@ def give_to_group(path: Path, group: str) -> bool:
 
 
 def main() -> None:
-    parser = argparse.ArgumentParser(prog="deploy/s3/setup", description=__doc__, formatter_class=argparse.RawDescriptionHelpFormatter)
+    parser = argparse.ArgumentParser(prog="gridfs-s3-setup", description=__doc__, formatter_class=argparse.RawDescriptionHelpFormatter)
     parser.add_argument("--listen", default="127.0.0.1:9000")
     parser.add_argument("--gateways", type=int, default=1)
     parser.add_argument("folder", type=Path)
