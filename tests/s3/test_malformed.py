@@ -12,6 +12,7 @@ import socket
 import sys
 import time
 import unittest
+import xml.etree.ElementTree as ElementTree
 from urllib.parse import quote
 
 sys.path.insert(0, os.path.dirname(os.path.abspath(__file__)))
@@ -178,6 +179,12 @@ class Malformed(unittest.TestCase):
         body = f"0;chunk-signature={chunk}\r\nx-amz-checksum-crc32:AAAAAA==\r\nx-amz-trailer-signature:".encode() + b"\xe9\r\n\r\n"
         self.tells(403, "SignatureDoesNotMatch", head + f"Content-Length: {len(body)}\r\n\r\n".encode() + body)
 
+    def test_keys_that_xml_has_no_letters_for(self):
+        for key in ("%00", "a%01%1Fb", "%EF%BF%BE", "%EF%BF%BF"):
+            told = exchange(signed("GET", f"/one/{key}") + b"\r\n")
+            error = ElementTree.fromstring(told.partition(b"\r\n\r\n")[2])
+            self.assertEqual([error.find(name).text for name in ("Code", "Key")], ["NoSuchKey", key])
+
     def test_who_asks(self):
         self.tells(403, "AccessDenied", b"GET / HTTP/1.1\r\nHost: a\r\n\r\n")
         self.tells(403, "InvalidAccessKeyId", signed("GET", "/", access="nobody") + b"\r\n")
@@ -207,7 +214,7 @@ class Malformed(unittest.TestCase):
 
     def test_chunks_that_lie(self):
         payload = "STREAMING-UNSIGNED-PAYLOAD-TRAILER"
-        for body in (b"6\r\nhello\r\n0\r\n\r\n", b"4\r\nhello\r\n0\r\n\r\n", b"hello", b"ffffffff\r\nhello\r\n0\r\n\r\n", b"0\r\n\r\n" + b" " * 9):
+        for body in (b"", b"6\r\nhello\r\n0\r\n\r\n", b"4\r\nhello\r\n0\r\n\r\n", b"hello", b"ffffffff\r\nhello\r\n0\r\n\r\n", b"0\r\n\r\n" + b" " * 9):
             head = signed("PUT", "/one/a", {"x-amz-decoded-content-length": "5"}, payload) + f"Content-Length: {len(body)}\r\n\r\n".encode()
             self.tells(400, "IncompleteBody", head + body)
         body = b"5;chunk-signature=" + b"0" * 64 + b"\r\nhello\r\n0;chunk-signature=" + b"0" * 64 + b"\r\n\r\n"

@@ -202,6 +202,8 @@ class Body:
             yield data
 
     async def line(self) -> bytes:
+        if self.stream.at_eof():  # (a request without a body has another kind of stream)
+            raise S3Error("IncompleteBody")
         try:
             found = await self.stream.readuntil(b"\n")
         except (ValueError, BadHttpMessage):  # (a line too long is of the second kind)

@@ -11,7 +11,7 @@ from aiohttp.web_protocol import RequestHandler, RequestPayloadError
 
 from .bounds import BODY_PIECE, FIRST, HEAD_PIECE, MOST_AHEAD, MOST_CONNECTIONS, MOST_HEAD
 from .errors import S3Error, error_of
-from .markup import document, element
+from .markup import document, element, legible
 from .requests import SERVER, Asked, answer
 
 
@@ -24,7 +24,7 @@ def error_answer(fault: S3Error, asked: Asked | None) -> web.Response:
 
 
 def error_text(fault: S3Error, asked: Asked | None) -> bytes:
-    body = [element("Code", fault.code), element("Message", fault.message), *(element(name, value) for name, value in fault.more.items())]
+    body = [element("Code", fault.code), element("Message", legible(fault.message)), *(element(name, legible(value)) for name, value in fault.more.items())]
     if asked:
         body += [element("Resource", asked.path), element("RequestId", asked.id)]
     return document("Error", *body, space="")

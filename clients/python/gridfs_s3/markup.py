@@ -1,6 +1,7 @@
 """XML: reading what requests bring, with no entities and within limits; and writing answers."""
 
 import re
+from urllib.parse import quote
 from xml.parsers import expat
 
 from .errors import S3Error
@@ -71,6 +72,14 @@ NAMED = {"&": "&amp;", "<": "&lt;", ">": "&gt;", '"': "&quot;"}
 
 def escape(text: str) -> str:
     return ESCAPED.sub(lambda found: NAMED.get(found[0]) or f"&#x{ord(found[0]):X};", text)
+
+
+NO_CHARACTER = re.compile("[\x00-\x08\x0b\x0c\x0e-\x1f\ufffe\uffff]")
+
+
+def legible(text: str) -> str:
+    """A text as any parser takes it: what XML has no character for is told as in a URL. (A key of a listing is told as Amazon does, or by encoding-type=url.)"""
+    return NO_CHARACTER.sub(lambda found: quote(found[0]), text)
 
 
 def element(name: str, text: str | int) -> str:
