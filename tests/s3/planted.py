@@ -42,6 +42,7 @@ BUGS = {
     "a bucket is looked for by another name's grid": ("over_grids.py silent", "gateway.py", "self.look(BUCKETS + bucket, lambda", "self.look(bucket, lambda"),
     "a copy onto itself minds no grid": ("over_grids.py once", "store.py", "        if seen.version.grid != self.grid:\n            return None\n", ""),
     "who asks for much is served before others": ("test_forms.py Sessions.test_who_has_fewest_is_next", "sessions.py", "has[wanted.who] if wanted.number is None else 0", "0"),
+    "all copies that are asked for are held": ("test_slow.py Slow.test_copies", "copying.py", "        async with self.objects.small:\n", "        if True:\n"),
     "a client that leaves is a fault": ("test_malformed.py Malformed.test_a_client_that_leaves", "connections.py", " or isinstance(exc, (ConnectionError, RequestPayloadError)):", ":"),
 }
 

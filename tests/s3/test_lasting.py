@@ -85,6 +85,20 @@ class Lasting(unittest.TestCase):
                 s3.put_object(Bucket="one", Key=ours[3], Body=b"x", Metadata={"a": long})
                 self.assertNotIn("Traceback", found.told())
 
+    def test_uploads_that_come_and_go(self):
+        """So many that their removals fill pages again and again."""
+        with tempfile.TemporaryDirectory() as folder:
+            plan = os.path.join(folder, "plan")
+            with open(plan, "w") as out:
+                out.write("grid 1 1\nroom 100000\ntenant carol 20000 2 1000 1024\ngo\n" + "carol open 4 128\n" * 2 + "carol open 12 1024\ncarol open 4 64\n")
+            with endpoint.stand_in(plan) as room, endpoint.gateways(room) as (found,):
+                s3 = found.client()
+                s3.create_bucket(Bucket="one")
+                for _ in range(200):
+                    upload = {"Bucket": "one", "Key": "key", "UploadId": s3.create_multipart_upload(Bucket="one", Key="key")["UploadId"]}
+                    s3.upload_part(**upload, PartNumber=1, Body=b"part")
+                    s3.abort_multipart_upload(**upload)
+
     def test_two_gateways_of_a_machine(self):
         """With the same sessions, and locks in folders of their own, as units have them: the second one is refused, or goes on without these sessions. Once the
         first one is killed the second one can have them."""

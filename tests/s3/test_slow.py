@@ -109,6 +109,15 @@ class Slow(unittest.TestCase):
         time.sleep(0.5)
         self.served()
 
+    def test_copies(self):
+        """Many at once of contents that are copied in memory: of these few are there at a time."""
+        before = self.grown()
+        asking = [self.come(test_malformed.signed("PUT", f"/one/copy-{number % 7}", {"x-amz-copy-source": "one/piece"}, access="carol.one") + b"Content-Length: 0\r\n\r\n") for number in range(150)]
+        for made in asking:
+            made.settimeout(100)
+            self.assertTrue(made.recv(100).startswith(b"HTTP/1.1 200"))
+        self.assertLess(self.grown(), before + 80)
+
     def test_documents(self):
         before = self.grown()
         for _ in range(60):

@@ -30,7 +30,8 @@ from .shared import Shared
 from .trips import Elsewhere
 
 Condition = Callable[[Held | None], None]  # judges what a name holds, right before it is changed
-AGAIN = 60.0  # seconds until a page that is full of removals is swept again, and all pages of a session are searched for room
+AGAIN = 60.0  # seconds until a page that is full is swept again, and all pages of a session are searched for room
+MANY_AGAIN = 0.25  # seconds until a page is swept again that has many removals again
 STAMP = "0" * 13  # as long as a time is
 
 
@@ -82,11 +83,13 @@ class Store(Reader):
         self.settled: set[int] = set()  # pages of the session into which nothing can come that an earlier client, or an unanswered change, wrote
 
     def make_room(self, bucket: Bucket, line: Line) -> None:
-        """Where a page has no room, or is half full of removals, all sessions have to sweep it: PageFull, but not again at once."""
-        has_room = self.writer.announcement(bucket, line) is not None
-        if has_room and self.removals_in(bucket) <= self.layout.lines_room // 2:
+        """Where a page has no room, or is half full of removals, all sessions have to sweep it: PageFull, but not again at once, unless there are many removals
+        again."""
+        has_room, removals = self.writer.announcement(bucket, line) is not None, self.removals_in(bucket)
+        if has_room and removals <= self.layout.lines_room // 2:
             return
-        if time.monotonic() - self.shared.swept.get(bucket.number, -AGAIN) >= AGAIN:
+        again = MANY_AGAIN if removals > self.layout.lines_room // 8 else AGAIN
+        if time.monotonic() - self.shared.swept.get(bucket.number, -AGAIN) >= again:
             raise PageFull(bucket.number)
 
     def in_slots(self, bucket: Bucket, name: str, source: Source, words: Callable[[], str] = no_words) -> InSlots:
