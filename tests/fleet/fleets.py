@@ -4,7 +4,7 @@
     fleets.py --bugs                                         each planted bug, by the history that finds it
 
 Whoever is killed leaves its write pending: it takes effect at some later moment, or never, and not once a later write of its session to the file has. Which
-one goes on is drawn at each step. A session has one client at a time; a client has its sessions for a few operations.
+one goes on is drawn at each step. A session has one client at a time; a client has its sessions for a few operations. Some moves find no room, and are taken back.
 """
 
 import argparse
