@@ -10,7 +10,7 @@ from collections.abc import Callable, Iterator
 from contextlib import closing, contextmanager
 from dataclasses import replace
 from functools import cached_property, partial
-from typing import IO, Any
+from typing import IO, Any, TypeVar
 
 from . import __version__
 from .answers import PlanTold
@@ -21,9 +21,9 @@ from .fleet import MAP_NAME, FleetFiles
 from .fleet_map import read_map
 from .grid import Nodes, listed
 from .layout import BLOCK, layout_of
-from .local import INPUT, complain, content_of, json_of, out, out_lines, to_target
+from .local import INPUT, complain, content_of, cut, go_to, json_of, out, out_lines, rewindable, to_target
 from .mirror import GRID, ToFolder, ToGrid, prefix_of, shown
-from .names import Entry, NamedFiles
+from .names import Entry, NamedFiles, place_to_cut
 from .open_grids import OpenGrids
 from .opening import LEAST, OpenSessions, turn_of
 from .sessions import Session
@@ -31,6 +31,7 @@ from .settings import SETTINGS, Settings, default_file
 from .status import nodes_lines, nodes_value, usage_lines, usage_value
 from .usage import Usage, usage_of
 
+Result = TypeVar("Result")
 MOST_NUMBER = 4_294_967_295  # in a line of a node
 EPILOG = f"""\
 examples:
@@ -87,6 +88,10 @@ class Progress:
         self.out.flush()
 
 
+def nothing() -> None:
+    """Where nothing has to be made ready."""
+
+
 class Opened:
     """What a command works with: the tenant's sessions over a carrier, of which it takes one when it wants it, and the names in its volumes."""
 
@@ -97,17 +102,44 @@ class Opened:
     def session(self) -> Session:
         return self.sessions.first()
 
-    def names(self) -> NamedFiles:
+    def names(self, session: Session | None = None) -> NamedFiles:
         layout, sessions = layout_of(self.told), self.sessions
-        return NamedFiles(self.session, layout, self.progress, sessions.helpers, others=sessions.others)
+        return NamedFiles(session or self.session, layout, self.progress, sessions.helpers, others=sessions.others)
+
+    def by_sessions(self, call: Callable[[NamedFiles], Result], again: Callable[[], None] | None = nothing) -> Result:
+        """What a call gives. Where the home of its session dies of it, or is silent, it is begun anew by another session, if that is as if it had not begun:
+        behind `again`, which makes ready for that, if anything can."""
+        self.session.may_leave = again is not None and self.sessions.can_leave(self.session)
+        names, until = self.names(), None
+        while True:
+            try:
+                result = call(names)
+                names.close()
+                return result
+            except Unanswered as fault:
+                if fault.home is None or names.is_bound or again is None:
+                    raise
+                until = fault.until if until is None else until
+                session = self.sessions.another(fault.home, until)
+                if session is None:
+                    raise
+                names = self.names(session)
+                again()
 
     @contextmanager
     def names_for(self, name: str) -> Iterator[NamedFiles]:
         """The names by a session of their own, the one that depends on the name if that is free; others may have it again afterwards."""
         told = self.carrier.told or self.told
         with closing(OpenSessions(self.settings, told, self.carrier, name)) as sessions:
-            names = NamedFiles(sessions.first(), layout_of(told), self.progress, sessions.helpers, others=sessions.others)
-            yield names
+            session = sessions.first()
+            session.may_leave = sessions.can_leave(session)
+            names = NamedFiles(session, layout_of(told), self.progress, sessions.helpers, others=sessions.others)
+            try:
+                yield names
+            except Unanswered as fault:
+                if fault.home is not None:
+                    sessions.leave(fault.home)
+                raise
             names.close()
 
 
@@ -119,6 +151,13 @@ class OpenedFleet:
 
     def names(self) -> FleetFiles:
         return self.grids.with_latest_map()
+
+    def by_sessions(self, call: Callable[[FleetFiles], Result], _: Callable[[], None] | None = nothing) -> Result:
+        """What a call gives."""
+        names = self.names()
+        result = call(names)
+        names.close()
+        return result
 
 
 def number_of(word: str) -> int:
@@ -193,21 +232,23 @@ def tell(args: argparse.Namespace, value: object, *lines: str) -> None:
 def put(opened: Opened | OpenedFleet, args: argparse.Namespace) -> None:
     if isinstance(opened, OpenedFleet) and args.name == MAP_NAME:
         raise BadName(f"{MAP_NAME}: the fleet's copy of its map, which gridfs-fleet puts")
-    names = opened.names()
-    with content_of(args.path) as content:
-        entry = names.put(args.name, content)
-    names.close()
+    with content_of(args.path) as given:
+        content = rewindable(given)
+        entry = opened.by_sessions(lambda names: names.put(args.name, content), partial(go_to, content, content.tell()) if content.seekable() else None)
     tell(args, told_of(entry))
 
 
 def get(opened: Opened | OpenedFleet, args: argparse.Namespace) -> None:
-    names = opened.names()
     if args.json and args.path == "-":
-        content, entry = names.get(args.name)
+        content, entry = opened.by_sessions(lambda names: names.get(args.name))
         tell(args, told_of(entry) | {"content": base64.b64encode(content).decode()})
         return
-    told = to_target(args.path, lambda target: names.get_to(args.name, target))
-    tell(args, told_of(told))
+
+    def get_to(target: IO[bytes]) -> Entry:
+        start = place_to_cut(target)
+        return opened.by_sessions(lambda names: names.get_to(args.name, target), nothing if start is None else partial(cut, target, start))
+
+    tell(args, told_of(to_target(args.path, get_to)))
 
 
 def told_of(entry: Entry) -> dict[str, object]:
@@ -220,12 +261,12 @@ def line_of(entry: Entry) -> str:
 
 
 def ls(opened: Opened | OpenedFleet, args: argparse.Namespace) -> None:
-    names, silent = opened.names(), dict[str, ClientError]()
-    if isinstance(names, FleetFiles):
-        found = names.names_told(args.prefix)
+    silent = dict[str, ClientError]()
+    if isinstance(opened, OpenedFleet):
+        found = opened.names().names_told(args.prefix)
         entries, silent = [entry for entry in found.entries if entry.name != MAP_NAME], found.silent
     else:
-        entries = names.names(args.prefix)
+        entries = opened.by_sessions(lambda names: names.names(args.prefix))
     tell(args, [told_of(entry) for entry in entries], *map(line_of, entries))
     for grid, fault in silent.items():
         complain(f"names at {grid} are not told: {str(fault).removeprefix(f'{grid}: ')}")
@@ -234,15 +275,19 @@ def ls(opened: Opened | OpenedFleet, args: argparse.Namespace) -> None:
 
 
 def rm(opened: Opened | OpenedFleet, args: argparse.Namespace) -> None:
-    names = opened.names()
-    for name in args.names:
-        names.remove(name)
-    names.close()
+    left = list(args.names)
+
+    def remove(names: NamedFiles | FleetFiles) -> None:
+        while left:
+            names.remove(left[0])
+            del left[0]
+
+    opened.by_sessions(remove)
     tell(args, {"removed": args.names})
 
 
 def stat(opened: Opened | OpenedFleet, args: argparse.Namespace) -> None:
-    entry = told_of(opened.names().stat(args.name))
+    entry = told_of(opened.by_sessions(lambda names: names.stat(args.name)))
     tell(args, entry, *(f"{key}: {value}" for key, value in entry.items()))
 
 

@@ -1,6 +1,7 @@
 """Files of this machine, and standard streams: where contents of a command come from and go to."""
 
 import errno
+import io
 import json
 import os
 import re
@@ -11,10 +12,11 @@ import unicodedata
 from collections.abc import Callable, Iterable, Iterator
 from contextlib import contextmanager
 from pathlib import Path
-from typing import IO, TextIO, TypeVar
+from typing import IO, TextIO, TypeVar, cast
 
 Result = TypeVar("Result")
 INPUT, OUTPUT = "standard input", "standard output"
+SHORT = 1 << 20  # bytes of a stream that is kept in memory
 UNFINISHED = ".gridfs-client."  # what the names of files begin with that are being written
 
 
@@ -45,6 +47,34 @@ def content_of(path: str) -> Iterator[IO[bytes]]:
     else:
         with faults_of(path), open(path, "rb") as file:
             yield file
+
+
+class Joined(io.RawIOBase):
+    """What was read of a stream, and the rest of it."""
+
+    def __init__(self, head: bytes, rest: IO[bytes]):
+        self.head, self.rest = io.BytesIO(head), rest
+
+    def read(self, length: int = -1) -> bytes:
+        return self.head.read(length) or self.rest.read(length)
+
+
+def rewindable(content: IO[bytes]) -> IO[bytes]:
+    """The same, in memory where it is a short stream: so that it can be read again."""
+    if content.seekable():
+        return content
+    head = content.read(SHORT)
+    return io.BytesIO(head) if len(head) < SHORT else cast(IO[bytes], Joined(head, content))
+
+
+def go_to(file: IO[bytes], place: int) -> None:
+    file.seek(place)
+
+
+def cut(file: IO[bytes], place: int) -> None:
+    """Makes a file end at a place, and goes there."""
+    file.seek(place)
+    file.truncate()
 
 
 def out(content: bytes) -> None:

@@ -18,7 +18,7 @@ from dataclasses import dataclass, field
 from functools import partial
 from typing import TypeVar
 
-from .errors import BadFile, BadName, ClientError, Damaged, NoRoom, NoSuchName, Replaced, SourceChanged
+from .errors import BadFile, BadName, ClientError, Damaged, NoRoom, NoSuchName, Replaced, SourceChanged, Unanswered
 from .local import UNFINISHED, to_target
 from .names import Entry, NamedFiles
 from .pages import check_name, check_words
@@ -235,18 +235,25 @@ class Mirror(abc.ABC):
 
     def in_turns(self, names: Iterable[str], work: Callable[[NamedFiles, str], bool]) -> Iterator[str]:
         """The names for which work was done, or for a dry run all of them. It is done by one session after another, and a session is given back
-        once others have helped it: so other commands of this machine find some, and names are spread over the pages of all."""
-        left = deque(sorted(names, key=lambda name: (self.turn_of(name), name)))
+        once others have helped it: so other commands of this machine find some, and names are spread over the pages of all. Where its home dies or is
+        silent, another one begins the name anew, once."""
+        left, again = deque(sorted(names, key=lambda name: (self.turn_of(name), name))), set[str]()
         if self.is_dry:
             yield from sorted(left)
             return
         while left:
             turn = self.turn_of(left[0])
-            with self.names(left[0]) as files:
-                while left and self.turn_of(left[0]) == turn and not files.has_asked:
-                    name = left.popleft()
-                    if work(files, name):
-                        yield name
+            try:
+                with self.names(left[0]) as files:
+                    while left and self.turn_of(left[0]) == turn and not files.has_asked:
+                        is_done = work(files, left[0])
+                        name = left.popleft()
+                        if is_done:
+                            yield name
+            except Unanswered as fault:
+                if fault.home is None or files.is_bound or not left or left[0] in again:
+                    raise
+                again.add(left[0])
 
 
 class ToGrid(Mirror):

@@ -5,7 +5,9 @@ import fcntl
 import os
 import re
 import shlex
+import time
 from collections.abc import Mapping
+from contextlib import suppress
 from pathlib import Path
 from typing import IO, NamedTuple
 
@@ -16,6 +18,7 @@ from .pages import GRID
 from .sessions import Pace
 
 SECTION = "gridfs"
+SILENT_FOR = 60.0  # seconds for which commands go to others first, once a node was silent
 
 
 class Setting(NamedTuple):
@@ -181,7 +184,9 @@ class Settings:
         if "hosts" in self.values:
             from .links import LinkCarrier
 
-            return LinkCarrier(tenant, self.need("hosts"), self.need("ca-file"), self.need("certificate"), self.need("key"), patience)
+            links = LinkCarrier(tenant, self.need("hosts"), self.need("ca-file"), self.need("certificate"), self.need("key"), patience)
+            links.silent = self.lately_silent()
+            return links
         try:
             from .broker import MqttCarrier
         except ImportError:
@@ -215,9 +220,29 @@ class Settings:
             found.close()
         return found is None
 
-    def locked(self, number: int, word: str, how: int) -> IO[str] | None:
+    def notes(self) -> Path:
+        """The folder where commands tell each other something."""
         folder = Path(self.values["locks"]) if "locks" in self.values else default_locks()
         folder.mkdir(parents=True, exist_ok=True)
+        return folder
+
+    def note_silent(self, node: int) -> None:
+        """Has the next commands know that a node was silent, or died of what it was asked. Nothing rests on it: where it can't be noted, it isn't."""
+        with suppress(OSError):
+            (self.notes() / f"{self.tenant}-node{node}.silent").touch(0o644)
+
+    def lately_silent(self) -> set[int]:
+        """The nodes that a command found silent in the last minute."""
+        found = set()
+        with suppress(OSError):
+            for path in self.notes().glob(f"{self.tenant}-node*.silent"):
+                number = path.stem.rpartition("node")[2]
+                if number.isdecimal() and 0 <= time.time() - path.stat().st_mtime < SILENT_FOR:
+                    found.add(int(number))
+        return found
+
+    def locked(self, number: int, word: str, how: int) -> IO[str] | None:
+        folder = self.notes()
         # (for reading, so that commands of several users can lock what one of them has made)
         lock = open(folder / f"{self.tenant}-{number}.{word}", opener=lambda path, _: os.open(path, os.O_RDONLY | os.O_CREAT, 0o644))
         try:
