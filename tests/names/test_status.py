@@ -1,9 +1,11 @@
 """Who answers, what that comes to for a grid, what a tenant has used, and how long a command waits."""
 
+import contextlib
 import dataclasses
 import os
 import sys
 import tempfile
+import time
 import tomllib
 import unittest
 from unittest import mock
@@ -188,6 +190,50 @@ class Waiting(unittest.TestCase):
                 session.write(0, 2, b"")
             self.assertLessEqual(carrier.clock, 30.1)
             sessions.close()
+
+    def test_what_was_silent_lately(self):
+        """The next commands go to other homes first, for a minute."""
+        homes = [Home(node) for node in range(4)]
+
+        def play(node, body):
+            if body == "plan":
+                return [(str(node), "plan 4 0 4 3000 16 8.16 64.2")]
+            return homes[node](node, body) if node else []
+
+        with tempfile.TemporaryDirectory() as folder:
+            for age, seconds in ((0, 2), (0, 0), (50, 0), (61, 2), (-5, 2)):
+                carrier = Played(play)
+                for note in [note for note in os.listdir(folder) if note.endswith(".silent")]:
+                    os.utime(os.path.join(folder, note), (time.time() - age,) * 2)
+                with contextlib.closing(self.opened(carrier, folder)) as sessions:
+                    sessions.numbers.sort(key=lambda number: (sessions.is_late(number), number))
+                    session = sessions.first()
+                    self.assertEqual((session.number, round(carrier.clock)), (2, seconds), age)
+                    self.assertEqual({each.number for each in sessions.helpers()}, {3, 4})
+            with contextlib.closing(self.opened(Played(play), folder, session="1")) as sessions, self.assertRaises(Unanswered):
+                sessions.first()
+
+    def test_another_session(self):
+        """In place of one whose home died of what it was asked: others, each home once, in the time that is left."""
+        homes = [Home(node) for node in range(4)]
+
+        def play(node, body):
+            return [(str(node), "plan 4 0 4 3000 16 8.16 64.2")] if body == "plan" else homes[node](node, body)
+
+        carrier = Played(play)
+        with tempfile.TemporaryDirectory() as folder, contextlib.closing(self.opened(carrier, folder)) as sessions:
+            first = sessions.first()
+            self.assertTrue(sessions.can_leave(first))
+            left = {first.home}
+            for _ in range(3):
+                session = sessions.another(first.home, carrier.now() + 10)
+                self.assertNotIn(session.home, left)
+                self.assertEqual(session.pace.timeout, 10)
+                left.add(session.home)
+                first = session
+            self.assertFalse(session.may_leave)
+            self.assertIsNone(sessions.another(first.home, carrier.now() + 10))
+            self.assertEqual(sessions.settings.lately_silent(), left)
 
     def test_little_time_is_left(self):
         """A node told late what the tenant has: a session is tried all the same."""
