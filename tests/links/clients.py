@@ -57,6 +57,14 @@ def what_a_client_is_told(program, folder):
             shutil.copy(os.path.join(other, "secret", f"ann.{name}"), os.path.join(carry.links, "secret", f"zed.{name}"))
         told = fault_of(lambda: ask_plan(carrier(carry.links, alone, name="zed"), Pace(timeout=20)), 5)
         check("does not take the certificate" in told, told)
+        for name in ("crt", "key"):
+            shutil.copy(os.path.join(carry.links, "secret", f"ann.{name}"), os.path.join(carry.links, "secret", f"was.{name}"))
+        set_up(folder, PLAN, "--deny", "ann")
+        carry.process.send_signal(signal.SIGHUP)
+        told = fault_of(lambda: ask_plan(carrier(carry.links, alone, name="was", patience=30), Pace(timeout=30)), 12)
+        check("all 1 nodes refuse the certificate, which may be denied" in told, told)
+        told = fault_of(lambda: ask_plan(carrier(carry.links, alone, name="was", patience=30), Pace(timeout=2)), 5)
+        check("may be denied" in told, told)
         with open(alone, "w") as out:
             out.write("0 127.0.0.1:1 127.0.0.1:1\n")
         check("refused" in fault_of(lambda: ask_plan(carrier(carry.links, alone), Pace(timeout=20)), 8), "no node")
