@@ -2,7 +2,9 @@
 
 import os
 import shutil
+import ssl
 import subprocess
+import time
 
 from carrying import DEPLOY, PLAN, check, set_up
 
@@ -22,6 +24,12 @@ def numbers(links):
 def denied(links):
     with open(os.path.join(links, "denied"), encoding="ascii") as file:
         return file.read().split()
+
+
+def first_seconds(path):
+    """The second of the clock from which on a certificate is good."""
+    done = subprocess.run(["openssl", "x509", "-noout", "-startdate", "-in", path], stdout=subprocess.PIPE, text=True, check=True)
+    return ssl.cert_time_to_seconds(done.stdout.strip().partition("=")[2])
 
 
 def set_up_status(folder, *words):
@@ -50,6 +58,28 @@ def what_it_makes(_, folder):
     check(not set(numbers(links).values()) & set(made.values()), "certificates of another authority are kept")
 
 
+def what_a_late_clock_takes(_, folder):
+    """A machine whose clock is an hour late takes what was made now, and so does one that is a day ahead."""
+    links = set_up(folder, PLAN)
+    for path in ("ca.crt", "secret/0.crt", "secret/ann.crt"):
+        check(first_seconds(os.path.join(links, path)) < time.time() - 3600, f"{path} is not good for a clock that is late")
+        for seconds in (-3600, 0, 86_400 * 300):
+            words = ["-attime", str(int(time.time()) + seconds), "-CAfile", os.path.join(links, "ca.crt"), "-x509_strict", os.path.join(links, path)]
+            done = subprocess.run(["openssl", "verify", *words], capture_output=True, text=True)
+            check(done.returncode == 0, f"{path} at {seconds}: {done.stderr}")
+
+
+def what_it_lists(_, folder):
+    links = set_up(folder, PLAN)
+    os.unlink(os.path.join(links, "secret", "bob.key"))
+    set_up(folder, PLAN, "--days", "370")
+    done = subprocess.run([os.path.join(DEPLOY, "setup"), "--list", links], capture_output=True, text=True)
+    head, *rows = [line.split() for line in done.stdout.splitlines()]
+    check(done.returncode == 0 and head == ["certificate", "ends", "days"], f"{done}")
+    check([row[0] for row in rows] == ["0", "1", "ann", "bob", "ca"] and int(rows[3][2]) in (369, 370) and int(rows[4][2]) in (3649, 3650), f"{rows}")
+    check(rows[0][1] == time.strftime("%Y-%m-%d", time.gmtime(time.time() + 365 * 86_400)) or time.strftime("%H:%M") < "00:05", f"{rows}")
+
+
 def what_it_denies(_, folder):
     links = set_up(folder, PLAN)
     first = numbers(links)
@@ -70,6 +100,9 @@ def what_it_refuses(_, folder):
         out.write("grid 1\n")
     for words, status, says in (
         (["links"], 2, "a folder and a plan"),
+        (["--list"], 2, "a folder is wanted"),
+        (["--list", "links", "plan"], 2, "a folder is wanted"),
+        (["--list", "none"], 1, "none/ca.crt: there is none"),
         (["--day", "3", "links", "plan"], 2, "no such word"),
         (["--days", "0", "links", "plan"], 2, "--days: 0"),
         (["--days", "x", "links", "plan"], 2, "--days: x"),
@@ -87,4 +120,4 @@ def what_it_refuses(_, folder):
     check(status == 1 and told.startswith("setup: openssl: "), f"a wrong key: {status} {told}")
 
 
-CHECKS = [what_it_makes, what_it_denies, what_it_refuses]
+CHECKS = [what_it_makes, what_a_late_clock_takes, what_it_lists, what_it_denies, what_it_refuses]
