@@ -383,7 +383,7 @@ static double over_rate_of(const struct tally *it) { return it->over_rate; }
 static void tell_dropped(void) {
     const struct { const char *reason; long lines; } all[] = {{"lost", count.lost}, {"full", count.full}, {"slow", count.slow},
         {"long", count.too_long}, {"strange", count.strange}, {"memory", count.memory}};
-    metric("carrier_lines_dropped_total", "counter", "Lines that were dropped: lost without a connection, full by the bound of a sender, slow by that of a reader, long, strange by their form, or for want of memory.");
+    metric("carrier_lines_dropped_total", "counter", "Lines that were dropped: lost without a connection, full by the bound of a sender, slow by that of a reader, long, strange by their form, or for lack of memory.");
     for (size_t i = 0; i < sizeof all / sizeof *all; i++) sample("reason", all[i].reason, (double)all[i].lines);
 }
 
@@ -554,7 +554,7 @@ int main(int argc, char **argv) {
     flush(&open_mask);
     engine_end();
     status = status_of(child);
-    if (WIFSIGNALED(status)) say("node %s ended by signal %d", me, WTERMSIG(status));
+    if (WIFSIGNALED(status)) say("node %s ended by signal %d%s", me, WTERMSIG(status), WTERMSIG(status) == SIGKILL ? ": killed, maybe for lack of memory" : "");
     else say("node %s ended with status %d", me, WEXITSTATUS(status));
     say_counts();
     metrics_due = 0, mind_metrics(now());

@@ -9,7 +9,7 @@ import time
 from carrying import HERE
 from gridfs_client.opening import turn_of
 from gridfs_grid.carrier import journal_of
-from gridfs_grid.links import Grid
+from gridfs_grid.links import Command, Grid
 from gridfs_grid.places import CLIENT
 from processes import check
 
@@ -60,6 +60,37 @@ def succeeds(settings, *words, given=None):
     """A command that has to succeed, in good time."""
     status, seconds, why = asked(settings, *words, given=given)
     check(status == 0 and seconds < 2 * TIMEOUT, f"{' '.join(words)}: {status} after {seconds:.0f} s: {why}")
+
+
+class Ended:
+    """A grid whose node 3 has ended, for a command that looks after it."""
+
+    SERVERS, nodes, folder = (), [FULL], "grid"
+
+    def __init__(self, is_ready):
+        self.said, self.processes = f"gridfs: node {FULL} of 2 by 2: 0 facts" if is_ready else "gridfs: plan: read fault", {FULL: None}
+
+    def told_since_start(self, _):
+        return self.said
+
+    def has_journal(self, _):
+        return True
+
+
+def waits(_, __):
+    """`./grid` starts a node again that was ready and ended with status 1, but waits; one that is killed at once. One that is never ready stays down."""
+    grid, command = Ended(True), Command()
+    for status, seconds in ((1, 15), (1, 15), (1, 15), (1, 15), (137, 1)):
+        due = {}
+        command.falls(grid, FULL, status, {FULL: 0}, due)
+        left = due[FULL] - time.monotonic()
+        check(seconds - 1 < left <= seconds, f"it starts again in {left} s behind status {status}")
+    grid, fails = Ended(False), {FULL: 0}
+    for is_last in (False, False, True):
+        due = {}
+        command.falls(grid, FULL, 1, fails, due)
+        check((FULL not in due) == is_last and (FULL not in grid.processes) == is_last, f"a node that is never ready: {due}, {grid.processes}")
+    return "6 ends", []
 
 
 def told(program, carry):

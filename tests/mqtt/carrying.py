@@ -424,7 +424,7 @@ def ends(checked):
     carry = checked.carry(broker.port, node(COPY))
     wait_for(lambda: broker.subscribed == 3)
     os.kill(carry.child(), signal.SIGKILL)
-    checked.held(carry.status() == 137 and carry.says("ended by signal 9"), "a node that is killed: 137, told")
+    checked.held(carry.status() == 137 and carry.says("ended by signal 9: killed, maybe for lack of memory"), "a node that is killed: 137, told")
     carry = checked.carry(broker.port, ["/nowhere"])
     checked.held(carry.status() == 127 and carry.many("carry: /nowhere: No such file or directory") == 1, f"no such command: 127: {carry.lines}")
     carry = checked.carry(broker.port, ["sh", "-c", "exec <&-; sleep 1; exit 3"])

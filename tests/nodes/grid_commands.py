@@ -191,7 +191,7 @@ class Machine:
         # a node whose journal is gone, and one that does not start, once each has ended
         os.unlink("grid/node1.journal")
         self.kill(1)
-        self.held("a journal that goes meanwhile", grid.says(f"grid: node 1 has ended with status 137, and stays down: its journal is gone (`./grid --replace 1 "), True)
+        self.held("a journal that goes meanwhile", grid.says(f"grid: node 1 has ended with status 137 (killed, maybe for lack of memory), and stays down: its journal is gone (`./grid --replace 1 "), True)
         shutil.copy("first", "grid/plan")
         with open("grid/plan", "a", encoding="ascii") as out:
             out.write("ann open 1 65\n")

@@ -219,7 +219,7 @@ class Grids:
             with open(f"/proc/{grid.pid}/task/{grid.pid}/children", encoding="ascii") as children:
                 for pid in map(int, children.read().split()):
                     os.kill(pid, signal.SIGKILL)
-            ends = sorted(f"grid: node {number} has ended by signal 9: it starts again with the grid" for number in range(3))
+            ends = sorted(f"grid: node {number} has ended by signal 9 (killed, maybe for lack of memory): it starts again with the grid" for number in range(3))
             try:
                 _, told = grid.communicate(timeout=SECONDS)
             except subprocess.TimeoutExpired:

@@ -4,6 +4,7 @@ import contextlib
 import json
 import os
 import re
+import shlex
 import signal
 import subprocess
 import sys
@@ -83,6 +84,19 @@ class Machine:
                 variables |= dict(line.split("=", 1) for line in file.read().splitlines())
         return [self.placed(re.sub(r"\$\{(\w+)\}", lambda found: variables[found[1]], f"{word} ")).removesuffix(" ") for word in words["ExecStart"][0].split()]
 
+    def waits_behind(self, status):
+        """Whether the unit waits before it starts again what has ended with this status."""
+        with open(self.UNIT, encoding="utf-8") as unit:
+            words = shlex.split(re.search(r"^ExecStopPost=(.*)$", unit.read(), re.MULTILINE)[1].replace("$$", "$"))
+        waiting = subprocess.Popen(words, env={**os.environ, "EXIT_STATUS": str(status)}, start_new_session=True)
+        try:
+            return waiting.wait(2)
+        except subprocess.TimeoutExpired:
+            os.killpg(waiting.pid, signal.SIGKILL)
+            return True
+        finally:
+            waiting.wait()
+
     def run_unit(self, name, words):
         with open(f"{self.folder}/log.{name}", "ab") as log:
             self.processes[name] = subprocess.Popen(words, stdin=subprocess.DEVNULL, stdout=log, stderr=log)
@@ -118,6 +132,8 @@ def told(machine):
     stopped, whose names are got."""
     single = machine.words_of("3")
     check(single[-1].endswith("lib/3/journal") and single[single.index("--grid") + 1] == "", f"the words of a node of one grid: {single}")
+    waits = {status: machine.waits_behind(status) for status in (0, 1, 3, 137)}
+    check(waits == {0: 0, 1: True, 3: 0, 137: 0}, f"a unit waits behind a fault of a file alone: {waits}")
     try:
         for grid in GRIDS:
             for node in range(NODES):

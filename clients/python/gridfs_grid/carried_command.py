@@ -1,5 +1,6 @@
 """`./grid` over links and over a broker: nodes that have carriers."""
 
+import math
 import os
 import shutil
 import subprocess
@@ -12,6 +13,7 @@ from gridfs_grid.places import CARRIERS, CLIENT, PLAN, folder_to_start
 
 TRIES = 3  # starts of a node that ends with status 1 before it is ready: its journal may be in use by a process that is about to end
 DAY = 86_400  # seconds
+SOON, FULL = 1, 15  # seconds until what has ended starts again, and a node that was ready and ended with status 1: its disk may be full
 
 
 def text_of(path):
@@ -145,11 +147,14 @@ class CarriedCommand:
 
     def look_after(self, grid):
         """Starts again what has ended, as a unit of systemd does, and makes certificates anew; until it is interrupted, or all nodes are down."""
-        fails, next_day = dict.fromkeys(grid.nodes, 0), time.time() + DAY
+        fails, due, next_day = dict.fromkeys(grid.nodes, 0), {}, time.time() + DAY
         while any(number in grid.processes for number in grid.nodes):
             for name, process in list(grid.processes.items()):
-                if process.poll() is not None:
-                    self.start_again(grid, name, process.returncode, fails)
+                if process.poll() is not None and name not in due:
+                    self.falls(grid, name, process.returncode, fails, due)
+                if due.get(name, math.inf) <= time.monotonic():
+                    del due[name]
+                    grid.start_server(name) if name in grid.SERVERS else grid.start_node(name)
             if time.time() > next_day:
                 next_day = time.time() + DAY
                 self.renew(grid)
@@ -163,20 +168,21 @@ class CarriedCommand:
         except NotStarted as fault:
             tell(f"certificates can't be made anew: {fault}")
 
-    def start_again(self, grid, name, status, fails):
-        """Starts what has ended, but for a node that would end again and again."""
+    def falls(self, grid, name, status, fails, due):
+        """Notes when what has ended is due to start again; a node stays down that would end again and again, before it is ready."""
+        seconds = SOON
         ended = f"{f'node {name}' if name in grid.nodes else f'the {name}'} has ended {how_ended(status)}"
         if name in grid.nodes:
             was_ready = is_ready(name, grid.told_since_start(name))
             fails[name] = 0 if was_ready else fails[name] + 1
-            may_mend = status == 1 and not was_ready and fails[name] < TRIES
+            may_mend = status == 1 and fails[name] < TRIES
+            seconds = FULL if status == 1 and was_ready else SOON
             if not grid.has_journal(name) or (status in STAY_DOWN and not may_mend):
                 tell(f"{ended}, and stays down: {self.way_out_of(grid, name, status)}; log.{name} has what it said")
                 del grid.processes[name]
                 return
-        tell(f"{ended}; log.{name} says why. It starts again")
-        time.sleep(1)
-        grid.start_server(name) if name in grid.SERVERS else grid.start_node(name)
+        tell(f"{ended}; log.{name} says why. It starts again{f' in {seconds} seconds' if seconds > SOON else ''}")
+        due[name] = time.monotonic() + seconds
 
     def run(self, asked):
         """Does what is asked for; the status."""

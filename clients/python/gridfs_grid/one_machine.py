@@ -13,6 +13,7 @@ from gridfs_grid.carrier import journal_of
 START, READ = 15, 1 << 21  # seconds in which a node has to be ready, and bytes of its journal that it reads in one more
 DAMAGED = 4  # the status of a node whose journal is damaged
 STAY_DOWN = (1, 2, DAMAGED, 125, 127)  # statuses of a node, or of what is to start it, that a further start would not mend
+KILLED = (-signal.SIGKILL, 128 + signal.SIGKILL)  # what a process ends with that is killed, and a carrier whose node is
 SIGNALS = (signal.SIGINT, signal.SIGTERM, signal.SIGHUP)
 
 
@@ -134,7 +135,8 @@ def is_ready(number, told):
 
 
 def how_ended(status):
-    return f"by signal {-status}" if status < 0 else f"with status {status}"
+    why = " (killed, maybe for lack of memory)" if status in KILLED else ""
+    return (f"by signal {-status}" if status < 0 else f"with status {status}") + why
 
 
 def how_many_are_up(up, nodes):
