@@ -169,6 +169,22 @@ class Commands:
         self.refused("an empty source", ["mirror", "--delete", "hollow", "grid:back"], 6, "hollow: no file is there, so no name is removed")
         self.told("rm of it", ["rm", "back/a", "back/b/c/empty", "back/b/ä b", "other"], b"")
 
+    def whole_prefixes(self):
+        """All names of a prefix are taken away, and no others."""
+        names = ["gone/a", "gone/b c", "gone/d/e"]
+        for name in [*names, "gonex", "gone"]:
+            self.told(f"put of {name}", ["put", "-", name], b"", given=b"x")
+        would = [f"would remove {name}".encode() for name in names]
+        self.lines("rm -r, dry", ["rm", "-r", "--dry-run", "gone"], would, b"would remove 3")
+        self.held("what a dry one has left", len(self.run("ls", "gone")[1].splitlines()), 5)
+        self.lines("rm -r", ["rm", "-r", "gone/"], [b"removed " + name.encode() for name in names], b"removed 3")
+        self.held("what is left", [line.split()[-1] for line in self.run("ls")[1].splitlines()], [b"gone", b"gonex"])
+        self.refused("rm -r of no name", ["rm", "-r", "gone"], 1, "grid:gone/: no name begins so")
+        self.refused("a dry run of one name", ["rm", "--dry-run", "gone"], 2, "--dry-run goes with -r")
+        status, told, _ = self.run("rm", "-r", "--json", "grid:")
+        self.held("rm -r of all names", (status, sorted(json.loads(told)["removed"])), (0, ["gone", "gonex"]))
+        self.told("ls of nothing left", ["ls"], b"")
+
     def lines(self, name, words, wanted, last):
         """A command that has to end well, with these lines in any order, and this one at last."""
         status, told, why = self.run(*words)
@@ -420,7 +436,7 @@ def served(program):
 PARTS = (
     ["names", "numbered_files", "full", "carriers", "sessions"],
     ["bad_input", "streams", "carried_by_another_put", "interrupts"],
-    ["status", "mirror", "terminal"],
+    ["status", "mirror", "whole_prefixes", "terminal"],
 )
 
 

@@ -22,7 +22,7 @@ from .fleet_map import read_map
 from .grid import Nodes, listed
 from .layout import BLOCK, layout_of
 from .local import INPUT, complain, content_of, cut, go_to, json_of, out, out_lines, rewindable, to_target
-from .mirror import GRID, ToFolder, ToGrid, prefix_of, shown
+from .mirror import GRID, Removal, ToFolder, ToGrid, prefix_of, shown
 from .names import Entry, NamedFiles, place_to_cut
 from .open_grids import OpenGrids
 from .opening import LEAST, OpenSessions, turn_of
@@ -41,6 +41,7 @@ examples:
   gridfs-client get reports/may copy.pdf          to a file
   gridfs-client ls --json reports/ | jq -r .[].name
   gridfs-client rm greeting reports/may
+  gridfs-client rm -r reports                     all names that begin with reports/
   gridfs-client mirror reports grid:reports       a folder to the names reports/..
   gridfs-client mirror --dry-run grid: backup     what a backup of all names would get
   gridfs-client status                            which nodes answer, and what is used
@@ -181,7 +182,7 @@ def parser() -> argparse.ArgumentParser:
         main.add_argument(f"--{key}", metavar=setting.takes, help=setting.meaning + (f" ({setting.default})" if setting.default else ""))
     shared = argparse.ArgumentParser(add_help=False)
     shared.add_argument("--json", action="store_true", help="the answer as JSON, one value")
-    shared.add_argument("--quiet", action="store_true", help="no progress at a terminal, and of mirror no lines of what is done")
+    shared.add_argument("--quiet", action="store_true", help="no progress at a terminal, and of mirror and rm -r no lines of what is done")
     words = main.add_subparsers(dest="word", required=True, metavar="COMMAND")
 
     def word(word_name: str, call: Callable[[Any, argparse.Namespace], None], meaning: str, /, **arguments: dict[str, Any]) -> None:
@@ -199,7 +200,9 @@ def parser() -> argparse.ArgumentParser:
     word("get", get, "tell a name's content", name=name, path=target)
     word("ls", ls, "tell names with their sizes: each was so at some moment of the call (between which ones: --json)",
          prefix=dict(metavar="PREFIX", nargs="?", default="", help="names that begin so; all if left out"))  # fmt: skip
-    word("rm", rm, "take names away, one after another", names=dict(name, nargs="+"))
+    word("rm", rm, "take names away, one after another", names=dict(name, nargs="+"),
+         **{"-r": dict(action="store_true", dest="is_whole", help=f"of each NAME all names that begin with NAME/; of {GRID} all names"),
+            "--dry-run": dict(action="store_true", help="with -r: tell what would be taken away, and do nothing")})  # fmt: skip
     word("stat", stat, "tell what is known of a name", name=name)
     place: dict[str, Any] = dict(help=f"a folder here, or {GRID}PREFIX for the names that begin with PREFIX/, or {GRID} for all names")
     is_given: dict[str, Any] = dict(action="store_true")
@@ -275,6 +278,11 @@ def ls(opened: Opened | OpenedFleet, args: argparse.Namespace) -> None:
 
 
 def rm(opened: Opened | OpenedFleet, args: argparse.Namespace) -> None:
+    if args.is_whole and isinstance(opened, Opened):
+        remove_whole(opened, args)
+        return
+    if args.is_whole or args.dry_run:
+        raise BadSettings("-r is about one grid: leave `map` out" if args.is_whole else "--dry-run goes with -r")
     left = list(args.names)
 
     def remove(names: NamedFiles | FleetFiles) -> None:
@@ -284,6 +292,17 @@ def rm(opened: Opened | OpenedFleet, args: argparse.Namespace) -> None:
 
     opened.by_sessions(remove)
     tell(args, {"removed": args.names})
+
+
+def remove_whole(opened: Opened, args: argparse.Namespace) -> None:
+    """Takes all names with these prefixes away, and tells each, and how many there were."""
+    prefixes = [prefix_of(name if name.startswith(GRID) else GRID + name) or "" for name in args.names]
+    removed: list[str] = []
+    turns = partial(turn_of, count=len(opened.sessions.numbers))
+    for prefix in prefixes:
+        removed += Removal("", prefix, opened.names_for, turns, line_teller(args), complain, is_dry=args.dry_run).run().removed
+    value = {"dry_run": args.dry_run, "removed": removed}
+    tell(args, value, *([] if args.quiet else [f"{'would remove' if args.dry_run else 'removed'} {len(removed)}"]))
 
 
 def stat(opened: Opened | OpenedFleet, args: argparse.Namespace) -> None:
@@ -340,20 +359,26 @@ def plan(opened: Opened, args: argparse.Namespace) -> None:
     tell(args, value_told, *(f"{key}: {each}" for key, each in (value | words).items()))
 
 
+def line_teller(args: argparse.Namespace) -> Callable[[str, str], None]:
+    """Tells what is done with a name, where that is wanted."""
+
+    def tell_line(word: str, name: str) -> None:
+        if not args.json and not args.quiet:
+            out_lines([f"{word} {shown(name)}"])
+
+    return tell_line
+
+
 def mirror(opened: Opened, args: argparse.Namespace) -> None:
     to_grid, from_grid = prefix_of(args.target), prefix_of(args.source)
     folder = args.source if from_grid is None else args.target
     if (to_grid is None) == (from_grid is None) or not folder:
         raise BadSettings(f"mirror wants a folder and {GRID}PREFIX, one as the source and the other one as the target")
 
-    def tell_line(word: str, name: str) -> None:
-        if not args.json and not args.quiet:
-            out_lines([f"{word} {shown(name)}"])
-
     count = len(opened.sessions.numbers)
     kind = ToFolder if to_grid is None else ToGrid
     prefix = from_grid if to_grid is None else to_grid
-    made = kind(folder, prefix or "", opened.names_for, partial(turn_of, count=count), tell_line, complain, args.delete, args.dry_run)
+    made = kind(folder, prefix or "", opened.names_for, partial(turn_of, count=count), line_teller(args), complain, args.delete, args.dry_run)
     report = made.run()
     value = {"dry_run": args.dry_run, made.word: report.moved, "removed": report.removed, "same": report.same, "skipped": report.skipped}
     moved, removed = (f"would {made.word}", "remove") if args.dry_run else (made.done, "removed")

@@ -227,6 +227,18 @@ class Mirror(abc.ABC):
             self.skip(what, BadFile(fault.strerror or str(fault)))
         return None
 
+    def remove_all(self, names: Iterable[str]) -> None:
+        for name in self.in_turns(names, self.remove_name):
+            self.report.removed.append(name)
+            self.tell("would remove" if self.is_dry else "removed", name)
+
+    def remove_name(self, files: NamedFiles, name: str) -> bool:
+        try:
+            files.remove(name)
+        except NoSuchName:
+            return False
+        return True
+
     def move(self, names: Iterable[str], work: Callable[[NamedFiles, str], bool]) -> None:
         """Moves contents; `work` tells whether there was one to move."""
         for name in self.in_turns(names, work):
@@ -269,9 +281,7 @@ class ToGrid(Mirror):
         entries = self.entries()
         self.move([name for name in self.files if self.is_other(name, entries)], self.put)
         if self.removes:
-            for name in self.in_turns([name for name in entries if self.is_extra(name)], self.remove):
-                self.report.removed.append(name)
-                self.tell("would remove" if self.is_dry else "removed", name)
+            self.remove_all([name for name in entries if self.is_extra(name)])
         return self.report
 
     def find_files(self) -> dict[str, str]:
@@ -315,12 +325,15 @@ class ToGrid(Mirror):
         path = self.local(self.files[name])
         return self.tried(path, call) is True
 
-    def remove(self, files: NamedFiles, name: str) -> bool:
-        try:
-            files.remove(name)
-        except NoSuchName:
-            return False
-        return True
+class Removal(Mirror):
+    """Takes the names with the prefix away."""
+
+    def run(self) -> Report:
+        entries = self.entries()
+        if not entries:
+            raise NoSuchName(f"{GRID}{self.prefix}: no name begins so")
+        self.remove_all(entries)
+        return self.report
 
 
 class ToFolder(Mirror):
