@@ -203,7 +203,7 @@ class Commands:
         self.told("put for a status", ["put", "-", "long"], b"", given=bytes(3_000))
         status, told, why = self.run_until("\nall 4 nodes answer\n", "status")
         self.held("status", (status, why), (0, ""))
-        for line in (b"  row 1   2   3 ", b"all 4 nodes answer", b"wholly up: rows 0 and 1, columns 0 and 1", b"session 4: home 3", b"names: 1"):
+        for line in (b"  row 1   2   3", b"all 4 nodes answer", b"wholly up: rows 0 and 1, columns 0 and 1", b"session 4: home 3", b"names: 1"):
             self.held(f"status tells {line}", line in told.splitlines(), True)
         value = json.loads(self.run_until('"columns_up": [0, 1]', "--grid", "2x2", "status", "--json")[1])
         keys = ["tenant", "nodes", "rows", "columns", "is_arrangement_said", "rows_up", "columns_up", "goes_on", "sessions"]
