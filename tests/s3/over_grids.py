@@ -7,7 +7,7 @@
     over_grids.py once                                 the same of one move, by one that does not
     over_grids.py apart                                moves by a mover that can't have the sessions of the gateway
     over_grids.py silent                               what a gateway answers while a grid does not
-    over_grids.py names                                maps that whoever may put names puts in the place of the fleet's copy: no other tenant's names, no command
+    over_grids.py names [GRIDFS]                       maps that whoever may put names puts in the place of the fleet's copy: no other tenant's names, no command
 
 Each grid is a stand-in, or four nodes where a program is named. Gateways and movers are killed (kill -9), and begun again. A mover has its sessions from the
 gateways. The status is 1 where something is wrong, and where no move ended.
@@ -84,13 +84,13 @@ class Fleet:
 
 
 @contextlib.contextmanager
-def nodes(program, folder):
-    """A grid of four nodes, in place of a stand-in."""
-    words = [os.path.join(code_of_s3.TOP, "grid"), "--plan", endpoint.PLAN, "--program", program, folder]
+def nodes(program, folder, plan=endpoint.PLAN, name="carol"):
+    """A grid of four nodes, in place of a stand-in; it is there once this tenant's settings are."""
+    words = [os.path.join(code_of_s3.TOP, "grid"), "--plan", plan, "--program", program, folder]
     with open(f"{folder}.log", "wb") as log:
         process = subprocess.Popen(words, stdin=subprocess.DEVNULL, stdout=log, stderr=log)
     try:
-        endpoint.wait(lambda: os.path.exists(f"{folder}/carol.ini") and os.path.exists(f"{folder}/socket"), process, f"{folder}.log")
+        endpoint.wait(lambda: os.path.exists(f"{folder}/{name}.ini") and os.path.exists(f"{folder}/socket"), process, f"{folder}.log")
         yield
     finally:
         process.send_signal(signal.SIGINT)
@@ -345,13 +345,14 @@ def on_two_machines():
             gateway.kill()
 
 
-def by_other_maps():
+def by_other_maps(program=None):
     """The settings of grids are said by the gateway's own map. What the tenant puts under the map's name gives it no other tenant's names, and no command."""
-    with fleet(LABELS[:2]) as found, contextlib.ExitStack() as others:
+    with fleet(LABELS[:2], program) as found, contextlib.ExitStack() as others:
         room, slices = found.room, f"slices 0-{SLICES - 1} 900"
         with open(endpoint.PLAN) as file, open(os.path.join(room, "plan"), "w") as out:
             out.write(file.read().replace("carol", "dave"))
-        others.enter_context(endpoint.stand_in(os.path.join(room, "plan"), os.path.join(room, "theirs")))
+        plan, theirs = os.path.join(room, "plan"), os.path.join(room, "theirs")
+        others.enter_context(nodes(program, theirs, plan, "dave") if program else endpoint.stand_in(plan, theirs))
         client = [os.path.join(code_of_s3.CLIENT, "gridfs-client"), "--config"]
         for name in (".s3/bucket/payroll", "payroll/2026"):
             subprocess.run([*client, f"{room}/theirs/dave.ini", "put", "-", name], input=b"dave's", check=True)
@@ -407,7 +408,7 @@ def main(words):
     alone = {"silent": while_one_is_silent, "apart": on_two_machines, "names": by_other_maps}
     if words[0] in alone:
         os.environ["GRIDFS_TIMEOUT"] = "4"
-        wrong = alone[words[0]]()
+        wrong = alone[words[0]](*words[1:])
         print("".join(f"{line}\n" for line in wrong) + f"{len(wrong)} wrong")
         return bool(wrong)
     if words[0] in ("operations", "once"):
